@@ -1,0 +1,3 @@
+pub mod ConflictOrder
+pub mod NameLemmas
+pub mod OneOrder

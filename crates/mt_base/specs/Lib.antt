@@ -1,0 +1,9 @@
+pub mod Bounds
+pub mod Conflict
+pub mod Instant
+pub mod Loss
+pub mod Name
+pub mod Padded
+pub mod Picture
+pub mod Rules
+pub mod Trajectory

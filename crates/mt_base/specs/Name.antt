@@ -1,0 +1,14 @@
+use Rattle.std.specs.Prelude.{ℕ, Bool, List, length, Option, Some, None, nat_le, ◌&&◌, ◌||◌, if◌then◌else◌}
+use Rattle.std.specs.List.{list_all}
+
+-- a capital letter or a digit
+abbrev pub is_letter : ℕ → Bool
+is_letter b = (nat_le 65 b && nat_le b 90) || (nat_le 48 b && nat_le b 57)
+
+-- a name of at least `low` and at most `high` of these
+abbrev pub is_name : ℕ → ℕ → List ℕ → Bool
+is_name low high text = nat_le low (length text) && nat_le (length text) high && list_all is_letter text
+
+-- the name that a text is, or none
+abbrev pub name_of : ℕ → ℕ → List ℕ → Option (List ℕ)
+name_of low high text = if is_name low high text then Some text else None

@@ -1,0 +1,83 @@
+use Rattle.std.specs.Prelude.{◌≡◌, ℕ, ◌+◌, List, [], ◌∷◌, Contains, ◌↔◌}
+use Rattle.std.specs.List.{flat_map}
+use Rattle.std.specs.List.Sorted.{IsStrictlySortedBy}
+use Rattle.std.specs.Cmp.Lexicographic.{slice_cmp}
+use Rattle.std.specs.Ordering.{nat_cmp, ordering_then}
+use Rattle.std.specs.declared.cmp.Ordering.{Ordering}
+use Rattle.std.specs.declared.cmp.Ordering.TheVariants.{Less, Equal, Greater}
+use Rattle.mt_base.specs.declared.conflict.Conflict.{Conflict}
+use Rattle.mt_base.specs.declared.conflict.Kind.{Kind}
+use Rattle.mt_base.specs.declared.conflict.Kind.TheVariants.{Actual, Tentative}
+use Rattle.mt_base.specs.declared.flight.Path.{Path}
+use Rattle.mt_base.specs.declared.flight.Path.TheVariants.{Outer}
+use Rattle.mt_base.specs.declared.flight.Record.{Record}
+use Rattle.mt_base.specs.declared.rules.Rules.{Rules}
+use Rattle.mt_base.specs.Conflict.{IsSpanOfLoss}
+use Rattle.mt_base.specs.Trajectory.{Trajectory, straight}
+
+-- The state of a picture: its moment, its flights in the order of filing, and its version.
+pub record State : Type 0 where
+  pub now : ℕ
+  pub records : List Record
+  pub version : ℕ
+
+-- as it is at first
+abbrev pub opening : State
+opening = record { now = 0; records = []; version = 0 }
+
+-- A trajectory of the picture, the flight that it belongs to, and its kind.
+pub record NamedTrajectory : Type 0 where
+  pub call : List ℕ
+  pub kind : Kind
+  pub path : Trajectory
+
+abbrev pub trajectory_of : Path → Trajectory
+trajectory_of (Outer stretch) = straight stretch
+
+-- the trajectories of a flight: the one that it flies
+abbrev pub trajectories_of : Record → List NamedTrajectory
+trajectories_of flight = record { call = flight.call; kind = Actual; path = trajectory_of flight.path } ∷ []
+
+-- all trajectories of a picture
+abbrev pub trajectories : State → List NamedTrajectory
+trajectories s = flat_map trajectories_of s.records
+
+-- The window: the 1,200 seconds from the moment.
+abbrev pub window_end : ℕ → ℕ
+window_end now = now + 1200
+
+-- In the window the two trajectories have this conflict. The lesser callsign stands first.
+pub record IsOf (rules : Rules) (now : ℕ) (left right : NamedTrajectory) (c : Conflict) : Type 0 where
+  pub calls : (c.a ≡ left.call) × (c.b ≡ right.call)
+  pub kinds : (c.ka ≡ left.kind) × (c.kb ≡ right.kind)
+  pub apart : slice_cmp nat_cmp left.call right.call ≡ Less
+  pub span : IsSpanOfLoss rules left.path right.path now (window_end now) c.first c.last
+
+-- Two of these trajectories, of different flights, have this conflict.
+pub record IsOfSome (rules : Rules) (now : ℕ) (all : List NamedTrajectory) (c : Conflict) : Type 0 where
+  pub left : NamedTrajectory
+  pub right : NamedTrajectory
+  pub left_in : Contains all left
+  pub right_in : Contains all right
+  pub is : IsOf rules now left right c
+
+abbrev pub kind_cmp : Kind → Kind → Ordering
+kind_cmp Actual Actual = Equal
+kind_cmp Actual Tentative = Less
+kind_cmp Tentative Actual = Greater
+kind_cmp Tentative Tentative = Equal
+
+-- The order of publishing: by the first second, then the lesser callsign, then the greater, then the kinds, the lesser callsign's first.
+-- (The last second comes last. Where a flight has one trajectory of a kind, it decides nothing.)
+abbrev pub conflict_cmp : Conflict → Conflict → Ordering
+conflict_cmp c d = ordering_then (nat_cmp c.first d.first) (ordering_then (slice_cmp nat_cmp c.a d.a) (ordering_then (slice_cmp nat_cmp c.b d.b)
+    (ordering_then (kind_cmp c.ka d.ka) (ordering_then (kind_cmp c.kb d.kb) (nat_cmp c.last d.last)))))
+
+-- What is published of these trajectories: each conflict of two of them, and no other, once, in order.
+pub record IsPublishedOf (rules : Rules) (now : ℕ) (all : List NamedTrajectory) (cs : List Conflict) : Type 0 where
+  pub exact : (c : Conflict) → Contains cs c ↔ IsOfSome rules now all c
+  pub sorted : IsStrictlySortedBy conflict_cmp cs
+
+-- what is published of a state
+abbrev pub IsPublished : Rules → State → List Conflict → Type 0
+IsPublished rules s cs = IsPublishedOf rules s.now (trajectories s) cs

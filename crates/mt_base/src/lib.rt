@@ -1,0 +1,28 @@
+//! Plain types of the picture: names, rows, flights, conflicts and rules; and, in `specs/`, the definitions that all crates cite.
+//!
+//! Units are whole: 1/3600 of a nautical mile horizontally, 1/60 of a foot vertically, and seconds.
+#![tactic(auto)]
+
+mod callsign;
+mod conflict;
+mod flight;
+mod laws;
+mod list;
+mod memory;
+mod name;
+mod row;
+mod rules;
+#[cfg(test)]
+mod tests;
+mod words;
+
+pub use callsign::Callsign;
+pub use conflict::{Conflict, Conflicts, Kind};
+pub use flight::{Path, Record, Straight};
+pub use laws::one_published_list_law;
+pub use list::Listed;
+pub use memory::Memory;
+pub use name::Name;
+pub use row::{Row, Second};
+pub use rules::Rules;
+pub use words::Words;

@@ -1,0 +1,46 @@
+ghost use Rattle.std.specs.Prelude.{◌≡◌, [], ◌∷◌, ◌++◌, OnOk, OnErr};
+
+use crate::memory::Memory;
+use std::alloc::Global;
+use std::marker::Model;
+
+/// A list of plain values, seen as that list.
+#[derive(Drop)]
+pub struct Listed<T> {
+    pub(crate) values: Vec<T>,
+}
+
+impl<T> Model for Listed<T> {
+    ghost use Rattle.std.specs.Prelude.{List};
+
+    ghost Value = { List T };
+
+    ghost view = { λ l. l.values.items };
+}
+
+impl<T: Drop> Listed<T> {
+    /// The empty list.
+    pub fn make(alloc: Global) -> Result<Listed<T>, Memory>
+        ensures { OnOk result (result ≡ Ok []) }
+    {
+        Ok(Listed {
+            values: Vec::new(alloc),
+        })
+    }
+
+    /// Puts a value behind the others. On an error the list stays as it was.
+    pub fn push(&mut self, value: T) -> Result<(), Memory>
+        ensures ok { OnOk result (self.new ≡ self.old ++ value ∷ []) }
+        ensures err { OnErr result (self.new ≡ self.old) }
+    {
+        self.values.push(value)?;
+        Ok(())
+    }
+
+    /// Its values, in order.
+    pub fn items(&self) -> &[T]
+        ensures { result.now ≡ self.now }
+    {
+        &self.values
+    }
+}

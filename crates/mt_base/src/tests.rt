@@ -1,0 +1,72 @@
+use crate::{Callsign, Conflict, Conflicts, Kind, Words, one_published_list_law};
+use std::test::Fail;
+
+#[test]
+fn callsigns_are_one_to_seven_capitals_and_digits(rt: HostRuntime) -> Result<(), Fail> {
+    let cases: [(&[u8], bool); 9] = [
+        (b"", false),
+        (b"A", true),
+        (b"AAA1", true),
+        (b"Z9Z9Z9Z", true),
+        (b"Z9Z9Z9Z9", false),
+        (b"aaa1", false),
+        (b"AA 1", false),
+        (b"AA@1", false),
+        (b"AA[1", false),
+    ];
+    for (text, is_one) in cases {
+        let call = Callsign::of(text);
+        assert_eq!(rt; call.is_some(), is_one);
+        if let Some(call) = call {
+            assert!(rt; call.bytes() == text);
+        }
+    }
+    Ok(())
+}
+
+#[test]
+fn words_are_kept_in_order(rt: HostRuntime) -> Result<(), Fail> {
+    let mut words = Words::make(rt.alloc()).ok().ok_or("memory")?;
+    assert_eq!(rt; words.count(), 0);
+    words.add(rt.alloc(), "replay").ok().ok_or("memory")?;
+    words.add(rt.alloc(), "").ok().ok_or("memory")?;
+    assert_eq!(rt; words.count(), 2);
+    assert!(rt; words.word(0) == "replay");
+    assert!(rt; words.word(1) == "");
+    Ok(())
+}
+
+fn conflict(first: u32, a: &[u8], b: &[u8], kinds: (Kind, Kind)) -> Option<Conflict> {
+    let (ka, kb) = kinds;
+    Some(Conflict {
+        first,
+        a: Callsign::of(a)?,
+        b: Callsign::of(b)?,
+        ka,
+        kb,
+        last: 200,
+    })
+}
+
+#[test]
+fn conflicts_are_put_in_order_each_once(rt: HostRuntime) -> Result<(), Fail> {
+    one_published_list_law();
+    let ordered = [
+        conflict(1, b"B", b"C", (Kind::Actual, Kind::Actual)),
+        conflict(2, b"A", b"B", (Kind::Actual, Kind::Tentative)),
+        conflict(2, b"A", b"B", (Kind::Tentative, Kind::Actual)),
+        conflict(2, b"A", b"BA", (Kind::Actual, Kind::Actual)),
+        conflict(2, b"AA", b"B", (Kind::Actual, Kind::Actual)),
+    ];
+    let mut conflicts = Conflicts::make(rt.alloc()).ok().ok_or("memory")?;
+    for place in [4, 2, 0, 3, 1, 2] {
+        let conflict = ordered[place].ok_or("no callsign")?;
+        conflicts.push(conflict).ok().ok_or("memory")?;
+    }
+    conflicts.order();
+    assert_eq!(rt; conflicts.items().len(), 5);
+    for (place, conflict) in conflicts.items().iter().enumerate() {
+        assert!(rt; ordered.get(place) == Some(&Some(*conflict)));
+    }
+    Ok(())
+}
