@@ -1,6 +1,6 @@
 ghost use Rattle.std.specs.Prelude.{◌≡◌, ◌<◌, [], ◌∷◌, ◌++◌, length, slice_get, OnOk, OnErr, Some};
 
-use crate::memory::Memory;
+use mt_memory::Memory;
 use std::alloc::Global;
 use std::marker::Model;
 

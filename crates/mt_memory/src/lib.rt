@@ -1,6 +1,9 @@
+//! Want of memory, as every crate answers it.
+#![tactic(auto)]
+
 use std::alloc::{AllocError, AllocFailed};
 
-/// Want of memory: an allocation was refused.
+/// Want of memory: an allocation was refused. It is the one error that no contract ties to a cause.
 #[derive(Clone, Copy, Debug, PartialEq, Eq)]
 pub struct Memory;
 
