@@ -1,3 +1,6 @@
+pub mod CheckLemmas
 pub mod ConflictOrder
+pub mod HistoryLemmas
 pub mod NameLemmas
 pub mod OneOrder
+pub mod RuleLemmas

@@ -1,5 +1,7 @@
 pub mod Bounds
+pub mod Checks
 pub mod Conflict
+pub mod History
 pub mod Instant
 pub mod Loss
 pub mod Name

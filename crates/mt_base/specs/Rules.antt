@@ -1,5 +1,7 @@
-use Rattle.std.specs.Prelude.{pos}
+use Rattle.std.specs.Prelude.{ℤ, pos, ◌&&◌, int_le, Bool, List, [], ◌∷◌}
 use Rattle.mt_base.specs.declared.rules.Rules.{Rules}
+use Rattle.mt_base.specs.declared.rules.RuleName.{RuleName}
+use Rattle.mt_base.specs.declared.rules.RuleName.TheVariants.{Sh, Sv, R0, Gh, Rmax, W0, Gv, Wmax, Tc, Ta, Tv, Flights, History}
 
 -- the rules of a picture for which none was set
 abbrev pub usual_rules : Rules
@@ -18,3 +20,23 @@ usual_rules = record {
   flights = pos 1024;
   history = pos 4194304;
 }
+
+abbrev pub is_within : ℤ → ℤ → ℤ → Bool
+is_within low high z = int_le low z && int_le z high
+
+-- each rule, with whether it is within its bounds
+abbrev pub rule_checks : Rules → List (RuleName × Bool)
+rule_checks rules =
+    (Sh, is_within (pos 1) (pos 72000) rules.sh) ∷
+    (Sv, is_within (pos 1) (pos 600000) rules.sv) ∷
+    (R0, is_within (pos 0) rules.rmax rules.r0) ∷
+    (Gh, is_within (pos 0) (pos 1000) rules.gh) ∷
+    (Rmax, is_within (pos 0) (pos 72000) rules.rmax) ∷
+    (W0, is_within (pos 0) rules.wmax rules.w0) ∷
+    (Gv, is_within (pos 0) (pos 10000) rules.gv) ∷
+    (Wmax, is_within (pos 0) (pos 600000) rules.wmax) ∷
+    (Tc, is_within (pos 0) (pos 360000) rules.tc) ∷
+    (Ta, is_within (pos 0) (pos 360000) rules.ta) ∷
+    (Tv, is_within (pos 0) (pos 600000) rules.tv) ∷
+    (Flights, is_within (pos 1) (pos 1024) rules.flights) ∷
+    (History, is_within (pos 1) (pos 4194304) rules.history) ∷ []

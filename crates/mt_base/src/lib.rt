@@ -4,6 +4,7 @@
 #![tactic(auto)]
 
 mod callsign;
+mod command;
 mod conflict;
 mod flight;
 mod laws;
@@ -16,12 +17,13 @@ mod tests;
 mod words;
 
 pub use callsign::Callsign;
+pub use command::{Command, Entered, Entries, Entry, Refusal};
 pub use conflict::{Conflict, Conflicts, Kind};
 pub use flight::{Path, Record, Straight};
-pub use laws::one_published_list_law;
+pub use laws::{history_laws, one_published_list_law};
 pub use list::Listed;
 pub use mt_memory::Memory;
 pub use name::Name;
 pub use row::{Row, Second};
-pub use rules::Rules;
+pub use rules::{RuleName, Rules};
 pub use words::Words;

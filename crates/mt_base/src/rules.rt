@@ -1,4 +1,52 @@
-ghost use Rattle.std.specs.Prelude.{◌≡◌};
+ghost use Rattle.std.specs.Prelude.{◌≡◌, ◌↔◌, pos, IsOk};
+ghost use Rattle.mt_base.specs.Checks.{check};
+ghost use Rattle.mt_base.specs.Rules.{is_within};
+
+/// The name of a rule.
+#[derive(Clone, Copy, PartialEq, Eq)]
+pub enum RuleName {
+    Sh,
+    Sv,
+    R0,
+    Gh,
+    Rmax,
+    W0,
+    Gv,
+    Wmax,
+    Tc,
+    Ta,
+    Tv,
+    Flights,
+    History,
+}
+
+fn is_within(low: i64, high: i64, rule: i64) -> bool
+    ensures { result ≡ is_within low high rule }
+{
+    low <= rule && rule <= high
+}
+
+// Whether a rule is within constant bounds.
+#[tactic(auto, unfolding(crate::specs::Checks::check))]
+fn within(name: RuleName, rule: &i64, low: i64, high: i64) -> Result<(), RuleName>
+    ensures { result ≡ check (name, is_within low high rule.now) }
+{
+    if is_within(low, high, *rule) {
+        return Ok(());
+    }
+    Err(name)
+}
+
+// Whether a rule is at least 0 and at most another.
+#[tactic(auto, unfolding(crate::specs::Checks::check))]
+fn up_to(name: RuleName, rule: &i64, most: &i64) -> Result<(), RuleName>
+    ensures { result ≡ check (name, is_within (pos 0) most.now rule.now) }
+{
+    if is_within(0, *most, *rule) {
+        return Ok(());
+    }
+    Err(name)
+}
 
 /// The parameters of a picture. They are set before it begins and then stay.
 #[derive(Clone, Copy, PartialEq, Eq)]
@@ -33,7 +81,8 @@ pub struct Rules {
 
 impl Rules {
     ghost use Rattle.mt_base.specs.Bounds.{AreWithinBounds};
-    ghost use Rattle.mt_base.specs.Rules.{usual_rules};
+    ghost use Rattle.mt_base.specs.Checks.{judged};
+    ghost use Rattle.mt_base.specs.Rules.{rule_checks, usual_rules};
 
     /// The rules of a picture for which none was set: 5 nautical miles, 1,000 feet, and margins that grow with time.
     pub fn usual() -> Rules
@@ -55,5 +104,32 @@ impl Rules {
             flights: 1_024,
             history: 4_194_304,
         }
+    }
+
+    /// Whether each rule is within its bounds; else the first, in the order of the fields, that is not.
+    pub fn check(&self) -> Result<(), RuleName>
+        ensures exact { result ≡ judged (rule_checks self.now) (tt {0}) }
+        ensures bounded { IsOk result ↔ AreWithinBounds self.now }
+    {
+        self.first_outside()
+    }
+
+    // `check`, by its table alone.
+    fn first_outside(&self) -> Result<(), RuleName>
+        ensures { result ≡ judged (rule_checks self.now) (tt {0}) }
+    {
+        within(RuleName::Sh, &self.sh, 1, 72_000)?;
+        within(RuleName::Sv, &self.sv, 1, 600_000)?;
+        up_to(RuleName::R0, &self.r0, &self.rmax)?;
+        within(RuleName::Gh, &self.gh, 0, 1_000)?;
+        within(RuleName::Rmax, &self.rmax, 0, 72_000)?;
+        up_to(RuleName::W0, &self.w0, &self.wmax)?;
+        within(RuleName::Gv, &self.gv, 0, 10_000)?;
+        within(RuleName::Wmax, &self.wmax, 0, 600_000)?;
+        within(RuleName::Tc, &self.tc, 0, 360_000)?;
+        within(RuleName::Ta, &self.ta, 0, 360_000)?;
+        within(RuleName::Tv, &self.tv, 0, 600_000)?;
+        within(RuleName::Flights, &self.flights, 1, 1_024)?;
+        within(RuleName::History, &self.history, 1, 4_194_304)
     }
 }

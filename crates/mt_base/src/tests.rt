@@ -1,4 +1,7 @@
-use crate::{Callsign, Conflict, Conflicts, Kind, Words, one_published_list_law};
+use crate::{
+    Callsign, Conflict, Conflicts, Kind, RuleName, Rules, Words, history_laws,
+    one_published_list_law,
+};
 use std::test::Fail;
 
 #[test]
@@ -69,4 +72,85 @@ fn conflicts_are_put_in_order_each_once(rt: HostRuntime) -> Result<(), Fail> {
         assert!(rt; ordered.get(place) == Some(&Some(*conflict)));
     }
     Ok(())
+}
+
+#[test]
+fn the_first_rule_outside_its_bounds_is_named(rt: HostRuntime) {
+    history_laws();
+    let usual = Rules::usual();
+    let cases = [
+        (usual, Ok(())),
+        (
+            Rules {
+                sh: 0,
+                tv: -1,
+                ..usual
+            },
+            Err(RuleName::Sh),
+        ),
+        (
+            Rules {
+                sv: 600_001,
+                ..usual
+            },
+            Err(RuleName::Sv),
+        ),
+        (Rules { r0: 9_001, ..usual }, Err(RuleName::R0)),
+        (Rules { rmax: -1, ..usual }, Err(RuleName::R0)),
+        (Rules { gh: 1_001, ..usual }, Err(RuleName::Gh)),
+        (
+            Rules {
+                rmax: 72_001,
+                ..usual
+            },
+            Err(RuleName::Rmax),
+        ),
+        (
+            Rules {
+                w0: 30_001,
+                ..usual
+            },
+            Err(RuleName::W0),
+        ),
+        (Rules { gv: -1, ..usual }, Err(RuleName::Gv)),
+        (
+            Rules {
+                wmax: 600_001,
+                ..usual
+            },
+            Err(RuleName::Wmax),
+        ),
+        (
+            Rules {
+                tc: 360_001,
+                ..usual
+            },
+            Err(RuleName::Tc),
+        ),
+        (Rules { ta: -1, ..usual }, Err(RuleName::Ta)),
+        (
+            Rules {
+                tv: 600_001,
+                ..usual
+            },
+            Err(RuleName::Tv),
+        ),
+        (
+            Rules {
+                flights: 1_025,
+                ..usual
+            },
+            Err(RuleName::Flights),
+        ),
+        (
+            Rules {
+                history: 0,
+                ..usual
+            },
+            Err(RuleName::History),
+        ),
+    ];
+    for (rules, answer) in cases {
+        assert!(rt; rules.check() == answer);
+    }
 }

@@ -1,0 +1,49 @@
+use Rattle.std.proofs.Common.{◌≡◌, ℕ, ◌+◌, ◌<◌, ◌≤◌, zero, suc, ◌⊎◌, inl, inr, ⊎_elim, List, [], ◌∷◌, ◌++◌, length, Some, Ok, refl, sym, ◌∙◌, zero-add, arith}
+use Rattle.std.proofs.Math.Seq.{take-append_seam}
+use Rattle.std.proofs.lemmas.List.{take-append-le}
+use Rattle.std.proofs.lemmas.List.Sums.{fold-append}
+use Rattle.std.proofs.lemmas.Option.{slice_get_within}
+use Rattle.std.specs.Prelude.{slice_get, fold}
+use Rattle.mt_base.specs.declared.command.Entry.{Entry}
+use Rattle.mt_base.specs.declared.rules.Rules.{Rules}
+use Rattle.mt_base.specs.History.{IsReplayable, decide, effect, state_of}
+use Rattle.mt_base.specs.Picture.{State, opening}
+
+-- a place of the front list
+pub slice_get-append_left : {X : Type 0} (xs ys : List X) (i : ℕ) → i < length xs → slice_get (xs ++ ys) i ≡ slice_get xs i
+slice_get-append_left [] ys i below = absurd (omega arith)
+slice_get-append_left (x ∷ xs) ys zero below = refl
+slice_get-append_left (x ∷ xs) ys (suc i) below = slice_get-append_left xs ys i (omega arith)
+
+-- the last element
+pub slice_get-push : {X : Type 0} (xs : List X) (y : X) (i : ℕ) (x : X) → slice_get (xs ++ y ∷ []) i ≡ Some x → (i < length xs) ⊎ ((i ≡ length xs) × (y ≡ x))
+slice_get-push [] y zero x e = inr (refl, cc)
+slice_get-push [] y (suc i) x e = cc
+slice_get-push (z ∷ zs) y zero x e = inl (omega arith)
+slice_get-push (z ∷ zs) y (suc i) x e = ⊎_elim (λ below. inl (omega arith)) (λ (at, is). inr (omega arith, is)) (slice_get-push zs y i x e)
+
+-- one entry more
+pub state_of-push : (h : List Entry) (e : Entry) → state_of (h ++ e ∷ []) ≡ effect (state_of h) e
+state_of-push h e = fold-append effect opening h (e ∷ [])
+
+-- the version is the number of entries
+pub version_is : (h : List Entry) → (state_of h).version ≡ length h
+version_is h = from opening h ∙ zero-add (length h) where
+  from : (s : State) (h : List Entry) → (fold effect s h).version ≡ s.version + length h
+  from s [] = omega arith
+  from s (e ∷ es) = from (effect s e) es ∙ omega arith
+
+pub replayable_prefix : (rules : Rules) (h t : List Entry) → IsReplayable rules (h ++ t) → IsReplayable rules h
+replayable_prefix rules h t replayable i e at =
+    let below = slice_get_within h i e at in
+    let within : i ≤ length h = omega arith in
+    let decided = replayable i e (slice_get-append_left h t i below ∙ at) in
+    rw (take-append-le i h t within) at decided
+
+pub replayable_push : (rules : Rules) (h : List Entry) (e : Entry) → IsReplayable rules h → decide rules (state_of h) e.who e.command ≡ Ok e
+    → IsReplayable rules (h ++ e ∷ [])
+replayable_push rules h e replayable decided i f at = ⊎_elim
+    (λ below. let within : i ≤ length h = omega arith in
+    rw (take-append-le i h (e ∷ []) within) (replayable i f (sym (slice_get-append_left h (e ∷ []) i below) ∙ at)))
+    (λ (last, is). rw (← is, last, take-append_seam h (e ∷ [])) decided)
+    (slice_get-push h e i f at)
