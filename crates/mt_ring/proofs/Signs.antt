@@ -1,7 +1,7 @@
 -- Signs of products, and factors that go out of an order.
-use Rattle.std.proofs.Common.{◌≡◌, ◌⊎◌, inl, inr, ⊎_elim, ℤ, pos, negsuc, ◌-ℤ◌, ◌*ℤ◌, ◌≤ℤ◌, ◌<ℤ◌, unsigned_abs, arith, zero, suc}
+use Rattle.std.proofs.Common.{◌≡◌, ◌⊎◌, inl, inr, ⊎_elim, ℤ, pos, negsuc, ◌-ℤ◌, ◌+ℤ◌, ◌*ℤ◌, neg_ℤ, ◌≤ℤ◌, ◌<ℤ◌, unsigned_abs, arith, zero, suc}
 use Rattle.std.proofs.lemmas.Int.{ints}
-use Rattle.mt_ring.proofs.Ring.{lin}
+use Rattle.mt_ring.proofs.Ring.{lin, spread}
 
 -- the sign of a product from those of its factors
 pub mul_nonneg : (a b : ℤ) → pos 0 ≤ℤ a → pos 0 ≤ℤ b → pos 0 ≤ℤ (a *ℤ b)
@@ -35,6 +35,26 @@ cases_lt a b = ⊎_elim (λ h. inl (omega (arith, lin))) (λ h. inr (omega (arit
 pub as_natural : (z : ℤ) → pos 0 ≤ℤ z → z ≡ pos (unsigned_abs z)
 as_natural (pos n) h = omega (arith, ints)
 as_natural (negsuc n) h = omega (arith, ints)
+
+-- sums and negations
+pub sum_nonneg : (a b : ℤ) → pos 0 ≤ℤ a → pos 0 ≤ℤ b → pos 0 ≤ℤ (a +ℤ b)
+sum_nonneg a b h k = omega (arith, lin)
+
+pub sum_below : (a b : ℤ) → a <ℤ pos 0 → b ≤ℤ pos 0 → (a +ℤ b) <ℤ pos 0
+sum_below a b h k = omega (arith, lin)
+
+pub neg_nonneg : (a : ℤ) → a ≤ℤ pos 0 → pos 0 ≤ℤ neg_ℤ a
+neg_nonneg a h = omega (arith, lin)
+
+pub neg_below : (a : ℤ) → pos 0 <ℤ a → neg_ℤ a <ℤ pos 0
+neg_below a h = omega (arith, lin)
+
+-- a positive factor keeps a sign
+pub times_below : (k z : ℤ) → pos 0 <ℤ k → z <ℤ pos 0 → (k *ℤ z) <ℤ pos 0
+times_below k z h low = let p = mul_pos k (neg_ℤ z) h (omega (arith, lin)) in omega (arith, lin, simp spread at p)
+
+pub times_not_above : (k z : ℤ) → pos 0 <ℤ k → z ≤ℤ pos 0 → (k *ℤ z) ≤ℤ pos 0
+times_not_above k z h low = let p = mul_nonneg k (neg_ℤ z) (weaken h) (omega (arith, lin)) in omega (arith, lin, simp spread at p)
 
 -- a positive factor goes out
 pub nonneg_cancel : (k x : ℤ) → pos 0 <ℤ k → pos 0 ≤ℤ (k *ℤ x) → pos 0 ≤ℤ x

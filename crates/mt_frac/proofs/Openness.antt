@@ -1,0 +1,129 @@
+-- What is below 0 at a fraction is below 0 near it. So a half-open stretch holds an instant at which some quadratics and lines
+-- are all below 0 exactly where it holds a fraction strictly inside at which they are.
+use Rattle.std.proofs.Common.{◌≡◌, ℕ, ◌+◌, ℤ, pos, negsuc, ◌+ℤ◌, ◌-ℤ◌, ◌*ℤ◌, neg_ℤ, ◌≤ℤ◌, ◌<ℤ◌, unsigned_abs, arith}
+use Rattle.std.proofs.lemmas.Int.{ints}
+use Rattle.mt_ring.proofs.Ring.{lin, spread}
+use Rattle.mt_ring.proofs.Signs.{mul_nonneg, mul_pos, square_nonneg, weaken}
+use Rattle.mt_frac.specs.Polynomials.{value, line_value}
+use Rattle.mt_frac.proofs.Fractions.{at_most_trans}
+
+-- P holds at the fractions (k m + x)/(k e + y) from some k on: these go from x/y towards m/e
+pub record HoldsNear (P : ℤ → ℤ → Type 0) (m e x y : ℤ) : Type 0 where
+  pub from : ℕ
+  pub holds : (k : ℤ) → pos from <ℤ k → P (k *ℤ m +ℤ x) (k *ℤ e +ℤ y)
+
+-- P holds at some fraction strictly between m/e and x/y
+pub record HoldsInside (P : ℤ → ℤ → Type 0) (m e x y : ℤ) : Type 0 where
+  pub n : ℤ
+  pub d : ℤ
+  pub positive : pos 0 <ℤ d
+  pub after : (m *ℤ d) <ℤ (n *ℤ e)
+  pub until : (n *ℤ y) <ℤ (x *ℤ d)
+  pub holds : P n d
+
+at_most_size : (z : ℤ) → z ≤ℤ pos (unsigned_abs z)
+at_most_size (pos n) = omega (arith, ints)
+at_most_size (negsuc n) = omega (arith, ints)
+
+-- a polynomial in k with a leading coefficient below 0 is below 0 for a great k
+far_linear : (p r k : ℤ) (v : ℕ) → p <ℤ pos 0 → r ≤ℤ pos v → pos v <ℤ k → (k *ℤ p +ℤ r) <ℤ pos 0
+far_linear p r k v p- hr h =
+    let q = mul_nonneg k (neg_ℤ p -ℤ pos 1) (omega (arith, lin)) (omega (arith, lin)) in
+    simp spread (omega (arith, lin, simp spread at q))
+
+far_square : (p b r k : ℤ) (u v : ℕ) → p <ℤ pos 0 → b ≤ℤ pos u → r ≤ℤ pos v → (pos u +ℤ pos v) <ℤ k → (k *ℤ k *ℤ p +ℤ k *ℤ b +ℤ r) <ℤ pos 0
+far_square p b r k u v p- hb hr h =
+    let q1 = mul_nonneg (k *ℤ k) (neg_ℤ p -ℤ pos 1) (square_nonneg k) (omega (arith, lin)) in
+    let q2 = mul_nonneg k (pos u -ℤ b) (omega (arith, lin)) (omega (arith, lin)) in
+    let q3 = mul_nonneg k (k -ℤ pos u -ℤ pos v -ℤ pos 1) (omega (arith, lin)) (omega (arith, lin)) in
+    let q4 = mul_nonneg (k -ℤ pos 1) (pos v) (omega (arith, lin)) (omega (arith, lin)) in
+    simp spread (omega (arith, lin, simp spread at q1, simp spread at q2, simp spread at q3, simp spread at q4))
+
+value_near : (a b c k m e x y : ℤ) → value a b c (k *ℤ m +ℤ x) (k *ℤ e +ℤ y) ≡ k *ℤ k *ℤ value a b c m e +ℤ k *ℤ (pos 2 *ℤ a *ℤ m *ℤ x +ℤ b *ℤ (m *ℤ y +ℤ x *ℤ e) +ℤ pos 2 *ℤ c *ℤ e *ℤ y) +ℤ value a b c x y
+value_near a b c k m e x y = simp spread (omega (arith, lin))
+
+line_near : (b c k m e x y : ℤ) → line_value b c (k *ℤ m +ℤ x) (k *ℤ e +ℤ y) ≡ k *ℤ line_value b c m e +ℤ line_value b c x y
+line_near b c k m e x y = simp spread (omega (arith, lin))
+
+-- a quadratic, or a line, that is below 0 at m/e is so near it
+pub near_value : (a b c m e x y : ℤ) → value a b c m e <ℤ pos 0 → HoldsNear (λ n d. value a b c n d <ℤ pos 0) m e x y
+near_value a b c m e x y low =
+    let mixed = pos 2 *ℤ a *ℤ m *ℤ x +ℤ b *ℤ (m *ℤ y +ℤ x *ℤ e) +ℤ pos 2 *ℤ c *ℤ e *ℤ y in
+    record {
+      from = unsigned_abs mixed + unsigned_abs (value a b c x y);
+      holds = λ k h. rw (value_near a b c k m e x y) (far_square (value a b c m e) mixed (value a b c x y) k _ _ low
+        (at_most_size mixed) (at_most_size (value a b c x y)) (omega (arith, lin)));
+    }
+
+pub near_line : (b c m e x y : ℤ) → line_value b c m e <ℤ pos 0 → HoldsNear (λ n d. line_value b c n d <ℤ pos 0) m e x y
+near_line b c m e x y low = record {
+  from = unsigned_abs (line_value b c x y);
+  holds = λ k h. rw (line_near b c k m e x y) (far_linear (line_value b c m e) (line_value b c x y) k _ low (at_most_size (line_value b c x y)) h);
+}
+
+-- what holds near a fraction one by one holds near it together
+pub near_both : {P Q : ℤ → ℤ → Type 0} {m e x y : ℤ} → HoldsNear P m e x y → HoldsNear Q m e x y → HoldsNear (λ n d. P n d × Q n d) m e x y
+near_both f g = record {
+  from = f.from + g.from;
+  holds = λ k h. (f.holds k (omega (arith, lin)), g.holds k (omega (arith, lin)));
+}
+
+-- (k m + x)/(k e + y) lies strictly between m/e and x/y
+near_after : (k m e x y : ℤ) → (m *ℤ y) <ℤ (x *ℤ e) → (m *ℤ (k *ℤ e +ℤ y)) <ℤ ((k *ℤ m +ℤ x) *ℤ e)
+near_after k m e x y h = simp spread (omega (arith, lin, simp spread at h))
+
+near_until : (k m e x y : ℤ) → pos 0 <ℤ k → (m *ℤ y) <ℤ (x *ℤ e) → ((k *ℤ m +ℤ x) *ℤ y) <ℤ (x *ℤ (k *ℤ e +ℤ y))
+near_until k m e x y k+ h =
+    let p = mul_pos k (x *ℤ e -ℤ m *ℤ y) k+ (omega (arith, lin)) in
+    simp spread (omega (arith, lin, simp spread at p))
+
+near_positive : (k e y : ℤ) → pos 0 <ℤ k → pos 0 <ℤ e → pos 0 <ℤ y → pos 0 <ℤ (k *ℤ e +ℤ y)
+near_positive k e y k+ e+ y+ = let q = mul_pos k e k+ e+ in omega (arith, lin)
+
+end_after : (k m e x y : ℤ) → pos 0 <ℤ k → (m *ℤ y) <ℤ (x *ℤ e) → (m *ℤ (k *ℤ y +ℤ e)) <ℤ ((k *ℤ x +ℤ m) *ℤ e)
+end_after k m e x y k+ h =
+    let p = mul_pos k (x *ℤ e -ℤ m *ℤ y) k+ (omega (arith, lin)) in
+    simp spread (omega (arith, lin, simp spread at p))
+
+end_until : (k m e x y : ℤ) → (m *ℤ y) <ℤ (x *ℤ e) → ((k *ℤ x +ℤ m) *ℤ y) <ℤ (x *ℤ (k *ℤ y +ℤ e))
+end_until k m e x y h = simp spread (omega (arith, lin, simp spread at h))
+
+-- near the lower end, or the upper one, is strictly inside
+pub inside_at_start : (P : ℤ → ℤ → Type 0) (m e x y : ℤ) → pos 0 <ℤ e → pos 0 <ℤ y → (m *ℤ y) <ℤ (x *ℤ e) → HoldsNear P m e x y → HoldsInside P m e x y
+inside_at_start P m e x y e+ y+ h near =
+    let k = pos (near.from + 1) in
+    let k+ : pos 0 <ℤ k = omega (arith, ints) in
+    record {
+      n = k *ℤ m +ℤ x;
+      d = k *ℤ e +ℤ y;
+      positive = near_positive k e y k+ e+ y+;
+      after = near_after k m e x y h;
+      until = near_until k m e x y k+ h;
+      holds = near.holds k (omega (arith, ints));
+    }
+
+pub inside_at_end : (P : ℤ → ℤ → Type 0) (m e x y : ℤ) → pos 0 <ℤ e → pos 0 <ℤ y → (m *ℤ y) <ℤ (x *ℤ e) → HoldsNear P x y m e → HoldsInside P m e x y
+inside_at_end P m e x y e+ y+ h near =
+    let k = pos (near.from + 1) in
+    let k+ : pos 0 <ℤ k = omega (arith, ints) in
+    record {
+      n = k *ℤ x +ℤ m;
+      d = k *ℤ y +ℤ e;
+      positive = near_positive k y e k+ y+ e+;
+      after = end_after k m e x y k+ h;
+      until = end_until k m e x y h;
+      holds = near.holds k (omega (arith, ints));
+    }
+
+-- the half-open stretch from m/e to x/y: of an instant n/d that is at or after its start
+pub half_open : (P : ℤ → ℤ → Type 0) (m e n d x y : ℤ) → pos 0 <ℤ e → pos 0 <ℤ d → pos 0 <ℤ y → (m *ℤ d) ≤ℤ (n *ℤ e) → (n *ℤ y) <ℤ (x *ℤ d) → HoldsNear P n d x y → HoldsInside P m e x y
+half_open P m e n d x y e+ d+ y+ h l near =
+    let inside = inside_at_start P n d x y d+ y+ l near in
+    record {
+      n = inside.n;
+      d = inside.d;
+      positive = inside.positive;
+      after = at_most_trans m e n d inside.n inside.d e+ d+ inside.positive h inside.after;
+      until = inside.until;
+      holds = inside.holds;
+    }

@@ -1,0 +1,159 @@
+-- The sums and products of each function fit 128 bits.
+use Rattle.std.proofs.Common.{◌≡◌, ℕ, ◌<◌, ◌^◌, ℤ, pos, ◌+ℤ◌, ◌-ℤ◌, ◌*ℤ◌, ◌≤ℤ◌, ◌<ℤ◌, unsigned_abs, FitsSigned, arith, lit<}
+use Rattle.std.proofs.lemmas.Int.{ints}
+use mir.Syntax.{w128}
+use Rattle.mt_ring.proofs.Sizes.{Abs, abs_from, abs_lit, abs_add, abs_sub, abs_mul, fits_128}
+
+-- a positive number below m is at most m in size
+within : (m : ℕ) (d : ℤ) → pos 1 ≤ℤ d → d <ℤ pos m → Abs m d
+within m d d+ h = record { low = omega (arith, ints); high = omega (arith, ints) }
+
+at_most : (m : ℕ) (z : ℤ) → unsigned_abs z < m → Abs m z
+at_most m z h = abs_from m z (omega arith)
+
+-- a n n + b n d + c d d
+pub record ValueFits (a b c n d : ℤ) : Type 0 where
+  pub fits_a : FitsSigned w128 a
+  pub fits_b : FitsSigned w128 b
+  pub fits_c : FitsSigned w128 c
+  pub fits_n : FitsSigned w128 n
+  pub fits_d : FitsSigned w128 d
+  pub fits_an : FitsSigned w128 (a *ℤ n)
+  pub fits_ann : FitsSigned w128 (a *ℤ n *ℤ n)
+  pub fits_bn : FitsSigned w128 (b *ℤ n)
+  pub fits_bnd : FitsSigned w128 (b *ℤ n *ℤ d)
+  pub fits_cd : FitsSigned w128 (c *ℤ d)
+  pub fits_cdd : FitsSigned w128 (c *ℤ d *ℤ d)
+  pub fits_two : FitsSigned w128 (a *ℤ n *ℤ n +ℤ b *ℤ n *ℤ d)
+  pub fits_all : FitsSigned w128 (a *ℤ n *ℤ n +ℤ b *ℤ n *ℤ d +ℤ c *ℤ d *ℤ d)
+
+pub value_fits : (a b c n d : ℤ) → unsigned_abs a < 2 ^ 26 → unsigned_abs b < 2 ^ 40 → unsigned_abs c < 2 ^ 50 → unsigned_abs n < 2 ^ 32 → pos 1 ≤ℤ d → d <ℤ pos (2 ^ 18) → ValueFits a b c n d
+value_fits a b c n d ha hb hc hn d+ hd =
+    let ka = at_most (2 ^ 26) a ha in
+    let kb = at_most (2 ^ 40) b hb in
+    let kc = at_most (2 ^ 50) c hc in
+    let kn = at_most (2 ^ 32) n hn in
+    let kd = within (2 ^ 18) d d+ hd in
+    let ann = abs_mul (abs_mul ka kn) kn in
+    let bnd = abs_mul (abs_mul kb kn) kd in
+    let cdd = abs_mul (abs_mul kc kd) kd in
+    record {
+      fits_a = fits_128 ka (lit< tt);
+      fits_b = fits_128 kb (lit< tt);
+      fits_c = fits_128 kc (lit< tt);
+      fits_n = fits_128 kn (lit< tt);
+      fits_d = fits_128 kd (lit< tt);
+      fits_an = fits_128 (abs_mul ka kn) (lit< tt);
+      fits_ann = fits_128 ann (lit< tt);
+      fits_bn = fits_128 (abs_mul kb kn) (lit< tt);
+      fits_bnd = fits_128 bnd (lit< tt);
+      fits_cd = fits_128 (abs_mul kc kd) (lit< tt);
+      fits_cdd = fits_128 cdd (lit< tt);
+      fits_two = fits_128 (abs_add ann bnd) (lit< tt);
+      fits_all = fits_128 (abs_add (abs_add ann bnd) cdd) (lit< tt);
+    }
+
+-- 2 a n + b d
+pub record SlopeFits (a b n d : ℤ) : Type 0 where
+  pub fits_a : FitsSigned w128 a
+  pub fits_b : FitsSigned w128 b
+  pub fits_n : FitsSigned w128 n
+  pub fits_d : FitsSigned w128 d
+  pub fits_2a : FitsSigned w128 (pos 2 *ℤ a)
+  pub fits_2an : FitsSigned w128 (pos 2 *ℤ a *ℤ n)
+  pub fits_bd : FitsSigned w128 (b *ℤ d)
+  pub fits_all : FitsSigned w128 (pos 2 *ℤ a *ℤ n +ℤ b *ℤ d)
+
+pub slope_fits : (a b n d : ℤ) → unsigned_abs a < 2 ^ 26 → unsigned_abs b < 2 ^ 40 → unsigned_abs n < 2 ^ 32 → pos 1 ≤ℤ d → d <ℤ pos (2 ^ 18) → SlopeFits a b n d
+slope_fits a b n d ha hb hn d+ hd =
+    let ka = at_most (2 ^ 26) a ha in
+    let kb = at_most (2 ^ 40) b hb in
+    let kn = at_most (2 ^ 32) n hn in
+    let kd = within (2 ^ 18) d d+ hd in
+    let twice = abs_mul (abs_lit 2) ka in
+    record {
+      fits_a = fits_128 ka (lit< tt);
+      fits_b = fits_128 kb (lit< tt);
+      fits_n = fits_128 kn (lit< tt);
+      fits_d = fits_128 kd (lit< tt);
+      fits_2a = fits_128 twice (lit< tt);
+      fits_2an = fits_128 (abs_mul twice kn) (lit< tt);
+      fits_bd = fits_128 (abs_mul kb kd) (lit< tt);
+      fits_all = fits_128 (abs_add (abs_mul twice kn) (abs_mul kb kd)) (lit< tt);
+    }
+
+-- b b - 4 a c
+pub record DiscriminantFits (a b c : ℤ) : Type 0 where
+  pub fits_a : FitsSigned w128 a
+  pub fits_b : FitsSigned w128 b
+  pub fits_c : FitsSigned w128 c
+  pub fits_bb : FitsSigned w128 (b *ℤ b)
+  pub fits_4a : FitsSigned w128 (pos 4 *ℤ a)
+  pub fits_4ac : FitsSigned w128 (pos 4 *ℤ a *ℤ c)
+  pub fits_all : FitsSigned w128 (b *ℤ b -ℤ pos 4 *ℤ a *ℤ c)
+
+pub discriminant_fits : (a b c : ℤ) → unsigned_abs a < 2 ^ 26 → unsigned_abs b < 2 ^ 40 → unsigned_abs c < 2 ^ 50 → DiscriminantFits a b c
+discriminant_fits a b c ha hb hc =
+    let ka = at_most (2 ^ 26) a ha in
+    let kb = at_most (2 ^ 40) b hb in
+    let kc = at_most (2 ^ 50) c hc in
+    let fourfold = abs_mul (abs_lit 4) ka in
+    record {
+      fits_a = fits_128 ka (lit< tt);
+      fits_b = fits_128 kb (lit< tt);
+      fits_c = fits_128 kc (lit< tt);
+      fits_bb = fits_128 (abs_mul kb kb) (lit< tt);
+      fits_4a = fits_128 fourfold (lit< tt);
+      fits_4ac = fits_128 (abs_mul fourfold kc) (lit< tt);
+      fits_all = fits_128 (abs_sub (abs_mul kb kb) (abs_mul fourfold kc)) (lit< tt);
+    }
+
+-- b n + c d
+pub record LineFits (b c n d : ℤ) : Type 0 where
+  pub fits_b : FitsSigned w128 b
+  pub fits_c : FitsSigned w128 c
+  pub fits_n : FitsSigned w128 n
+  pub fits_d : FitsSigned w128 d
+  pub fits_bn : FitsSigned w128 (b *ℤ n)
+  pub fits_cd : FitsSigned w128 (c *ℤ d)
+  pub fits_all : FitsSigned w128 (b *ℤ n +ℤ c *ℤ d)
+
+pub line_fits : (b c n d : ℤ) → unsigned_abs b < 2 ^ 18 → unsigned_abs c < 2 ^ 32 → unsigned_abs n < 2 ^ 32 → pos 1 ≤ℤ d → d <ℤ pos (2 ^ 18) → LineFits b c n d
+line_fits b c n d hb hc hn d+ hd =
+    let kb = at_most (2 ^ 18) b hb in
+    let kc = at_most (2 ^ 32) c hc in
+    let kn = at_most (2 ^ 32) n hn in
+    let kd = within (2 ^ 18) d d+ hd in
+    record {
+      fits_b = fits_128 kb (lit< tt);
+      fits_c = fits_128 kc (lit< tt);
+      fits_n = fits_128 kn (lit< tt);
+      fits_d = fits_128 kd (lit< tt);
+      fits_bn = fits_128 (abs_mul kb kn) (lit< tt);
+      fits_cd = fits_128 (abs_mul kc kd) (lit< tt);
+      fits_all = fits_128 (abs_add (abs_mul kb kn) (abs_mul kc kd)) (lit< tt);
+    }
+
+-- the cross products m d and n e
+pub record CrossFits (m e n d : ℤ) : Type 0 where
+  pub fits_m : FitsSigned w128 m
+  pub fits_e : FitsSigned w128 e
+  pub fits_n : FitsSigned w128 n
+  pub fits_d : FitsSigned w128 d
+  pub fits_md : FitsSigned w128 (m *ℤ d)
+  pub fits_ne : FitsSigned w128 (n *ℤ e)
+
+pub cross_fits : (m e n d : ℤ) → unsigned_abs m < 2 ^ 32 → pos 1 ≤ℤ e → e <ℤ pos (2 ^ 18) → unsigned_abs n < 2 ^ 32 → pos 1 ≤ℤ d → d <ℤ pos (2 ^ 18) → CrossFits m e n d
+cross_fits m e n d hm e+ he hn d+ hd =
+    let km = at_most (2 ^ 32) m hm in
+    let ke = within (2 ^ 18) e e+ he in
+    let kn = at_most (2 ^ 32) n hn in
+    let kd = within (2 ^ 18) d d+ hd in
+    record {
+      fits_m = fits_128 km (lit< tt);
+      fits_e = fits_128 ke (lit< tt);
+      fits_n = fits_128 kn (lit< tt);
+      fits_d = fits_128 kd (lit< tt);
+      fits_md = fits_128 (abs_mul km kd) (lit< tt);
+      fits_ne = fits_128 (abs_mul kn ke) (lit< tt);
+    }

@@ -1,0 +1,3 @@
+pub mod FractionOrder
+pub mod Polynomials
+pub mod Signs
