@@ -33,7 +33,7 @@ concave_above a b c n d m e x y a- d+ e+ y+ l r low high =
     let p2 = mul_nonneg _ (value a b c x y) (weaken (mul_pos _ _ (mul_pos d e d+ e+) s)) high in
     let p3 = mul_nonneg (neg_ℤ a) _ (omega (arith, lin)) (weaken (mul_pos _ _ (mul_pos _ _ s t) w)) in
     nonneg_cancel ((x *ℤ e -ℤ m *ℤ y) *ℤ (e *ℤ y)) (value a b c n d) (mul_pos _ _ w (mul_pos e y e+ y+))
-      (rw (chord a b c n d m e x y) (sum_nonneg _ _ (sum_nonneg _ _ p1 p2) p3))
+    (rw (chord a b c n d m e x y) (sum_nonneg _ _ (sum_nonneg _ _ p1 p2) p3))
 
 -- it opens upwards and doesn't fall at the lower end, or doesn't rise at the upper one
 pub rising_above : (a b c n d m e : ℤ) → pos 0 <ℤ a → pos 0 <ℤ d → pos 0 <ℤ e → (m *ℤ d) <ℤ (n *ℤ e) → pos 0 ≤ℤ slope a b m e → pos 0 ≤ℤ value a b c m e → pos 0 ≤ℤ value a b c n d

@@ -4,4 +4,4 @@ pub mod Openness
 mod Overflow
 mod Convexity
 mod Parts
-mod Tests
+mod Comparisons

@@ -1,6 +1,7 @@
 -- What is below 0 at a fraction is below 0 near it. So a half-open stretch holds an instant at which some quadratics and lines
--- are all below 0 exactly where it holds a fraction strictly inside at which they are.
-use Rattle.std.proofs.Common.{◌≡◌, ℕ, ◌+◌, ℤ, pos, negsuc, ◌+ℤ◌, ◌-ℤ◌, ◌*ℤ◌, neg_ℤ, ◌≤ℤ◌, ◌<ℤ◌, unsigned_abs, arith}
+-- are all below 0 exactly where it holds a fraction strictly inside at which they are (`half_open`).
+-- Conditions on a fraction n/d are functions P of n and d.
+use Rattle.std.proofs.Common.{◌≡◌, ℕ, ◌+◌, ℤ, pos, negsuc, ◌+ℤ◌, ◌-ℤ◌, ◌*ℤ◌, neg_ℤ, ◌≤ℤ◌, ◌<ℤ◌, unsigned_abs, ◌↔◌, arith}
 use Rattle.std.proofs.lemmas.Int.{ints}
 use Rattle.mt_ring.proofs.Ring.{lin, spread}
 use Rattle.mt_ring.proofs.Signs.{mul_nonneg, mul_pos, square_nonneg, weaken}
@@ -12,12 +13,25 @@ pub record HoldsNear (P : ℤ → ℤ → Type 0) (m e x y : ℤ) : Type 0 where
   pub from : ℕ
   pub holds : (k : ℤ) → pos from <ℤ k → P (k *ℤ m +ℤ x) (k *ℤ e +ℤ y)
 
+-- wherever P holds it holds near
+pub record IsOpen (P : ℤ → ℤ → Type 0) : Type 0 where
+  pub near : (m e x y : ℤ) → P m e → HoldsNear P m e x y
+
 -- P holds at some fraction strictly between m/e and x/y
 pub record HoldsInside (P : ℤ → ℤ → Type 0) (m e x y : ℤ) : Type 0 where
   pub n : ℤ
   pub d : ℤ
   pub positive : pos 0 <ℤ d
   pub after : (m *ℤ d) <ℤ (n *ℤ e)
+  pub until : (n *ℤ y) <ℤ (x *ℤ d)
+  pub holds : P n d
+
+-- P holds at some instant of the stretch from m/e to x/y, its start included
+pub record HoldsFrom (P : ℤ → ℤ → Type 0) (m e x y : ℤ) : Type 0 where
+  pub n : ℤ
+  pub d : ℤ
+  pub positive : pos 0 <ℤ d
+  pub begun : (m *ℤ d) ≤ℤ (n *ℤ e)
   pub until : (n *ℤ y) <ℤ (x *ℤ d)
   pub holds : P n d
 
@@ -45,27 +59,43 @@ value_near a b c k m e x y = simp spread (omega (arith, lin))
 line_near : (b c k m e x y : ℤ) → line_value b c (k *ℤ m +ℤ x) (k *ℤ e +ℤ y) ≡ k *ℤ line_value b c m e +ℤ line_value b c x y
 line_near b c k m e x y = simp spread (omega (arith, lin))
 
--- a quadratic, or a line, that is below 0 at m/e is so near it
-pub near_value : (a b c m e x y : ℤ) → value a b c m e <ℤ pos 0 → HoldsNear (λ n d. value a b c n d <ℤ pos 0) m e x y
-near_value a b c m e x y low =
-    let mixed = pos 2 *ℤ a *ℤ m *ℤ x +ℤ b *ℤ (m *ℤ y +ℤ x *ℤ e) +ℤ pos 2 *ℤ c *ℤ e *ℤ y in
-    record {
-      from = unsigned_abs mixed + unsigned_abs (value a b c x y);
-      holds = λ k h. rw (value_near a b c k m e x y) (far_square (value a b c m e) mixed (value a b c x y) k _ _ low
-        (at_most_size mixed) (at_most_size (value a b c x y)) (omega (arith, lin)));
-    }
-
-pub near_line : (b c m e x y : ℤ) → line_value b c m e <ℤ pos 0 → HoldsNear (λ n d. line_value b c n d <ℤ pos 0) m e x y
-near_line b c m e x y low = record {
-  from = unsigned_abs (line_value b c x y);
-  holds = λ k h. rw (line_near b c k m e x y) (far_linear (line_value b c m e) (line_value b c x y) k _ low (at_most_size (line_value b c x y)) h);
+-- that a quadratic, or a line, is below 0 is open
+pub value_is_open : (a b c : ℤ) → IsOpen (λ n d. value a b c n d <ℤ pos 0)
+value_is_open a b c = record {
+  near = λ m e x y low.
+      let middle = pos 2 *ℤ a *ℤ m *ℤ x +ℤ b *ℤ (m *ℤ y +ℤ x *ℤ e) +ℤ pos 2 *ℤ c *ℤ e *ℤ y in
+      record {
+        from = unsigned_abs middle + unsigned_abs (value a b c x y);
+        holds = λ k h. rw (value_near a b c k m e x y) (far_square (value a b c m e) middle (value a b c x y) k _ _ low
+            (at_most_size middle) (at_most_size (value a b c x y)) (omega (arith, lin)));
+      };
 }
 
--- what holds near a fraction one by one holds near it together
-pub near_both : {P Q : ℤ → ℤ → Type 0} {m e x y : ℤ} → HoldsNear P m e x y → HoldsNear Q m e x y → HoldsNear (λ n d. P n d × Q n d) m e x y
-near_both f g = record {
-  from = f.from + g.from;
-  holds = λ k h. (f.holds k (omega (arith, lin)), g.holds k (omega (arith, lin)));
+pub line_is_open : (b c : ℤ) → IsOpen (λ n d. line_value b c n d <ℤ pos 0)
+line_is_open b c = record {
+  near = λ m e x y low. record {
+    from = unsigned_abs (line_value b c x y);
+    holds = λ k h. rw (line_near b c k m e x y) (far_linear (line_value b c m e) (line_value b c x y) k _ low (at_most_size (line_value b c x y)) h);
+  };
+}
+
+-- two open conditions together, and another form of an open condition
+pub both_open : (P Q : ℤ → ℤ → Type 0) → IsOpen P → IsOpen Q → IsOpen (λ n d. P n d × Q n d)
+both_open P Q p q = record {
+  near = λ m e x y h.
+      let f = p.near m e x y h.0 in
+      let g = q.near m e x y h.1 in
+      record {
+        from = f.from + g.from;
+        holds = λ k far. (f.holds k (omega (arith, lin)), g.holds k (omega (arith, lin)));
+      };
+}
+
+pub same_open : (P Q : ℤ → ℤ → Type 0) → ((n d : ℤ) → P n d ↔ Q n d) → IsOpen P → IsOpen Q
+same_open P Q same p = record {
+  near = λ m e x y h.
+      let f = p.near m e x y ((same m e).1 h) in
+      record { from = f.from; holds = λ k far. (same (k *ℤ m +ℤ x) (k *ℤ e +ℤ y)).0 (f.holds k far) };
 }
 
 -- (k m + x)/(k e + y) lies strictly between m/e and x/y
@@ -115,15 +145,25 @@ inside_at_end P m e x y e+ y+ h near =
       holds = near.holds k (omega (arith, ints));
     }
 
--- the half-open stretch from m/e to x/y: of an instant n/d that is at or after its start
-pub half_open : (P : ℤ → ℤ → Type 0) (m e n d x y : ℤ) → pos 0 <ℤ e → pos 0 <ℤ d → pos 0 <ℤ y → (m *ℤ d) ≤ℤ (n *ℤ e) → (n *ℤ y) <ℤ (x *ℤ d) → HoldsNear P n d x y → HoldsInside P m e x y
-half_open P m e n d x y e+ d+ y+ h l near =
-    let inside = inside_at_start P n d x y d+ y+ l near in
-    record {
-      n = inside.n;
-      d = inside.d;
-      positive = inside.positive;
-      after = at_most_trans m e n d inside.n inside.d e+ d+ inside.positive h inside.after;
-      until = inside.until;
-      holds = inside.holds;
-    }
+-- an open condition holds at some instant of a half-open stretch exactly where it does at a fraction strictly inside
+pub half_open : (P : ℤ → ℤ → Type 0) (m e x y : ℤ) → pos 0 <ℤ e → pos 0 <ℤ y → IsOpen P → HoldsFrom P m e x y ↔ HoldsInside P m e x y
+half_open P m e x y e+ y+ open_p = (
+  (λ at.
+      let some = inside_at_start P at.n at.d x y at.positive y+ at.until (open_p.near at.n at.d x y at.holds) in
+      record {
+        n = some.n;
+        d = some.d;
+        positive = some.positive;
+        after = at_most_trans m e at.n at.d some.n some.d e+ at.positive some.positive at.begun some.after;
+        until = some.until;
+        holds = some.holds;
+      }),
+  (λ some. record {
+    n = some.n;
+    d = some.d;
+    positive = some.positive;
+    begun = weaken some.after;
+    until = some.until;
+    holds = some.holds;
+  }),
+)

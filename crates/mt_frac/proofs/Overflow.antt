@@ -1,7 +1,11 @@
 -- The sums and products of each function fit 128 bits.
-use Rattle.std.proofs.Common.{◌≡◌, ℕ, ◌<◌, ◌^◌, ℤ, pos, ◌+ℤ◌, ◌-ℤ◌, ◌*ℤ◌, ◌≤ℤ◌, ◌<ℤ◌, unsigned_abs, FitsSigned, arith, lit<}
+use Rattle.std.proofs.Common.{ℕ, ◌<◌, ◌^◌, ℤ, pos, ◌+ℤ◌, ◌-ℤ◌, ◌*ℤ◌, ◌≤ℤ◌, ◌<ℤ◌, unsigned_abs, FitsSigned, arith, lit<}
 use Rattle.std.proofs.lemmas.Int.{ints}
 use mir.Syntax.{w128}
+use Rattle.mt_frac.specs.declared.fraction.Frac.{Frac}
+use Rattle.mt_frac.specs.declared.quadratic.Quad.{Quad}
+use Rattle.mt_frac.specs.declared.linear.Line.{Line}
+use Rattle.mt_frac.specs.Signs.{IsBoundedQuad, IsBoundedLine}
 use Rattle.mt_ring.proofs.Sizes.{Abs, abs_from, abs_lit, abs_add, abs_sub, abs_mul, fits_128}
 
 -- a positive number below m is at most m in size
@@ -27,13 +31,13 @@ pub record ValueFits (a b c n d : ℤ) : Type 0 where
   pub fits_two : FitsSigned w128 (a *ℤ n *ℤ n +ℤ b *ℤ n *ℤ d)
   pub fits_all : FitsSigned w128 (a *ℤ n *ℤ n +ℤ b *ℤ n *ℤ d +ℤ c *ℤ d *ℤ d)
 
-pub value_fits : (a b c n d : ℤ) → unsigned_abs a < 2 ^ 26 → unsigned_abs b < 2 ^ 40 → unsigned_abs c < 2 ^ 50 → unsigned_abs n < 2 ^ 32 → pos 1 ≤ℤ d → d <ℤ pos (2 ^ 18) → ValueFits a b c n d
-value_fits a b c n d ha hb hc hn d+ hd =
-    let ka = at_most (2 ^ 26) a ha in
-    let kb = at_most (2 ^ 40) b hb in
-    let kc = at_most (2 ^ 50) c hc in
-    let kn = at_most (2 ^ 32) n hn in
-    let kd = within (2 ^ 18) d d+ hd in
+pub value_fits : (q : Quad) (at : Frac) → IsBoundedQuad q → ValueFits q.a q.b q.c at.num at.den
+value_fits q at bounds =
+    let ka = at_most (2 ^ 26) q.a bounds.a_bounded in
+    let kb = at_most (2 ^ 40) q.b bounds.b_bounded in
+    let kc = at_most (2 ^ 50) q.c bounds.c_bounded in
+    let kn = at_most (2 ^ 32) at.num at.num_bounded in
+    let kd = within (2 ^ 18) at.den at.den_positive at.den_bounded in
     let ann = abs_mul (abs_mul ka kn) kn in
     let bnd = abs_mul (abs_mul kb kn) kd in
     let cdd = abs_mul (abs_mul kc kd) kd in
@@ -64,12 +68,12 @@ pub record SlopeFits (a b n d : ℤ) : Type 0 where
   pub fits_bd : FitsSigned w128 (b *ℤ d)
   pub fits_all : FitsSigned w128 (pos 2 *ℤ a *ℤ n +ℤ b *ℤ d)
 
-pub slope_fits : (a b n d : ℤ) → unsigned_abs a < 2 ^ 26 → unsigned_abs b < 2 ^ 40 → unsigned_abs n < 2 ^ 32 → pos 1 ≤ℤ d → d <ℤ pos (2 ^ 18) → SlopeFits a b n d
-slope_fits a b n d ha hb hn d+ hd =
-    let ka = at_most (2 ^ 26) a ha in
-    let kb = at_most (2 ^ 40) b hb in
-    let kn = at_most (2 ^ 32) n hn in
-    let kd = within (2 ^ 18) d d+ hd in
+pub slope_fits : (q : Quad) (at : Frac) → IsBoundedQuad q → SlopeFits q.a q.b at.num at.den
+slope_fits q at bounds =
+    let ka = at_most (2 ^ 26) q.a bounds.a_bounded in
+    let kb = at_most (2 ^ 40) q.b bounds.b_bounded in
+    let kn = at_most (2 ^ 32) at.num at.num_bounded in
+    let kd = within (2 ^ 18) at.den at.den_positive at.den_bounded in
     let twice = abs_mul (abs_lit 2) ka in
     record {
       fits_a = fits_128 ka (lit< tt);
@@ -92,11 +96,11 @@ pub record DiscriminantFits (a b c : ℤ) : Type 0 where
   pub fits_4ac : FitsSigned w128 (pos 4 *ℤ a *ℤ c)
   pub fits_all : FitsSigned w128 (b *ℤ b -ℤ pos 4 *ℤ a *ℤ c)
 
-pub discriminant_fits : (a b c : ℤ) → unsigned_abs a < 2 ^ 26 → unsigned_abs b < 2 ^ 40 → unsigned_abs c < 2 ^ 50 → DiscriminantFits a b c
-discriminant_fits a b c ha hb hc =
-    let ka = at_most (2 ^ 26) a ha in
-    let kb = at_most (2 ^ 40) b hb in
-    let kc = at_most (2 ^ 50) c hc in
+pub discriminant_fits : (q : Quad) → IsBoundedQuad q → DiscriminantFits q.a q.b q.c
+discriminant_fits q bounds =
+    let ka = at_most (2 ^ 26) q.a bounds.a_bounded in
+    let kb = at_most (2 ^ 40) q.b bounds.b_bounded in
+    let kc = at_most (2 ^ 50) q.c bounds.c_bounded in
     let fourfold = abs_mul (abs_lit 4) ka in
     record {
       fits_a = fits_128 ka (lit< tt);
@@ -118,12 +122,12 @@ pub record LineFits (b c n d : ℤ) : Type 0 where
   pub fits_cd : FitsSigned w128 (c *ℤ d)
   pub fits_all : FitsSigned w128 (b *ℤ n +ℤ c *ℤ d)
 
-pub line_fits : (b c n d : ℤ) → unsigned_abs b < 2 ^ 18 → unsigned_abs c < 2 ^ 32 → unsigned_abs n < 2 ^ 32 → pos 1 ≤ℤ d → d <ℤ pos (2 ^ 18) → LineFits b c n d
-line_fits b c n d hb hc hn d+ hd =
-    let kb = at_most (2 ^ 18) b hb in
-    let kc = at_most (2 ^ 32) c hc in
-    let kn = at_most (2 ^ 32) n hn in
-    let kd = within (2 ^ 18) d d+ hd in
+pub line_fits : (line : Line) (at : Frac) → IsBoundedLine line → LineFits line.b line.c at.num at.den
+line_fits line at bounds =
+    let kb = at_most (2 ^ 18) line.b bounds.b_bounded in
+    let kc = at_most (2 ^ 32) line.c bounds.c_bounded in
+    let kn = at_most (2 ^ 32) at.num at.num_bounded in
+    let kd = within (2 ^ 18) at.den at.den_positive at.den_bounded in
     record {
       fits_b = fits_128 kb (lit< tt);
       fits_c = fits_128 kc (lit< tt);
@@ -143,12 +147,12 @@ pub record CrossFits (m e n d : ℤ) : Type 0 where
   pub fits_md : FitsSigned w128 (m *ℤ d)
   pub fits_ne : FitsSigned w128 (n *ℤ e)
 
-pub cross_fits : (m e n d : ℤ) → unsigned_abs m < 2 ^ 32 → pos 1 ≤ℤ e → e <ℤ pos (2 ^ 18) → unsigned_abs n < 2 ^ 32 → pos 1 ≤ℤ d → d <ℤ pos (2 ^ 18) → CrossFits m e n d
-cross_fits m e n d hm e+ he hn d+ hd =
-    let km = at_most (2 ^ 32) m hm in
-    let ke = within (2 ^ 18) e e+ he in
-    let kn = at_most (2 ^ 32) n hn in
-    let kd = within (2 ^ 18) d d+ hd in
+pub cross_fits : (f g : Frac) → CrossFits f.num f.den g.num g.den
+cross_fits f g =
+    let km = at_most (2 ^ 32) f.num f.num_bounded in
+    let ke = within (2 ^ 18) f.den f.den_positive f.den_bounded in
+    let kn = at_most (2 ^ 32) g.num g.num_bounded in
+    let kd = within (2 ^ 18) g.den g.den_positive g.den_bounded in
     record {
       fits_m = fits_128 km (lit< tt);
       fits_e = fits_128 ke (lit< tt);

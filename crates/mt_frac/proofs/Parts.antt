@@ -1,7 +1,7 @@
 -- Lines between m/e and x/y, and on both sides of their root r/s.
-use Rattle.std.proofs.Common.{◌≡◌, ◌⊎◌, ⊎_elim, ℤ, pos, ◌+ℤ◌, ◌-ℤ◌, ◌*ℤ◌, neg_ℤ, ◌≤ℤ◌, ◌<ℤ◌, arith, ap}
+use Rattle.std.proofs.Common.{◌≡◌, ⊎_elim, ℤ, pos, ◌+ℤ◌, ◌-ℤ◌, ◌*ℤ◌, neg_ℤ, ◌≤ℤ◌, ◌<ℤ◌, arith, ap}
 use Rattle.mt_ring.proofs.Ring.{lin, spread}
-use Rattle.mt_ring.proofs.Signs.{mul_nonneg, mul_pos, weaken, cases_lt, sum_nonneg, sum_below, times_below, times_not_above, nonneg_cancel, below_cancel}
+use Rattle.mt_ring.proofs.Signs.{mul_nonneg, weaken, cases_lt, sum_nonneg, sum_below, times_below, times_not_above, contrary, nonneg_cancel, below_cancel}
 use Rattle.mt_frac.specs.Polynomials.{line_value}
 use Rattle.mt_frac.proofs.Fractions.{before_trans}
 
@@ -18,9 +18,6 @@ difference_below p q h k = omega (arith, lin)
 
 difference_above : (p q : ℤ) → pos 0 ≤ℤ p → q <ℤ pos 0 → pos 0 <ℤ (p -ℤ q)
 difference_above p q h k = omega (arith, lin)
-
-contrary : (z : ℤ) → pos 0 ≤ℤ z → z <ℤ pos 0 → ⊥
-contrary z h k = omega (arith, lin)
 
 -- 0 or above at both ends
 pub both_above : (b c n d m e x y : ℤ) → pos 0 <ℤ d → pos 0 <ℤ e → pos 0 <ℤ y → (m *ℤ d) <ℤ (n *ℤ e) → (n *ℤ y) <ℤ (x *ℤ d) → pos 0 ≤ℤ line_value b c m e → pos 0 ≤ℤ line_value b c x y → pos 0 ≤ℤ line_value b c n d

@@ -1,5 +1,5 @@
 -- Where a quadratic and a line are below 0, over all fractions n/d of an open interval.
-use Rattle.std.specs.Prelude.{ℕ, ◌<◌, ◌^◌, ℤ, pos, ◌≤ℤ◌, ◌<ℤ◌, unsigned_abs, ◌↔◌, Some, None}
+use Rattle.std.specs.Prelude.{◌<◌, ◌^◌, ℤ, pos, ◌≤ℤ◌, ◌<ℤ◌, unsigned_abs, ◌↔◌, Some, None}
 use Rattle.std.specs.declared.option.Option.{Option}
 use Rattle.mt_frac.specs.declared.fraction.Frac.{Frac}
 use Rattle.mt_frac.specs.declared.quadratic.Quad.{Quad}

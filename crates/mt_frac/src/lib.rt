@@ -9,6 +9,8 @@
 mod fraction;
 mod linear;
 mod quadratic;
+#[cfg(test)]
+mod tests;
 
 pub use fraction::Frac;
 pub use linear::Line;

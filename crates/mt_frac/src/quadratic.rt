@@ -6,9 +6,8 @@ ghost use Rattle.mt_frac.specs.FractionOrder.{IsBefore};
 ghost use Rattle.mt_frac.specs.Polynomials.{value, slope, discriminant_of};
 ghost use Rattle.mt_frac.specs.Signs.{IsBoundedQuad, IsBelowZeroIn};
 
-use std::cmp::Ordering;
-
 use crate::fraction::Frac;
+use std::cmp::Ordering;
 
 /// The quadratic `a s^2 + b s + c`. Any of its coefficients may be 0.
 ///

@@ -31,6 +31,9 @@ cases_ℤ (negsuc a) = inl (omega (arith, ints))
 pub cases_lt : (a b : ℤ) → (a <ℤ b) ⊎ (b ≤ℤ a)
 cases_lt a b = ⊎_elim (λ h. inl (omega (arith, lin))) (λ h. inr (omega (arith, lin))) (cases_ℤ (a -ℤ b))
 
+pub contrary : (a : ℤ) → pos 0 ≤ℤ a → a <ℤ pos 0 → ⊥
+contrary a h k = omega (arith, lin)
+
 -- a number that isn't negative is its size
 pub as_natural : (z : ℤ) → pos 0 ≤ℤ z → z ≡ pos (unsigned_abs z)
 as_natural (pos n) h = omega (arith, ints)

@@ -1,5 +1,5 @@
 use Rattle.std.proofs.Common.{arith, ◌*ℤ◌}
-use Rattle.std.proofs.lemmas.Int.{ints, to_z-of_z}
+use Rattle.std.proofs.lemmas.Int.{to_z-of_z}
 use Rattle.std.proofs.lemmas.Cmp.{int_ranked}
 use Rattle.mt_frac.proofs.Overflow.{cross_fits}
 use Rattle.mt_frac.proofs.fraction.Frac.compare.Goals as goal
@@ -8,5 +8,5 @@ pub returns : goal.returns
 returns c =
     let f = c.args.self in
     let g = c.args.other in
-    let s = cross_fits f.num f.den g.num g.den f.num_bounded f.den_positive f.den_bounded g.num_bounded g.den_positive g.den_bounded in
+    let fits = cross_fits f g in
     int_ranked (f.num *ℤ g.den) (g.num *ℤ f.den) c.cmp.result (grind (arith, to_z-of_z))

@@ -47,7 +47,8 @@ returns-then-at_lo-ge0 c =
         (λ at. record {
           after = below_after line.b line.c root.num root.den n d root+ b- c.root.ensures at.below;
           until = at.between.until;
-        }));
+        }),
+      );
     }
 
 -- it is below 0 on the whole interval
@@ -67,7 +68,8 @@ returns-then-at_hi-le0 c =
           between = part;
           below = both_below line.b line.c n d lo.num lo.den hi.num hi.den d+ lo+ hi+ part.after part.until low high;
         }),
-        (λ at. at.between));
+        (λ at. at.between),
+      );
     }
 
 pub root-requires-2-clause-inclined : goal.root-requires-2-clause-inclined
@@ -105,5 +107,6 @@ returns c =
         (λ at. record {
           after = at.between.after;
           until = below_before line.b line.c root.num root.den n d root+ b+ c.root-2.ensures at.below;
-        }));
+        }),
+      );
     }

@@ -1,17 +1,27 @@
 use borrow.Author.Differences.{true_is_lt}
 use mir.Syntax.{w128}
 use mir.Val.{to_z, of_z}
-use Rattle.mt_ring.proofs.Signs.{cases_lt}
-use Rattle.std.proofs.Common.{⊎_elim, arith, ◌≡◌, ℤ, pos, neg_ℤ, ◌*ℤ◌, ◌<ℤ◌, ◌≤ℤ◌, Bool, true, false, refl, sym, ◌∙◌, true≢false}
+use Rattle.mt_ring.proofs.Signs.{cases_lt, contrary}
+use Rattle.std.proofs.Common.{⊎_elim, arith, pos, neg_ℤ, ◌*ℤ◌, ◌<ℤ◌, ◌≤ℤ◌, refl, sym, true≢false}
 use Rattle.std.proofs.lemmas.Int.{ints}
+use Rattle.mt_frac.specs.declared.fraction.Frac.{Frac}
+use Rattle.mt_frac.specs.declared.quadratic.Quad.{Quad}
+use Rattle.mt_frac.specs.Signs.{IsBelowZeroIn}
 use Rattle.mt_frac.specs.Polynomials.{value, slope, discriminant_of}
-use Rattle.mt_frac.proofs.Tests.{lt_yes, lt_no}
-use Rattle.mt_frac.proofs.Openness.{near_value, inside_at_start, inside_at_end}
+use Rattle.mt_frac.proofs.Comparisons.{lt_yes, lt_no}
+use Rattle.mt_frac.proofs.Openness.{HoldsInside, value_is_open, inside_at_start, inside_at_end}
 use Rattle.mt_frac.proofs.Convexity.{concave_above, rising_above, falling_above, no_roots_above, vertex_below, vertex_after, vertex_until}
 use Rattle.mt_frac.proofs.quadratic.Quad.below_zero_in.Goals as goal
 
-contrary : (z : ℤ) → pos 0 ≤ℤ z → z <ℤ pos 0 → ⊥
-contrary z h k = omega (arith, ints)
+-- a fraction strictly inside at which the quadratic is below 0 is what the contract speaks of
+is_below_in : (q : Quad) (lo hi : Frac) → HoldsInside (λ n d. value q.a q.b q.c n d <ℤ pos 0) lo.num lo.den hi.num hi.den → IsBelowZeroIn q lo hi
+is_below_in q lo hi some = record {
+  n = some.n;
+  d = some.d;
+  positive = some.positive;
+  between = record { after = some.after; until = some.until };
+  below = some.holds;
+}
 
 -- below 0 at the lower end
 pub returns-then-is_lt : goal.returns-then-is_lt
@@ -20,8 +30,8 @@ returns-then-is_lt c =
     let lo = c.args.lo in
     let hi = c.args.hi in
     let low = lt_yes (value q.a q.b q.c lo.num lo.den) (pos 0) _ _ c.sign_at.ensures c.is_lt.ensures c.if-is_lt.true in
-    let some = inside_at_start (λ n d. value q.a q.b q.c n d <ℤ pos 0) lo.num lo.den hi.num hi.den (omega (arith, ints)) (omega (arith, ints)) c.requires.ordered (near_value q.a q.b q.c lo.num lo.den hi.num hi.den low) in
-    (λ _. record { n = some.n; d = some.d; positive = some.positive; between = record { after = some.after; until = some.until }; below = some.holds }, λ _. refl)
+    let some = inside_at_start (λ n d. value q.a q.b q.c n d <ℤ pos 0) lo.num lo.den hi.num hi.den (omega (arith, ints)) (omega (arith, ints)) c.requires.ordered ((value_is_open q.a q.b q.c).near lo.num lo.den hi.num hi.den low) in
+    (λ _. is_below_in q lo hi some, λ _. refl)
 
 -- below 0 at the upper end
 pub returns-then-is_lt-2 : goal.returns-then-is_lt-2
@@ -30,8 +40,8 @@ returns-then-is_lt-2 c =
     let lo = c.args.lo in
     let hi = c.args.hi in
     let high = lt_yes (value q.a q.b q.c hi.num hi.den) (pos 0) _ _ c.sign_at-2.ensures c.is_lt-2.ensures c.if-is_lt-2.true in
-    let some = inside_at_end (λ n d. value q.a q.b q.c n d <ℤ pos 0) lo.num lo.den hi.num hi.den (omega (arith, ints)) (omega (arith, ints)) c.requires.ordered (near_value q.a q.b q.c hi.num hi.den lo.num lo.den high) in
-    (λ _. record { n = some.n; d = some.d; positive = some.positive; between = record { after = some.after; until = some.until }; below = some.holds }, λ _. refl)
+    let some = inside_at_end (λ n d. value q.a q.b q.c n d <ℤ pos 0) lo.num lo.den hi.num hi.den (omega (arith, ints)) (omega (arith, ints)) c.requires.ordered ((value_is_open q.a q.b q.c).near hi.num hi.den lo.num lo.den high) in
+    (λ _. is_below_in q lo hi some, λ _. refl)
 
 -- not below 0 at either end, and not open upwards
 pub returns-then-self-le0 : goal.returns-then-self-le0
@@ -40,27 +50,30 @@ returns-then-self-le0 c =
     let lo = c.args.lo in
     let hi = c.args.hi in
     let low = lt_no (value q.a q.b q.c lo.num lo.den) (pos 0) _ _ c.sign_at.ensures c.is_lt.ensures c.if-is_lt.false in
-    let high = lt_no (value q.a q.b q.c hi.num hi.den) (pos 0) _ _ c.sign_at-2.ensures c.is_lt-2.ensures c.if-is_lt-2.false in
-    (λ t. absurd (true≢false (sym t)),
-     λ some. absurd (contrary _ (concave_above q.a q.b q.c some.n some.d lo.num lo.den hi.num hi.den (omega (arith, ints)) some.positive (omega (arith, ints)) (omega (arith, ints)) some.between.after some.between.until low high) some.below))
+    let high = lt_no (value q.a q.b q.c hi.num hi.den) (pos 0) _ _ c.sign_at-2.ensures c.is_lt-2.ensures c.if-is_lt-2.false in (
+      λ t. absurd (true≢false (sym t)),
+      λ some. absurd (contrary _ (concave_above q.a q.b q.c some.n some.d lo.num lo.den hi.num hi.den (omega (arith, ints)) some.positive (omega (arith, ints)) (omega (arith, ints)) some.between.after some.between.until low high) some.below),
+    )
 
 pub returns-then-slope_at-ge0 : goal.returns-then-slope_at-ge0
 returns-then-slope_at-ge0 c =
     let q = c.args.self in
     let lo = c.args.lo in
     let low = lt_no (value q.a q.b q.c lo.num lo.den) (pos 0) _ _ c.sign_at.ensures c.is_lt.ensures c.if-is_lt.false in
-    let up : pos 0 ≤ℤ slope q.a q.b lo.num lo.den = omega (arith, ints) in
-    (λ t. absurd (true≢false (sym t)),
-     λ some. absurd (contrary _ (rising_above q.a q.b q.c some.n some.d lo.num lo.den (omega (arith, ints)) some.positive (omega (arith, ints)) some.between.after up low) some.below))
+    let up : pos 0 ≤ℤ slope q.a q.b lo.num lo.den = omega (arith, ints) in (
+      λ t. absurd (true≢false (sym t)),
+      λ some. absurd (contrary _ (rising_above q.a q.b q.c some.n some.d lo.num lo.den (omega (arith, ints)) some.positive (omega (arith, ints)) some.between.after up low) some.below),
+    )
 
 pub returns-then-slope_at-le0 : goal.returns-then-slope_at-le0
 returns-then-slope_at-le0 c =
     let q = c.args.self in
     let hi = c.args.hi in
     let high = lt_no (value q.a q.b q.c hi.num hi.den) (pos 0) _ _ c.sign_at-2.ensures c.is_lt-2.ensures c.if-is_lt-2.false in
-    let down : slope q.a q.b hi.num hi.den ≤ℤ pos 0 = omega (arith, ints) in
-    (λ t. absurd (true≢false (sym t)),
-     λ some. absurd (contrary _ (falling_above q.a q.b q.c some.n some.d hi.num hi.den (omega (arith, ints)) some.positive (omega (arith, ints)) some.between.until down high) some.below))
+    let down : slope q.a q.b hi.num hi.den ≤ℤ pos 0 = omega (arith, ints) in (
+      λ t. absurd (true≢false (sym t)),
+      λ some. absurd (contrary _ (falling_above q.a q.b q.c some.n some.d hi.num hi.den (omega (arith, ints)) some.positive (omega (arith, ints)) some.between.until down high) some.below),
+    )
 
 -- open upwards with the vertex strictly inside: the discriminant decides
 pub returns : goal.returns
@@ -71,13 +84,14 @@ returns c =
     let wide = discriminant_of q.a q.b q.c in
     let a+ : pos 0 <ℤ q.a = omega (arith, ints) in
     let down : slope q.a q.b lo.num lo.den <ℤ pos 0 = omega (arith, ints) in
-    let up : pos 0 <ℤ slope q.a q.b hi.num hi.den = omega (arith, ints) in
-    (λ t. let roots : pos 0 <ℤ wide = omega (arith, ints, t) in record {
-       n = neg_ℤ q.b;
-       d = pos 2 *ℤ q.a;
-       positive = omega (arith, ints);
-       between = record { after = vertex_after q.a q.b lo.num lo.den down; until = vertex_until q.a q.b hi.num hi.den up };
-       below = vertex_below q.a q.b q.c a+ roots;
-     },
-     λ some. let roots : pos 0 <ℤ wide = ⊎_elim (λ h. h) (λ h. absurd (contrary _ (no_roots_above q.a q.b q.c some.n some.d a+ h) some.below)) (cases_lt (pos 0) wide) in
-       sym (true_is_lt (pos 0) (to_z w128 (of_z w128 c.discriminant.result)) (omega (arith, ints))))
+    let up : pos 0 <ℤ slope q.a q.b hi.num hi.den = omega (arith, ints) in (
+      λ t. let roots : pos 0 <ℤ wide = omega (arith, ints, t) in record {
+        n = neg_ℤ q.b;
+        d = pos 2 *ℤ q.a;
+        positive = omega (arith, ints);
+        between = record { after = vertex_after q.a q.b lo.num lo.den down; until = vertex_until q.a q.b hi.num hi.den up };
+        below = vertex_below q.a q.b q.c a+ roots;
+      },
+      λ some. let roots : pos 0 <ℤ wide = ⊎_elim (λ h. h) (λ h. absurd (contrary _ (no_roots_above q.a q.b q.c some.n some.d a+ h) some.below)) (cases_lt (pos 0) wide) in
+          sym (true_is_lt (pos 0) (to_z w128 (of_z w128 c.discriminant.result)) (omega (arith, ints))),
+    )

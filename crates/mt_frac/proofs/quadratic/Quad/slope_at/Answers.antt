@@ -4,17 +4,7 @@ use Rattle.mt_frac.proofs.Overflow.{slope_fits}
 use Rattle.mt_frac.proofs.quadratic.Quad.slope_at.Goals as goal
 
 pub overflow_add-result : goal.overflow_add-result
-overflow_add-result c =
-    let quad = c.args.self in
-    let bounds = c.requires.coefficients in
-    let at = c.args.at in
-    let s = slope_fits quad.a quad.b at.num at.den bounds.a_bounded bounds.b_bounded at.num_bounded at.den_positive at.den_bounded in
-    grind (arith, to_z-of_z)
+overflow_add-result c = let fits = slope_fits c.args.self c.args.at c.requires.coefficients in grind (arith, to_z-of_z)
 
 pub returns : goal.returns
-returns c =
-    let quad = c.args.self in
-    let bounds = c.requires.coefficients in
-    let at = c.args.at in
-    let s = slope_fits quad.a quad.b at.num at.den bounds.a_bounded bounds.b_bounded at.num_bounded at.den_positive at.den_bounded in
-    grind (arith, to_z-of_z)
+returns c = let fits = slope_fits c.args.self c.args.at c.requires.coefficients in grind (arith, to_z-of_z)
