@@ -1,0 +1,43 @@
+-- The keys of an object, and which of them are allowed.
+use Rattle.std.specs.Prelude.{◌≡◌, ◌⊎◌, ℕ, ◌==◌, ◌&&◌, List, [], ◌∷◌, length, Contains, slice_get, Bool, false, not, Option, Some, None, Result, Ok, Err, ⊤}
+use Rattle.std.specs.List.{list_any, position, slice_split}
+use Rattle.std.specs.List.Sorted.{IsStrictlySortedBy}
+use Rattle.std.specs.Ordering.{nat_cmp}
+use Rattle.std.specs.Cmp.Lexicographic.{slice_cmp}
+use Rattle.std.specs.Str.{bytes_eq}
+use Rattle.std.specs.declared.cmp.Ordering.TheVariants.{Less}
+use Rattle.mt_json.specs.declared.bad.Extra.{Extra}
+use Rattle.serde_json.specs.Data.{Members, no_members, member}
+
+-- the keys of an object, in the order in which its members stand
+abbrev pub keys : Members → List (List ℕ)
+keys no_members = []
+keys (member k d ms) = k ∷ keys ms
+
+-- each key is below those after it, byte by byte, so that each stands once
+abbrev pub AreInByteOrder : Members → Type 0
+AreInByteOrder ms = IsStrictlySortedBy (slice_cmp nat_cmp) (keys ms)
+
+-- the key is one of the words that stand between the spaces of `allowed`; the empty text is no word
+abbrev pub is_allowed : List ℕ → List ℕ → Bool
+is_allowed allowed key = not (length key == 0) && list_any (λ word. bytes_eq word key) (slice_split (λ b. b == 32) allowed)
+
+-- no place, or the place of a key that is not allowed
+abbrev pub or_extra : Option ℕ → Result ⊤ Extra
+or_extra None = Ok (tt {0})
+or_extra (Some place) = Err (record { place = place })
+
+-- the place, from 0, of the first key that is not allowed
+abbrev pub other_at : List ℕ → Members → Option ℕ
+other_at allowed ms = position (λ key. not (is_allowed allowed key)) (keys ms)
+
+-- Ok where each key is allowed, else the place of the first that is not
+abbrev pub only_at : List ℕ → Members → Result ⊤ Extra
+only_at allowed ms = or_extra (other_at allowed ms)
+
+-- the key at the place is not allowed, and it is below each other one that is not
+pub record IsLeastOther (allowed : List ℕ) (ms : Members) (place : ℕ) : Type 0 where
+  pub key : List ℕ
+  pub stands : slice_get (keys ms) place ≡ Some key
+  pub other : is_allowed allowed key ≡ false
+  pub least : (k : List ℕ) → Contains (keys ms) k → is_allowed allowed k ≡ false → (k ≡ key) ⊎ (slice_cmp nat_cmp key k ≡ Less)

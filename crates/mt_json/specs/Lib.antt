@@ -1,0 +1,4 @@
+pub mod Keys
+pub mod Field
+pub mod Line
+pub mod Shown

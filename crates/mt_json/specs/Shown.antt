@@ -1,0 +1,13 @@
+-- What the contracts see of a `Fields` and of a `Builder`: an object's members.
+use Rattle.serde_json.specs.Data.{Members}
+use Rattle.serde_json.specs.View.{members_view}
+use Rattle.mt_json.specs.declared.fields.Fields.{Fields}
+use Rattle.mt_json.specs.declared.builder.Builder.{Builder}
+
+-- the members of the object that is looked into
+abbrev pub members : Fields → Members
+members f = members_view f.map.now.entries
+
+-- the pairs that were put in, by their keys; a key that was put in again has the last value
+abbrev pub pairs : Builder → Members
+pairs b = members_view b.map.entries
