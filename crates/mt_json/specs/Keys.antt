@@ -1,5 +1,5 @@
 -- The keys of an object, and which of them are allowed.
-use Rattle.std.specs.Prelude.{◌≡◌, ◌⊎◌, ℕ, ◌==◌, ◌&&◌, List, [], ◌∷◌, length, Contains, slice_get, Bool, false, not, Option, Some, None, Result, Ok, Err, ⊤}
+use Rattle.std.specs.Prelude.{◌≡◌, ◌⊎◌, ℕ, ◌==◌, ◌&&◌, List, [], ◌∷◌, length, All, slice_get, Bool, false, not, Option, Some, None, Result, Ok, Err, ⊤}
 use Rattle.std.specs.List.{list_any, position, slice_split}
 use Rattle.std.specs.List.Sorted.{IsStrictlySortedBy}
 use Rattle.std.specs.Ordering.{nat_cmp}
@@ -35,9 +35,9 @@ other_at allowed ms = position (λ key. not (is_allowed allowed key)) (keys ms)
 abbrev pub only_at : List ℕ → Members → Result ⊤ Extra
 only_at allowed ms = or_extra (other_at allowed ms)
 
--- the key at the place is not allowed, and it is below each other one that is not
-pub record IsLeastOther (allowed : List ℕ) (ms : Members) (place : ℕ) : Type 0 where
+-- of the keys that are not allowed, the one at the place is the least, byte by byte
+pub record IsLeastOther (allowed : List ℕ) (ks : List (List ℕ)) (place : ℕ) : Type 0 where
   pub key : List ℕ
-  pub stands : slice_get (keys ms) place ≡ Some key
+  pub stands : slice_get ks place ≡ Some key
   pub other : is_allowed allowed key ≡ false
-  pub least : (k : List ℕ) → Contains (keys ms) k → is_allowed allowed k ≡ false → (k ≡ key) ⊎ (slice_cmp nat_cmp key k ≡ Less)
+  pub least : All (λ k. is_allowed allowed k ≡ false → (k ≡ key) ⊎ (slice_cmp nat_cmp key k ≡ Less)) ks

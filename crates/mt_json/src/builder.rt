@@ -66,6 +66,8 @@ impl Builder {
         ensures line { IfOk result (λ b. IsLineOf (pairs self) b.items) }
         ensures ordered { AreInByteOrder (pairs self) }
     {
+        // The map's length tells that its keys are in order.
+        let _count = self.map.len();
         let value = Value::Object(self.map);
         let mut bytes = value.to_vec(self.alloc)?;
         bytes.push(b'\n')?;

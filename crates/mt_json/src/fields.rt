@@ -1,7 +1,7 @@
-ghost use Rattle.std.specs.Prelude.{◌≡◌, option_map, OnOk, IfErr, true, All, slice_get};
+ghost use Rattle.std.specs.Prelude.{◌≡◌, option_map, MatchOption, OnOk, IfErr, true, All, slice_get};
 ghost use Rattle.serde_json.specs.Find.{as_object, get_member};
 ghost use Rattle.serde_json.specs.View.{view, items_view};
-ghost use Rattle.mt_json.specs.Keys.{keys as keys_of, AreInByteOrder, is_allowed, only_at, IsLeastOther};
+ghost use Rattle.mt_json.specs.Keys.{keys as keys_of, AreInByteOrder, is_allowed, other_at, only_at, IsLeastOther};
 ghost use Rattle.mt_json.specs.Field.{result_map, word_at, flag_at, whole_at, list_at};
 ghost use Rattle.mt_json.specs.Shown.{members};
 
@@ -33,14 +33,10 @@ impl<'v> Fields<'v> {
         ensures allowed { OnOk result
             (All (λ k. is_allowed keys.now k ≡ true) (keys_of (members self.now))) }
         ensures least { IfErr result
-            (λ extra. IsLeastOther keys.now (members self.now) extra.place) }
+            (λ extra. IsLeastOther keys.now (keys_of (members self.now)) extra.place) }
         ensures ordered { AreInByteOrder (members self.now) }
     {
-        match self
-            .map
-            .keys()
-            .position(|key| !is_allowed(keys, key.as_str()))
-        {
+        match self.first_other(keys) {
             Some(place) => Err(Extra { place }),
             None => Ok(()),
         }
@@ -101,6 +97,19 @@ impl<'v> Fields<'v> {
             Some(items) => Ok(items.as_slice()),
             None => Err(Bad::Kind),
         }
+    }
+
+    // The place of the first key that isn't allowed.
+    fn first_other(&self, keys: &str) -> Option<usize>
+        ensures exact { result ≡ other_at keys.now (members self.now) }
+        ensures found { MatchOption result
+            (All (λ k. is_allowed keys.now k ≡ true) (keys_of (members self.now)))
+            (IsLeastOther keys.now (keys_of (members self.now))) }
+        ensures ordered { AreInByteOrder (members self.now) }
+    {
+        self.map
+            .keys()
+            .position(|key| !is_allowed(keys, key.as_str()))
     }
 
     // The value at a key.

@@ -1,0 +1,2 @@
+mod KeysShown
+mod LeastOther
