@@ -1,2 +1,4 @@
 mod KeysShown
 mod LeastOther
+mod OneLine
+mod Plain

@@ -1,8 +1,8 @@
 -- The line that is written of an object.
-use Rattle.std.specs.Prelude.{◌≡◌, ◌≤◌, ℕ, List, [], ◌∷◌, ◌++◌, Some, Contains, false, IsUtf8}
+use Rattle.std.specs.Prelude.{◌≡◌, ◌<◌, ◌≤◌, ℕ, List, [], ◌∷◌, ◌++◌, All, Some, false, IsUtf8, ⊤}
 use Rattle.json.specs.Lex.{tokens}
 use Rattle.json.specs.Print.{print}
-use Rattle.serde_json.specs.Data.{Members, object, depth}
+use Rattle.serde_json.specs.Data.{Data, Members, no_members, member, object, depth}
 use Rattle.serde_json.specs.Read.{read, max_depth}
 use Rattle.serde_json.specs.Written.{has_float, compact_text, IsInOrder}
 
@@ -10,8 +10,28 @@ use Rattle.serde_json.specs.Written.{has_float, compact_text, IsInOrder}
 abbrev pub line_of : Members → List ℕ
 line_of ms = compact_text (object ms) ++ 10 ∷ []
 
--- the bytes are a compact text and one 0x0A; the text has the pairs of the object in their order, and is read as that object
-pub record IsLineOf (ms : Members) (bytes : List ℕ) : Type 0 where
+-- a value of an object whose text is determined and is read back: no float stands in it, and an object can still hold it
+abbrev pub IsPlain : Data → Type 0
+IsPlain d = (has_float d ≡ false) × (depth d < max_depth)
+
+-- each value of the object is plain
+abbrev pub ArePlain : Members → Type 0
+ArePlain no_members = ⊤
+ArePlain (member k d ms) = IsPlain d × ArePlain ms
+
+-- no byte is below a space, as 0x0A is
+abbrev pub IsOneLine : List ℕ → Type 0
+IsOneLine text = All (λ byte. 32 ≤ byte) text
+
+-- the line of an object whose values are plain: its compact text, which is one line and is read back as that object, and 0x0A
+pub record IsPlainLine (ms : Members) (bytes : List ℕ) : Type 0 where
+  pub exact : bytes ≡ line_of ms
+  pub one_line : IsOneLine (compact_text (object ms))
+  pub reads_back : read (compact_text (object ms)) ≡ Some (object ms)
+
+-- The line of any object: a compact text and 0x0A. The text has the object's pairs, each once and in their order, its whole numbers in decimal,
+-- and is read back as that object unless it nests too deep to be read.
+pub record IsLine (ms : Members) (bytes : List ℕ) : Type 0 where
   pub text : List ℕ
   pub ends : bytes ≡ text ++ 10 ∷ []
   pub utf8 : IsUtf8 text

@@ -1,10 +1,9 @@
-ghost use Rattle.std.specs.Prelude.{◌≡◌, OnOk, OnErr, IfOk, IsOkAnd, false};
-ghost use Rattle.serde_json.specs.Data.{no_members, object, number, string, put};
+ghost use Rattle.std.specs.Prelude.{◌≡◌, OnOk, OnErr, IfOk, IsOkAnd};
+ghost use Rattle.serde_json.specs.Data.{no_members, number, string, put};
 ghost use Rattle.serde_json.specs.Find.{of_integer};
 ghost use Rattle.serde_json.specs.View.{view};
-ghost use Rattle.serde_json.specs.Written.{has_float};
 ghost use Rattle.mt_json.specs.Keys.{AreInByteOrder};
-ghost use Rattle.mt_json.specs.Line.{line_of, IsLineOf};
+ghost use Rattle.mt_json.specs.Line.{IsPlain, ArePlain, IsPlainLine, IsLine};
 ghost use Rattle.mt_json.specs.Shown.{pairs};
 
 use crate::memory::Memory;
@@ -34,6 +33,7 @@ impl Builder {
         ensures ok { OnOk result
             (pairs self.new ≡ put key.now (number (of_integer n)) (pairs self.old)) }
         ensures err { OnErr result (pairs self.new ≡ pairs self.old) }
+        ensures plain { ArePlain (pairs self.old) → ArePlain (pairs self.new) }
     {
         self.value(key, Value::from(n))
     }
@@ -42,6 +42,7 @@ impl Builder {
     pub fn text(&mut self, key: &str, text: &str) -> Result<(), Memory>
         ensures ok { OnOk result (pairs self.new ≡ put key.now (string text.now) (pairs self.old)) }
         ensures err { OnErr result (pairs self.new ≡ pairs self.old) }
+        ensures plain { ArePlain (pairs self.old) → ArePlain (pairs self.new) }
     {
         let text = Value::try_from_str(self.alloc, text)?;
         self.value(key, text)
@@ -51,19 +52,19 @@ impl Builder {
     pub fn value(&mut self, key: &str, value: Value) -> Result<(), Memory>
         ensures ok { OnOk result (pairs self.new ≡ put key.now (view value) (pairs self.old)) }
         ensures err { OnErr result (pairs self.new ≡ pairs self.old) }
+        ensures plain { IsPlain (view value) → ArePlain (pairs self.old) → ArePlain (pairs self.new) }
     {
         serde_json::put(&mut self.map, self.alloc, key, value)?;
         Ok(())
     }
 
-    /// The pairs as one compact line, keys in byte order, with one 0x0A at its end.
+    /// The pairs as one compact line, keys in byte order, with 0x0A at its end and nowhere else.
     ///
-    /// Without a float its bytes are [`line_of`] the pairs. What stands before the 0x0A is read back as the same pairs where
-    /// they nest at most 127 deep, which is as deep as serde_json reads.
+    /// Where each value is plain (no float, and less than 127 levels deep) the bytes are those of `line_of`, and what stands before
+    /// the 0x0A is read back as these pairs. Floats are written too, in digits that read back and that no definition gives.
     pub fn line(self) -> Result<Vec<u8>, Memory>
-        ensures exact { IfOk result (λ b. has_float (object (pairs self)) ≡ false
-            → b.items ≡ line_of (pairs self)) }
-        ensures line { IfOk result (λ b. IsLineOf (pairs self) b.items) }
+        ensures plain { ArePlain (pairs self) → IfOk result (λ b. IsPlainLine (pairs self) b.items) }
+        ensures any { IfOk result (λ b. IsLine (pairs self) b.items) }
         ensures ordered { AreInByteOrder (pairs self) }
     {
         // The map's length tells that its keys are in order.
