@@ -15,7 +15,7 @@ returns-clause-plain c h =
     let ms = members_view c.args.self.map.entries in
     let shown = view-Object c.args.self.map in
     let text : c.in_ok-bytes.bytes.items ≡ compact_text (object ms) =
-        c.in_ok-bytes.ensures.text (ap has_float shown ∙ plain_has_float ms h) ∙ ap compact_text shown in
+    c.in_ok-bytes.ensures.text (ap has_float shown ∙ plain_has_float ms h) ∙ ap compact_text shown in
     record {
       exact = c.in_ok-push.ensures.items ∙ ap (λ t. t ++ 10 ∷ []) text;
       one_line = one_line (object ms);
