@@ -1,8 +1,8 @@
 -- The keys of a map beside those of the members that it is seen as.
-use Rattle.std.proofs.Common.{◌≡◌, ℕ, suc, ◌+◌, not, cond, nat_lt, List, [], ◌∷◌, length, map, Bool, Option, Some, None, String, Global, Bor, string_bytes, string_cmp, nat_cmp, slice_get, option_map, Less, refl, sym, ap, ◌∙◌}
+use Rattle.std.proofs.Common.{◌≡◌, ℕ, suc, ◌+◌, not, cond, List, [], ◌∷◌, length, map, Bool, Option, String, Global, Bor, string_bytes, string_cmp, nat_cmp, slice_get, option_map, Less, refl, sym, ap, ◌∙◌}
 use Rattle.std.proofs.lemmas.Option.{slice_get-map}
 use Rattle.std.specs.Cmp.Lexicographic.{slice_cmp}
-use Rattle.std.specs.List.{AllByRecursion, prefix_len, position, position_or_len}
+use Rattle.std.specs.List.{AllByRecursion, prefix_len, position}
 use Rattle.std.specs.List.Sorted.{IsStrictlySortedBy}
 use Rattle.std.specs.Map.{keys_of}
 use Rattle.serde_json.specs.declared.value.Value.{Value}

@@ -1,5 +1,5 @@
 -- In a list of keys that ascend, the first that is not allowed is the least that is not.
-use Rattle.std.proofs.Common.{◌≡◌, ℕ, suc, ◌+◌, not, cond, nat_lt, List, [], ◌∷◌, length, All, Bool, true, false, true≢false, Option, Some, None, option_map, MatchOption, Less, nat_cmp, slice_get, inl, inr, ◌⊎◌, refl, sym, ap, subst, ◌∙◌, arith}
+use Rattle.std.proofs.Common.{◌≡◌, ℕ, suc, ◌+◌, not, cond, nat_lt, List, [], ◌∷◌, length, All, Bool, true, false, true≢false, Option, Some, None, option_map, MatchOption, Less, nat_cmp, inl, inr, ◌⊎◌, refl, sym, subst, ◌∙◌, arith}
 use Rattle.std.proofs.lemmas.List.Elements.{All-nil, All-cons, All-from_recursion, All-weaker}
 use Rattle.std.specs.Cmp.Lexicographic.{slice_cmp}
 use Rattle.std.specs.List.{AllByRecursion, position, position_or_len}

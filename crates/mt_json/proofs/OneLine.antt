@@ -1,9 +1,9 @@
 -- A compact text has no byte below a space.
-use Rattle.std.proofs.Common.{◌≡◌, ℕ, ℤ, pos, negsuc, zero, suc, ◌+◌, ◌/◌, ◌%◌, ◌<◌, ◌≤◌, ◌==◌, nat_lt, cond, List, [], ◌∷◌, ◌++◌, Bool, true, false, decimal, refl, arith}
+use Rattle.std.proofs.Common.{◌≡◌, ℕ, pos, negsuc, zero, suc, ◌+◌, ◌/◌, ◌%◌, ◌≤◌, ◌==◌, nat_lt, cond, List, [], ◌∷◌, ◌++◌, Bool, true, false, decimal, refl, arith}
 use Rattle.std.proofs.lemmas.List.Elements.{All-from_recursion}
 use Rattle.std.specs.List.{AllByRecursion}
 use Rattle.std.specs.Char.{digit_char}
-use Rattle.std.specs.Fmt.{digits, digits_onto, digit_glyph, signed_decimal}
+use Rattle.std.specs.Fmt.{digits, digits_onto, digit_glyph}
 use Rattle.json.specs.Print.{escape_letter, escape_byte, escape, quoted}
 use Rattle.serde_json.specs.Data.{Num, unsigned, negative, float, Data, null, boolean, number, string, array, object, Items, no_items, item, Members, no_members, member}
 use Rattle.serde_json.specs.Written.{number_text, comma_if, compact_text, items_text, members_text}

@@ -1,5 +1,5 @@
 -- The parts that `split` gives are searched for the key.
-use Rattle.std.proofs.Common.{lit<, rules, ap, ◌∙◌, ◌&&◌, sym, not}
+use Rattle.std.proofs.Common.{lit<, rules, sym}
 use Rattle.std.proofs.lemmas.Iterator.Search.{any_from_yields_List}
 use Rattle.std.proofs.lemmas.Iterator.Splits.{YieldsList-from_str_split}
 use Rattle.std.specs.Str.{bytes_eq}

@@ -1,5 +1,5 @@
 -- The key at a place among the map's keys is that of the members.
-use Rattle.std.proofs.Common.{Some, None, ap, sym, ◌∙◌}
+use Rattle.std.proofs.Common.{Some, None, ap, ◌∙◌}
 use Rattle.std.proofs.lemmas.Iterator.Consumers.{nth_from_yields_List, YieldsList-from_rest}
 use Rattle.mt_json.proofs.KeysShown.{key_shown, ordered_shown}
 use Rattle.mt_json.proofs.fields.Fields.key.Goals as goal
