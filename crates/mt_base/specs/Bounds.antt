@@ -1,4 +1,9 @@
-use Rattle.std.specs.Prelude.{ℕ, ℤ, pos, neg_ℤ, ◌+ℤ◌, ◌*ℤ◌, ◌<◌, ◌≤◌, ◌+◌, ◌-◌, ◌≤ℤ◌}
+use Rattle.std.specs.Prelude.{◌≡◌, ℕ, ℤ, pos, neg_ℤ, ◌+ℤ◌, ◌*ℤ◌, ◌<◌, ◌≤◌, ◌+◌, ◌-◌, ◌≤ℤ◌}
+use Rattle.mt_base.specs.declared.command.Command.{Command}
+use Rattle.mt_base.specs.declared.command.Command.TheVariants.{External, Drop, Tick}
+use Rattle.mt_base.specs.declared.flight.Path.{Path}
+use Rattle.mt_base.specs.declared.flight.Path.TheVariants.{Outer}
+use Rattle.mt_base.specs.declared.flight.Record.{Record}
 use Rattle.mt_base.specs.declared.flight.Straight.{Straight}
 use Rattle.mt_base.specs.declared.row.Row.{Row}
 use Rattle.mt_base.specs.declared.rules.Rules.{Rules}
@@ -27,12 +32,25 @@ pub record IsBoundedOver (row : Row) (seconds : ℕ) : Type 0 where
 abbrev pub IsBoundedRow : Row → Type 0
 IsBoundedRow row = IsBoundedOver row 1
 
--- A straight stretch of at least one and at most 14,400 seconds that begins by second 10,000,000 and keeps within those bounds.
+-- A straight stretch of at least one and at most 14,400 seconds that begins by second 10,000,000, keeps within those bounds and flies no leg.
 pub record IsBoundedStretch (stretch : Straight) : Type 0 where
   pub begins : stretch.from ≤ 10000000
   pub some : stretch.from < stretch.to
   pub short : stretch.to ≤ stretch.from + 14400
   pub kept : IsBoundedOver stretch.first (stretch.to - stretch.from)
+  pub no_leg : stretch.first.leg ≡ 0
+
+-- the numbers of a path, of a flight and of a command are within their bounds
+abbrev pub IsBoundedPath : Path → Type 0
+IsBoundedPath (Outer stretch) = IsBoundedStretch stretch
+
+abbrev pub IsBoundedFlight : Record → Type 0
+IsBoundedFlight flight = IsBoundedPath flight.path
+
+abbrev pub IsBoundedCommand : Command → Type 0
+IsBoundedCommand (External call straight) = IsBoundedStretch straight
+IsBoundedCommand (Drop call) = Unit {0}
+IsBoundedCommand (Tick now) = now ≤ 10000000
 
 -- Each rule within its bounds.
 pub record AreWithinBounds (rules : Rules) : Type 0 where

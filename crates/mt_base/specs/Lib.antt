@@ -8,4 +8,5 @@ pub mod Name
 pub mod Padded
 pub mod Picture
 pub mod Rules
+pub mod Tally
 pub mod Trajectory

@@ -1,4 +1,4 @@
-use Rattle.std.specs.Prelude.{◌≡◌, ℕ, ◌+◌, List, [], ◌∷◌, Contains, ◌↔◌}
+use Rattle.std.specs.Prelude.{◌≡◌, ◌≢◌, ℕ, ◌+◌, List, [], ◌∷◌, AllPairs, Contains, ◌↔◌}
 use Rattle.std.specs.List.{flat_map}
 use Rattle.std.specs.List.Sorted.{IsStrictlySortedBy}
 use Rattle.std.specs.Cmp.Lexicographic.{slice_cmp}
@@ -24,6 +24,10 @@ pub record State : Type 0 where
 -- as it is at first
 abbrev pub opening : State
 opening = record { now = 0; records = []; version = 0 }
+
+-- no two of these flights have one callsign
+abbrev pub HaveOwnCalls : List Record → Type 0
+HaveOwnCalls flights = AllPairs (λ f g. f.call ≢ g.call) flights
 
 -- A trajectory of the picture, the flight that it belongs to, and its kind.
 pub record NamedTrajectory : Type 0 where

@@ -4,6 +4,7 @@
 #![tactic(auto)]
 
 mod callsign;
+mod checks;
 mod command;
 mod conflict;
 mod flight;
@@ -12,11 +13,13 @@ mod list;
 mod name;
 mod row;
 mod rules;
+mod tally;
 #[cfg(test)]
 mod tests;
 mod words;
 
 pub use callsign::Callsign;
+pub use checks::must;
 pub use command::{Command, Entered, Entries, Entry, Refusal};
 pub use conflict::{Conflict, Conflicts, Kind};
 pub use flight::{Path, Record, Straight};
@@ -26,4 +29,5 @@ pub use mt_memory::Memory;
 pub use name::Name;
 pub use row::{Row, Second};
 pub use rules::{RuleName, Rules};
+pub use tally::Tally;
 pub use words::Words;

@@ -2,6 +2,8 @@ ghost use Rattle.std.specs.Prelude.{◌≡◌, ◌↔◌, pos, IsOk};
 ghost use Rattle.mt_base.specs.Checks.{check};
 ghost use Rattle.mt_base.specs.Rules.{is_within};
 
+use crate::checks::must;
+
 /// The name of a rule.
 #[derive(Clone, Copy, PartialEq, Eq)]
 pub enum RuleName {
@@ -27,25 +29,17 @@ fn is_within(low: i64, high: i64, rule: i64) -> bool
 }
 
 // Whether a rule is within constant bounds.
-#[tactic(auto, unfolding(crate::specs::Checks::check))]
 fn within(name: RuleName, rule: &i64, low: i64, high: i64) -> Result<(), RuleName>
     ensures { result ≡ check (name, is_within low high rule.now) }
 {
-    if is_within(low, high, *rule) {
-        return Ok(());
-    }
-    Err(name)
+    must(is_within(low, high, *rule), name)
 }
 
 // Whether a rule is at least 0 and at most another.
-#[tactic(auto, unfolding(crate::specs::Checks::check))]
 fn up_to(name: RuleName, rule: &i64, most: &i64) -> Result<(), RuleName>
     ensures { result ≡ check (name, is_within (pos 0) most.now rule.now) }
 {
-    if is_within(0, *most, *rule) {
-        return Ok(());
-    }
-    Err(name)
+    must(is_within(0, *most, *rule), name)
 }
 
 /// The parameters of a picture. They are set before it begins and then stay.
