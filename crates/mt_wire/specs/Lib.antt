@@ -1,0 +1,4 @@
+pub mod Entry
+pub mod Joined
+pub mod Puts
+pub mod Reply

@@ -1,0 +1,90 @@
+-- The text of a reply.
+use Rattle.std.specs.Prelude.{ℕ, pos, List, [], ◌∷◌, ◌++◌, codes}
+use Rattle.serde_json.specs.Data.{Data, string, array, object, Items, no_items, item, Members, no_members, member}
+use Rattle.serde_json.specs.Written.{compact_text}
+use Rattle.mt_base.specs.declared.command.Entry.{Entry}
+use Rattle.mt_base.specs.declared.command.Refusal.{Refusal}
+use Rattle.mt_base.specs.declared.command.Refusal.TheVariants.{HeldCall, UnknownCall, Full, HistoryFull, Backward}
+use Rattle.mt_base.specs.declared.conflict.Conflict.{Conflict}
+use Rattle.mt_base.specs.declared.conflict.Kind.{Kind}
+use Rattle.mt_base.specs.declared.conflict.Kind.TheVariants.{Actual, Tentative}
+use Rattle.mt_wire.specs.declared.request.Role.{Role}
+use Rattle.mt_wire.specs.declared.request.Role.TheVariants.{Feed, Position}
+use Rattle.mt_wire.specs.declared.reply.DoneWord.{DoneWord}
+use Rattle.mt_wire.specs.declared.reply.DoneWord.TheVariants.{Rule, Begin, Bye}
+use Rattle.mt_wire.specs.declared.reply.Reply.{Reply}
+use Rattle.mt_wire.specs.declared.reply.Reply.TheVariants as reply
+use Rattle.mt_wire.specs.Entry.{whole, entry_value}
+
+abbrev pub done_text : DoneWord → List ℕ
+done_text Rule = codes "rule"
+done_text Begin = codes "begin"
+done_text Bye = codes "bye"
+
+abbrev pub role_text : Role → List ℕ
+role_text Feed = codes "feed"
+role_text Position = codes "position"
+
+-- the letter of a kind
+abbrev pub kind_letter : Kind → ℕ
+kind_letter Actual = 97
+kind_letter Tentative = 116
+
+-- a conflict, the lesser callsign first
+abbrev pub conflict_value : Conflict → Data
+conflict_value c = object (
+    member (codes "first") (whole (pos c.first)) (
+    member (codes "kinds") (string (kind_letter c.ka ∷ kind_letter c.kb ∷ [])) (
+    member (codes "last") (whole (pos c.last)) (
+    member (codes "pair") (array (item (string c.a) (item (string c.b) no_items))) no_members))))
+
+abbrev pub conflicts_value : List Conflict → Items
+conflicts_value [] = no_items
+conflicts_value (c ∷ cs) = item (conflict_value c) (conflicts_value cs)
+
+abbrev pub entries_value : List Entry → Items
+entries_value [] = no_items
+entries_value (e ∷ es) = item (entry_value e) (entries_value es)
+
+-- a refusal that has only its word
+abbrev pub word_value : List ℕ → Data
+word_value word = object (member (codes "no") (string word) no_members)
+
+-- a refusal of a line that names a field
+abbrev pub field_value : List ℕ → List ℕ → Data
+field_value name word = object (member (codes "field") (string name) (member (codes "no") (string word) no_members))
+
+-- a refusal of a command, with the version at which it holds
+abbrev pub at_version : List ℕ → ℕ → Members
+at_version word version = member (codes "no") (string word) (member (codes "version") (whole (pos version)) no_members)
+
+abbrev pub refusal_members : ℕ → Refusal → Members
+refusal_members version HeldCall = at_version (codes "held-call") version
+refusal_members version (UnknownCall call) = member (codes "name") (string call) (at_version (codes "unknown-call") version)
+refusal_members version Full = at_version (codes "full") version
+refusal_members version HistoryFull = at_version (codes "history-full") version
+refusal_members version Backward = at_version (codes "backward") version
+
+-- What a reply says, as an object with its keys in byte order.
+abbrev pub reply_value : Reply → Data
+reply_value (reply.Done word) = object (member (codes "done") (string (done_text word)) no_members)
+reply_value (reply.Hello role) = object (member (codes "role") (string (role_text role)) no_members)
+reply_value (reply.Entered entered) = object (member (codes "entered") (whole (pos entered.version)) no_members)
+reply_value (reply.List conflicts version) = object (
+    member (codes "conflicts") (array (conflicts_value conflicts)) (
+    member (codes "version") (whole (pos version)) no_members))
+reply_value (reply.History entries version) = object (
+    member (codes "entries") (array (entries_value entries)) (
+    member (codes "version") (whole (pos version)) no_members))
+reply_value reply.Json = word_value (codes "json")
+reply_value reply.Long = word_value (codes "long")
+reply_value reply.Begun = word_value (codes "begun")
+reply_value reply.Unbegun = word_value (codes "unbegun")
+reply_value reply.Memory = word_value (codes "memory")
+reply_value (reply.Form name) = field_value name (codes "form")
+reply_value (reply.Range name) = field_value name (codes "range")
+reply_value (reply.Refused refusal version) = object (refusal_members version refusal)
+
+-- it, compact, with 0x0A at its end
+abbrev pub reply_text : Reply → List ℕ
+reply_text r = compact_text (reply_value r) ++ 10 ∷ []
