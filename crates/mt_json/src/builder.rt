@@ -58,10 +58,10 @@ impl Builder {
         Ok(())
     }
 
-    /// The pairs as one compact line, keys in byte order, with 0x0A at its end and nowhere else.
+    /// The pairs as one compact line, keys in byte order, with 0x0A at its end.
     ///
-    /// Where each value is plain (no float, and less than 127 levels deep) the bytes are those of `line_of`, and what stands before
-    /// the 0x0A is read back as these pairs. Floats are written too, in digits that read back and that no definition gives.
+    /// Where each value is plain (no float, and less than 127 levels deep) the bytes are those of `line_of`, no other 0x0A stands among them,
+    /// and what stands before it is read back as these pairs. A float is written too, in digits that read back and that no definition gives.
     pub fn line(self) -> Result<Vec<u8>, Memory>
         ensures plain { ArePlain (pairs self) → IfOk result (λ b. IsPlainLine (pairs self) b.items) }
         ensures any { IfOk result (λ b. IsLine (pairs self) b.items) }

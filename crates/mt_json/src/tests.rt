@@ -48,8 +48,8 @@ fn a_field_is_by_its_value(rt: HostRuntime) -> Result<(), Fail> {
         let flag = fields.flag("k");
         let small = fields.whole("k", -5, 5);
         let whole = fields.whole("k", i64::MIN, i64::MAX);
-        let count = fields.list("k").map(|items| items.len());
-        let found = format!(in rt.alloc(); "{word:?} {flag:?} {small:?} {whole:?} {count:?}")?;
+        let length = fields.list("k").map(|items| items.len());
+        let found = format!(in rt.alloc(); "{word:?} {flag:?} {small:?} {whole:?} {length:?}")?;
         assert_eq!(rt; found.as_str(), wanted, "{text}");
     }
     Ok(())
@@ -82,9 +82,9 @@ fn the_least_key_that_is_not_allowed(rt: HostRuntime) -> Result<(), Fail> {
         let (allowed, wanted) = rest.split_once(" | ").ok_or("three columns")?;
         let value = Value::from_str(rt.alloc(), text)?;
         let fields = Fields::of(&value).ok_or("an object")?;
-        let only = fields.only(allowed);
-        let key = only.err().and_then(|extra| fields.key(extra.place));
-        let found = format!(in rt.alloc(); "{only:?} {key:?}")?;
+        let outcome = fields.only(allowed);
+        let key = outcome.err().and_then(|extra| fields.key(extra.place));
+        let found = format!(in rt.alloc(); "{outcome:?} {key:?}")?;
         assert_eq!(rt; found.as_str(), wanted, "{text}");
     }
     Ok(())
@@ -114,9 +114,9 @@ fn a_line_has_its_pairs_in_byte_order(rt: HostRuntime) -> Result<(), Fail> {
         Value::from_str(rt.alloc(), r#"{"y": [null, true, -3, 1.5], "x": {}}"#)?,
     )?;
     builder.number("b", -7)?;
-    let line = builder.line()?;
+    let bytes = builder.line()?;
     let wanted =
         "{\"B\":{\"x\":{},\"y\":[null,true,-3,1.5]},\"a\":9223372036854775807,\"a\\t\":-9223372036854775808,\"b\":-7,\"é\":\"x\\n\\\"\\\\\\u0001é/\"}\n";
-    assert_eq!(rt; line.as_slice(), wanted.as_bytes());
+    assert_eq!(rt; bytes.as_slice(), wanted.as_bytes());
     Ok(())
 }
