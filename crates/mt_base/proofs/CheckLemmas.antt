@@ -1,5 +1,6 @@
-use Rattle.std.proofs.Common.{◌≡◌, Bool, true, false, List, [], ◌∷◌, Result, IsOk, refl}
+use Rattle.std.proofs.Common.{Ok, Err, ◌≡◌, Bool, true, false, List, [], ◌∷◌, Result, IsOk, refl}
 use Rattle.std.specs.List.{AllByRecursion}
+use Rattle.std.specs.Prelude.{⊤}
 use Rattle.mt_base.specs.Checks.{check, next, judged}
 
 one_passed : {A F : Type 0} (name : F) (test : Bool) (rest : Result A F) → IsOk (next (check (name, test)) rest) → (test ≡ true) × IsOk rest
@@ -20,3 +21,11 @@ all_passed (c ∷ cs) x ok = let p = one_passed c.0 c.1 (judged cs x) ok in (p.0
 pub all_pass : {A F : Type 0} (cs : List (F × Bool)) (x : A) → AllByRecursion (λ c. c.1 ≡ true) cs → IsOk (judged cs x)
 all_pass [] x pass = refl
 all_pass (c ∷ cs) x pass = one_passes c.0 c.1 (judged cs x) pass.0 (all_pass cs x pass.1)
+
+-- what was passed is the answer
+pub answer_is : {A F : Type 0} (cs : List (F × Bool)) (x y : A) → judged cs x ≡ Ok y → x ≡ y
+answer_is [] x y e = cc
+answer_is {F = F} (c ∷ cs) x y e = answer_is cs x y (rest_is (check c) e) where
+  rest_is : (r : Result ⊤ F) → next r (judged cs x) ≡ Ok y → judged cs x ≡ Ok y
+  rest_is (Ok _) e = e
+  rest_is (Err f) e = cc

@@ -1,4 +1,4 @@
-ghost use Rattle.std.specs.Prelude.{◌≡◌, [], ◌∷◌, ◌++◌, OnOk, OnErr};
+ghost use Rattle.std.specs.Prelude.{◌≡◌, [], ◌∷◌, ◌++◌, ◌<◌, List, length, OnOk, OnErr};
 
 use mt_memory::Memory;
 use std::alloc::Global;
@@ -35,6 +35,14 @@ impl<T: Drop> Listed<T> {
     {
         self.values.push(value)?;
         Ok(())
+    }
+
+    /// Takes the last value out again.
+    pub fn drop_last(&mut self)
+        requires { 0 < length self.old }
+        ensures { (front : List T) (value : T) → self.old ≡ front ++ value ∷ [] → self.new ≡ front }
+    {
+        self.values.truncate(self.values.len() - 1);
     }
 
     /// Its values, in order.
