@@ -1,3 +1,4 @@
 pub mod FractionOrder
 pub mod Polynomials
 pub mod Signs
+pub mod Vertex

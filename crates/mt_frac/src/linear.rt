@@ -1,6 +1,6 @@
 //! Lines and the parts on which they are below zero.
 
-ghost use Rattle.std.specs.Prelude.{pos, ◌≡◌, ◌≢◌, ◌+ℤ◌, ◌*ℤ◌};
+ghost use Rattle.std.specs.Prelude.{pos, ◌≡◌, ◌≢◌};
 ghost use Rattle.mt_frac.specs.FractionOrder.{IsBefore};
 ghost use Rattle.mt_frac.specs.Polynomials.{line_value};
 ghost use Rattle.mt_frac.specs.Signs.{IsBoundedLine, IsPartBelow};
