@@ -1,0 +1,97 @@
+-- What a reader of lines is, and what a call of `next` does to it and to its source.
+-- `before` and `after` are the bytes that the source has left, where it tells them.
+use Rattle.std.specs.Prelude.{◌≡◌, ◌<◌, ◌≤◌, ◌⊎◌, ℕ, ◌+◌, ◌^◌, Bool, true, false, List, [], ◌∷◌, ◌++◌, length, Some, None, IfSome, MatchResult}
+use Rattle.std.specs.Io.KnownBytes.{Consumes, IsAtEnd}
+use Rattle.std.specs.declared.option.Option.{Option}
+use Rattle.std.specs.declared.result.Result.{Result}
+use Rattle.mt_io.specs.Lines.{IsPart}
+use Rattle.mt_io.specs.declared.line.Line.{Line}
+use Rattle.mt_io.specs.declared.line.Line.TheVariants.{Text, Long, End}
+use Rattle.mt_io.specs.declared.line.LineFault.{LineFault}
+use Rattle.mt_io.specs.declared.line.LineFault.TheVariants.{ReadFault, Spent}
+
+-- the bytes that were read and not yet given, how many bytes were taken in all, and whether the source has ended
+pub record Store : Type 0 where
+  pub ahead : List ℕ
+  pub taken : ℕ
+  pub ended : Bool
+
+-- a reader: its store, how many lines it gave, the fault that it met, and the bytes of the line that it read last
+pub record Reading : Type 0 where
+  pub store : Store
+  pub given : ℕ
+  pub fault : Option LineFault
+  pub text : List ℕ
+
+-- `Spent` comes where 2^32 bytes were taken, and `ReadFault` where fewer were
+abbrev pub IsFaultAt : LineFault → ℕ → Type 0
+IsFaultAt Spent taken = taken ≡ 2 ^ 32
+IsFaultAt ReadFault taken = taken < 2 ^ 32
+
+-- true of every reader: each line that was given took a byte at least; at the end, and after a fault, none is ahead
+pub record IsSound (store : Store) (given : ℕ) (stop : Option LineFault) : Type 0 where
+  pub counted : given + length store.ahead ≤ store.taken
+  pub limit : store.taken ≤ 2 ^ 32
+  pub over : store.ended ≡ true → (store.ahead ≡ []) × (store.taken < 2 ^ 32)
+  pub stopped : IfSome stop (λ fault. IsFaultAt fault store.taken × (store.ahead ≡ []) × (store.ended ≡ false))
+
+-- These bytes went, of those that were ahead and then of those that were read now.
+pub record Passes (old new : Store) (before after : Option (List ℕ)) (front : List ℕ) : Type 0 where
+  pub read : List ℕ
+  pub from : Consumes before after read
+  pub count : new.taken ≡ old.taken + length read
+  pub bytes : old.ahead ++ read ≡ front ++ new.ahead
+  pub limit : new.taken ≤ 2 ^ 32
+
+-- a line ends with its 0x0A, or, where it has a byte, with the source
+abbrev pub Ends : Store → Option (List ℕ) → List ℕ → List ℕ → Type 0
+Ends new after line ending =
+    ((ending ≡ 10 ∷ []) × (new.ended ≡ false))
+      ⊎ ((ending ≡ []) × (0 < length line) × (new.ended ≡ true) × (new.ahead ≡ []) × IsAtEnd after × (new.taken < 2 ^ 32))
+
+-- One line more was given: its bytes and its end went, and no others.
+pub record Takes (old new : Reading) (before after : Option (List ℕ)) (line : List ℕ) : Type 0 where
+  pub going : old.store.ended ≡ false
+  pub was_sound : old.fault ≡ None
+  pub sound : new.fault ≡ None
+  pub one_more : new.given ≡ old.given + 1
+  pub bound : new.given ≤ 2 ^ 32
+  pub part : IsPart line
+  pub ending : List ℕ
+  pub ends : Ends new.store after line ending
+  pub passes : Passes old.store new.store before after (line ++ ending)
+
+-- The source has ended, with fewer than 2^32 bytes taken, and each of them was given.
+pub record IsDone (old new : Reading) (before after : Option (List ℕ)) : Type 0 where
+  pub was_sound : old.fault ≡ None
+  pub sound : new.fault ≡ None
+  pub same : new.given ≡ old.given
+  pub ended : new.store.ended ≡ true
+  pub empty : new.store.ahead ≡ []
+  pub few : new.store.taken < 2 ^ 32
+  pub passes : Passes old.store new.store before after []
+  -- the end is met now, or was met before, and then nothing is read
+  pub met : old.store.ended ≡ false → IsAtEnd after
+  pub still : old.store.ended ≡ true → after ≡ before
+
+-- A fault: all that was taken went, and held no further line. An earlier fault comes again, and changes nothing.
+pub record IsStopped (old new : Reading) (before after : Option (List ℕ)) (fault : LineFault) : Type 0 where
+  pub kept : new.fault ≡ Some fault
+  pub same : new.given ≡ old.given
+  pub place : IsFaultAt fault new.store.taken
+  pub again : (earlier : LineFault) → old.fault ≡ Some earlier → (fault ≡ earlier) × (new ≡ old) × (after ≡ before)
+  pub part : List ℕ
+  pub is_part : IsPart part
+  pub passes : Passes old.store new.store before after part
+  pub empty : new.store.ahead ≡ []
+  pub going : old.store.ended ≡ false
+  pub not_ended : new.store.ended ≡ false
+
+-- by what is given: a line of at most 65,536 bytes, a longer one, or the end
+abbrev pub GivesLine : Reading → Reading → Option (List ℕ) → Option (List ℕ) → Line → Type 0
+GivesLine old new before after (Text line) = (length line.now ≤ 65536) × Takes old new before after line.now
+GivesLine old new before after Long = (line : List ℕ) × (65536 < length line) × Takes old new before after line
+GivesLine old new before after End = IsDone old new before after
+
+abbrev pub Next : Reading → Reading → Option (List ℕ) → Option (List ℕ) → Result Line LineFault → Type 0
+Next old new before after result = MatchResult result (GivesLine old new before after) (IsStopped old new before after)

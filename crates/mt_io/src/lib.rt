@@ -1,0 +1,27 @@
+//! Lines in, bytes out: sources and sinks that count their faults, a reader of lines, and a whole write.
+#![tactic(auto)]
+
+mod ahead;
+mod gathered;
+mod laws;
+mod line;
+mod line_reader;
+mod mem_sink;
+mod mem_source;
+mod memory;
+mod read_line;
+mod sink;
+mod source;
+mod std_streams;
+mod whole_write;
+
+pub use laws::laws_of_lines;
+pub use line::{Line, LineFault};
+pub use line_reader::LineReader;
+pub use mem_sink::MemSink;
+pub use mem_source::MemSource;
+pub use memory::Memory;
+pub use sink::Sink;
+pub use source::{Failed, Source};
+pub use std_streams::{StdIn, StdOut};
+pub use whole_write::{WriteFault, put_all};

@@ -1,0 +1,72 @@
+//! A sink in memory.
+ghost use Rattle.std.specs.Prelude.{◌≡◌, ◌≤◌, [], vec_len, vec_capacity, IfOk, Some};
+
+use crate::memory::Memory;
+use crate::sink::Sink;
+use crate::source::Failed;
+use std::alloc::Global;
+
+/// Bytes in memory, as many as it has room for. A write to a full one fails, and is counted.
+#[derive(Drop)]
+pub struct MemSink {
+    bytes: Vec<u8>,
+    room: usize,
+    faults: u64,
+    ghost within: { vec_len bytes ≤ room },
+    ghost reserved: { room ≤ vec_capacity bytes },
+}
+
+impl MemSink {
+    ghost use Rattle.mt_io.specs.MemSink.{room_of};
+
+    /// A sink that holds nothing, has room for this many bytes and has counted no fault. It takes all its memory here.
+    pub fn make(alloc: Global, room: u32) -> Result<MemSink, Memory>
+        ensures empty { IfOk result (λ sink. ⟦<MemSink as Sink>⟧.held sink ≡ Some []) }
+        ensures room { IfOk result (λ sink. room_of sink ≡ room) }
+        ensures sound { IfOk result (λ sink. ⟦<MemSink as Sink>⟧.faults sink ≡ 0) }
+    {
+        let room = room as usize;
+        Ok(MemSink {
+            bytes: Vec::with_capacity(alloc, room)?,
+            room,
+            faults: 0,
+        })
+    }
+
+    /// The bytes that were taken.
+    pub fn held(&self) -> &[u8]
+        ensures { Some result.now ≡ ⟦<MemSink as Sink>⟧.held self.now }
+    {
+        &self.bytes
+    }
+}
+
+impl Sink for MemSink {
+    ghost use Rattle.mt_io.specs.MemSink.{Fills, fills_itself, fills_on};
+
+    ghost held = { λ s. Some s.bytes.items };
+
+    ghost faults = { λ s. s.faults };
+
+    ghost writes_to = { Fills };
+
+    fn write_faults(&self) -> u64 {
+        self.faults
+    }
+
+    fn write_some(&mut self, piece: &[u8]) -> Result<usize, Failed> {
+        let count = piece.len().min(self.room - self.bytes.len());
+        if count == 0 {
+            self.faults = self.faults.saturating_add(1);
+            return Err(Failed);
+        }
+        match self.bytes.extend_from_slice(&piece[..count]) {
+            Ok(()) => Ok(count),
+            Err(_) => unreachable!(),
+        }
+    }
+
+    ghost writes_to_itself = { fills_itself };
+
+    ghost writes_on = { fills_on };
+}
