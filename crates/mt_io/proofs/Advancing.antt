@@ -1,0 +1,102 @@
+-- A line that was gathered is given and counted.
+use Rattle.std.proofs.Common.{◌≡◌, ◌<◌, ◌≤◌, ℕ, ◌+◌, ◌^◌, Bool, true, false, List, [], ◌∷◌, ◌++◌, length, None, Ok, refl, sym, ap, inl, inr, subst, arith, length-append}
+use Rattle.std.specs.declared.option.Option.{Option}
+use Rattle.mt_io.specs.Reading.{Store, Passes, Ends, Takes, IsSound, IsDone}
+use Rattle.mt_io.specs.Gathering.{Gathers, IsGathered, Counts, Advances, reading, ending_of}
+use Rattle.mt_io.specs.declared.line.Step.{Step}
+use Rattle.mt_io.specs.declared.line.Step.TheVariants.{Short, Skipped, Finished}
+
+-- what went was taken, and so was what is ahead
+weighed : (old new : Store) (before after : Option (List ℕ)) (front : List ℕ) (given : ℕ) → given + length old.ahead ≤ old.taken
+    → Passes old new before after front → given + length front + length new.ahead ≤ new.taken
+weighed old new before after front given counted p =
+    omega (arith, p.count, ap length p.bytes, length-append old.ahead p.read, length-append front new.ahead)
+
+-- a line has a byte, its 0x0A or another
+heavy : (line : List ℕ) (whole : Bool) → (whole ≡ false → 0 < length line) → 0 < length (line ++ ending_of whole)
+heavy line true some = omega (arith, length-append line (10 ∷ []))
+heavy line false some = omega (arith, some refl, length-append line [])
+
+ends : (new : Store) (before after : Option (List ℕ)) (old : Store) (kept : List ℕ) (is_long whole : Bool) (g : Gathers old new before after kept is_long whole)
+    → (whole ≡ false → 0 < length g.line) → Ends new after g.line (ending_of whole)
+ends new before after old kept is_long true g some = inl (refl, g.more refl)
+ends new before after old kept is_long false g some =
+    let over = g.over refl in
+    inr (refl, some refl, over.0, over.1, over.2, over.3)
+
+over_after : (new : Store) (before after : Option (List ℕ)) (old : Store) (kept : List ℕ) (is_long whole : Bool) → Gathers old new before after kept is_long whole
+    → new.ended ≡ true → (new.ahead ≡ []) × (new.taken < 2 ^ 32)
+over_after new before after old kept is_long true g ended = let going : new.ended ≡ false = g.more refl in cc
+over_after new before after old kept is_long false g ended = let over = g.over refl in (over.1, over.3)
+
+sound_after : (old new : Store) (before after : Option (List ℕ)) (kept : List ℕ) (is_long whole : Bool) (given given_now : ℕ) → IsSound old given None
+    → Gathers old new before after kept is_long whole → given_now + length new.ahead ≤ new.taken → IsSound new given_now None
+sound_after old new before after kept is_long whole given given_now sound g counted = record {
+    counted = counted;
+    limit = g.passes.limit;
+    over = over_after new before after old kept is_long whole g;
+    stopped = tt
+  }
+
+takes : (old new : Store) (before after : Option (List ℕ)) (text kept : List ℕ) (is_long whole : Bool) (given given_now : ℕ) → IsSound old given None → old.ended ≡ false
+    → (g : Gathers old new before after kept is_long whole) → given_now ≡ given + 1 → (whole ≡ false → 0 < length g.line)
+    → Takes (reading old given None text) (reading new given_now None kept) before after g.line × (given_now + length new.ahead ≤ new.taken)
+takes old new before after text kept is_long whole given given_now sound going g one some =
+    let weight : given + length (g.line ++ ending_of whole) + length new.ahead ≤ new.taken = weighed old new before after (g.line ++ ending_of whole) given sound.counted g.passes in
+    let byte : 0 < length (g.line ++ ending_of whole) = heavy g.line whole some in
+    (record {
+      going = going;
+      was_sound = refl;
+      sound = refl;
+      one_more = one;
+      bound = omega (arith, g.passes.limit);
+      part = g.part;
+      ending = ending_of whole;
+      ends = ends new before after old kept is_long whole g some;
+      passes = g.passes
+    }, omega arith)
+
+done : (old new : Store) (before after : Option (List ℕ)) (text kept : List ℕ) (is_long whole : Bool) (given given_now : ℕ) → old.ended ≡ false
+    → (g : Gathers old new before after kept is_long whole) → given_now ≡ given → whole ≡ false → g.line ≡ []
+    → IsDone (reading old given None text) (reading new given_now None kept) before after
+done old new before after text kept is_long whole given given_now going g same last none =
+    let over = g.over last in
+    let empty : g.line ++ ending_of whole ≡ [] = rw (last, none) refl in
+    record {
+      was_sound = refl;
+      sound = refl;
+      same = same;
+      ended = over.0;
+      empty = over.1;
+      few = over.3;
+      passes = rw empty at g.passes;
+      met = λ _. over.2;
+      still = λ ended. cc
+    }
+
+pub advanced : (old new : Store) (before after : Option (List ℕ)) (text kept : List ℕ) (is_long whole : Bool) (given given_now : ℕ) (step : Step)
+    → IsSound old given None → old.ended ≡ false → Gathers old new before after kept is_long whole
+    → ((bytes : List ℕ) → IsGathered kept is_long bytes → Counts whole kept bytes given given_now step)
+    → Advances old new given given_now text kept before after (Ok step)
+advanced old new before after text kept is_long whole given given_now Short sound going g counts =
+    let count = counts g.line g.gathered in
+    let t = takes old new before after text kept is_long whole given given_now sound going g count.0 count.1 in
+    let same : kept ≡ g.line = count.2 in
+    record {
+      step = (rw same count.3, let P : List ℕ → Type 0 = λ xs. Takes (reading old given None text) (reading new given_now None kept) before after xs in subst P (sym same) t.0);
+      sound = sound_after old new before after kept is_long whole given given_now sound g t.1
+    }
+advanced old new before after text kept is_long whole given given_now Skipped sound going g counts =
+    let count = counts g.line g.gathered in
+    let t = takes old new before after text kept is_long whole given given_now sound going g count.0 count.1 in
+    record {
+      step = (g.line, count.2, t.0);
+      sound = sound_after old new before after kept is_long whole given given_now sound g t.1
+    }
+advanced old new before after text kept is_long whole given given_now Finished sound going g counts =
+    let count = counts g.line g.gathered in
+    let weight : given + length (g.line ++ ending_of whole) + length new.ahead ≤ new.taken = weighed old new before after (g.line ++ ending_of whole) given sound.counted g.passes in
+    record {
+      step = done old new before after text kept is_long whole given given_now going g count.0 count.1 count.2;
+      sound = sound_after old new before after kept is_long whole given given_now sound g (omega (arith, count.0))
+    }

@@ -1,0 +1,158 @@
+-- Reading more, and moving pieces, one after another.
+use Rattle.std.proofs.Common.{◌≡◌, ◌<◌, ◌≤◌, ℕ, ◌+◌, ◌^◌, Bool, true, false, List, [], ◌∷◌, ◌++◌, length, None, Some, refl, sym, ◌∙◌, ap, subst, arith, append_assoc, append-nil, length-append}
+use Rattle.std.proofs.Common.{inl, inr, Ok}
+use Rattle.std.proofs.lemmas.Bool.{cases_eq}
+use Rattle.std.proofs.lemmas.List.{nil_from_length}
+use Rattle.std.specs.declared.result.Result.{Result}
+use Rattle.std.specs.declared.option.Option.{Option}
+use Rattle.std.specs.Io.KnownBytes.{Keeps, Consumes}
+use Rattle.mt_io.specs.Lines.{IsPart}
+use Rattle.mt_io.specs.Reading.{Store, Passes}
+use Rattle.mt_io.specs.Gathering.{Fills, StopsFill, Moves, IsGathered, Gathers, StopsLine, IsUnread, ending_of}
+use Rattle.mt_io.specs.declared.line.LineFault.{LineFault}
+use Rattle.mt_io.specs.declared.line.LineFault.TheVariants.{ReadFault, Spent}
+use Rattle.mt_io.proofs.Known.{consumes_none, consumes_kept, consumes_on}
+
+-- what holds of a reader between two pieces: some bytes went, and they are a part of a line, which is gathered
+pub record IsGathering (old now : Store) (before mid : Option (List ℕ)) (kept : List ℕ) (is_long : Bool) : Type 0 where
+  pub line : List ℕ
+  pub part : IsPart line
+  pub gathered : IsGathered kept is_long line
+  pub passes : Passes old now before mid line
+
+pub IsPart-append : (xs ys : List ℕ) → IsPart xs → IsPart ys → IsPart (xs ++ ys)
+IsPart-append [] ys px py = py
+IsPart-append (x ∷ xs) ys px py = (px.0, IsPart-append xs ys px.1 py)
+
+pub passes_none : (old : Store) (before : Option (List ℕ)) → old.taken ≤ 2 ^ 32 → Passes old old before before []
+passes_none old before limit = record {
+    read = [];
+    from = consumes_none before;
+    count = omega arith;
+    bytes = append-nil old.ahead;
+    limit = limit
+  }
+
+-- nothing was read yet
+pub begins : (old : Store) (before : Option (List ℕ)) (kept : List ℕ) (is_long : Bool) → old.taken ≤ 2 ^ 32 → kept ≡ [] → is_long ≡ false
+    → IsGathering old old before before kept is_long
+begins old before kept is_long limit empty short = record {
+    line = [];
+    part = tt;
+    gathered = record { short = λ _. (empty, omega arith); long = λ long. cc };
+    passes = passes_none old before limit
+  }
+
+-- nothing is ahead, and more is read
+pub passes_fill : (old now new : Store) (before mid after : Option (List ℕ)) (front : List ℕ) (more : Bool) → length now.ahead ≡ 0
+    → Passes old now before mid front → Fills now new mid after more → Passes old new before after front
+passes_fill old now new before mid after front more empty p fills =
+    let none : now.ahead ≡ [] = nil_from_length now.ahead empty in
+    let went : old.ahead ++ p.read ≡ front = p.bytes ∙ ap (λ xs. front ++ xs) none ∙ append-nil front in
+    record {
+      read = p.read ++ new.ahead;
+      from = consumes_on before mid after p.read new.ahead p.from fills.from;
+      count = omega (arith, p.count, fills.count, length-append p.read new.ahead);
+      bytes = sym (append_assoc old.ahead p.read new.ahead) ∙ ap (λ xs. xs ++ new.ahead) went;
+      limit = fills.limit
+    }
+
+-- nothing is ahead, and nothing is read
+pub passes_stop : (old now new : Store) (before mid after : Option (List ℕ)) (front : List ℕ) → length now.ahead ≡ 0 → new.ahead ≡ [] → new.taken ≡ now.taken
+    → Passes old now before mid front → Consumes mid after [] → Passes old new before after front
+passes_stop old now new before mid after front empty none same p from =
+    let was : now.ahead ≡ [] = nil_from_length now.ahead empty in
+    record {
+      read = p.read ++ [];
+      from = consumes_on before mid after p.read [] p.from from;
+      count = omega (arith, p.count, same, length-append p.read []);
+      bytes = rw (append-nil p.read, none, ← was) p.bytes;
+      limit = omega (arith, p.limit, same)
+    }
+
+-- bytes that are ahead go
+pub passes_more : (old now new : Store) (before mid : Option (List ℕ)) (front piece : List ℕ) → now.ahead ≡ piece ++ new.ahead → new.taken ≡ now.taken
+    → Passes old now before mid front → Passes old new before mid (front ++ piece)
+passes_more old now new before mid front piece split same p = record {
+    read = p.read;
+    from = p.from;
+    count = omega (arith, p.count, same);
+    bytes = p.bytes ∙ ap (λ xs. front ++ xs) split ∙ sym (append_assoc front piece new.ahead);
+    limit = omega (arith, p.limit, same)
+  }
+
+-- after a fill that tells that bytes are ahead
+pub filled : (old now new : Store) (before mid after : Option (List ℕ)) (kept : List ℕ) (is_long : Bool) (more : Bool) (result : Result Bool LineFault) → more ≡ true
+    → IsGathering old now before mid kept is_long → now.ended ≡ false
+    → (0 < length now.ahead → (result ≡ Ok true) × (new ≡ now) × (after ≡ mid)) → (length now.ahead ≡ 0 → Fills now new mid after more)
+    → IsGathering old new before after kept is_long × (new.ended ≡ false)
+filled old now new before mid after kept is_long more result true_ so_far going held read =
+    elim (cases_eq (length now.ahead) 0) [
+      inl empty ↦
+        let fills = read empty in
+        (record {
+          line = so_far.line;
+          part = so_far.part;
+          gathered = so_far.gathered;
+          passes = passes_fill old now new before mid after so_far.line more empty so_far.passes fills
+        }, (fills.some true_).1)
+    | inr some ↦
+        let h = held (omega arith) in
+        rw (h.1, h.2) (so_far, going)
+    ]
+
+-- a piece without a 0x0A was moved
+pub gathers_piece : (old now new : Store) (before mid : Option (List ℕ)) (kept : List ℕ) (was_long : Bool) (kept_now : List ℕ) (is_long : Bool)
+    → IsGathering old now before mid kept was_long → Moves now new kept was_long kept_now is_long false → IsGathering old new before mid kept_now is_long
+gathers_piece old now new before mid kept was_long kept_now is_long so_far moved =
+    let split : now.ahead ≡ moved.piece ++ new.ahead = moved.bytes ∙ ap (λ xs. xs ++ new.ahead) (append-nil moved.piece) in
+    record {
+      line = so_far.line ++ moved.piece;
+      part = IsPart-append so_far.line moved.piece so_far.part moved.is_part;
+      gathered = moved.adds so_far.line so_far.gathered;
+      passes = passes_more old now new before mid so_far.line moved.piece split moved.taken so_far.passes
+    }
+
+-- the line's last piece was moved, and its 0x0A
+pub gathers_whole : (old now new : Store) (before mid : Option (List ℕ)) (kept : List ℕ) (was_long : Bool) (kept_now : List ℕ) (is_long : Bool)
+    → IsGathering old now before mid kept was_long → Moves now new kept was_long kept_now is_long true → now.ended ≡ false → Gathers old new before mid kept_now is_long true
+gathers_whole old now new before mid kept was_long kept_now is_long so_far moved going =
+    let passes : Passes old new before mid (so_far.line ++ (moved.piece ++ 10 ∷ [])) = passes_more old now new before mid so_far.line (moved.piece ++ 10 ∷ []) moved.bytes moved.taken so_far.passes in
+    record {
+      line = so_far.line ++ moved.piece;
+      part = IsPart-append so_far.line moved.piece so_far.part moved.is_part;
+      gathered = moved.adds so_far.line so_far.gathered;
+      passes = rw append_assoc passes;
+      more = λ _. moved.ended ∙ going;
+      over = λ e. cc
+    }
+
+-- the source ended behind the line
+pub gathers_last : (old new : Store) (before after : Option (List ℕ)) (kept : List ℕ) (is_long : Bool) (now : Store) (mid : Option (List ℕ)) → length now.ahead ≡ 0
+    → IsGathering old now before mid kept is_long → Fills now new mid after false → Gathers old new before after kept is_long false
+gathers_last old new before after kept is_long now mid empty so_far fills =
+    let over = fills.none refl in
+    record {
+      line = so_far.line;
+      part = so_far.part;
+      gathered = so_far.gathered;
+      passes = rw append-nil (passes_fill old now new before mid after so_far.line false empty so_far.passes fills);
+      more = λ e. cc;
+      over = λ _. (over.1, over.0, over.2, over.3)
+    }
+
+consumes_unread : (fault : LineFault) (mid after : Option (List ℕ)) → IsUnread fault mid after → Consumes mid after []
+consumes_unread Spent mid after same = subst (λ (x : Option (List ℕ)). Consumes mid x []) (sym same) (consumes_none mid)
+consumes_unread ReadFault mid after kept = consumes_kept mid after kept
+
+-- the source failed behind the line's part, or the limit was met
+pub stops : (old now new : Store) (before mid after : Option (List ℕ)) (kept : List ℕ) (is_long : Bool) (fault : LineFault) → length now.ahead ≡ 0
+    → IsGathering old now before mid kept is_long → StopsFill now new mid after fault → StopsLine old new before after fault
+stops old now new before mid after kept is_long fault empty so_far stop = record {
+    part = so_far.line;
+    is_part = so_far.part;
+    passes = passes_stop old now new before mid after so_far.line empty stop.empty stop.same so_far.passes (consumes_unread fault mid after stop.unread);
+    empty = stop.empty;
+    going = stop.going;
+    place = stop.place
+  }

@@ -1,0 +1,5 @@
+use Rattle.std.proofs.Common.{◌≡◌}
+use Rattle.mt_io.proofs.std_streams.StdOutSink.write_some.Given as goal
+
+abbrev pub invariant-loop : goal.invariant-loop
+invariant-loop l = l.self.faults ≡ l.fn.self.faults
