@@ -32,29 +32,31 @@ over_after new before after old kept is_long false g ended = let over = g.over r
 sound_after : (old new : Store) (before after : Option (List ℕ)) (kept : List ℕ) (is_long whole : Bool) (given given_now : ℕ) → IsSound old given None
     → Gathers old new before after kept is_long whole → given_now + length new.ahead ≤ new.taken → IsSound new given_now None
 sound_after old new before after kept is_long whole given given_now sound g counted = record {
-    counted = counted;
-    limit = g.passes.limit;
-    over = over_after new before after old kept is_long whole g;
-    stopped = tt
-  }
+  counted = counted;
+  limit = g.passes.limit;
+  over = over_after new before after old kept is_long whole g;
+  stopped = tt;
+}
 
 takes : (old new : Store) (before after : Option (List ℕ)) (text kept : List ℕ) (is_long whole : Bool) (given given_now : ℕ) → IsSound old given None → old.ended ≡ false
     → (g : Gathers old new before after kept is_long whole) → given_now ≡ given + 1 → (whole ≡ false → 0 < length g.line)
     → Takes (reading old given None text) (reading new given_now None kept) before after g.line × (given_now + length new.ahead ≤ new.taken)
 takes old new before after text kept is_long whole given given_now sound going g one some =
     let weight : given + length (g.line ++ ending_of whole) + length new.ahead ≤ new.taken = weighed old new before after (g.line ++ ending_of whole) given sound.counted g.passes in
-    let byte : 0 < length (g.line ++ ending_of whole) = heavy g.line whole some in
-    (record {
-      going = going;
-      was_sound = refl;
-      sound = refl;
-      one_more = one;
-      bound = omega (arith, g.passes.limit);
-      part = g.part;
-      ending = ending_of whole;
-      ends = ends new before after old kept is_long whole g some;
-      passes = g.passes
-    }, omega arith)
+    let byte : 0 < length (g.line ++ ending_of whole) = heavy g.line whole some in (
+      record {
+        going = going;
+        was_sound = refl;
+        sound = refl;
+        one_more = one;
+        bound = omega (arith, g.passes.limit);
+        part = g.part;
+        ending = ending_of whole;
+        ends = ends new before after old kept is_long whole g some;
+        passes = g.passes;
+      },
+      omega arith,
+    )
 
 done : (old new : Store) (before after : Option (List ℕ)) (text kept : List ℕ) (is_long whole : Bool) (given given_now : ℕ) → old.ended ≡ false
     → (g : Gathers old new before after kept is_long whole) → given_now ≡ given → whole ≡ false → g.line ≡ []
@@ -71,7 +73,7 @@ done old new before after text kept is_long whole given given_now going g same l
       few = over.3;
       passes = rw empty at g.passes;
       met = λ _. over.2;
-      still = λ ended. cc
+      still = λ ended. cc;
     }
 
 pub advanced : (old new : Store) (before after : Option (List ℕ)) (text kept : List ℕ) (is_long whole : Bool) (given given_now : ℕ) (step : Step)
@@ -84,19 +86,19 @@ advanced old new before after text kept is_long whole given given_now Short soun
     let same : kept ≡ g.line = count.2 in
     record {
       step = (rw same count.3, let P : List ℕ → Type 0 = λ xs. Takes (reading old given None text) (reading new given_now None kept) before after xs in subst P (sym same) t.0);
-      sound = sound_after old new before after kept is_long whole given given_now sound g t.1
+      sound = sound_after old new before after kept is_long whole given given_now sound g t.1;
     }
 advanced old new before after text kept is_long whole given given_now Skipped sound going g counts =
     let count = counts g.line g.gathered in
     let t = takes old new before after text kept is_long whole given given_now sound going g count.0 count.1 in
     record {
       step = (g.line, count.2, t.0);
-      sound = sound_after old new before after kept is_long whole given given_now sound g t.1
+      sound = sound_after old new before after kept is_long whole given given_now sound g t.1;
     }
 advanced old new before after text kept is_long whole given given_now Finished sound going g counts =
     let count = counts g.line g.gathered in
     let weight : given + length (g.line ++ ending_of whole) + length new.ahead ≤ new.taken = weighed old new before after (g.line ++ ending_of whole) given sound.counted g.passes in
     record {
       step = done old new before after text kept is_long whole given given_now going g count.0 count.1 count.2;
-      sound = sound_after old new before after kept is_long whole given given_now sound g (omega (arith, count.0))
+      sound = sound_after old new before after kept is_long whole given given_now sound g (omega (arith, count.0));
     }

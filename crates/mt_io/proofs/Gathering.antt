@@ -26,22 +26,22 @@ IsPart-append (x ∷ xs) ys px py = (px.0, IsPart-append xs ys px.1 py)
 
 pub passes_none : (old : Store) (before : Option (List ℕ)) → old.taken ≤ 2 ^ 32 → Passes old old before before []
 passes_none old before limit = record {
-    read = [];
-    from = consumes_none before;
-    count = omega arith;
-    bytes = append-nil old.ahead;
-    limit = limit
-  }
+  read = [];
+  from = consumes_none before;
+  count = omega arith;
+  bytes = append-nil old.ahead;
+  limit = limit;
+}
 
 -- nothing was read yet
 pub begins : (old : Store) (before : Option (List ℕ)) (kept : List ℕ) (is_long : Bool) → old.taken ≤ 2 ^ 32 → kept ≡ [] → is_long ≡ false
     → IsGathering old old before before kept is_long
 begins old before kept is_long limit empty short = record {
-    line = [];
-    part = tt;
-    gathered = record { short = λ _. (empty, omega arith); long = λ long. cc };
-    passes = passes_none old before limit
-  }
+  line = [];
+  part = tt;
+  gathered = record { short = λ _. (empty, omega arith); long = λ long. cc };
+  passes = passes_none old before limit;
+}
 
 -- nothing is ahead, and more is read
 pub passes_fill : (old now new : Store) (before mid after : Option (List ℕ)) (front : List ℕ) (more : Bool) → length now.ahead ≡ 0
@@ -54,7 +54,7 @@ passes_fill old now new before mid after front more empty p fills =
       from = consumes_on before mid after p.read new.ahead p.from fills.from;
       count = omega (arith, p.count, fills.count, length-append p.read new.ahead);
       bytes = sym (append_assoc old.ahead p.read new.ahead) ∙ ap (λ xs. xs ++ new.ahead) went;
-      limit = fills.limit
+      limit = fills.limit;
     }
 
 -- nothing is ahead, and nothing is read
@@ -67,19 +67,19 @@ passes_stop old now new before mid after front empty none same p from =
       from = consumes_on before mid after p.read [] p.from from;
       count = omega (arith, p.count, same, length-append p.read []);
       bytes = rw (append-nil p.read, none, ← was) p.bytes;
-      limit = omega (arith, p.limit, same)
+      limit = omega (arith, p.limit, same);
     }
 
 -- bytes that are ahead go
 pub passes_more : (old now new : Store) (before mid : Option (List ℕ)) (front piece : List ℕ) → now.ahead ≡ piece ++ new.ahead → new.taken ≡ now.taken
     → Passes old now before mid front → Passes old new before mid (front ++ piece)
 passes_more old now new before mid front piece split same p = record {
-    read = p.read;
-    from = p.from;
-    count = omega (arith, p.count, same);
-    bytes = p.bytes ∙ ap (λ xs. front ++ xs) split ∙ sym (append_assoc front piece new.ahead);
-    limit = omega (arith, p.limit, same)
-  }
+  read = p.read;
+  from = p.from;
+  count = omega (arith, p.count, same);
+  bytes = p.bytes ∙ ap (λ xs. front ++ xs) split ∙ sym (append_assoc front piece new.ahead);
+  limit = omega (arith, p.limit, same);
+}
 
 -- after a fill that tells that bytes are ahead
 pub filled : (old now new : Store) (before mid after : Option (List ℕ)) (kept : List ℕ) (is_long : Bool) (more : Bool) (result : Result Bool LineFault) → more ≡ true
@@ -88,17 +88,19 @@ pub filled : (old now new : Store) (before mid after : Option (List ℕ)) (kept 
     → IsGathering old new before after kept is_long × (new.ended ≡ false)
 filled old now new before mid after kept is_long more result true_ so_far going held read =
     elim (cases_eq (length now.ahead) 0) [
-      inl empty ↦
-        let fills = read empty in
-        (record {
-          line = so_far.line;
-          part = so_far.part;
-          gathered = so_far.gathered;
-          passes = passes_fill old now new before mid after so_far.line more empty so_far.passes fills
-        }, (fills.some true_).1)
-    | inr some ↦
-        let h = held (omega arith) in
-        rw (h.1, h.2) (so_far, going)
+      | inl empty ↦
+          let fills = read empty in (
+            record {
+              line = so_far.line;
+              part = so_far.part;
+              gathered = so_far.gathered;
+              passes = passes_fill old now new before mid after so_far.line more empty so_far.passes fills;
+            },
+            (fills.some true_).1,
+          )
+      | inr some ↦
+          let h = held (omega arith) in
+          rw (h.1, h.2) (so_far, going)
     ]
 
 -- a piece without a 0x0A was moved
@@ -110,7 +112,7 @@ gathers_piece old now new before mid kept was_long kept_now is_long so_far moved
       line = so_far.line ++ moved.piece;
       part = IsPart-append so_far.line moved.piece so_far.part moved.is_part;
       gathered = moved.adds so_far.line so_far.gathered;
-      passes = passes_more old now new before mid so_far.line moved.piece split moved.taken so_far.passes
+      passes = passes_more old now new before mid so_far.line moved.piece split moved.taken so_far.passes;
     }
 
 -- the line's last piece was moved, and its 0x0A
@@ -124,7 +126,7 @@ gathers_whole old now new before mid kept was_long kept_now is_long so_far moved
       gathered = moved.adds so_far.line so_far.gathered;
       passes = rw append_assoc passes;
       more = λ _. moved.ended ∙ going;
-      over = λ e. cc
+      over = λ e. cc;
     }
 
 -- the source ended behind the line
@@ -138,7 +140,7 @@ gathers_last old new before after kept is_long now mid empty so_far fills =
       gathered = so_far.gathered;
       passes = rw append-nil (passes_fill old now new before mid after so_far.line false empty so_far.passes fills);
       more = λ e. cc;
-      over = λ _. (over.1, over.0, over.2, over.3)
+      over = λ _. (over.1, over.0, over.2, over.3);
     }
 
 consumes_unread : (fault : LineFault) (mid after : Option (List ℕ)) → IsUnread fault mid after → Consumes mid after []
@@ -149,10 +151,10 @@ consumes_unread ReadFault mid after kept = consumes_kept mid after kept
 pub stops : (old now new : Store) (before mid after : Option (List ℕ)) (kept : List ℕ) (is_long : Bool) (fault : LineFault) → length now.ahead ≡ 0
     → IsGathering old now before mid kept is_long → StopsFill now new mid after fault → StopsLine old new before after fault
 stops old now new before mid after kept is_long fault empty so_far stop = record {
-    part = so_far.line;
-    is_part = so_far.part;
-    passes = passes_stop old now new before mid after so_far.line empty stop.empty stop.same so_far.passes (consumes_unread fault mid after stop.unread);
-    empty = stop.empty;
-    going = stop.going;
-    place = stop.place
-  }
+  part = so_far.line;
+  is_part = so_far.part;
+  passes = passes_stop old now new before mid after so_far.line empty stop.empty stop.same so_far.passes (consumes_unread fault mid after stop.unread);
+  empty = stop.empty;
+  going = stop.going;
+  place = stop.place;
+}

@@ -36,14 +36,14 @@ pub moves_to_break : (old : Store) (place : ℕ) (kept : List ℕ) (was_long : B
     → ((line : List ℕ) → IsGathered kept was_long line → IsGathered kept_now is_long (line ++ take place old.ahead))
     → Moves old (record old { ahead = drop (place + 1) old.ahead }) kept was_long kept_now is_long true
 moves_to_break old place kept was_long kept_now is_long lt here before adds = record {
-    piece = take place old.ahead;
-    is_part = IsPart-take old.ahead place before (omega arith);
-    bytes = split_at_byte old.ahead place 10 lt here;
-    adds = adds;
-    all = λ e. cc;
-    taken = refl;
-    ended = refl
-  }
+  piece = take place old.ahead;
+  is_part = IsPart-take old.ahead place before (omega arith);
+  bytes = split_at_byte old.ahead place 10 lt here;
+  adds = adds;
+  all = λ e. cc;
+  taken = refl;
+  ended = refl;
+}
 
 -- all bytes, where none is 0x0A
 pub moves_all : (old : Store) (kept : List ℕ) (was_long : Bool) (kept_now : List ℕ) (is_long : Bool)
@@ -60,5 +60,5 @@ moves_all old kept was_long kept_now is_long none adds =
       adds = adds;
       all = λ e. refl;
       taken = refl;
-      ended = refl
+      ended = refl;
     })

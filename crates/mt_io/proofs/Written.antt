@@ -9,7 +9,8 @@ use Rattle.mt_io.proofs.Known.{appends_on}
 pub front_more : (before mid after : Option (List ℕ)) (bytes rest : List ℕ) (n : ℕ)
     → ((front : List ℕ) × (bytes ≡ front ++ rest) × Appends before mid front) → Appends mid after (take n rest)
     → (front : List ℕ) × (bytes ≡ front ++ take (length rest - n) (drop n rest)) × Appends before after front
-front_more before mid after bytes rest n so_far more =
-    (so_far.0 ++ take n rest,
-     rw take_rest (so_far.1 ∙ ap (λ xs. so_far.0 ++ xs) (sym (take-append-drop n rest)) ∙ sym (append_assoc so_far.0 (take n rest) (drop n rest))),
-     appends_on before mid after so_far.0 (take n rest) so_far.2 more)
+front_more before mid after bytes rest n so_far more = (
+  so_far.0 ++ take n rest,
+  rw take_rest (so_far.1 ∙ ap (λ xs. so_far.0 ++ xs) (sym (take-append-drop n rest)) ∙ sym (append_assoc so_far.0 (take n rest) (drop n rest))),
+  appends_on before mid after so_far.0 (take n rest) so_far.2 more,
+)

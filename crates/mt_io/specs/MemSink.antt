@@ -18,7 +18,7 @@ fills_itself sink = record { same_room = refl; grows = omega arith; quiet = λ _
 
 pub fills_on : (a b c : MemSink) → Fills a b → Fills b c → Fills a c
 fills_on a b c ab bc = record {
-    same_room = bc.same_room ∙ ab.same_room;
-    grows = omega arith;
-    quiet = λ lt. bc.quiet lt ∙ ab.quiet (omega arith)
-  }
+  same_room = bc.same_room ∙ ab.same_room;
+  grows = omega arith;
+  quiet = λ lt. bc.quiet lt ∙ ab.quiet (omega arith);
+}

@@ -47,7 +47,7 @@ pub record Passes (old new : Store) (before after : Option (List ℕ)) (front : 
 abbrev pub Ends : Store → Option (List ℕ) → List ℕ → List ℕ → Type 0
 Ends new after line ending =
     ((ending ≡ 10 ∷ []) × (new.ended ≡ false))
-      ⊎ ((ending ≡ []) × (0 < length line) × (new.ended ≡ true) × (new.ahead ≡ []) × IsAtEnd after × (new.taken < 2 ^ 32))
+    ⊎ ((ending ≡ []) × (0 < length line) × (new.ended ≡ true) × (new.ahead ≡ []) × IsAtEnd after × (new.taken < 2 ^ 32))
 
 -- One line more was given: its bytes and its end went, and no others.
 pub record Takes (old new : Reading) (before after : Option (List ℕ)) (line : List ℕ) : Type 0 where

@@ -9,4 +9,4 @@ returns c =
     let same : length (slice_range c.self.inside.chunk.items c.self.inside.at c.self.inside.end) ≡ length c.args.self.now.ahead = ap (λ (s : Store). length s.ahead) c.self.view_is in
     let le : c.self.inside.at + c.args.count ≤ c.self.inside.end = omega (arith, size, same, c.requires, c.self.invariant.0) in
     rw (← c.self.view_is) (ap (λ xs. record { ahead = xs; taken = c.self.inside.taken; ended = c.self.inside.ended })
-      (sym (drop-slice_range c.self.inside.chunk.items c.self.inside.at c.self.inside.end c.args.count le)))
+    (sym (drop-slice_range c.self.inside.chunk.items c.self.inside.at c.self.inside.end c.args.count le)))
