@@ -1,14 +1,14 @@
 -- Reading more, and moving pieces, one after another.
-use Rattle.std.proofs.Common.{◌≡◌, ◌<◌, ◌≤◌, ℕ, ◌+◌, ◌^◌, Bool, true, false, List, [], ◌∷◌, ◌++◌, length, None, Some, refl, sym, ◌∙◌, ap, subst, arith, append_assoc, append-nil, length-append}
+use Rattle.std.proofs.Common.{◌≡◌, ◌<◌, ◌≤◌, ℕ, ◌^◌, Bool, true, false, List, [], ◌∷◌, ◌++◌, length, refl, sym, ◌∙◌, ap, subst, arith, append_assoc, append-nil, length-append}
 use Rattle.std.proofs.Common.{inl, inr, Ok}
 use Rattle.std.proofs.lemmas.Bool.{cases_eq}
 use Rattle.std.proofs.lemmas.List.{nil_from_length}
 use Rattle.std.specs.declared.result.Result.{Result}
 use Rattle.std.specs.declared.option.Option.{Option}
-use Rattle.std.specs.Io.KnownBytes.{Keeps, Consumes}
+use Rattle.std.specs.Io.KnownBytes.{Consumes}
 use Rattle.mt_io.specs.Lines.{IsPart}
 use Rattle.mt_io.specs.Reading.{Store, Passes}
-use Rattle.mt_io.specs.Gathering.{Fills, StopsFill, Moves, IsGathered, Gathers, StopsLine, IsUnread, ending_of}
+use Rattle.mt_io.specs.Gathering.{Fills, StopsFill, Moves, IsGathered, Gathers, StopsLine, IsUnread}
 use Rattle.mt_io.specs.declared.line.LineFault.{LineFault}
 use Rattle.mt_io.specs.declared.line.LineFault.TheVariants.{ReadFault, Spent}
 use Rattle.mt_io.proofs.Known.{consumes_none, consumes_kept, consumes_on}

@@ -2,5 +2,6 @@ pub mod Causes
 pub mod Lines
 pub mod Reading
 pub mod Gathering
+pub mod HasRead
 pub mod MemSink
 pub mod Writing

@@ -8,16 +8,16 @@ abbrev pub room_of : MemSink → ℕ
 room_of sink = sink.room
 
 -- Writes keep the room and what is held, and while there is room no fault is counted.
-pub record Fills (old new : MemSink) : Type 0 where
+pub record HasWritten (old new : MemSink) : Type 0 where
   pub same_room : new.room ≡ old.room
   pub grows : vec_len old.bytes ≤ vec_len new.bytes
   pub quiet : vec_len new.bytes < new.room → new.faults ≡ old.faults
 
-pub fills_itself : (sink : MemSink) → Fills sink sink
-fills_itself sink = record { same_room = refl; grows = omega arith; quiet = λ _. refl }
+pub written_none : (sink : MemSink) → HasWritten sink sink
+written_none sink = record { same_room = refl; grows = omega arith; quiet = λ _. refl }
 
-pub fills_on : (a b c : MemSink) → Fills a b → Fills b c → Fills a c
-fills_on a b c ab bc = record {
+pub written_on : (a b c : MemSink) → HasWritten a b → HasWritten b c → HasWritten a c
+written_on a b c ab bc = record {
   same_room = bc.same_room ∙ ab.same_room;
   grows = omega arith;
   quiet = λ lt. bc.quiet lt ∙ ab.quiet (omega arith);

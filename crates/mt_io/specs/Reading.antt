@@ -23,6 +23,10 @@ pub record Reading : Type 0 where
   pub fault : Option LineFault
   pub text : List ℕ
 
+-- a reader that has taken no byte, given no line and met no fault
+abbrev pub fresh : Reading
+fresh = record { store = record { ahead = []; taken = 0; ended = false }; given = 0; fault = None; text = [] }
+
 -- `Spent` comes where 2^32 bytes were taken, and `ReadFault` where fewer were
 abbrev pub IsFaultAt : LineFault → ℕ → Type 0
 IsFaultAt Spent taken = taken ≡ 2 ^ 32

@@ -1,9 +1,9 @@
 //! A reader of lines over any source.
-ghost use Rattle.std.specs.Prelude.{◌≡◌, ◌≤◌, ◌^◌, [], None, Some, false, IfOk, MatchResult};
+ghost use Rattle.std.specs.Prelude.{◌≡◌, ◌≤◌, ◌^◌, None, IfOk, MatchResult};
 ghost use Rattle.std.specs.Borrow.{sem};
 ghost use Rattle.std.specs.Io.BufRead.{Rests};
 ghost use Rattle.mt_io.specs.Causes.{Rose};
-ghost use Rattle.mt_io.specs.Reading.{IsStopped, Next};
+ghost use Rattle.mt_io.specs.Reading.{IsStopped, Next, fresh};
 ghost use Rattle.mt_io.specs.Gathering.{GivesStep};
 ghost use Rattle.mt_io.specs.contracts.line_reader.LineReader.{the_row};
 
@@ -39,7 +39,7 @@ impl Model for LineReader {
 impl LineReader {
     /// A reader that has taken no byte and met no fault. It takes all its memory here.
     pub fn make(alloc: Global) -> Result<LineReader, Memory>
-        ensures { IfOk result (λ reader. reader ≡ record { store = record { ahead = []; taken = 0; ended = false }; given = 0; fault = None; text = [] }) }
+        ensures { IfOk result (λ reader. reader ≡ fresh) }
     {
         Ok(LineReader {
             ahead: Ahead::make(alloc)?,

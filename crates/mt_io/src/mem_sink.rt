@@ -42,13 +42,13 @@ impl MemSink {
 }
 
 impl Sink for MemSink {
-    ghost use Rattle.mt_io.specs.MemSink.{Fills, fills_itself, fills_on};
+    ghost use Rattle.mt_io.specs.MemSink.{HasWritten, written_none, written_on};
 
     ghost held = { λ s. Some s.bytes.items };
 
     ghost faults = { λ s. s.faults };
 
-    ghost writes_to = { Fills };
+    ghost writes_to = { HasWritten };
 
     fn write_faults(&self) -> u64 {
         self.faults
@@ -66,7 +66,7 @@ impl Sink for MemSink {
         }
     }
 
-    ghost writes_to_itself = { fills_itself };
+    ghost writes_to_itself = { written_none };
 
-    ghost writes_on = { fills_on };
+    ghost writes_on = { written_on };
 }

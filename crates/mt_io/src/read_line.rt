@@ -1,6 +1,6 @@
 //! One line from a source, by the reader's parts.
 ghost use Rattle.std.specs.Prelude.{◌≡◌, ◌<◌, ◌≤◌, ◌+◌, ◌^◌, List, ℕ, None, false, length, MatchResult};
-ghost use Rattle.mt_io.specs.Causes.{HasCause, Rose};
+ghost use Rattle.mt_io.specs.Causes.{Rose};
 ghost use Rattle.mt_io.specs.Reading.{IsSound};
 ghost use Rattle.mt_io.specs.Gathering.{Advances, Counts, Gathers, IsGathered, StopsLine};
 

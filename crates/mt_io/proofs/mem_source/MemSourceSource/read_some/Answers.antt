@@ -1,4 +1,4 @@
-use Rattle.std.proofs.Common.{rules, ◌≡◌, ◌<◌, ◌≤◌, ℕ, ◌+◌, ◌-◌, min, List, [], ◌++◌, length, take, drop, slice_range, refl, sym, ◌∙◌, ap, arith, length-take, length-drop, length-append, take-append-drop}
+use Rattle.std.proofs.Common.{rules, ◌≡◌, ◌<◌, ◌≤◌, ℕ, ◌+◌, ◌-◌, min, List, [], ◌++◌, length, take, drop, slice_range, sym, ◌∙◌, ap, arith, length-take, length-drop, length-append, take-append-drop}
 use Rattle.std.proofs.lemmas.List.{take_at, drop-drop, drop_all}
 use Rattle.mt_io.proofs.mem_source.MemSourceSource.read_some.Goals as goal
 
