@@ -1,0 +1,4 @@
+pub mod Moved
+pub mod Segments
+pub mod Straight
+pub mod Strands

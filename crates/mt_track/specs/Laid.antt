@@ -1,0 +1,52 @@
+use Rattle.std.specs.Prelude.{◌≡◌, ℕ, Some, ◌+◌, ◌-◌, ◌<◌, ◌≤◌, List, [], ◌∷◌, ◌++◌, length, slice_get, All, IfSome}
+use Rattle.std.specs.List.{flat_map, AllAdjacentBelow}
+use Rattle.mt_base.specs.declared.row.Row.{Row}
+use Rattle.mt_base.specs.Bounds.{IsBoundedOver, IsBoundedRow}
+use Rattle.mt_base.specs.Trajectory.{Trajectory, row_at, straight_rows}
+use Rattle.mt_track.specs.declared.segment.Segment.{Segment}
+use Rattle.mt_track.specs.Rows.{Continues, row_after}
+
+-- the rows of a segment
+abbrev pub rows_of : Segment → List Row
+rows_of s = straight_rows s.first (s.to - s.from)
+
+-- the rows of some segments, one after another
+abbrev pub all_rows : List Segment → List Row
+all_rows segments = flat_map rows_of segments
+
+-- Segments lie end to end from one second to another: each begins where the one before it ends, and has at least one second.
+abbrev pub Adjoin : ℕ → List Segment → ℕ → Type 0
+Adjoin from [] to = from ≡ to
+Adjoin from (s ∷ ss) to = (s.from ≡ from) × (s.from < s.to) × Adjoin s.to ss to
+
+-- What every strand keeps: each row within bounds, and continued by the next; at most 14,400 rows; an end by second 10,014,400.
+pub record IsStrand (t : Trajectory) : Type 0 where
+  pub bounded : All IsBoundedRow t.rows
+  pub continuous : AllAdjacentBelow Continues t.rows (length t.rows)
+  pub short : length t.rows ≤ 14400
+  pub early : t.start + length t.rows ≤ 10014400
+
+-- how a strand is kept: its segments lie from its start to its end
+pub record IsLaid (start end : ℕ) (segments : List Segment) : Type 0 where
+  pub adjoin : Adjoin start segments end
+  pub kept : IsStrand (record { start = start; rows = all_rows segments })
+
+-- A segment can follow a strand: it begins where the strand ends, its first row continues the last one, and it keeps what every strand keeps.
+pub record Follows (t : Trajectory) (s : Segment) : Type 0 where
+  pub adjoins : s.from ≡ t.start + length t.rows
+  pub some : s.from < s.to
+  pub continues : IfSome (slice_get t.rows (length t.rows - 1)) (λ last. Continues last s.first)
+  pub bounded : IsBoundedOver s.first (s.to - s.from)
+  pub short : s.to ≤ t.start + 14400
+  pub early : s.to ≤ 10014400
+
+-- with the rows of a segment behind its own
+abbrev pub extended : Trajectory → Segment → Trajectory
+extended t s = record { start = t.start; rows = t.rows ++ rows_of s }
+
+-- A segment holds second k of a trajectory: the row of k is that many seconds after the segment's first row, and within bounds until then.
+pub record Holds (t : Trajectory) (k : ℕ) (s : Segment) : Type 0 where
+  pub begun : s.from ≤ k
+  pub row : row_at t k ≡ Some (row_after s.first (k - s.from))
+  pub kept : IsBoundedOver s.first (k - s.from)
+  pub bounded : IsBoundedRow (row_after s.first (k - s.from))

@@ -1,0 +1,135 @@
+ghost use Rattle.std.specs.Prelude.{◌≡◌, ◌+◌, ◌<◌, ◌≤◌, [], length, IfOk, IfSome, OnOk, OnErr};
+ghost use Rattle.mt_base.specs.Bounds.{IsBoundedRow, IsBoundedStretch};
+ghost use Rattle.mt_base.specs.Trajectory.{row_at, straight};
+ghost use Rattle.mt_track.specs.Laid.{Adjoin, IsStrand, Follows, Holds, all_rows, extended};
+
+use crate::segment::{Segment, later};
+use mt_base::{Memory, Row, Second, Straight};
+use std::alloc::Global;
+use std::marker::Model;
+
+/// A trajectory as segments of constant gains that lie end to end, seen as its first second and its rows.
+///
+/// Every row keeps within the plane and the greatest rates, during its whole second; x, y, z and r go on from row to row; and there are
+/// at most 14,400 rows, the last of which ends by second 10,014,400.
+#[derive(Drop)]
+pub struct Strand {
+    start: Second,
+    end: Second,
+    segments: Vec<Segment>,
+}
+
+impl Model for Strand {
+    ghost use Rattle.mt_base.specs.Trajectory.{Trajectory};
+    ghost use Rattle.mt_track.specs.Laid.{IsLaid, all_rows};
+
+    ghost Value = { Trajectory };
+
+    ghost view = { λ s. record { start = s.start; rows = all_rows s.segments.items } };
+
+    ghost invariant = { λ s. IsLaid s.start s.end s.segments.items };
+}
+
+impl Strand {
+    /// A strand that begins at that second and has no row yet. It takes no memory; what is pushed later comes from `alloc`.
+    pub fn empty(alloc: Global, at: Second) -> Strand
+        requires { at ≤ 10014400 }
+        ensures { result ≡ record { start = at; rows = [] } }
+    {
+        Strand {
+            start: at,
+            end: at,
+            segments: Vec::new(alloc),
+        }
+    }
+
+    /// Puts the rows of a segment behind those of the strand. On an error the strand stays as it was.
+    pub fn push(&mut self, segment: Segment) -> Result<(), Memory>
+        requires { Follows self.old segment }
+        ensures ok { OnOk result (self.new ≡ extended self.old segment) }
+        ensures err { OnErr result (self.new ≡ self.old) }
+    {
+        self.segments.push(segment)?;
+        self.end = segment.to;
+        Ok(())
+    }
+
+    /// The strand of a straight stretch, as one segment.
+    pub fn straight(alloc: Global, stretch: &Straight) -> Result<Strand, Memory>
+        requires { IsBoundedStretch stretch.now }
+        ensures { IfOk result (λ strand. strand ≡ straight stretch.now) }
+    {
+        let mut strand = Strand::empty(alloc, stretch.from);
+        strand.push(Segment {
+            from: stretch.from,
+            to: stretch.to,
+            first: stretch.first,
+        })?;
+        Ok(strand)
+    }
+
+    /// The segment that holds second k. It halves the segments until one is left.
+    fn holding(&self, k: Second) -> &Segment
+        requires begun { self.now.start ≤ k }
+        requires within { k < self.now.start + length self.now.rows }
+        ensures { Holds self.now k result.now }
+    {
+        let mut low = 0;
+        let mut high = self.segments.len();
+        while high - low > 1 {
+            let middle = low + (high - low) / 2;
+            if self.segments[middle].from <= k {
+                low = middle;
+            } else {
+                high = middle;
+            }
+        }
+        &self.segments[low]
+    }
+
+    /// The row of second k; `None` exactly where the strand does not cover it.
+    pub fn at(&self, k: Second) -> Option<Row>
+        ensures row { result ≡ row_at self.now k }
+        ensures bounded { IfSome result IsBoundedRow }
+    {
+        if k < self.start() || k >= self.end() {
+            return None;
+        }
+        let segment = self.holding(k);
+        Some(later(&segment.first, k - segment.from))
+    }
+
+    /// Its first second.
+    pub fn start(&self) -> Second
+        ensures { result ≡ self.now.start }
+    {
+        self.start
+    }
+
+    /// The second after its last one; `start()` where it has no row. What every strand keeps is said here too.
+    pub fn end(&self) -> Second
+        ensures end { result ≡ self.now.start + length self.now.rows }
+        ensures kept { IsStrand self.now }
+    {
+        self.end
+    }
+
+    /// Its segments, in order, end to end.
+    pub fn segments(&self) -> &[Segment]
+        ensures rows { all_rows result.now ≡ self.now.rows }
+        ensures laid { Adjoin self.now.start result.now (self.now.start + length self.now.rows) }
+    {
+        &self.segments
+    }
+
+    /// The same strand once more.
+    pub fn copy(&self) -> Result<Strand, Memory>
+        ensures { IfOk result (λ strand. strand ≡ self.now) }
+    {
+        Ok(Strand {
+            start: self.start,
+            end: self.end,
+            segments: self.segments.clone()?,
+        })
+    }
+}

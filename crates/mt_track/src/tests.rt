@@ -1,0 +1,159 @@
+use crate::{Roster, Segment, Strand};
+use mt_base::{Callsign, Kind, Row, Straight};
+use std::process::Abort;
+use std::sync::Arc;
+use std::test::Fail;
+
+/// The values of a row at its start, and its leg.
+type Values = (i64, i64, i64, i64, i64, u32);
+
+fn values(row: &Row) -> Values {
+    (row.x, row.y, row.z, row.r, row.w, row.leg)
+}
+
+/// What the strand says of each second of the table, and its first and last second.
+fn check(rt: &impl Abort, strand: &Strand, ends: (u32, u32), table: &[(u32, Option<Values>)]) {
+    assert_eq!(rt; (strand.start(), strand.end()), ends);
+    for (k, wanted) in table {
+        let row = strand.at(*k);
+        assert!(rt; row.as_ref().map(values) == *wanted, "at second {k}");
+    }
+}
+
+const CLIMB: Segment = Segment {
+    from: 10,
+    to: 13,
+    first: Row {
+        x: 100,
+        y: -7,
+        z: 6000,
+        r: 10,
+        w: 50,
+        vx: 5,
+        vy: 0,
+        vz: 100,
+        gr: 2,
+        gw: 7,
+        leg: 1,
+    },
+};
+
+const LEVEL: Segment = Segment {
+    from: 13,
+    to: 14,
+    first: Row {
+        x: 115,
+        y: -7,
+        z: 6300,
+        r: 16,
+        w: 0,
+        vx: -3,
+        vy: 4,
+        vz: 0,
+        gr: 0,
+        gw: 0,
+        leg: 1,
+    },
+};
+
+const DESCENT: Segment = Segment {
+    from: 14,
+    to: 18,
+    first: Row {
+        x: 112,
+        y: -3,
+        z: 6300,
+        r: 16,
+        w: 3,
+        vx: 0,
+        vy: -1,
+        vz: -50,
+        gr: 1,
+        gw: 1,
+        leg: 2,
+    },
+};
+
+#[test]
+fn rows_stand_at_and_around_each_border(rt: HostRuntime) -> Result<(), Fail> {
+    let mut strand = Strand::empty(rt.alloc(), 10);
+    check(&rt, &strand, (10, 10), &[(9, None), (10, None), (11, None)]);
+    strand.push(CLIMB)?;
+    strand.push(LEVEL)?;
+    strand.push(DESCENT)?;
+    let table = [
+        (0, None),
+        (9, None),
+        (10, Some((100, -7, 6000, 10, 50, 1))),
+        (11, Some((105, -7, 6100, 12, 57, 1))),
+        (12, Some((110, -7, 6200, 14, 64, 1))),
+        (13, Some((115, -7, 6300, 16, 0, 1))),
+        (14, Some((112, -3, 6300, 16, 3, 2))),
+        (15, Some((112, -4, 6250, 17, 4, 2))),
+        (17, Some((112, -6, 6150, 19, 6, 2))),
+        (18, None),
+        (u32::MAX, None),
+    ];
+    check(&rt, &strand, (10, 18), &table);
+    assert!(rt; strand.segments() == [CLIMB, LEVEL, DESCENT].as_slice());
+    let copy = strand.copy()?;
+    check(&rt, &copy, (10, 18), &table);
+    assert!(rt; copy.segments() == strand.segments());
+    Ok(())
+}
+
+#[test]
+fn a_straight_stretch_has_growing_margins(rt: HostRuntime) -> Result<(), Fail> {
+    let stretch = Straight {
+        from: 5,
+        to: 9,
+        first: Row {
+            x: -480,
+            y: 0,
+            z: 2_400_000,
+            r: 0,
+            w: 0,
+            vx: 480,
+            vy: 0,
+            vz: 0,
+            gr: 15,
+            gw: 100,
+            leg: 0,
+        },
+    };
+    let strand = Strand::straight(rt.alloc(), &stretch)?;
+    let table = [
+        (4, None),
+        (5, Some((-480, 0, 2_400_000, 0, 0, 0))),
+        (6, Some((0, 0, 2_400_000, 15, 100, 0))),
+        (7, Some((480, 0, 2_400_000, 30, 200, 0))),
+        (8, Some((960, 0, 2_400_000, 45, 300, 0))),
+        (9, None),
+    ];
+    check(&rt, &strand, (5, 9), &table);
+    Ok(())
+}
+
+#[test]
+fn a_roster_keeps_its_order(rt: HostRuntime) -> Result<(), Fail> {
+    let second = Callsign::of(b"BAW1").ok_or("no callsign")?;
+    let first = Callsign::of(b"AAA1").ok_or("no callsign")?;
+    let early = Arc::new(rt.alloc(), Strand::empty(rt.alloc(), 20))?;
+    let late = Arc::new(rt.alloc(), Strand::empty(rt.alloc(), 30))?;
+    let mut roster = Roster::make(rt.alloc())?;
+    assert!(rt; roster.items().is_empty());
+    roster.add(second, Kind::Tentative, &late)?;
+    roster.add(first, Kind::Actual, &late)?;
+    roster.add(second, Kind::Actual, &early)?;
+    let items = roster.items();
+    let wanted = [
+        (second, Kind::Tentative, 30),
+        (first, Kind::Actual, 30),
+        (second, Kind::Actual, 20),
+    ];
+    assert_eq!(rt; items.len(), wanted.len());
+    for (item, (call, kind, start)) in items.iter().zip(wanted) {
+        assert!(rt; item.call == call && item.kind == kind && item.strand.start() == start);
+    }
+    Ok(())
+}
