@@ -1,17 +1,13 @@
 -- Segments that lie end to end: the second at which each begins, and the row of each second.
 use Rattle.std.proofs.Common.{◌≡◌, ℕ, zero, suc, ◌+◌, ◌-◌, ◌<◌, ◌≤◌, List, [], ◌∷◌, ◌++◌, length, get_or, Some, sym, ap, ◌∙◌, arith, refl, length-append}
 use Rattle.std.specs.Prelude.{slice_get}
+use Rattle.mt_base.proofs.HistoryLemmas.{slice_get-append_left}
 use Rattle.mt_track.specs.declared.segment.Segment.{Segment}
 use Rattle.mt_track.specs.Laid.{Adjoin, all_rows, rows_of}
 use Rattle.mt_track.specs.Rows.{row_after}
 use Rattle.mt_track.proofs.Straight.{length-straight_rows, slice_get-straight_rows}
 
--- a place of the front list, and of the list behind it
-slice_get-append_left : {X : Type 0} (xs ys : List X) (i : ℕ) → i < length xs → slice_get (xs ++ ys) i ≡ slice_get xs i
-slice_get-append_left [] ys i below = absurd (omega arith)
-slice_get-append_left (x ∷ xs) ys zero below = refl
-slice_get-append_left (x ∷ xs) ys (suc i) below = slice_get-append_left xs ys i (omega arith)
-
+-- a place of the list behind another
 slice_get-append_right : {X : Type 0} (xs ys : List X) (i j : ℕ) → i ≡ length xs + j → slice_get (xs ++ ys) i ≡ slice_get ys j
 slice_get-append_right [] ys i j e = ap (slice_get ys) (e ∙ omega arith)
 slice_get-append_right (x ∷ xs) ys zero j e = absurd (omega arith)
@@ -23,14 +19,17 @@ edge from ss zero = from
 edge from [] (suc i) = from
 edge from (s ∷ ss) (suc i) = edge s.to ss i
 
+-- behind the last segment is the end
 pub edge-length : (from to : ℕ) (ss : List Segment) → Adjoin from ss to → edge from ss (length ss) ≡ to
 edge-length from to [] lie = lie
 edge-length from to (s ∷ ss) lie = edge-length s.to to ss lie.2
 
+-- where there is a second there is a segment
 pub some_segment : (from to : ℕ) (ss : List Segment) → Adjoin from ss to → from < to → 0 < length ss
 some_segment from to [] lie longer = absurd (omega (arith, lie))
 some_segment from to (s ∷ ss) lie longer = omega arith
 
+-- no segment begins before the first
 edge_from : (from to : ℕ) (ss : List Segment) (i : ℕ) → Adjoin from ss to → from ≤ edge from ss i
 edge_from from to ss zero lie = omega arith
 edge_from from to [] (suc i) lie = omega arith
@@ -48,6 +47,7 @@ lies_at from to [] i s lie below is = absurd (omega arith)
 lies_at from to (t ∷ ts) zero s lie below is = rw is (record { from = lie.0; to = refl; some = lie.1 })
 lies_at from to (t ∷ ts) (suc i) s lie below is = lies_at t.to to ts i s lie.2 (omega arith) is
 
+-- how many rows
 length-rows_of : (s : Segment) → length (rows_of s) ≡ s.to - s.from
 length-rows_of s = length-straight_rows s.first (s.to - s.from)
 

@@ -1,12 +1,12 @@
 -- What strands keep, after a push and at the segment that is found.
-use Rattle.std.proofs.Common.{◌≡◌, ℕ, suc, ◌+◌, ◌-◌, ◌<◌, ◌≤◌, ⊎_elim, List, [], ◌∷◌, ◌++◌, length, get_or, Some, None, All, ap, ◌∙◌, arith, length-append}
+use Rattle.std.proofs.Common.{◌≡◌, ℕ, suc, ◌+◌, ◌-◌, ◌<◌, ◌≤◌, ⊎_elim, List, [], ◌∷◌, ◌++◌, length, get_or, Some, None, All, ap, ◌∙◌, arith, refl, length-append}
 use Rattle.std.proofs.lemmas.List.{append-nil}
 use Rattle.std.proofs.lemmas.List.Concat.{flat_map-append}
 use Rattle.std.proofs.lemmas.List.Elements.{All-append}
-use Rattle.std.proofs.lemmas.Option.{get_or_from_slice_get, slice_get-get_or, slice_get_past, slice_get_within}
+use Rattle.std.proofs.lemmas.Option.{get_or_from_slice_get, slice_get-get_or, slice_get_within}
 use Rattle.std.proofs.Math.ListN.{get_or-append}
 use Rattle.std.proofs.Math.Seq.{get_or-append_right}
-use Rattle.std.proofs.lemmas.Bool.{cases_lt, le-ltb}
+use Rattle.std.proofs.lemmas.Bool.{cases_lt, le-ltb, lt-ltb}
 use Rattle.std.specs.Prelude.{slice_get}
 use Rattle.std.specs.List.{AllAdjacentBelow}
 use Rattle.mt_base.specs.declared.row.Row.{Row}
@@ -18,7 +18,7 @@ use Rattle.mt_track.specs.Rows.{Continues, row_after}
 use Rattle.mt_track.proofs.Segments.{Adjoin-push, LiesAt, edge, length-all_rows, lies_at, row_in}
 use Rattle.mt_track.proofs.Straight.{All-straight_rows, AllAdjacent-straight_rows, get_or-straight_rows, length-straight_rows, row_after-none}
 
--- lists
+-- two lists, one behind the other: where each goes on from element to element, and from the first list to the second, so do both
 AllAdjacent-append : {X : Type 0} (R : X → X → Type 0) (xs ys : List X) → AllAdjacentBelow R xs (length xs) → AllAdjacentBelow R ys (length ys)
     → ((d : X) → 0 < length xs → 0 < length ys → R (get_or xs (length xs - 1) d) (get_or ys 0 d)) → AllAdjacentBelow R (xs ++ ys) (length (xs ++ ys))
 AllAdjacent-append R xs ys front back seam k d below = ⊎_elim
@@ -41,7 +41,14 @@ pub IsBoundedRow-slice_get : (rows : List Row) (i : ℕ) (row : Row) → All IsB
 IsBoundedRow-slice_get rows i row bounded at =
     rw (get_or_from_slice_get rows i row row at) at (bounded i row (slice_get_within rows i row at))
 
--- one segment more
+-- the row of a second that a strand covers is bounded
+pub IsBoundedRow-row_at : (t : Trajectory) (k : ℕ) (row : Row) → IsStrand t → row_at t k ≡ Some row → IsBoundedRow row
+IsBoundedRow-row_at t k row kept at = ⊎_elim
+    (λ early. let none : row_at t k ≡ None = rw (lt-ltb k t.start early) refl in cc)
+    (λ begun. IsBoundedRow-slice_get t.rows (k - t.start) row kept.bounded (rw (le-ltb k t.start begun) at at))
+    (cases_lt k t.start)
+
+-- a segment that follows a strand: the rows on both sides of the border, and what is kept with its rows behind those of the strand
 seam : (t : Trajectory) (s : Segment) → Follows t s → (d : Row) → 0 < length t.rows → Continues (get_or t.rows (length t.rows - 1) d) (get_or (rows_of s) 0 d)
 seam t s follows d some =
     let last = slice_get-get_or t.rows (length t.rows - 1) d (omega arith) in
@@ -62,6 +69,7 @@ IsStrand-extended t s kept follows = record {
 pub all_rows-push : (ss : List Segment) (s : Segment) → all_rows (ss ++ s ∷ []) ≡ all_rows ss ++ rows_of s
 all_rows-push ss s = flat_map-append rows_of ss (s ∷ []) ∙ ap (λ (rows : List Row). all_rows ss ++ rows) (append-nil (rows_of s))
 
+-- one segment more is laid
 pub IsLaid-push : (start end : ℕ) (ss : List Segment) (s : Segment) → IsLaid start end ss → Follows (record { start = start; rows = all_rows ss }) s
     → IsLaid start s.to (ss ++ s ∷ [])
 IsLaid-push start end ss s laid follows = record {
@@ -79,6 +87,7 @@ IsBoundedOver-ends a n first last = record {
   w = record { value = first.w.value; growth = first.w.growth; end = last.w.value };
 }
 
+-- the segment that is left by halving holds second k
 pub found : (start end : ℕ) (ss : List Segment) (low high k : ℕ) (s : Segment) → IsLaid start end ss → low < high → high ≤ length ss → high - low ≤ 1
     → start ≤ k → edge start ss low ≤ k → k < edge start ss high → s ≡ get_or ss low s → Holds (record { start = start; rows = all_rows ss }) k s
 found start end ss low high k s laid some within one covered begun ahead is = record {
@@ -107,8 +116,3 @@ found start end ss low high k s laid some within one covered begun ahead is = re
 
   first_bounded : IsBoundedRow s.first
   first_bounded = rw (none, row_after-none s.first) at (IsBoundedRow-slice_get (all_rows ss) (s.from - start) _ laid.kept.bounded at_first)
-
-pub row_at-past : (t : Trajectory) (k : ℕ) → t.start + length t.rows ≤ k → row_at t k ≡ None
-row_at-past t k past =
-    let begun : t.start ≤ k = omega arith in
-    rw (le-ltb k t.start begun) (slice_get_past t.rows (k - t.start) (omega arith))
