@@ -7,8 +7,8 @@ ghost use Rattle.mt_io.specs.Gathering.{Fills, Moves, StopsFill};
 
 use crate::gathered::Gathered;
 use crate::line::LineFault;
-use crate::memory::Memory;
 use crate::source::{Failed, Source};
+use mt_memory::Memory;
 use std::alloc::Global;
 use std::marker::Model;
 

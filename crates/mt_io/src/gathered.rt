@@ -2,7 +2,7 @@
 ghost use Rattle.std.specs.Prelude.{◌≡◌, ◌≤◌, ◌↔◌, ℕ, List, [], ◌++◌, false, length, IfOk, IsTrue, vec_len, vec_capacity};
 ghost use Rattle.mt_io.specs.Gathering.{IsGathered};
 
-use crate::memory::Memory;
+use mt_memory::Memory;
 use std::alloc::Global;
 
 /// How many bytes a line may have.

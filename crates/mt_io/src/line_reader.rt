@@ -10,9 +10,9 @@ ghost use Rattle.mt_io.specs.contracts.line_reader.LineReader.{the_row};
 use crate::ahead::Ahead;
 use crate::gathered::Gathered;
 use crate::line::{Line, LineFault, Step};
-use crate::memory::Memory;
 use crate::read_line::read_line;
 use crate::source::Source;
+use mt_memory::Memory;
 use std::alloc::Global;
 use std::marker::Model;
 

@@ -1,9 +1,9 @@
 //! A sink in memory.
 ghost use Rattle.std.specs.Prelude.{◌≡◌, ◌≤◌, [], vec_len, vec_capacity, IfOk, Some};
 
-use crate::memory::Memory;
 use crate::sink::Sink;
 use crate::source::Failed;
+use mt_memory::Memory;
 use std::alloc::Global;
 
 /// Bytes in memory, as many as it has room for. A write to a full one fails, and is counted.

@@ -6,7 +6,7 @@ ghost use Rattle.mt_json.specs.Keys.{AreInByteOrder};
 ghost use Rattle.mt_json.specs.Line.{IsPlain, ArePlain, IsPlainLine, IsLine};
 ghost use Rattle.mt_json.specs.Shown.{pairs};
 
-use crate::memory::Memory;
+use mt_memory::Memory;
 use serde_json::{Map, Value};
 use std::alloc::Global;
 

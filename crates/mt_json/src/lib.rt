@@ -8,11 +8,10 @@
 mod bad;
 mod builder;
 mod fields;
-mod memory;
 #[cfg(test)]
 mod tests;
 
 pub use bad::{Bad, Extra};
 pub use builder::Builder;
 pub use fields::Fields;
-pub use memory::Memory;
+pub use mt_memory::Memory;
