@@ -1,0 +1,4 @@
+pub mod EntryTexts
+pub mod PlainText
+pub mod Putting
+pub mod ReplyTexts

@@ -1,4 +1,5 @@
 pub mod Entry
 pub mod Joined
+pub mod Numbers
 pub mod Puts
 pub mod Reply

@@ -2,7 +2,6 @@
 use Rattle.std.specs.Prelude.{ℕ, pos, List, [], ◌∷◌, ◌++◌, codes}
 use Rattle.serde_json.specs.Data.{Data, string, array, object, Items, no_items, item, Members, no_members, member}
 use Rattle.serde_json.specs.Written.{compact_text}
-use Rattle.mt_base.specs.declared.command.Entry.{Entry}
 use Rattle.mt_base.specs.declared.command.Refusal.{Refusal}
 use Rattle.mt_base.specs.declared.command.Refusal.TheVariants.{HeldCall, UnknownCall, Full, HistoryFull, Backward}
 use Rattle.mt_base.specs.declared.conflict.Conflict.{Conflict}
@@ -38,13 +37,10 @@ conflict_value c = object (
     member (codes "last") (whole (pos c.last)) (
     member (codes "pair") (array (item (string c.a) (item (string c.b) no_items))) no_members))))
 
-abbrev pub conflicts_value : List Conflict → Items
-conflicts_value [] = no_items
-conflicts_value (c ∷ cs) = item (conflict_value c) (conflicts_value cs)
-
-abbrev pub entries_value : List Entry → Items
-entries_value [] = no_items
-entries_value (e ∷ es) = item (entry_value e) (entries_value es)
+-- the values of some things, in order
+abbrev pub values : {A : Type 0} → (A → Data) → List A → Items
+values value [] = no_items
+values value (x ∷ xs) = item (value x) (values value xs)
 
 -- a refusal that has only its word
 abbrev pub word_value : List ℕ → Data
@@ -71,10 +67,10 @@ reply_value (reply.Done word) = object (member (codes "done") (string (done_text
 reply_value (reply.Hello role) = object (member (codes "role") (string (role_text role)) no_members)
 reply_value (reply.Entered entered) = object (member (codes "entered") (whole (pos entered.version)) no_members)
 reply_value (reply.List conflicts version) = object (
-    member (codes "conflicts") (array (conflicts_value conflicts)) (
+    member (codes "conflicts") (array (values conflict_value conflicts)) (
     member (codes "version") (whole (pos version)) no_members))
 reply_value (reply.History entries version) = object (
-    member (codes "entries") (array (entries_value entries)) (
+    member (codes "entries") (array (values entry_value entries)) (
     member (codes "version") (whole (pos version)) no_members))
 reply_value reply.Json = word_value (codes "json")
 reply_value reply.Long = word_value (codes "long")

@@ -3,11 +3,19 @@
 //! What a line is read as, and the text of a reply and of an entry, are definitions of `specs/` over serde_json's own definitions.
 #![tactic(auto)]
 
+mod conflict;
+mod entry;
+mod escape;
 mod field_name;
+mod put_reply;
 mod reply;
 mod request;
+mod texts;
 mod write;
+mod written;
 
 pub use field_name::FieldName;
+pub use put_reply::NO_MEMORY;
 pub use reply::{DoneWord, Reply};
+pub use texts::{write_entry, write_reply, write_short};
 pub use request::{LineNo, Place, Request, Role, RuleSet};

@@ -1,0 +1,132 @@
+//! A reply put into a room.
+ghost use Rattle.std.specs.Prelude.{◌≡◌, ◌++◌, codes, decimal, false};
+ghost use Rattle.json.specs.Print.{escape};
+ghost use Rattle.serde_json.specs.Written.{items_text};
+ghost use Rattle.mt_wire.specs.declared.reply.Reply.TheVariants.{Done, Hello, Refused};
+ghost use Rattle.mt_wire.specs.Puts.{Puts};
+ghost use Rattle.mt_wire.specs.Reply.{reply_text, values};
+
+use crate::escape::put_escaped;
+use crate::reply::{DoneWord, Reply};
+use crate::request::Role;
+use crate::write::{put, put_all};
+use crate::written::{Written, put_items};
+use itoa::Buffer;
+use mt_base::{Callsign, Refusal};
+use mt_memory::Memory;
+
+/// The text of the reply [`Reply::Memory`], which takes no memory to write.
+pub const NO_MEMORY: &[u8] = b"{\"no\":\"memory\"}\n";
+
+#[tactic(auto, unfolding(json::proofs::OnLiterals::json_on_literals))]
+fn put_done(out: &mut Vec<u8>, word: DoneWord) -> Result<(), Memory>
+    ensures { Puts result out.old out.new (reply_text (Done word)) }
+{
+    match word {
+        DoneWord::Rule => put(out, b"{\"done\":\"rule\"}\n"),
+        DoneWord::Begin => put(out, b"{\"done\":\"begin\"}\n"),
+        DoneWord::Bye => put(out, b"{\"done\":\"bye\"}\n"),
+    }
+}
+
+#[tactic(auto, unfolding(json::proofs::OnLiterals::json_on_literals))]
+fn put_hello(out: &mut Vec<u8>, role: Role) -> Result<(), Memory>
+    ensures { Puts result out.old out.new (reply_text (Hello role)) }
+{
+    match role {
+        Role::Feed => put(out, b"{\"role\":\"feed\"}\n"),
+        Role::Position => put(out, b"{\"role\":\"position\"}\n"),
+    }
+}
+
+// Puts an object whose last value is a version, the front being what stands before it.
+fn put_versioned(out: &mut Vec<u8>, front: &[u8], version: u64) -> Result<(), Memory>
+    ensures { Puts result out.old out.new (front.now ++ (decimal version ++ codes "}\n")) }
+{
+    let mut digits = Buffer::new();
+    put_all(out, &[front, digits.format(version).as_bytes(), b"}\n"])
+}
+
+fn put_unknown_call(out: &mut Vec<u8>, call: &Callsign, version: u64) -> Result<(), Memory>
+    ensures { Puts result out.old out.new
+        (codes "{\"name\":\"" ++ (escape call.now ++ (codes "\",\"no\":\"unknown-call\",\"version\":" ++ (decimal version ++ codes "}\n")))) }
+{
+    let mut digits = Buffer::new();
+    put_all(
+        out,
+        &[
+            b"{\"name\":\"",
+            call.bytes(),
+            b"\",\"no\":\"unknown-call\",\"version\":",
+            digits.format(version).as_bytes(),
+            b"}\n",
+        ],
+    )
+}
+
+#[tactic(auto, unfolding(json::proofs::OnLiterals::json_on_literals))]
+fn put_refused(out: &mut Vec<u8>, refusal: &Refusal, version: u64) -> Result<(), Memory>
+    ensures { Puts result out.old out.new (reply_text (Refused refusal.now version)) }
+{
+    match refusal {
+        Refusal::HeldCall => {
+            put_versioned(out, b"{\"no\":\"held-call\",\"version\":", version)
+        }
+        Refusal::UnknownCall(call) => put_unknown_call(out, call, version),
+        Refusal::Full => put_versioned(out, b"{\"no\":\"full\",\"version\":", version),
+        Refusal::HistoryFull => {
+            put_versioned(out, b"{\"no\":\"history-full\",\"version\":", version)
+        }
+        Refusal::Backward => put_versioned(out, b"{\"no\":\"backward\",\"version\":", version),
+    }
+}
+
+// Puts the refusal of a line that names a field, the back being what stands behind the name.
+fn put_named(out: &mut Vec<u8>, name: &[u8], back: &[u8]) -> Result<(), Memory>
+    ensures { Puts result out.old out.new (codes "{\"field\":\"" ++ (escape name.now ++ back.now)) }
+{
+    put(out, b"{\"field\":\"")?;
+    put_escaped(out, name)?;
+    put(out, back)
+}
+
+// Puts a list and its version, the front being what stands before the first item.
+fn put_list<T: Written>(
+    out: &mut Vec<u8>,
+    front: &[u8],
+    items: &[T],
+    version: u64,
+) -> Result<(), Memory>
+    ensures { Puts result out.old out.new
+        (front.now ++ (items_text false (values T.value items.now) ++ (codes ",\"version\":" ++ (decimal version ++ codes "}\n")))) }
+{
+    put(out, front)?;
+    put_items(out, items)?;
+    put_versioned(out, b",\"version\":", version)
+}
+
+/// Puts the text of a reply behind what stands in the room.
+#[tactic(auto, unfolding(json::proofs::OnLiterals::json_on_literals))]
+pub(crate) fn put_reply(out: &mut Vec<u8>, reply: &Reply) -> Result<(), Memory>
+    ensures { Puts result out.old out.new (reply_text reply.now) }
+{
+    match reply {
+        Reply::Done(word) => put_done(out, *word),
+        Reply::Hello(role) => put_hello(out, *role),
+        Reply::Entered(entered) => put_versioned(out, b"{\"entered\":", entered.version),
+        Reply::List { conflicts, version } => {
+            put_list(out, b"{\"conflicts\":[", conflicts.items(), *version)
+        }
+        Reply::History { entries, version } => {
+            put_list(out, b"{\"entries\":[", entries.items(), *version)
+        }
+        Reply::Json => put(out, b"{\"no\":\"json\"}\n"),
+        Reply::Long => put(out, b"{\"no\":\"long\"}\n"),
+        Reply::Begun => put(out, b"{\"no\":\"begun\"}\n"),
+        Reply::Unbegun => put(out, b"{\"no\":\"unbegun\"}\n"),
+        Reply::Memory => put(out, NO_MEMORY),
+        Reply::Form(name) => put_named(out, name.bytes(), b"\",\"no\":\"form\"}\n"),
+        Reply::Range(name) => put_named(out, name.bytes(), b"\",\"no\":\"range\"}\n"),
+        Reply::Refused { refusal, version } => put_refused(out, refusal, *version),
+    }
+}
