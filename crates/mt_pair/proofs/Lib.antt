@@ -1,0 +1,5 @@
+mod Casts
+mod Gaps
+mod Instants
+mod Sizes
+mod Spans

@@ -1,0 +1,13 @@
+use Rattle.std.proofs.Common.{arith}
+use Rattle.mt_pair.proofs.Spans.{IsConflict-cut, both_cover}
+use Rattle.mt_pair.proofs.span.lose.Goals as goal
+
+pub returns-then-end-begin-clause-conflict : goal.returns-then-end-begin-clause-conflict
+returns-then-end-begin-clause-conflict c = λ k low high loss.
+    let covering = both_cover c.args.rules.now c.args.a.now c.args.b.now k loss in
+    absurd (omega arith)
+
+pub returns-clause-conflict : goal.returns-clause-conflict
+returns-clause-conflict c =
+    IsConflict-cut c.args.rules.now c.args.a.now c.args.b.now c.args.from c.args.to _ _ _ (omega arith) (omega arith)
+    (λ k low high covering. (omega arith, omega arith)) c.span_in.ensures
