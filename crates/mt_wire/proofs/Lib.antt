@@ -1,4 +1,5 @@
 pub mod EntryTexts
+pub mod Lengths
 pub mod PlainText
 pub mod Putting
 pub mod ReplyTexts

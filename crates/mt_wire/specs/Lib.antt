@@ -3,3 +3,4 @@ pub mod Joined
 pub mod Numbers
 pub mod Puts
 pub mod Reply
+pub mod Short

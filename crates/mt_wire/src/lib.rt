@@ -7,6 +7,7 @@ mod conflict;
 mod entry;
 mod escape;
 mod field_name;
+mod laws;
 mod put_reply;
 mod reply;
 mod request;
@@ -15,6 +16,7 @@ mod write;
 mod written;
 
 pub use field_name::FieldName;
+pub use laws::short_replies_law;
 pub use put_reply::NO_MEMORY;
 pub use reply::{DoneWord, Reply};
 pub use texts::{write_entry, write_reply, write_short};
