@@ -1,5 +1,5 @@
 -- How long the texts of replies are.
-use Rattle.std.proofs.Common.{◌≡◌, ℕ, ◌+◌, ◌*◌, ◌<◌, ◌≤◌, ◌^◌, nat_lt, cond, Bool, true, false, List, [], ◌∷◌, ◌++◌, length, decimal, refl, arith, length-append}
+use Rattle.std.proofs.Common.{ℕ, ◌*◌, ◌<◌, ◌≤◌, ◌^◌, nat_lt, cond, Bool, true, false, List, [], ◌∷◌, length, decimal, arith, length-append}
 use Rattle.std.proofs.lemmas.Fmt.{length-decimal-le}
 use Rattle.json.specs.Print.{escape_letter, escape_byte, escape}
 use Rattle.json.proofs.OnLiterals.{json_on_literals}

@@ -1,5 +1,5 @@
 -- Replies whose length is bounded by their kind.
-use Rattle.std.specs.Prelude.{◌<◌, ◌≤◌, ◌^◌, ℕ, length, ⊤}
+use Rattle.std.specs.Prelude.{◌<◌, ◌≤◌, ◌^◌, length, ⊤}
 use Rattle.mt_base.specs.declared.command.Refusal.{Refusal}
 use Rattle.mt_base.specs.declared.command.Refusal.TheVariants.{HeldCall, UnknownCall, Full, HistoryFull, Backward}
 use Rattle.mt_wire.specs.declared.reply.Reply.{Reply}

@@ -6,7 +6,9 @@
 mod conflict;
 mod entry;
 mod escape;
+mod field;
 mod field_name;
+mod key;
 mod laws;
 mod put_reply;
 mod reply;

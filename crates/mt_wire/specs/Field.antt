@@ -1,0 +1,65 @@
+-- The fields of a line: what is read of one, and what is checked of one.
+use Rattle.std.specs.Prelude.{◌≡◌, ℕ, ℤ, pos, ◌&&◌, int_le, Bool, true, false, List, codes, Option, Some, None, is_some, option_and_then, unwrap_or, Result, Ok, Err, ⊤, unsigned_abs, if◌then◌else◌}
+use Rattle.std.specs.Str.{bytes_eq}
+use Rattle.serde_json.specs.Data.{Data, Members}
+use Rattle.serde_json.specs.Find.{as_str, get_member}
+use Rattle.mt_base.specs.Checks.{check, next}
+use Rattle.mt_base.specs.Name.{name_of}
+use Rattle.mt_json.specs.Field.{as_whole}
+use Rattle.mt_wire.specs.declared.key.Key.{Key}
+use Rattle.mt_wire.specs.declared.key.Fault.{Fault}
+use Rattle.mt_wire.specs.declared.key.Fault.TheVariants.{Form, Range}
+use Rattle.mt_wire.specs.declared.request.Role.{Role}
+use Rattle.mt_wire.specs.declared.request.Role.TheVariants.{Feed, Position}
+use Rattle.mt_wire.specs.Key.{key_text}
+
+-- a callsign: a text of 1 to 7 capital letters and digits
+abbrev pub as_call : Data → Option (List ℕ)
+as_call d = option_and_then (name_of 1 7) (as_str d)
+
+abbrev pub role_of : List ℕ → Option Role
+role_of text = if bytes_eq text (codes "feed") then Some Feed else (if bytes_eq text (codes "position") then Some Position else None)
+
+-- a role: the text `feed` or `position`
+abbrev pub as_role : Data → Option Role
+as_role d = option_and_then role_of (as_str d)
+
+-- whether a value is of the kind; where none stands, `absent`
+abbrev pub is_of : {A : Type 0} → (Data → Option A) → Bool → Option Data → Bool
+is_of kind absent None = absent
+is_of kind absent (Some d) = is_some (kind d)
+
+-- a field that must be there and of the kind, and one that may be absent
+abbrev pub must : {A : Type 0} → Key → (Data → Option A) → Members → Fault × Bool
+must key kind ms = (Form key, is_of kind false (get_member (key_text key) ms))
+
+abbrev pub may : {A : Type 0} → Key → (Data → Option A) → Members → Fault × Bool
+may key kind ms = (Form key, is_of kind true (get_member (key_text key) ms))
+
+-- what is read of a field by its kind; none where it is absent or of another kind
+abbrev pub read_at : {A : Type 0} → Key → (Data → Option A) → Members → Option A
+read_at key kind ms = option_and_then kind (get_member (key_text key) ms)
+
+-- the number at a key, by default 0
+abbrev pub number : Key → Members → ℤ
+number key ms = unwrap_or (read_at key as_whole ms) (pos 0)
+
+-- a number that is not below 0, as a second
+abbrev pub count : Key → Members → ℕ
+count key ms = unsigned_abs (number key ms)
+
+-- a number within bounds
+abbrev pub bound : Key → ℤ → ℤ → ℤ → Fault × Bool
+bound key low high z = (Range key, int_le low z && int_le z high)
+
+-- the number at a key, within bounds
+unfoldable pub within : Key → ℤ → ℤ → Members → Result ℤ Fault
+within key low high ms = next (check (bound key low high (number key ms))) (Ok (number key ms))
+
+unfoldable pub count_within : Key → ℕ → ℕ → Members → Result ℕ Fault
+count_within key low high ms = next (check (bound key (pos low) (pos high) (number key ms))) (Ok (count key ms))
+
+-- a value that was read where a check passed; else its refusal
+abbrev pub Reads : {A : Type 0} → Result A Fault → Result ⊤ Fault → A → Type 0
+Reads (Ok y) r x = (r ≡ Ok (tt {0})) × (y ≡ x)
+Reads (Err e) r x = r ≡ Err e

@@ -1,0 +1,82 @@
+ghost use Rattle.std.specs.Prelude.{◌≡◌};
+ghost use Rattle.mt_wire.specs.Key.{key_text, rule_text};
+
+use mt_base::RuleName;
+
+/// A key of a line.
+#[derive(Clone, Copy)]
+pub(crate) enum Key {
+    Do,
+    Who,
+    Call,
+    From,
+    To,
+    X,
+    Y,
+    Z,
+    Vx,
+    Vy,
+    Vz,
+    R,
+    Gr,
+    W,
+    Gw,
+    Now,
+    Role,
+    Rule(RuleName),
+}
+
+/// Its text.
+pub(crate) fn key_text(key: Key) -> &'static str
+    ensures { result.now ≡ key_text key }
+{
+    match key {
+        Key::Do => "do",
+        Key::Who => "who",
+        Key::Call => "call",
+        Key::From => "from",
+        Key::To => "to",
+        Key::X => "x",
+        Key::Y => "y",
+        Key::Z => "z",
+        Key::Vx => "vx",
+        Key::Vy => "vy",
+        Key::Vz => "vz",
+        Key::R => "r",
+        Key::Gr => "gr",
+        Key::W => "w",
+        Key::Gw => "gw",
+        Key::Now => "now",
+        Key::Role => "role",
+        Key::Rule(name) => rule_text(name),
+    }
+}
+
+fn rule_text(name: RuleName) -> &'static str
+    ensures { result.now ≡ rule_text name }
+{
+    match name {
+        RuleName::Sh => "sh",
+        RuleName::Sv => "sv",
+        RuleName::R0 => "r0",
+        RuleName::Gh => "gh",
+        RuleName::Rmax => "rmax",
+        RuleName::W0 => "w0",
+        RuleName::Gv => "gv",
+        RuleName::Wmax => "wmax",
+        RuleName::Tc => "tc",
+        RuleName::Ta => "ta",
+        RuleName::Tv => "tv",
+        RuleName::Flights => "flights",
+        RuleName::History => "history",
+    }
+}
+
+/// Why a line is refused for a field.
+#[derive(Clone, Copy)]
+pub(crate) enum Fault {
+    /// The field is missing or of another kind.
+    Form(Key),
+    /// The number at it is outside its bounds.
+    Range(Key),
+}
