@@ -24,17 +24,25 @@ role_of text = if bytes_eq text (codes "feed") then Some Feed else (if bytes_eq 
 abbrev pub as_role : Data → Option Role
 as_role d = option_and_then role_of (as_str d)
 
--- whether a value is of the kind; where none stands, `absent`
-abbrev pub is_of : {A : Type 0} → (Data → Option A) → Bool → Option Data → Bool
-is_of kind absent None = absent
-is_of kind absent (Some d) = is_some (kind d)
+-- A field of a command: its key, whether it may be absent, and the values that are of its kind.
+pub record Field : Type 0 where
+  pub key : Key
+  pub optional : Bool
+  pub kind : Data → Bool
 
--- a field that must be there and of the kind, and one that may be absent
-abbrev pub must : {A : Type 0} → Key → (Data → Option A) → Members → Fault × Bool
-must key kind ms = (Form key, is_of kind false (get_member (key_text key) ms))
+abbrev pub must : {A : Type 0} → Key → (Data → Option A) → Field
+must key kind = record { key = key; optional = false; kind = λ d. is_some (kind d) }
 
-abbrev pub may : {A : Type 0} → Key → (Data → Option A) → Members → Fault × Bool
-may key kind ms = (Form key, is_of kind true (get_member (key_text key) ms))
+abbrev pub may : {A : Type 0} → Key → (Data → Option A) → Field
+may key kind = record { key = key; optional = true; kind = λ d. is_some (kind d) }
+
+abbrev pub fits : Field → Option Data → Bool
+fits field None = field.optional
+fits field (Some d) = field.kind d
+
+-- a field is there and of its kind, or absent where it may be
+abbrev pub kind_check : Members → Field → Fault × Bool
+kind_check ms field = (Form field.key, fits field (get_member (key_text field.key) ms))
 
 -- what is read of a field by its kind; none where it is absent or of another kind
 abbrev pub read_at : {A : Type 0} → Key → (Data → Option A) → Members → Option A

@@ -1,7 +1,9 @@
+pub mod Commands
 pub mod Entry
 pub mod Field
 pub mod Joined
 pub mod Key
+pub mod Line
 pub mod Numbers
 pub mod Puts
 pub mod Reply

@@ -1,9 +1,9 @@
 //! The fields of a line, each read by its kind or tested against its bounds.
-ghost use Rattle.std.specs.Prelude.{◌≡◌, ◌≤◌, ◌+ℤ◌, ◌*ℤ◌, pos, [], unwrap_or, IfOk};
+ghost use Rattle.std.specs.Prelude.{◌≡◌, ◌≤◌, ◌≤ℤ◌, ◌+ℤ◌, ◌*ℤ◌, pos, [], unwrap_or, IfOk};
 ghost use Rattle.mt_base.specs.Checks.{check};
 ghost use Rattle.mt_json.specs.Field.{as_whole};
 ghost use Rattle.mt_json.specs.Shown.{members};
-ghost use Rattle.mt_wire.specs.Field.{Reads, as_call, as_role, bound, count_within, may, must, read_at, role_of, within};
+ghost use Rattle.mt_wire.specs.Field.{Reads, as_call, as_role, bound, count, count_within, kind_check, may, must, number, read_at, role_of, within};
 ghost use Rattle.mt_wire.specs.declared.request.Role.TheVariants.{Feed};
 
 use crate::key::{Fault, Key, key_text};
@@ -14,7 +14,7 @@ use mt_json::{Bad, Fields};
 /// A whole number must be there.
 #[tactic(auto, unfolding(mt_base::specs::Checks::check))]
 pub(crate) fn whole(fields: &Fields, key: Key) -> Result<(), Fault>
-    ensures { result ≡ check (must key as_whole (members fields.now)) }
+    ensures { result ≡ check (kind_check (members fields.now) (must key as_whole)) }
 {
     match fields.whole(key_text(key), i64::MIN, i64::MAX) {
         Ok(_) | Err(Bad::Range) => Ok(()),
@@ -25,7 +25,7 @@ pub(crate) fn whole(fields: &Fields, key: Key) -> Result<(), Fault>
 /// A whole number may be there, and nothing else.
 #[tactic(auto, unfolding(mt_base::specs::Checks::check))]
 pub(crate) fn whole_or_none(fields: &Fields, key: Key) -> Result<(), Fault>
-    ensures { result ≡ check (may key as_whole (members fields.now)) }
+    ensures { result ≡ check (kind_check (members fields.now) (may key as_whole)) }
 {
     match fields.whole(key_text(key), i64::MIN, i64::MAX) {
         Ok(_) | Err(Bad::Range | Bad::Missing) => Ok(()),
@@ -36,7 +36,7 @@ pub(crate) fn whole_or_none(fields: &Fields, key: Key) -> Result<(), Fault>
 /// A callsign must be there.
 #[tactic(auto, unfolding(mt_base::specs::Checks::check))]
 pub(crate) fn callsign(fields: &Fields, key: Key) -> Result<Callsign, Fault>
-    ensures { Reads result (check (must key as_call (members fields.now)))
+    ensures { Reads result (check (kind_check (members fields.now) (must key as_call)))
         (unwrap_or (read_at key as_call (members fields.now)) []) }
 {
     let Ok(text) = fields.word(key_text(key)) else {
@@ -64,7 +64,7 @@ fn role_of(text: &str) -> Option<Role>
 /// A role must be there.
 #[tactic(auto, unfolding(mt_base::specs::Checks::check))]
 pub(crate) fn role(fields: &Fields, key: Key) -> Result<Role, Fault>
-    ensures { Reads result (check (must key as_role (members fields.now)))
+    ensures { Reads result (check (kind_check (members fields.now) (must key as_role)))
         (unwrap_or (read_at key as_role (members fields.now)) Feed) }
 {
     let Ok(text) = fields.word(key_text(key)) else {
@@ -79,7 +79,8 @@ pub(crate) fn role(fields: &Fields, key: Key) -> Result<Role, Fault>
 /// The number at a key, by default 0, from `low` to `high`.
 #[tactic(auto, unfolding(mt_base::specs::Checks::check, crate::specs::Field::within))]
 pub(crate) fn within(fields: &Fields, key: Key, low: i64, high: i64) -> Result<i64, Fault>
-    ensures { result ≡ within key low high (members fields.now) }
+    ensures exact { result ≡ within key low high (members fields.now) }
+    ensures bounded { IfOk result (λ n. (low ≤ℤ n) × (n ≤ℤ high)) }
 {
     match fields.whole(key_text(key), low, high) {
         Ok(n) => Ok(n),
@@ -87,4 +88,47 @@ pub(crate) fn within(fields: &Fields, key: Key, low: i64, high: i64) -> Result<i
         Err(Bad::Missing | Bad::Kind) if low <= 0 && 0 <= high => Ok(0),
         Err(Bad::Missing | Bad::Kind) => Err(Fault::Range(key)),
     }
+}
+
+/// The number at a key, by default 0, from `low` to `high`, none of them below 0.
+#[tactic(auto, unfolding(crate::specs::Field::within, crate::specs::Field::count_within))]
+pub(crate) fn count_within(fields: &Fields, key: Key, low: u32, high: u32) -> Result<u32, Fault>
+    ensures exact { result ≡ count_within key low high (members fields.now) }
+    ensures reads { Reads result (check (bound key (pos low) (pos high) (number key (members fields.now)))) (count key (members fields.now)) }
+    ensures bounded { IfOk result (λ n. (low ≤ n) × (n ≤ high)) }
+{
+    let number = within(fields, key, i64::from(low), i64::from(high))?;
+    Ok(number.unsigned_abs() as u32)
+}
+
+// The value after so many seconds of its gain.
+fn value_after(value: &i64, gain: &i64, seconds: u32) -> i128
+    ensures { result ≡ value.now +ℤ gain.now *ℤ pos seconds }
+{
+    i128::from(*value) + i128::from(*gain) * i128::from(seconds)
+}
+
+// Whether a number is within bounds.
+#[tactic(auto, unfolding(mt_base::specs::Checks::check))]
+fn is_bounded(key: Key, number: &i128, low: i64, high: i64) -> Result<(), Fault>
+    ensures { result ≡ check (bound key low high number.now) }
+{
+    if i128::from(low) <= *number && *number <= i128::from(high) {
+        return Ok(());
+    }
+    Err(Fault::Range(key))
+}
+
+/// A value is within bounds after so many seconds of its gain.
+pub(crate) fn within_at_end(
+    key: Key,
+    value: &i64,
+    gain: &i64,
+    seconds: u32,
+    low: i64,
+    high: i64,
+) -> Result<(), Fault>
+    ensures { result ≡ check (bound key low high (value.now +ℤ gain.now *ℤ pos seconds)) }
+{
+    is_bounded(key, &value_after(value, gain, seconds), low, high)
 }

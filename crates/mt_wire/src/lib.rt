@@ -3,6 +3,7 @@
 //! What a line is read as, and the text of a reply and of an entry, are definitions of `specs/` over serde_json's own definitions.
 #![tactic(auto)]
 
+mod actor;
 mod conflict;
 mod entry;
 mod escape;
@@ -10,11 +11,13 @@ mod field;
 mod field_name;
 mod key;
 mod laws;
+mod plain;
 mod put_reply;
 mod reply;
 mod request;
 mod texts;
 mod write;
+mod word;
 mod written;
 
 pub use field_name::FieldName;
