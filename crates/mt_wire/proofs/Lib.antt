@@ -3,3 +3,4 @@ pub mod Lengths
 pub mod PlainText
 pub mod Putting
 pub mod ReplyTexts
+pub mod StepLemmas

@@ -145,9 +145,13 @@ row_in ms = record {
 abbrev pub straight_in : Members → Straight
 straight_in ms = record { from = count key.From ms; to = count key.To ms; first = row_in ms }
 
+-- any number that an i64 holds
+abbrev pub rule_bound : Members → RuleName → Fault × Bool
+rule_bound ms name = bound (key.Rule name) (neg_ℤ (pos (2 ^ 63))) (pos (2 ^ 63 - 1)) (number (key.Rule name) ms)
+
 abbrev pub bounds : Word → Members → List (Fault × Bool)
 bounds word.Begin ms = []
-bounds word.Rule ms = map (λ name. bound (key.Rule name) (neg_ℤ (pos (2 ^ 63))) (pos (2 ^ 63 - 1)) (number (key.Rule name) ms)) rule_names
+bounds word.Rule ms = map (rule_bound ms) rule_names
 bounds word.External ms =
     bound key.From (pos 0) (pos 10000000) (number key.From ms) ∷
     bound key.To (pos (count key.From ms + 1)) (pos (count key.From ms + 14400)) (number key.To ms) ∷

@@ -8,3 +8,4 @@ pub mod Numbers
 pub mod Puts
 pub mod Reply
 pub mod Short
+pub mod Steps

@@ -39,10 +39,13 @@ checked place rules word ms = do
   Ok (who, asked word ms)
 
 -- a refusal with the text of its key
+abbrev pub named_fault : Fault → LineNo
+named_fault (fault.Form key) = Form (key_text key)
+named_fault (fault.Range key) = Range (key_text key)
+
 abbrev pub named : Result (ℕ × Request) Fault → Result (ℕ × Request) LineNo
 named (Ok asked) = Ok asked
-named (Err (fault.Form key)) = Err (Form (key_text key))
-named (Err (fault.Range key)) = Err (Range (key_text key))
+named (Err f) = Err (named_fault f)
 
 -- the least key, in byte order, that a command's line may not have
 abbrev pub other_key : Place → Word → Members → Option (List ℕ)

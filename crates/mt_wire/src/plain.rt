@@ -1,31 +1,40 @@
-//! The lines of the commands that change nothing: `list`, `check`, `history`, `hello`, `bye`.
+//! The lines of the commands that change nothing: `list`, `check`, `history`, `hello` and `bye`.
 ghost use Rattle.std.specs.Prelude.{◌≡◌};
 ghost use Rattle.mt_base.specs.declared.rules.Rules.{Rules};
 ghost use Rattle.mt_json.specs.Shown.{members};
-ghost use Rattle.mt_wire.specs.declared.word.Word.TheVariants as word;
 ghost use Rattle.mt_wire.specs.Line.{checked};
+ghost use Rattle.mt_wire.specs.declared.word.Word.TheVariants as word;
 
 use crate::actor::{actor, actor_kind};
 use crate::field::{count_within, role, whole};
 use crate::key::{Fault, Key};
 use crate::request::{Place, Request};
-use mt_base::Rules;
 use mt_json::Fields;
 
 /// `list`.
 #[tactic(auto, unfolding(crate::specs::Line::checked))]
-pub(crate) fn list_line(fields: &Fields, place: Place, rules: &Rules) -> Result<(u32, Request), Fault>
-    ensures { result ≡ checked place rules.now word.List (members fields.now) }
+pub(crate) fn list_line(fields: &Fields, place: Place) -> Result<(u32, Request), Fault>
+    ensures { (rules : Rules) → result ≡ checked place rules word.List (members fields.now) }
 {
     actor_kind(fields, place)?;
     let who = actor(fields, place)?;
     Ok((who, Request::List))
 }
 
+/// `check`.
+#[tactic(auto, unfolding(crate::specs::Line::checked))]
+pub(crate) fn check_line(fields: &Fields, place: Place) -> Result<(u32, Request), Fault>
+    ensures { (rules : Rules) → result ≡ checked place rules word.Check (members fields.now) }
+{
+    actor_kind(fields, place)?;
+    let who = actor(fields, place)?;
+    Ok((who, Request::Check))
+}
+
 /// `history`.
 #[tactic(auto, unfolding(crate::specs::Line::checked))]
-pub(crate) fn history_line(fields: &Fields, place: Place, rules: &Rules) -> Result<(u32, Request), Fault>
-    ensures { result ≡ checked place rules.now word.History (members fields.now) }
+pub(crate) fn history_line(fields: &Fields, place: Place) -> Result<(u32, Request), Fault>
+    ensures { (rules : Rules) → result ≡ checked place rules word.History (members fields.now) }
 {
     whole(fields, Key::From)?;
     whole(fields, Key::To)?;
@@ -40,4 +49,25 @@ pub(crate) fn history_line(fields: &Fields, place: Place, rules: &Rules) -> Resu
             to: u64::from(to),
         },
     ))
+}
+
+/// `hello`.
+#[tactic(auto, unfolding(crate::specs::Line::checked))]
+pub(crate) fn hello_line(fields: &Fields, place: Place) -> Result<(u32, Request), Fault>
+    ensures { (rules : Rules) → result ≡ checked place rules word.Hello (members fields.now) }
+{
+    let role = role(fields, Key::Role)?;
+    actor_kind(fields, place)?;
+    let who = actor(fields, place)?;
+    Ok((who, Request::Hello(role)))
+}
+
+/// `bye`.
+#[tactic(auto, unfolding(crate::specs::Line::checked))]
+pub(crate) fn bye_line(fields: &Fields, place: Place) -> Result<(u32, Request), Fault>
+    ensures { (rules : Rules) → result ≡ checked place rules word.Bye (members fields.now) }
+{
+    actor_kind(fields, place)?;
+    let who = actor(fields, place)?;
+    Ok((who, Request::Bye))
 }

@@ -1,5 +1,7 @@
+ghost use Rattle.std.specs.Prelude.{◌≡◌, unwrap_or};
+
 use crate::field_name::FieldName;
-use mt_base::Command;
+use mt_base::{Command, Rules};
 
 /// What a session says that it is.
 #[derive(Clone, Copy, PartialEq, Eq)]
@@ -39,6 +41,41 @@ pub struct RuleSet {
     pub flights: Option<i64>,
     /// The greatest number of entries of the history.
     pub history: Option<i64>,
+}
+
+// The number that is set, or else the one that stands.
+fn set_or(set: &Option<i64>, rule: &i64) -> i64
+    ensures { result ≡ unwrap_or set.now rule.now }
+{
+    match set {
+        Some(number) => *number,
+        None => *rule,
+    }
+}
+
+impl RuleSet {
+    ghost use Rattle.mt_wire.specs.Commands.{rules_with};
+
+    /// The rules as they stand once these are set over them.
+    pub fn over(&self, rules: &Rules) -> Rules
+        ensures { result ≡ rules_with self.now rules.now }
+    {
+        Rules {
+            sh: set_or(&self.sh, &rules.sh),
+            sv: set_or(&self.sv, &rules.sv),
+            r0: set_or(&self.r0, &rules.r0),
+            gh: set_or(&self.gh, &rules.gh),
+            rmax: set_or(&self.rmax, &rules.rmax),
+            w0: set_or(&self.w0, &rules.w0),
+            gv: set_or(&self.gv, &rules.gv),
+            wmax: set_or(&self.wmax, &rules.wmax),
+            tc: set_or(&self.tc, &rules.tc),
+            ta: set_or(&self.ta, &rules.ta),
+            tv: set_or(&self.tv, &rules.tv),
+            flights: set_or(&self.flights, &rules.flights),
+            history: set_or(&self.history, &rules.history),
+        }
+    }
 }
 
 /// What a line asks for.
