@@ -1,0 +1,33 @@
+-- The number of tests, one trajectory more at a time.
+use Rattle.std.proofs.Common.{◌≡◌, ℕ, zero, suc, ◌+◌, false, List, [], ◌∷◌, ◌++◌, refl, sym, ◌∙◌, ap, arith}
+use Rattle.std.proofs.lemmas.List.Sums.{sum_by-append, sum_by-cons}
+use Rattle.std.specs.List.{sum_by}
+use Rattle.std.specs.Cmp.Lexicographic.{slice_cmp}
+use Rattle.std.specs.Ordering.{nat_cmp, is_ge}
+use Rattle.std.specs.declared.cmp.Ordering.{Ordering}
+use Rattle.std.specs.declared.cmp.Ordering.TheVariants.{Less, Equal, Greater}
+use Rattle.mt_base.specs.Tally.{raised}
+use Rattle.mt_base.specs.Picture.{NamedTrajectory}
+use Rattle.mt_plain.specs.Tests.{raised_by, tests_of_pair}
+
+pub raised_by-add : (m n count : ℕ) → raised_by n (raised_by m count) ≡ raised_by (m + n) count
+raised_by-add m zero count = let e : m + 0 ≡ m = omega arith in rw e refl
+raised_by-add m (suc n) count = let e : m + suc n ≡ suc (m + n) = omega arith in rw e (ap raised (raised_by-add m n count))
+
+pub sum_by-push : {X : Type 0} (f : X → ℕ) (xs : List X) (x : X) → sum_by f (xs ++ x ∷ []) ≡ sum_by f xs + f x
+sum_by-push f xs x = let last : sum_by f (x ∷ []) ≡ f x + sum_by f [] = sum_by-cons f x [] in omega (arith, sum_by-append f xs (x ∷ []))
+
+-- the sum of the tests so far, and those of one more
+pub raised_by-push : {X : Type 0} (f : X → ℕ) (xs : List X) (x : X) (old mid new : ℕ) → mid ≡ raised_by (sum_by f xs) old → new ≡ raised_by (f x) mid
+    → new ≡ raised_by (sum_by f (xs ++ x ∷ [])) old
+raised_by-push f xs x old mid new first second = rw (second, first, sum_by-push f xs x) (raised_by-add (sum_by f xs) (f x) old)
+
+pub less_from_ge : (o : Ordering) → false ≡ is_ge o → o ≡ Less
+less_from_ge Less e = refl
+less_from_ge Equal e = cc
+less_from_ge Greater e = cc
+
+-- the pair with the lesser callsign first is tested once
+pub raised_by-pair : (left right : NamedTrajectory) (old new : ℕ) → slice_cmp nat_cmp left.call right.call ≡ Less → new ≡ raised old
+    → new ≡ raised_by (tests_of_pair left right) old
+raised_by-pair left right old new before is = rw before is
