@@ -1,5 +1,5 @@
 -- The commands: their words, where each may stand, and the table of their fields with kinds and bounds.
-use Rattle.std.specs.Prelude.{ℕ, ℤ, pos, neg_ℤ, ◌+◌, ◌-◌, ◌^◌, ◌+ℤ◌, ◌*ℤ◌, Bool, true, false, List, [], ◌∷◌, ◌++◌, map, flat_map, codes, Option, Some, None, option_and_then, unwrap_or, if◌then◌else◌}
+use Rattle.std.specs.Prelude.{ℕ, pos, neg_ℤ, ◌+◌, ◌-◌, ◌^◌, ◌+ℤ◌, ◌*ℤ◌, Bool, true, false, List, [], ◌∷◌, ◌++◌, map, flat_map, codes, Option, Some, None, unwrap_or, if◌then◌else◌}
 use Rattle.std.specs.Str.{bytes_eq}
 use Rattle.serde_json.specs.Data.{Members}
 use Rattle.mt_base.specs.declared.command.Command.TheVariants as command
@@ -12,7 +12,6 @@ use Rattle.mt_base.specs.Rules.{rule_checks}
 use Rattle.mt_json.specs.Field.{as_whole}
 use Rattle.mt_wire.specs.declared.key.Fault.{Fault}
 use Rattle.mt_wire.specs.declared.key.Fault.TheVariants.{Range}
-use Rattle.mt_wire.specs.declared.key.Key.{Key}
 use Rattle.mt_wire.specs.declared.key.Key.TheVariants as key
 use Rattle.mt_wire.specs.declared.request.Place.{Place}
 use Rattle.mt_wire.specs.declared.request.Place.TheVariants as place
@@ -24,7 +23,7 @@ use Rattle.mt_wire.specs.declared.word.Group.{Group}
 use Rattle.mt_wire.specs.declared.word.Group.TheVariants as group
 use Rattle.mt_wire.specs.declared.word.Word.{Word}
 use Rattle.mt_wire.specs.declared.word.Word.TheVariants as word
-use Rattle.mt_wire.specs.Field.{Field, as_call, as_role, bound, count, kind_check, may, must, number, read_at}
+use Rattle.mt_wire.specs.Field.{Field, as_call, as_role, bound, count, may, must, number, read_at}
 use Rattle.mt_wire.specs.Key.{key_text}
 
 abbrev pub named_word : List (List ℕ × Word) → List ℕ → Option Word

@@ -1,5 +1,5 @@
 -- The bounds of an external flight, each number taken where it is tested.
-use Rattle.std.specs.Prelude.{ℕ, pos, neg_ℤ, ◌+◌, ◌-◌, Result, Ok}
+use Rattle.std.specs.Prelude.{pos, neg_ℤ, ◌+◌, ◌-◌, Result, Ok}
 use Rattle.serde_json.specs.Data.{Members}
 use Rattle.mt_base.specs.declared.flight.Straight.{Straight}
 use Rattle.mt_base.specs.declared.row.Row.{Row}

@@ -34,8 +34,12 @@ fn value_of(alloc: Global, bytes: &[u8]) -> Result<Value, LineNo>
 {
     match Value::from_slice(alloc, bytes) {
         Ok(value) => Ok(value),
-        Err(e) if e.is_memory() => Err(LineNo::Memory),
-        Err(_) => Err(LineNo::Json),
+        Err(e) => {
+            if e.is_memory() {
+                return Err(LineNo::Memory);
+            }
+            Err(LineNo::Json)
+        }
     }
 }
 
