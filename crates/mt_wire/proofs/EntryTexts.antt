@@ -23,11 +23,11 @@ plain_kinds Tentative Tentative = refl
 
 pub conflict_text : (f l : ℕ) (kinds a b first last letters left right : List ℕ) → letters ≡ escape kinds → left ≡ escape a → right ≡ escape b → first ≡ decimal f → last ≡ decimal l
     → codes "{\"first\":" ++ (first ++ (codes ",\"kinds\":\"" ++ (letters ++ (codes "\",\"last\":" ++ (last ++ (codes ",\"pair\":[\"" ++ (left ++ (codes "\",\"" ++ (right ++ (codes "\"]}" ++ []))))))))))
-      ≡ compact_text (object (
-        member (codes "first") (whole (pos f)) (
-        member (codes "kinds") (string kinds) (
-        member (codes "last") (whole (pos l)) (
-        member (codes "pair") (array (item (string a) (item (string b) no_items))) no_members)))))
+    ≡ compact_text (object (
+    member (codes "first") (whole (pos f)) (
+    member (codes "kinds") (string kinds) (
+    member (codes "last") (whole (pos l)) (
+    member (codes "pair") (array (item (string a) (item (string b) no_items))) no_members)))))
 unfolding json_on_literals
 conflict_text f l kinds a b first last letters left right k p q d e = simp (k, p, q, d, e, append_assoc)
 

@@ -16,11 +16,11 @@ range_text name = simp append_assoc
 
 pub unknown_call_pieces : (call name : List ℕ) (version : ℕ) (digits : List ℕ) → name ≡ escape call → digits ≡ decimal version
     → codes "{\"name\":\"" ++ (name ++ (codes "\",\"no\":\"unknown-call\",\"version\":" ++ (digits ++ (codes "}\n" ++ []))))
-      ≡ codes "{\"name\":\"" ++ (escape call ++ (codes "\",\"no\":\"unknown-call\",\"version\":" ++ (decimal version ++ codes "}\n")))
+    ≡ codes "{\"name\":\"" ++ (escape call ++ (codes "\",\"no\":\"unknown-call\",\"version\":" ++ (decimal version ++ codes "}\n")))
 unknown_call_pieces call name version digits e d = rw (e, d) refl
 
 pub unknown_call_text : (call : List ℕ) (version : ℕ)
     → codes "{\"name\":\"" ++ (escape call ++ (codes "\",\"no\":\"unknown-call\",\"version\":" ++ (decimal version ++ codes "}\n")))
-      ≡ reply_text (reply.Refused (UnknownCall call) version)
+    ≡ reply_text (reply.Refused (UnknownCall call) version)
 unfolding json_on_literals
 unknown_call_text call version = simp append_assoc

@@ -18,15 +18,17 @@ mod put_reply;
 mod reply;
 mod request;
 mod setup;
+#[cfg(test)]
+mod tests;
 mod texts;
-mod write;
 mod word;
+mod write;
 mod written;
 
 pub use field_name::FieldName;
-pub use line::read_line;
 pub use laws::short_replies_law;
+pub use line::read_line;
 pub use put_reply::NO_MEMORY;
 pub use reply::{DoneWord, Reply};
-pub use texts::{write_entry, write_reply, write_short};
 pub use request::{LineNo, Place, Request, Role, RuleSet};
+pub use texts::{write_entry, write_reply, write_short};

@@ -69,9 +69,7 @@ fn put_refused(out: &mut Vec<u8>, refusal: &Refusal, version: u64) -> Result<(),
     ensures { Puts result out.old out.new (reply_text (Refused refusal.now version)) }
 {
     match refusal {
-        Refusal::HeldCall => {
-            put_versioned(out, b"{\"no\":\"held-call\",\"version\":", version)
-        }
+        Refusal::HeldCall => { put_versioned(out, b"{\"no\":\"held-call\",\"version\":", version) }
         Refusal::UnknownCall(call) => put_unknown_call(out, call, version),
         Refusal::Full => put_versioned(out, b"{\"no\":\"full\",\"version\":", version),
         Refusal::HistoryFull => {

@@ -1,0 +1,183 @@
+use crate::{
+    DoneWord, FieldName, NO_MEMORY, Reply, Role, short_replies_law, write_reply, write_short,
+};
+use mt_base::{
+    Callsign, Command, Conflict, Conflicts, Entered, Entries, Entry, Kind, Refusal, Row, Straight,
+};
+use std::test::Fail;
+
+fn refused(refusal: Refusal, version: u64) -> Reply {
+    Reply::Refused { refusal, version }
+}
+
+#[test]
+fn replies_without_a_list(rt: HostRuntime) -> Result<(), Fail> {
+    let call = Callsign::of(b"AAA1").ok_or("a callsign")?;
+    let version = u64::MAX;
+    let cases = [
+        (Reply::Done(DoneWord::Rule), "{\"done\":\"rule\"}\n"),
+        (Reply::Done(DoneWord::Begin), "{\"done\":\"begin\"}\n"),
+        (Reply::Done(DoneWord::Bye), "{\"done\":\"bye\"}\n"),
+        (Reply::Hello(Role::Feed), "{\"role\":\"feed\"}\n"),
+        (Reply::Hello(Role::Position), "{\"role\":\"position\"}\n"),
+        (
+            Reply::Entered(Entered { version: 41 }),
+            "{\"entered\":41}\n",
+        ),
+        (Reply::Json, "{\"no\":\"json\"}\n"),
+        (Reply::Long, "{\"no\":\"long\"}\n"),
+        (Reply::Begun, "{\"no\":\"begun\"}\n"),
+        (Reply::Unbegun, "{\"no\":\"unbegun\"}\n"),
+        (Reply::Memory, "{\"no\":\"memory\"}\n"),
+        (
+            refused(Refusal::HeldCall, 1),
+            "{\"no\":\"held-call\",\"version\":1}\n",
+        ),
+        (
+            refused(Refusal::UnknownCall(call), 0),
+            "{\"name\":\"AAA1\",\"no\":\"unknown-call\",\"version\":0}\n",
+        ),
+        (
+            refused(Refusal::Full, 10),
+            "{\"no\":\"full\",\"version\":10}\n",
+        ),
+        (
+            refused(Refusal::HistoryFull, version),
+            "{\"no\":\"history-full\",\"version\":18446744073709551615}\n",
+        ),
+        (
+            refused(Refusal::Backward, 2),
+            "{\"no\":\"backward\",\"version\":2}\n",
+        ),
+    ];
+    for (reply, wanted) in &cases {
+        let line = write_reply(rt.alloc(), reply)?;
+        assert_eq!(rt; line.as_slice(), wanted.as_bytes());
+    }
+    assert_eq!(rt; NO_MEMORY, b"{\"no\":\"memory\"}\n".as_slice());
+    Ok(())
+}
+
+#[test]
+fn refusals_that_name_a_field(rt: HostRuntime) -> Result<(), Fail> {
+    let cases: [(&[u8], &str); 4] = [
+        (b"", ""),
+        (b"do", "do"),
+        (
+            b"a\"\\/\x08\x09\x0a\x0c\x0d\x00\x1f\x7f\xc3\xa9",
+            "a\\\"\\\\/\\b\\t\\n\\f\\r\\u0000\\u001f\x7f\u{e9}",
+        ),
+        (b"\x0b\x0e\x1a z", "\\u000b\\u000e\\u001a z"),
+    ];
+    for (name, written) in cases {
+        let form = Reply::Form(FieldName::of(rt.alloc(), name)?);
+        let line = write_reply(rt.alloc(), &form)?;
+        let wanted = format!(in rt.alloc(); "{{\"field\":\"{written}\",\"no\":\"form\"}}\n")?;
+        assert_eq!(rt; line.as_slice(), wanted.as_bytes());
+        let range = Reply::Range(FieldName::of(rt.alloc(), name)?);
+        let line = write_reply(rt.alloc(), &range)?;
+        let wanted = format!(in rt.alloc(); "{{\"field\":\"{written}\",\"no\":\"range\"}}\n")?;
+        assert_eq!(rt; line.as_slice(), wanted.as_bytes());
+    }
+    Ok(())
+}
+
+fn conflict(first: u32, b: &[u8], ka: Kind, kb: Kind, last: u32) -> Option<Conflict> {
+    Some(Conflict {
+        first,
+        a: Callsign::of(b"AAA1")?,
+        b: Callsign::of(b)?,
+        ka,
+        kb,
+        last,
+    })
+}
+
+#[test]
+fn conflicts_of_a_list(rt: HostRuntime) -> Result<(), Fail> {
+    let none = Reply::List {
+        conflicts: Conflicts::make(rt.alloc())?,
+        version: 0,
+    };
+    let line = write_reply(rt.alloc(), &none)?;
+    assert_eq!(rt;
+        line.as_slice(),
+        b"{\"conflicts\":[],\"version\":0}\n".as_slice()
+    );
+    let mut conflicts = Conflicts::make(rt.alloc())?;
+    let first = conflict(131, b"BBB1", Kind::Actual, Kind::Actual, 168);
+    conflicts.push(first.ok_or("a callsign")?)?;
+    let second = conflict(0, b"B", Kind::Tentative, Kind::Actual, 4294967295);
+    conflicts.push(second.ok_or("a callsign")?)?;
+    let third = conflict(7, b"Z9Z9Z9Z", Kind::Actual, Kind::Tentative, 7);
+    conflicts.push(third.ok_or("a callsign")?)?;
+    let list = Reply::List {
+        conflicts,
+        version: 40,
+    };
+    let line = write_reply(rt.alloc(), &list)?;
+    let wanted =
+        "{\"conflicts\":[{\"first\":131,\"kinds\":\"aa\",\"last\":168,\"pair\":[\"AAA1\",\"BBB1\"]},{\"first\":0,\"kinds\":\"ta\",\"last\":4294967295,\"pair\":[\"AAA1\",\"B\"]},{\"first\":7,\"kinds\":\"at\",\"last\":7,\"pair\":[\"AAA1\",\"Z9Z9Z9Z\"]}],\"version\":40}\n";
+    assert_eq!(rt; line.as_slice(), wanted.as_bytes());
+    Ok(())
+}
+
+fn straight() -> Straight {
+    Straight {
+        from: 60,
+        to: 14460,
+        first: Row {
+            x: -3686400,
+            y: 3686400,
+            z: 3600000,
+            r: 72000,
+            w: 600000,
+            vx: 1000,
+            vy: -1000,
+            vz: -10000,
+            gr: 0,
+            gw: 12,
+            leg: 0,
+        },
+    }
+}
+
+#[test]
+fn entries_of_a_history(rt: HostRuntime) -> Result<(), Fail> {
+    let call = Callsign::of(b"AAA1").ok_or("a callsign")?;
+    let mut entries = Entries::make(rt.alloc())?;
+    entries.push(Entry {
+        who: 4294967295,
+        command: Command::External {
+            call,
+            straight: straight(),
+        },
+    })?;
+    entries.push(Entry {
+        who: 0,
+        command: Command::Drop { call },
+    })?;
+    entries.push(Entry {
+        who: 15,
+        command: Command::Tick { now: 10000000 },
+    })?;
+    let history = Reply::History {
+        entries,
+        version: 3,
+    };
+    let line = write_reply(rt.alloc(), &history)?;
+    let wanted =
+        "{\"entries\":[{\"call\":\"AAA1\",\"do\":\"external\",\"from\":60,\"gr\":0,\"gw\":12,\"r\":72000,\"to\":14460,\"vx\":1000,\"vy\":-1000,\"vz\":-10000,\"w\":600000,\"who\":4294967295,\"x\":-3686400,\"y\":3686400,\"z\":3600000},{\"call\":\"AAA1\",\"do\":\"drop\",\"who\":0},{\"do\":\"tick\",\"now\":10000000,\"who\":15}],\"version\":3}\n";
+    assert_eq!(rt; line.as_slice(), wanted.as_bytes());
+    Ok(())
+}
+
+#[tactic(auto, using(crate::proofs::Lengths::short_text))]
+#[test]
+fn a_short_reply_in_a_room(rt: HostRuntime) -> Result<(), Fail> {
+    short_replies_law();
+    let mut room = Vec::with_capacity(rt.alloc(), 65536)?;
+    write_short(&Reply::Entered(Entered { version: 7 }), &mut room);
+    assert_eq!(rt; room.as_slice(), b"{\"entered\":7}\n".as_slice());
+    Ok(())
+}
