@@ -6,7 +6,7 @@ use Rattle.mt_base.specs.Checks.{judged}
 use Rattle.mt_base.specs.Rules.{is_within, rule_checks}
 use Rattle.mt_base.proofs.CheckLemmas.{all_passed, all_pass}
 
-inside : (low high z : ℤ) → is_within low high z ≡ true → IsWithin low high z
+pub inside : (low high z : ℤ) → is_within low high z ≡ true → IsWithin low high z
 inside low high z test = record { least = grind (arith, ints); most = grind (arith, ints) }
 
 tested : (low high z : ℤ) → IsWithin low high z → is_within low high z ≡ true
