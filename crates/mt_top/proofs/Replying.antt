@@ -1,0 +1,72 @@
+use Rattle.std.proofs.Common.{◌≡◌, ◌<◌, ◌≤◌, inl, inr, ⊎_elim, ℕ, Bool, true, false, List, [], ◌∷◌, ◌++◌, length, Result, Ok, Err, refl, sym, ◌∙◌, ap, subst, append_assoc, append-nil, true≢false}
+use Rattle.std.proofs.lemmas.Bool.{lt-ltb}
+use Rattle.std.specs.Prelude.{MatchBool}
+use Rattle.mt_base.specs.declared.command.Entry.{Entry}
+use Rattle.mt_base.specs.declared.command.Refusal.{Refusal}
+use Rattle.mt_base.specs.History.{decide, state_of}
+use Rattle.mt_wire.specs.declared.request.Request.{Request}
+use Rattle.mt_wire.specs.declared.request.Request.TheVariants as requests
+use Rattle.mt_wire.specs.declared.reply.Reply.{Reply}
+use Rattle.mt_wire.specs.declared.reply.Reply.TheVariants as replies
+use Rattle.mt_wire.specs.Reply.{reply_text}
+use Rattle.mt_top.specs.Given.{IsGivenFor, is_brief, is_farewell}
+use Rattle.mt_top.specs.Script.{AreReplied, IsReplied}
+use Rattle.mt_top.specs.World.{IsAnswered, IsDecided, IsServed, World, asked}
+
+-- one line more
+pub replied_push : (w : World) (lines : List (List ℕ)) (bytes : List ℕ) (middle : World) (line : List ℕ) (reply : Reply) (next : World)
+    → AreReplied w lines bytes middle → IsReplied middle line reply next → is_farewell reply ≡ false
+    → AreReplied w (lines ++ line ∷ []) (bytes ++ reply_text reply) next
+replied_push w [] bytes middle line reply next (none, same) replied goes =
+    (reply, [], next, subst (λ (v : World). IsReplied v line reply next) same replied, goes, rw none (sym (append-nil (reply_text reply))), (refl, refl))
+replied_push w (first ∷ lines) bytes middle line reply next (r, rest, v, replied_first, goes_first, bytes_are, replied_rest) replied goes = (
+  r,
+  rest ++ reply_text reply,
+  v,
+  replied_first,
+  goes_first,
+  rw bytes_are (append_assoc (reply_text r) rest (reply_text reply)),
+  replied_push v lines rest middle line reply next replied_rest replied goes,
+)
+
+-- a brief reply is none of those that are not brief
+not_given : (given reply : Reply) (P : Type 0) → reply ≡ given → is_brief given ≡ true → is_brief reply ≡ false → P
+not_given given reply P is brief not_brief = absurd (true≢false (sym brief ∙ ap is_brief (sym is) ∙ not_brief))
+
+by_begun : (b : Bool) (P Q R : Type 0) → (P → R) → (Q → R) → MatchBool b P Q → R
+by_begun true P Q R p q m = p m
+by_begun false P Q R p q m = q m
+
+-- a reply that is not brief follows no change
+unchanged_by : (w next : World) (who : ℕ) (request : Request) (reply : Reply) → IsServed w who request reply next → is_brief reply ≡ false → next ≡ w
+unchanged_by w next who (requests.Rule set) reply served b = by_begun w.begun _ _ _ (λ r. r.same) (λ g. not_given _ reply _ g.reply_is refl b) served
+unchanged_by w next who requests.Begin reply served b = by_begun w.begun _ _ _ (λ r. r.same) (λ g. not_given _ reply _ g.reply_is refl b) served
+unchanged_by w next who (requests.Hello role) reply served b = served.next_is
+unchanged_by w next who requests.Bye reply served b = served.next_is
+unchanged_by w next who requests.List reply served b = by_begun w.begun _ _ _ (λ l. l.same) (λ r. r.same) served
+unchanged_by w next who requests.Check reply served b = by_begun w.begun _ _ _ (λ l. l.same) (λ r. r.same) served
+unchanged_by w next who (requests.History from to) reply served b = by_begun w.begun _ _ _ (λ g. g.next_is) (λ r. r.same) served
+unchanged_by w next who (requests.Change command) reply served b =
+    by_begun w.begun _ _ _ (decided (decide w.rules (state_of w.history) who command)) (λ r. r.same) served where
+      decided : (d : Result Entry Refusal) → IsDecided w d reply next → next ≡ w
+      decided (Ok e) g = not_given _ reply _ g.reply_is refl b
+      decided (Err refusal) r = r.same
+
+unchanged_of : (w next : World) (a : Result (ℕ × Request) Reply) (reply : Reply) → IsAnswered w a reply next → is_brief reply ≡ false → next ≡ w
+unchanged_of w next (Ok a) reply served b = unchanged_by w next a.0 a.1 reply served b
+unchanged_of w next (Err refusal) reply refused b = refused.same
+
+unchanged : (w next : World) (line : List ℕ) (reply : Reply) → IsReplied w line reply next → is_brief reply ≡ false → next ≡ w
+unchanged w next line reply replied b = ⊎_elim (λ answered. unchanged_of w next (asked w line) reply answered b) (λ wants. wants.same) replied
+
+-- what is given in place of a reply is a reply
+pub given_replied : (w next : World) (line : List ℕ) (reply given : Reply) → IsReplied w line reply next → IsGivenFor reply given
+    → (is_brief reply ≡ false → length line ≤ 65536) → IsReplied w line given next
+given_replied w next line reply given replied for short = ⊎_elim
+    (λ same. rw same replied)
+    (λ (memory, not_brief). inr (record { short = short not_brief; reply_is = memory; same = unchanged w next line reply replied not_brief }))
+    for
+
+-- the reply to a line that is too long
+pub long_replied : (w : World) (line : List ℕ) → 65536 < length line → IsReplied w line replies.Long w
+long_replied w line long = inl (rw (lt-ltb 65536 (length line) long) (record { reply_is = refl; same = refl }))

@@ -1,0 +1,18 @@
+use Rattle.std.proofs.Common.{◌≡◌, ◌≤◌, ◌^◌, ◌-◌, None, vec_capacity}
+use Rattle.mt_top.specs.SoFar.{SoFar}
+use Rattle.mt_top.proofs.replay.replay.Given as goal
+
+abbrev pub invariant-loop-status : goal.invariant-loop-status
+invariant-loop-status g l = record {
+  so_far : SoFar (g.S.Source.left l.initial.input) (g.S.Source.left l.input) (g.K.Sink.held l.initial.output) (g.K.Sink.held l.output) l.reader l.world;
+  sound : l.reader.fault ≡ None;
+  bound : l.reader.given ≤ 2 ^ 32;
+  room : 65536 ≤ vec_capacity l.room;
+  read : g.S.Source.faults l.initial.input ≤ g.S.Source.faults l.input;
+  written : g.K.Sink.faults l.initial.output ≤ g.K.Sink.faults l.output;
+  reads : g.S.Source.reads_to l.initial.input l.input;
+  writes : g.K.Sink.writes_to l.initial.output l.output;
+}
+
+abbrev pub decreases-loop-status : goal.decreases-loop-status
+decreases-loop-status g l = 2 ^ 32 - l.reader.given

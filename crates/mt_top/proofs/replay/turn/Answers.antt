@@ -1,0 +1,32 @@
+use Rattle.mt_io.specs.declared.line.LineFault.TheVariants as faults
+use Rattle.mt_wire.specs.declared.reply.Reply.TheVariants as replies
+use Rattle.mt_top.proofs.Replying.{long_replied}
+use Rattle.mt_top.proofs.Turning.{ended, stopped, turned}
+use Rattle.mt_top.proofs.replay.turn.Goals as goal
+
+pub returns-in-Ok-Text-clause-turned : goal.returns-in-Ok-Text-clause-turned
+returns-in-Ok-Text-clause-turned g c =
+    let line = rw (c.in-Ok-Text.is, c.in-Ok-Text.field-0-is) at c.next.follows.holds-at-none in
+    λ before held so_far. turned before _ _ held _ _ _ _ _ _ c.in-Ok-Text.line.now c.answer-reply.result c.give.result so_far line.1
+    c.answer-reply.ensures (λ _. line.0) c.give.ensures.given
+
+pub returns-in-Ok-Long-clause-turned : goal.returns-in-Ok-Long-clause-turned
+returns-in-Ok-Long-clause-turned g c =
+    let (line, long, takes) = rw (c.in-Ok-Long.is, c.in-Ok-Long.field-0-is) at c.next.follows.holds-at-none in
+    λ before held so_far. turned before _ _ held _ _ _ _ _ _ line replies.Long c.give-in-Ok-Long.result so_far takes
+    (long_replied _ line long) (λ not_brief. cc) c.give-in-Ok-Long.ensures.given
+
+pub returns-in-Ok-End-clause-turned : goal.returns-in-Ok-End-clause-turned
+returns-in-Ok-End-clause-turned g c =
+    let done = rw (c.in-Ok-End.is, c.in-Ok-End.field-0-is) at c.next.follows.holds-at-none in
+    λ before held so_far. ended before _ _ held _ _ _ _ so_far done
+
+pub returns-in-Err-ReadFault-clause-turned : goal.returns-in-Err-ReadFault-clause-turned
+returns-in-Err-ReadFault-clause-turned g c =
+    let stop = rw (c.in-Err-ReadFault.is, c.in-Err-ReadFault.field-0-is) at c.next.follows.holds-at-none in
+    λ before held so_far. stopped before _ _ held _ _ _ _ faults.ReadFault so_far stop
+
+pub returns-in-Err-Spent-clause-turned : goal.returns-in-Err-Spent-clause-turned
+returns-in-Err-Spent-clause-turned g c =
+    let stop = rw (c.in-Err-Spent.is, c.in-Err-Spent.field-0-is) at c.next.follows.holds-at-none in
+    λ before held so_far. stopped before _ _ held _ _ _ _ faults.Spent so_far stop

@@ -1,0 +1,15 @@
+use Rattle.std.proofs.Common.{◌∙◌, sym, inr, refl}
+use Rattle.mt_wire.proofs.Lengths.{short_text}
+use Rattle.mt_wire.specs.declared.reply.Reply.TheVariants as replies
+use Rattle.mt_top.proofs.reply_out.give.Goals as goal
+
+pub write_short-requires-clause-fits : goal.write_short-requires-clause-fits
+write_short-requires-clause-fits g c = short_text c.args.reply.now (c.is_brief.ensures.short c.if-is_brief.true)
+
+pub write_short-requires-in-Err-clause-fits : goal.write_short-requires-in-Err-clause-fits
+write_short-requires-in-Err-clause-fits g c = short_text replies.Memory tt
+
+pub returns-in-Err-clause-given : goal.returns-in-Err-clause-given
+returns-in-Err-clause-given g c =
+    let sent = rw (c.deref-in-Err.ensures.value, c.write_short-in-Err.ensures.text) at c.send-in-Err.ensures.sent in
+    record { given = replies.Memory; given_for = inr (refl, sym c.is_brief.ensures.brief ∙ c.if-is_brief.false); sent = sent }

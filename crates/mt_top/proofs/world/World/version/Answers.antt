@@ -1,0 +1,5 @@
+use Rattle.mt_base.proofs.HistoryLemmas.{version_is}
+use Rattle.mt_top.proofs.world.World.version.Goals as goal
+
+pub returns : goal.returns
+returns c = rw (c.version.ensures, c.self.invariant.picture_is, ← c.self.view_is) (version_is c.self.inside.history)

@@ -1,0 +1,66 @@
+use Rattle.std.specs.Prelude.{◌≡◌, ◌⊎◌, ℕ, List, Bool, true, false}
+use Rattle.std.specs.Io.KnownBytes.{Appends}
+use Rattle.std.specs.declared.option.Option.{Option}
+use Rattle.std.specs.declared.option.Option.TheVariants.{None, Some}
+use Rattle.mt_io.specs.Writing.{AppendsFront}
+use Rattle.mt_wire.specs.declared.reply.DoneWord.TheVariants as done
+use Rattle.mt_wire.specs.declared.reply.Reply.{Reply}
+use Rattle.mt_wire.specs.declared.reply.Reply.TheVariants as replies
+use Rattle.mt_wire.specs.Reply.{reply_text}
+use Rattle.mt_top.specs.declared.status.Status.{Status}
+use Rattle.mt_top.specs.declared.status.Status.TheVariants.{Done, Usage, ReadFault, WriteFault, Spent, Memory}
+
+-- A reply that is written in the room that was taken before the first line, and so never wants memory. Each reply that follows a change is one.
+abbrev pub is_brief : Reply → Bool
+is_brief (replies.Done word) = true
+is_brief (replies.Hello role) = true
+is_brief (replies.Entered entered) = true
+is_brief replies.Json = true
+is_brief replies.Long = true
+is_brief replies.Begun = true
+is_brief replies.Unbegun = true
+is_brief replies.Memory = true
+is_brief (replies.List conflicts version) = false
+is_brief (replies.History entries version) = false
+is_brief (replies.Form name) = false
+is_brief (replies.Range name) = false
+is_brief (replies.Refused refusal version) = false
+
+-- the reply after which a script ends
+abbrev pub is_farewell : Reply → Bool
+is_farewell (replies.Done done.Bye) = true
+is_farewell (replies.Done done.Begin) = false
+is_farewell (replies.Done done.Rule) = false
+is_farewell (replies.Hello role) = false
+is_farewell (replies.Entered entered) = false
+is_farewell replies.Json = false
+is_farewell replies.Long = false
+is_farewell replies.Begun = false
+is_farewell replies.Unbegun = false
+is_farewell replies.Memory = false
+is_farewell (replies.List conflicts version) = false
+is_farewell (replies.History entries version) = false
+is_farewell (replies.Form name) = false
+is_farewell (replies.Range name) = false
+is_farewell (replies.Refused refusal version) = false
+
+-- the reply that is given: this one, or `memory` in place of one that is not brief
+abbrev pub IsGivenFor : Reply → Reply → Type 0
+IsGivenFor reply given = (given ≡ reply) ⊎ ((given ≡ replies.Memory) × (is_brief reply ≡ false))
+
+-- What the output holds after a text was sent: it and no status; it and Done, where the script ends with it; or a front of it, where the
+-- output failed.
+abbrev pub Sends : List ℕ → Bool → Option Status → Option (List ℕ) → Option (List ℕ) → Type 0
+Sends text is_last None before after = Appends before after text × (is_last ≡ false)
+Sends text is_last (Some Done) before after = Appends before after text × (is_last ≡ true)
+Sends text is_last (Some WriteFault) before after = AppendsFront before after text
+Sends text is_last (Some Usage) before after = ⊥
+Sends text is_last (Some ReadFault) before after = ⊥
+Sends text is_last (Some Spent) before after = ⊥
+Sends text is_last (Some Memory) before after = ⊥
+
+-- a reply was given and sent
+pub record Gives (reply : Reply) (status : Option Status) (before after : Option (List ℕ)) : Type 0 where
+  pub given : Reply
+  pub given_for : IsGivenFor reply given
+  pub sent : Sends (reply_text given) (is_farewell given) status before after

@@ -1,0 +1,7 @@
+pub mod Given
+pub mod Run
+pub mod Script
+pub mod SoFar
+pub mod Sound
+pub mod Status
+pub mod World

@@ -1,0 +1,84 @@
+use Rattle.std.specs.Prelude.{◌≡◌, ℕ, ◌+◌, ◌-◌, Bool, true, false, List, [], ◌∷◌, ◌++◌, length, take, drop, nat_lt, Result, Ok, Err, MatchBool, if◌then◌else◌}
+use Rattle.mt_base.specs.declared.command.Entry.{Entry}
+use Rattle.mt_base.specs.declared.command.Refusal.{Refusal}
+use Rattle.mt_base.specs.declared.conflict.Conflict.{Conflict}
+use Rattle.mt_base.specs.declared.rules.Rules.{Rules}
+use Rattle.mt_base.specs.History.{decide, state_of}
+use Rattle.mt_base.specs.Picture.{IsPublished}
+use Rattle.mt_base.specs.Rules.{usual_rules}
+use Rattle.mt_wire.specs.declared.request.Request.{Request}
+use Rattle.mt_wire.specs.declared.request.Request.TheVariants as requests
+use Rattle.mt_wire.specs.declared.reply.DoneWord.TheVariants as done
+use Rattle.mt_wire.specs.declared.reply.Reply.{Reply}
+use Rattle.mt_wire.specs.declared.reply.Reply.TheVariants as replies
+use Rattle.mt_wire.specs.declared.request.Place.TheVariants.{Replay}
+use Rattle.mt_wire.specs.Commands.{rules_with}
+use Rattle.mt_wire.specs.Line.{line as read_as}
+use Rattle.mt_wire.specs.declared.request.LineNo.{LineNo}
+use Rattle.mt_wire.specs.declared.request.LineNo.TheVariants as nos
+
+-- The world of a script: the rules, whether the picture has begun, and its history.
+pub record World : Type 0 where
+  pub rules : Rules
+  pub begun : Bool
+  pub history : List Entry
+
+-- as it is before the first line
+abbrev pub opening_world : World
+opening_world = record { rules = usual_rules; begun = false; history = [] }
+
+-- the refusal is the reply, and nothing has changed
+pub record IsRefused (w : World) (refusal reply : Reply) (next : World) : Type 0 where
+  pub reply_is : reply ≡ refusal
+  pub same : next ≡ w
+
+-- this is the reply, and this the world after it
+pub record IsGiven (given : Reply) (after : World) (reply : Reply) (next : World) : Type 0 where
+  pub reply_is : reply ≡ given
+  pub next_is : next ≡ after
+
+-- the reply is what is published of the history, and nothing has changed
+pub record IsListed (w : World) (reply : Reply) (next : World) : Type 0 where
+  pub conflicts : List Conflict
+  pub published : IsPublished w.rules (state_of w.history) conflicts
+  pub reply_is : reply ≡ replies.List conflicts (length w.history)
+  pub same : next ≡ w
+
+-- what a decision on the state of the history answers: an entry is put behind the history, a refusal changes nothing
+abbrev pub IsDecided : World → Result Entry Refusal → Reply → World → Type 0
+IsDecided w (Ok entry) reply next =
+    IsGiven (replies.Entered (record { version = length w.history + 1 })) (record w { history = w.history ++ entry ∷ [] }) reply next
+IsDecided w (Err refusal) reply next = IsRefused w (replies.Refused refusal (length w.history)) reply next
+
+-- What an actor's request is answered, and the world after it. Rules are set and the picture is begun once, at first; `hello` and `bye`
+-- are answered always, and the other requests once the picture has begun.
+abbrev pub IsServed : World → ℕ → Request → Reply → World → Type 0
+IsServed w who (requests.Rule set) reply next = MatchBool w.begun
+    (IsRefused w replies.Begun reply next) (IsGiven (replies.Done done.Rule) (record w { rules = rules_with set w.rules }) reply next)
+IsServed w who requests.Begin reply next = MatchBool w.begun
+    (IsRefused w replies.Begun reply next) (IsGiven (replies.Done done.Begin) (record w { begun = true; history = [] }) reply next)
+IsServed w who (requests.Hello role) reply next = IsGiven (replies.Hello role) w reply next
+IsServed w who requests.Bye reply next = IsGiven (replies.Done done.Bye) w reply next
+IsServed w who requests.List reply next = MatchBool w.begun (IsListed w reply next) (IsRefused w replies.Unbegun reply next)
+IsServed w who requests.Check reply next = MatchBool w.begun (IsListed w reply next) (IsRefused w replies.Unbegun reply next)
+IsServed w who (requests.History from to) reply next = MatchBool w.begun
+    (IsGiven (replies.History (take (to - from) (drop from w.history)) (length w.history)) w reply next) (IsRefused w replies.Unbegun reply next)
+IsServed w who (requests.Change command) reply next = MatchBool w.begun
+    (IsDecided w (decide w.rules (state_of w.history) who command) reply next) (IsRefused w replies.Unbegun reply next)
+
+-- the refusal of a line as a reply
+abbrev pub or_reply : Result (ℕ × Request) LineNo → Result (ℕ × Request) Reply
+or_reply (Ok asked) = Ok asked
+or_reply (Err nos.Json) = Err replies.Json
+or_reply (Err (nos.Form name)) = Err (replies.Form name)
+or_reply (Err (nos.Range name)) = Err (replies.Range name)
+or_reply (Err nos.Memory) = Err replies.Memory
+
+-- what a line asks for, or its refusal
+abbrev pub asked : World → List ℕ → Result (ℕ × Request) Reply
+asked w line = if nat_lt 65536 (length line) then Err replies.Long else or_reply (read_as Replay w.rules line)
+
+-- what is answered of it, and the world after it
+abbrev pub IsAnswered : World → Result (ℕ × Request) Reply → Reply → World → Type 0
+IsAnswered w (Err refusal) reply next = IsRefused w refusal reply next
+IsAnswered w (Ok asked) reply next = IsServed w asked.0 asked.1 reply next

@@ -1,0 +1,12 @@
+//! The top call: a script of lines in, their replies out.
+#![tactic(auto)]
+
+mod plain;
+mod replay;
+mod reply_out;
+mod status;
+mod top_call;
+mod world;
+
+pub use status::Status;
+pub use top_call::run;

@@ -1,0 +1,82 @@
+//! Replies on their way out.
+ghost use Rattle.std.specs.Prelude.{◌≡◌, ◌≤◌, [], length, vec_capacity, true};
+ghost use Rattle.mt_io.specs.Causes.{Rose};
+ghost use Rattle.mt_wire.specs.Short.{IsShort};
+ghost use Rattle.mt_top.specs.Given.{Gives, Sends, is_brief, is_farewell};
+ghost use Rattle.mt_top.specs.declared.status.Status.TheVariants.{WriteFault};
+
+use crate::status::Status;
+use mt_io::{Sink, put_all};
+use mt_wire::{DoneWord, Reply, write_reply, write_short};
+use std::alloc::Global;
+
+/// Gives a reply: writes its text, or that of `memory` where a text that isn't brief finds none. A status where the script ends with it
+/// or the output failed.
+pub fn give<K: Sink>(
+    alloc: Global,
+    reply: &Reply,
+    room: &mut Vec<u8>,
+    output: &mut K,
+) -> Option<Status>
+    requires { 65536 ≤ vec_capacity room.old }
+    ensures given { Gives reply.now result (K.held output.old) (K.held output.new) }
+    ensures room { 65536 ≤ vec_capacity room.new }
+    ensures later { K.faults output.old ≤ K.faults output.new }
+    ensures cause { result ≡ Some WriteFault → Rose (K.faults output.old) (K.faults output.new) }
+    ensures kept { K.writes_to output.old output.new }
+{
+    room.clear();
+    if is_brief(reply) {
+        write_short(reply, room);
+        return send(room, is_farewell(reply), output);
+    }
+    match write_reply(alloc, reply) {
+        Ok(text) => send(&text, is_farewell(reply), output),
+        Err(_) => {
+            write_short(&Reply::Memory, room);
+            send(room, false, output)
+        }
+    }
+}
+
+fn is_brief(reply: &Reply) -> bool
+    ensures brief { result ≡ is_brief reply.now }
+    ensures short { result ≡ true → IsShort reply.now }
+{
+    match reply {
+        Reply::Done(_) => true,
+        Reply::Hello(_) => true,
+        Reply::Entered(entered) => {
+            let _version = entered.version;
+            true
+        }
+        Reply::Json | Reply::Long | Reply::Begun | Reply::Unbegun | Reply::Memory => true,
+        Reply::List { .. } | Reply::History { .. } => false,
+        Reply::Form(_) | Reply::Range(_) | Reply::Refused { .. } => false,
+    }
+}
+
+fn is_farewell(reply: &Reply) -> bool
+    ensures { result ≡ is_farewell reply.now }
+{
+    match reply {
+        Reply::Done(DoneWord::Bye) => true,
+        _ => false,
+    }
+}
+
+// Writes a text; then, where it is the last one, the script is done.
+fn send<K: Sink>(text: &[u8], is_last: bool, output: &mut K) -> Option<Status>
+    ensures sent { Sends text.now is_last result (K.held output.old) (K.held output.new) }
+    ensures later { K.faults output.old ≤ K.faults output.new }
+    ensures cause { result ≡ Some WriteFault → Rose (K.faults output.old) (K.faults output.new) }
+    ensures kept { K.writes_to output.old output.new }
+{
+    if put_all(output, text).is_err() {
+        return Some(Status::WriteFault);
+    }
+    if is_last {
+        return Some(Status::Done);
+    }
+    None
+}

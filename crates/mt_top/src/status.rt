@@ -1,0 +1,35 @@
+ghost use Rattle.std.specs.Prelude.{◌≡◌};
+ghost use Rattle.mt_top.specs.Status.{exit_status};
+
+/// How a run ended, and so the program's exit status.
+#[derive(Clone, Copy, Debug, PartialEq, Eq)]
+pub enum Status {
+    /// The input was read to its end, and each line was answered.
+    Done,
+    /// The words are no command.
+    Usage,
+    /// The input failed.
+    ReadFault,
+    /// The output failed.
+    WriteFault,
+    /// 2^32 bytes were taken from the input, and no whole line is left in them.
+    Spent,
+    /// Memory was wanted outside a line.
+    Memory,
+}
+
+impl Status {
+    /// The exit status of the program.
+    pub fn exit(self) -> u8
+        ensures { result ≡ exit_status self }
+    {
+        match self {
+            Status::Done => 0,
+            Status::Usage => 2,
+            Status::ReadFault => 4,
+            Status::WriteFault => 5,
+            Status::Spent => 7,
+            Status::Memory => 8,
+        }
+    }
+}

@@ -1,0 +1,34 @@
+//! `mtcd`: the words of the command line and the standard streams, handed to the top call.
+#![tactic(auto)]
+
+use mt_base::{Memory, Words};
+use mt_io::{StdIn, StdOut};
+use mt_top::{Status, run};
+use std::env;
+use std::io::ErrorKind;
+use std::process::ExitCode;
+
+/// The words behind the program's name. Where one isn't text they are no words, which are no command either.
+fn words_of(rt: &HostRuntime) -> Result<Words, Memory> {
+    let mut words = Words::make(rt.alloc())?;
+    match env::args(rt) {
+        Ok(args) => {
+            for word in args.skip(1) {
+                words.add(rt.alloc(), &word)?;
+            }
+            Ok(words)
+        }
+        Err(error) if error.kind() == ErrorKind::OutOfMemory => Err(Memory),
+        Err(_) => Ok(words),
+    }
+}
+
+fn main(rt: HostRuntime) -> ExitCode {
+    let Ok(words) = words_of(&rt) else {
+        return ExitCode::from(Status::Memory.exit());
+    };
+    let mut input = StdIn::of(rt.stdin());
+    let mut output = StdOut::of(rt.stdout());
+    let status = run(&rt, rt.alloc(), &words, &mut input, &mut output);
+    ExitCode::from(status.exit())
+}
