@@ -1,4 +1,3 @@
-pub mod BoundedRequests
 pub mod Decoding
 pub mod EntryTexts
 pub mod Lengths

@@ -1,4 +1,3 @@
-pub mod Bounded
 pub mod Commands
 pub mod Entry
 pub mod Field
