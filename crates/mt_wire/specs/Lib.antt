@@ -1,6 +1,7 @@
 pub mod Commands
 pub mod Entry
 pub mod Field
+pub mod Held
 pub mod Joined
 pub mod Key
 pub mod Line

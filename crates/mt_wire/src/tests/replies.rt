@@ -172,7 +172,6 @@ fn entries_of_a_history(rt: HostRuntime) -> Result<(), Fail> {
     Ok(())
 }
 
-#[tactic(auto, using(crate::proofs::Lengths::short_text))]
 #[test]
 fn a_short_reply_in_a_room(rt: HostRuntime) -> Result<(), Fail> {
     short_replies_law();
