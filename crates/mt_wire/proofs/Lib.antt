@@ -1,3 +1,4 @@
+pub mod BoundedLines
 pub mod Decoding
 pub mod EntryTexts
 pub mod Lengths

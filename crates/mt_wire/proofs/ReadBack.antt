@@ -1,5 +1,5 @@
 -- What is written of replies and entries is read back.
-use Rattle.std.proofs.Common.{◌≡◌, ℕ, ℤ, pos, negsuc, suc, ◌+◌, ◌≤◌, ◌<◌, max, List, [], ◌∷◌, Option, Some, refl, sym, ap, ◌∙◌, arith, append-nil}
+use Rattle.std.proofs.Common.{◌≡◌, ℕ, ℤ, pos, negsuc, ◌≤◌, List, [], ◌∷◌, Option, Some, refl, sym, ap, ◌∙◌, arith, append-nil}
 use Rattle.std.specs.Prelude.{option_and_then}
 use Rattle.json.specs.Tree as tree
 use Rattle.json.specs.Json as json
@@ -71,8 +71,21 @@ read_back d h shallow e =
 entry_read : (who : ℕ) (command : Command) → HoldsWhole (object (entry_members who command)) → of_json (outline (object (entry_members who command))) ≡ Some (object (entry_members who command))
 entry_read who (External call s) h =
     let (_, (_, (from, (gr, (gw, (r, (to, (vx, (vy, (vz, (w, (actor, (x, (y, (z, _))))))))))))))) = h in
-    rw (numbered (pos s.from) from, numbered s.first.gr gr, numbered s.first.gw gw, numbered s.first.r r, numbered (pos s.to) to, numbered s.first.vx vx,
-      numbered s.first.vy vy, numbered s.first.vz vz, numbered s.first.w w, numbered (pos who) actor, numbered s.first.x x, numbered s.first.y y, numbered s.first.z z) refl
+    rw (
+      numbered (pos s.from) from,
+      numbered s.first.gr gr,
+      numbered s.first.gw gw,
+      numbered s.first.r r,
+      numbered (pos s.to) to,
+      numbered s.first.vx vx,
+      numbered s.first.vy vy,
+      numbered s.first.vz vz,
+      numbered s.first.w w,
+      numbered (pos who) actor,
+      numbered s.first.x x,
+      numbered s.first.y y,
+      numbered s.first.z z,
+    ) refl
 entry_read who (Drop call) h = rw (numbered (pos who) h.1.1.0) refl
 entry_read who (Tick now) h = rw (numbered (pos now) h.1.0, numbered (pos who) h.1.1.0) refl
 

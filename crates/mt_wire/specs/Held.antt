@@ -1,5 +1,5 @@
 -- Values whose numbers are whole and held by 64 bits.
-use Rattle.std.specs.Prelude.{ℕ, pos, negsuc, ◌+◌, ◌<◌, ◌^◌, ⊤}
+use Rattle.std.specs.Prelude.{pos, negsuc, ◌+◌, ◌<◌, ◌^◌, ⊤}
 use Rattle.serde_json.specs.Data.{Num, unsigned, negative, float, Data, null, boolean, number, string, array, object, Items, no_items, item, Members, no_members, member}
 
 -- from -2^63 + 1 to 2^64 - 1

@@ -1,3 +1,4 @@
+pub mod Bounded
 pub mod Commands
 pub mod Entry
 pub mod Field

@@ -1,9 +1,10 @@
 //! A line read.
-ghost use Rattle.std.specs.Prelude.{◌≡◌, ◌⊎◌, ℕ, List, codes, None, Some, Ok, Err, MatchResult};
+ghost use Rattle.std.specs.Prelude.{◌≡◌, ◌⊎◌, ℕ, List, codes, None, Some, Ok, Err, IfOk, MatchResult};
 ghost use Rattle.serde_json.specs.Find.{as_str, get_member};
 ghost use Rattle.serde_json.specs.View.{view};
 ghost use Rattle.mt_json.specs.Shown.{members};
 ghost use Rattle.mt_wire.specs.declared.request.LineNo.TheVariants.{Json, Form, Memory as no_memory};
+ghost use Rattle.mt_wire.specs.Bounded.{IsBounded};
 ghost use Rattle.mt_wire.specs.Line.{Gives, checked, decoded, line, named_fault, other_key, read_members, word_in};
 
 use crate::feed::{drop_line, external_line, tick_line};
@@ -135,6 +136,22 @@ fn read_fields(
     }
 }
 
+// What a line is read as.
+fn read_bytes(
+    alloc: Global,
+    bytes: &[u8],
+    place: Place,
+    rules: &Rules,
+) -> Result<(u32, Request), LineNo>
+    ensures { Gives result (line place rules.now bytes.now) }
+{
+    let value = value_of(alloc, bytes)?;
+    let Some(fields) = Fields::of(&value) else {
+        return Err(form(alloc, b""));
+    };
+    read_fields(alloc, &fields, place, rules)
+}
+
 /// What the line asks for, and who asks; 0 where it doesn't say. The line is without its 0x0A, and `rules` are those that stand.
 ///
 /// The refusal is the first of these, in this order. [`LineNo::Json`] where serde_json reads no value from the bytes. [`LineNo::Form`]
@@ -148,11 +165,8 @@ pub fn read_line(
     place: Place,
     rules: &Rules,
 ) -> Result<(u32, Request), LineNo>
-    ensures { Gives result (line place rules.now bytes.now) }
+    ensures exact { Gives result (line place rules.now bytes.now) }
+    ensures bounded { IfOk result (IsBounded rules.now) }
 {
-    let value = value_of(alloc, bytes)?;
-    let Some(fields) = Fields::of(&value) else {
-        return Err(form(alloc, b""));
-    };
-    read_fields(alloc, &fields, place, rules)
+    read_bytes(alloc, bytes, place, rules)
 }

@@ -1,2 +1,4 @@
+mod answers;
+mod external;
 mod lines;
 mod replies;
