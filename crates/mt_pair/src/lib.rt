@@ -9,6 +9,8 @@
 mod horizontal;
 mod second;
 mod span;
+#[cfg(test)]
+mod tests;
 mod vertical;
 
 pub use span::lose;

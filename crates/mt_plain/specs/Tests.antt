@@ -1,5 +1,5 @@
 -- How many pair tests there are.
-use Rattle.std.specs.Prelude.{ℕ, zero, suc, Bool, List, cond}
+use Rattle.std.specs.Prelude.{◌≡◌, ℕ, zero, suc, ◌≤◌, Bool, List, cond}
 use Rattle.std.specs.List.{count_by, sum_by}
 use Rattle.std.specs.Cmp.Lexicographic.{slice_cmp}
 use Rattle.std.specs.Ordering.{nat_cmp, is_lt}
@@ -25,3 +25,9 @@ pairs_of_different_flights all = sum_by (tests_of_left all) all
 abbrev pub raised_by : ℕ → ℕ → ℕ
 raised_by zero count = count
 raised_by (suc more) count = raised (raised_by more count)
+
+-- it was raised at most that many times
+pub record RoseUpTo (most old new : ℕ) : Type 0 where
+  pub more : ℕ
+  pub within : more ≤ most
+  pub is : new ≡ raised_by more old

@@ -2,5 +2,7 @@
 #![tactic(auto)]
 
 mod pairs;
+#[cfg(test)]
+mod tests;
 
 pub use pairs::all_pairs;

@@ -1,9 +1,9 @@
-ghost use Rattle.std.specs.Prelude.{◌≤◌, map, IfOk, OnOk, ◌≡◌};
+ghost use Rattle.std.specs.Prelude.{◌≤◌, map, IfOk, OnOk, OnErr, ◌≡◌};
 ghost use Rattle.mt_base.specs.Bounds.{AreWithinBounds};
 ghost use Rattle.mt_base.specs.Picture.{IsOf, IsPublishedOf};
 ghost use Rattle.mt_track.specs.Named.{named};
 ghost use Rattle.mt_plain.specs.Added.{Adds, IsOfRight};
-ghost use Rattle.mt_plain.specs.Tests.{raised_by, tests_of_left, tests_of_pair, pairs_of_different_flights};
+ghost use Rattle.mt_plain.specs.Tests.{RoseUpTo, raised_by, tests_of_left, tests_of_pair, pairs_of_different_flights};
 
 use mt_base::{Conflict, Conflicts, Memory, Rules, Second, Tally};
 use mt_pair::lose;
@@ -25,7 +25,7 @@ fn add_pair(
     requires rules_kept { AreWithinBounds rules.now }
     requires early { now ≤ 10000000 }
     ensures found { OnOk result (Adds (IsOf rules.now now (named left.now) (named right.now)) found.old found.new) }
-    ensures counted { OnOk result (tests.new ≡ raised_by (tests_of_pair (named left.now) (named right.now)) tests.old) }
+    ensures counted { tests.new ≡ raised_by (tests_of_pair (named left.now) (named right.now)) tests.old }
 {
     if left.call >= right.call {
         return Ok(());
@@ -57,6 +57,7 @@ fn add_pairs(
     requires early { now ≤ 10000000 }
     ensures found { OnOk result (Adds (IsOfRight rules.now now (named left.now) (map named items.now)) found.old found.new) }
     ensures counted { OnOk result (tests.new ≡ raised_by (tests_of_left (map named items.now) (named left.now)) tests.old) }
+    ensures limited { OnErr result (RoseUpTo (tests_of_left (map named items.now) (named left.now)) tests.old tests.new) }
 {
     for right in items {
         add_pair(left, right, now, rules, tests, found)?;
@@ -67,8 +68,8 @@ fn add_pairs(
 /// The conflicts of the trajectories in the window of 1,200 seconds from `now`: for every two of different flights, their conflict
 /// where they have one, and no other, once, in the order of publishing.
 ///
-/// Each two trajectories of different flights are tested once: the tally rises by so many, up to the type's end. It asks that the
-/// rules are within their bounds and `now` is at most 10,000,000.
+/// Each two trajectories of different flights are tested once: the tally rises by so many, up to the type's end, and on an error by
+/// at most so many. It asks that the rules are within their bounds and `now` is at most 10,000,000.
 pub fn all_pairs(
     alloc: Global,
     strands: &Roster,
@@ -80,6 +81,7 @@ pub fn all_pairs(
     requires early { now ≤ 10000000 }
     ensures published { IfOk result (λ found. IsPublishedOf rules.now now strands.now found) }
     ensures counted { OnOk result (tests.new ≡ raised_by (pairs_of_different_flights strands.now) tests.old) }
+    ensures limited { OnErr result (RoseUpTo (pairs_of_different_flights strands.now) tests.old tests.new) }
 {
     let items = strands.items();
     let mut found = Conflicts::make(alloc)?;

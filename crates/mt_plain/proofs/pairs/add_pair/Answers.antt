@@ -17,5 +17,4 @@ returns-clause-found c =
 
 pub returns-clause-counted : goal.returns-clause-counted
 returns-clause-counted c =
-    on_ok_weaker _ (λ is. raised_by-pair (named c.args.left.now) (named c.args.right.now) _ _ (less_from_ge _ c.if-ge.ensures) c.lose.ensures.counted)
-    c.push.ensures.ok
+    raised_by-pair (named c.args.left.now) (named c.args.right.now) _ _ (less_from_ge _ c.if-ge.ensures) c.lose.ensures.counted

@@ -1,0 +1,117 @@
+//! Conflicts that were worked out by a program with exact fractions.
+
+use crate::all_pairs;
+use mt_base::{Callsign, Conflict, Kind, Row, Rules, Straight, Tally};
+use mt_track::{Roster, Strand};
+use std::sync::Arc;
+use std::test::Fail;
+
+/// It flies east along y = 0 at 480 knots and flight level 350, without margins.
+const EAST: Row = Row {
+    x: 0,
+    y: 0,
+    z: 2_100_000,
+    r: 0,
+    w: 0,
+    vx: 480,
+    vy: 0,
+    vz: 0,
+    gr: 0,
+    gw: 0,
+    leg: 0,
+};
+
+/// It flies towards it, from 40 nautical miles away.
+const WEST: Row = Row {
+    x: 144_000,
+    vx: -480,
+    ..EAST
+};
+
+/// It flies beside it.
+const BESIDE: Row = Row { y: 17_000, ..EAST };
+
+/// It flies north, away from all.
+const NORTH: Row = Row {
+    y: -100_000,
+    vx: 0,
+    vy: 480,
+    ..EAST
+};
+
+const HOUR: Straight = Straight {
+    from: 0,
+    to: 3600,
+    first: EAST,
+};
+
+#[test]
+fn conflicts_come_in_order_and_each_pair_is_tested_once(rt: HostRuntime) -> Result<(), Fail> {
+    let alloc = rt.alloc();
+    let a = Callsign::of(b"AAA1").ok_or("no callsign")?;
+    let b = Callsign::of(b"BBB1").ok_or("no callsign")?;
+    let c = Callsign::of(b"CCC1").ok_or("no callsign")?;
+    let east = Arc::new(alloc, Strand::straight(alloc, &HOUR)?)?;
+    let west = Arc::new(
+        alloc,
+        Strand::straight(
+            alloc,
+            &Straight {
+                first: WEST,
+                ..HOUR
+            },
+        )?,
+    )?;
+    let beside = Arc::new(
+        alloc,
+        Strand::straight(
+            alloc,
+            &Straight {
+                first: BESIDE,
+                ..HOUR
+            },
+        )?,
+    )?;
+    let north = Arc::new(
+        alloc,
+        Strand::straight(
+            alloc,
+            &Straight {
+                first: NORTH,
+                ..HOUR
+            },
+        )?,
+    )?;
+    let mut roster = Roster::make(alloc)?;
+    roster.add(c, Kind::Tentative, &beside)?;
+    roster.add(b, Kind::Actual, &west)?;
+    roster.add(c, Kind::Actual, &north)?;
+    roster.add(a, Kind::Actual, &east)?;
+    let conflict = |first, a, b, kb, last| Conflict {
+        first,
+        a,
+        b,
+        ka: Kind::Actual,
+        kb,
+        last,
+    };
+    let mut tests = Tally::new(&rt);
+    let rules = Rules::usual();
+    let early = all_pairs(alloc, &roster, 0, &rules, &mut tests)?;
+    let wanted = [
+        conflict(0, a, c, Kind::Tentative, 1199),
+        conflict(131, a, b, Kind::Actual, 168),
+        conflict(143, b, c, Kind::Tentative, 156),
+    ];
+    assert!(rt; early.items() == wanted.as_slice());
+    // of six pairs one is of one flight
+    assert_eq!(rt; tests.get(), 5);
+    let late = all_pairs(alloc, &roster, 160, &rules, &mut tests)?;
+    let wanted = [
+        conflict(160, a, b, Kind::Actual, 168),
+        conflict(160, a, c, Kind::Tentative, 1359),
+    ];
+    assert!(rt; late.items() == wanted.as_slice());
+    assert_eq!(rt; tests.get(), 10);
+    Ok(())
+}
