@@ -1,10 +1,10 @@
 -- The number of tests, one trajectory more at a time.
-use Rattle.std.proofs.Common.{◌≡◌, ℕ, zero, suc, ◌+◌, ◌<◌, ◌≤◌, false, List, [], ◌∷◌, ◌++◌, length, map, take, get_or, Result, Ok, Err, OnErr, refl, sym, ◌∙◌, ap, arith}
+use Rattle.std.proofs.Common.{◌≡◌, ℕ, zero, suc, ◌+◌, ◌<◌, ◌≤◌, true, List, [], ◌∷◌, ◌++◌, length, map, take, get_or, Result, Ok, Err, OnErr, refl, sym, ◌∙◌, ap, arith}
 use Rattle.std.proofs.lemmas.List.Sums.{sum_by-append, sum_by-cons, sum_by-take-le}
 use Rattle.std.proofs.lemmas.List.{take-map}
 use Rattle.std.specs.List.{sum_by}
 use Rattle.std.specs.Cmp.Lexicographic.{slice_cmp}
-use Rattle.std.specs.Ordering.{nat_cmp, is_ge}
+use Rattle.std.specs.Ordering.{nat_cmp, is_lt}
 use Rattle.std.specs.declared.cmp.Ordering.{Ordering}
 use Rattle.std.specs.declared.cmp.Ordering.TheVariants.{Less, Equal, Greater}
 use Rattle.mt_base.specs.Tally.{raised}
@@ -30,10 +30,10 @@ pub raised_by-push : {X : Type 0} (f : X → ℕ) (xs : List X) (x : X) (old mid
     → new ≡ raised_by (sum_by f (xs ++ x ∷ [])) old
 raised_by-push f xs x old mid new first second = rw (second, first, sum_by-push f xs x) (raised_by-add (sum_by f xs) (f x) old)
 
-pub less_from_ge : (o : Ordering) → false ≡ is_ge o → o ≡ Less
-less_from_ge Less e = refl
-less_from_ge Equal e = cc
-less_from_ge Greater e = cc
+pub less_from_lt : (o : Ordering) → true ≡ is_lt o → o ≡ Less
+less_from_lt Less e = refl
+less_from_lt Equal e = cc
+less_from_lt Greater e = cc
 
 -- the pair with the lesser callsign first is tested once
 pub raised_by-pair : (left right : NamedTrajectory) (old new : ℕ) → slice_cmp nat_cmp left.call right.call ≡ Less → new ≡ raised old

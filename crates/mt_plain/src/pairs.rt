@@ -3,7 +3,7 @@ ghost use Rattle.mt_base.specs.Bounds.{AreWithinBounds};
 ghost use Rattle.mt_base.specs.Picture.{IsOf, IsPublishedOf};
 ghost use Rattle.mt_track.specs.Named.{named};
 ghost use Rattle.mt_plain.specs.Added.{Adds, IsOfRight};
-ghost use Rattle.mt_plain.specs.Tests.{RoseUpTo, raised_by, tests_of_left, tests_of_pair, pairs_of_different_flights};
+ghost use Rattle.mt_plain.specs.Tests.{RoseUpTo, is_before, raised_by, tests_of_left, tests_of_pair, pairs_of_different_flights};
 
 use mt_base::{Conflict, Conflicts, Memory, Rules, Second, Tally};
 use mt_pair::lose;
@@ -13,7 +13,14 @@ use std::alloc::Global;
 /// The seconds of the window.
 const WINDOW: Second = 1200;
 
-/// Tests a pair whose left callsign is the lesser one, and files its conflict in the window. Any other pair it leaves alone.
+/// Whether two items are a pair to be tested: of different flights, and the lesser callsign on the left.
+fn are_pair(left: &Item, right: &Item) -> bool
+    ensures { result ≡ is_before (named left.now) (named right.now) }
+{
+    left.call < right.call
+}
+
+/// Tests two items where they are a pair, and files their conflict in the window.
 fn add_pair(
     left: &Item,
     right: &Item,
@@ -27,7 +34,7 @@ fn add_pair(
     ensures found { OnOk result (Adds (IsOf rules.now now (named left.now) (named right.now)) found.old found.new) }
     ensures counted { tests.new ≡ raised_by (tests_of_pair (named left.now) (named right.now)) tests.old }
 {
-    if left.call >= right.call {
+    if !are_pair(left, right) {
         return Ok(());
     }
     let Some((first, last)) = lose(&left.strand, &right.strand, rules, now, now + WINDOW, tests)
