@@ -1,18 +1,16 @@
 -- What the code makes of numbers that passed through their bits: the offset, its gains, the quadratic and the line.
-use Rattle.std.proofs.Common.{◌≡◌, ℕ, ◌+◌, ◌<◌, ◌≤◌, ◌^◌, ℤ, pos, ◌+ℤ◌, ◌-ℤ◌, ◌*ℤ◌, FitsSigned, unsigned_abs, to_z, of_z, w64, arith, lit<, refl}
+use Rattle.std.proofs.Common.{◌≡◌, ℕ, ◌+◌, ◌<◌, ◌^◌, ℤ, pos, ◌+ℤ◌, ◌-ℤ◌, ◌*ℤ◌, FitsSigned, unsigned_abs, to_z, of_z, w64, arith, lit<, refl}
 use Rattle.std.proofs.lemmas.Int.{to_z-of_z}
 use mir.Syntax.{w128}
-use Rattle.mt_ring.proofs.Sizes.{Abs, abs_lit, abs_mul, abs_to, abs_sub, fits_128}
+use Rattle.mt_ring.proofs.Sizes.{Abs, abs_lit, abs_mul, abs_to, fits_128}
 use Rattle.mt_base.specs.Bounds.{AreWithinBounds, IsBoundedRow}
 use Rattle.mt_base.specs.declared.row.Row.{Row}
 use Rattle.mt_base.specs.declared.rules.Rules.{Rules}
-use Rattle.mt_frac.specs.declared.linear.Line.{Line}
-use Rattle.mt_frac.specs.declared.quadratic.Quad.{Quad}
 use Rattle.mt_frac.specs.Signs.{IsBoundedQuad, IsBoundedLine}
 use Rattle.mt_pair.specs.declared.horizontal.Offset.{Offset}
 use Rattle.mt_pair.specs.Gap.{IsOffsetWithin, excess_of, gain_of, offset_of, product, square_of}
 use Rattle.mt_pair.proofs.Casts.{Reads, minus, minus_fits, number, plus, plus_fits, widened}
-use Rattle.mt_pair.proofs.Sizes.{RowSizes, row_sizes, sh_size, sv_size, product_size}
+use Rattle.mt_pair.proofs.Sizes.{row_sizes, sh_size, sv_size, product_size}
 
 -- numbers by their bits, and sums and differences of them by theirs
 abbrev pub in_64 : ℤ → ℤ

@@ -4,7 +4,7 @@ use Rattle.mt_ring.proofs.Ring.{lin, spread}
 use Rattle.mt_ring.proofs.Signs.{weaken}
 use Rattle.mt_base.specs.declared.row.Row.{Row}
 use Rattle.mt_base.specs.declared.rules.Rules.{Rules}
-use Rattle.mt_base.specs.Loss.{LosesAt, LosesIn, apart_x, apart_y, apart_z, width, height}
+use Rattle.mt_base.specs.Loss.{LosesAt, LosesIn, apart_x, apart_y, width}
 use Rattle.mt_frac.specs.declared.linear.Line.{Line}
 use Rattle.mt_frac.specs.declared.quadratic.Quad.{Quad}
 use Rattle.mt_frac.specs.Polynomials.{value, line_value}

@@ -1,5 +1,5 @@
 -- How great the numbers of rows, offsets and products are.
-use Rattle.std.proofs.Common.{ℕ, ◌*◌, ◌+◌, ◌<◌, ◌≤◌, ◌^◌, ℤ, pos, neg_ℤ, ◌+ℤ◌, ◌-ℤ◌, ◌*ℤ◌, ◌≤ℤ◌, FitsSigned, arith, lit<}
+use Rattle.std.proofs.Common.{ℕ, ◌*◌, ◌+◌, ◌≤◌, ℤ, pos, neg_ℤ, ◌+ℤ◌, ◌-ℤ◌, ◌*ℤ◌, ◌≤ℤ◌, FitsSigned, arith, lit<}
 use Rattle.std.proofs.lemmas.Int.{ints}
 use mir.Syntax.{w128}
 use Rattle.mt_ring.proofs.Sizes.{Abs, abs_add, abs_sub, abs_mul, abs_weaken, fits_128}

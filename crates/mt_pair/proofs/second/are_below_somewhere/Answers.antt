@@ -1,4 +1,4 @@
-use Rattle.std.proofs.Common.{arith, ◌≡◌, sym, true≢false, pos, ◌<ℤ◌}
+use Rattle.std.proofs.Common.{arith, sym, true≢false, pos, ◌<ℤ◌}
 use Rattle.mt_ring.proofs.Ring.{lin}
 use Rattle.mt_ring.proofs.Signs.{contrary}
 use Rattle.mt_pair.proofs.second.are_below_somewhere.Goals as goal
