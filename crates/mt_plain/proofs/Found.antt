@@ -69,9 +69,6 @@ Adds-found rules now left right first last old new before span pushed =
     rw pushed (Adds-one (IsOf rules now left right) old _ is (λ d other. one_found rules now left right _ d is other))
 
 -- with one right trajectory more
-pub IsOfRight-none : (rules : Rules) (now : ℕ) (left : NamedTrajectory) (c : Conflict) → ¬ IsOfRight rules now left [] c
-IsOfRight-none rules now left c is = absurd (omega (arith, is.right_in.1))
-
 pub IsOfRight-push : (rules : Rules) (now : ℕ) (left : NamedTrajectory) (rights : List NamedTrajectory) (right : NamedTrajectory) (c : Conflict)
     → IsOfRight rules now left (rights ++ right ∷ []) c ↔ (IsOfRight rules now left rights c ⊎ IsOf rules now left right c)
 IsOfRight-push rules now left rights right c = (
@@ -88,9 +85,6 @@ pub record IsOfTwo (rules : Rules) (now : ℕ) (lefts rights : List NamedTraject
   pub left : NamedTrajectory
   pub left_in : Contains lefts left
   pub with_right : IsOfRight rules now left rights c
-
-pub IsOfTwo-none : (rules : Rules) (now : ℕ) (rights : List NamedTrajectory) (c : Conflict) → ¬ IsOfTwo rules now [] rights c
-IsOfTwo-none rules now rights c is = absurd (omega (arith, is.left_in.1))
 
 pub IsOfTwo-push : (rules : Rules) (now : ℕ) (lefts rights : List NamedTrajectory) (left : NamedTrajectory) (c : Conflict)
     → IsOfTwo rules now (lefts ++ left ∷ []) rights c ↔ (IsOfTwo rules now lefts rights c ⊎ IsOfRight rules now left rights c)
