@@ -4,21 +4,34 @@ ghost use Rattle.mt_base.specs.Rules.{is_within};
 
 use crate::checks::must;
 
-/// The name of a rule.
+/// The name of a rule: of the field of [`Rules`] that has its bounds and units.
 #[derive(Clone, Copy, PartialEq, Eq)]
 pub enum RuleName {
+    /// The horizontal minimum.
     Sh,
+    /// The vertical minimum.
     Sv,
+    /// The first horizontal margin.
     R0,
+    /// The growth of the horizontal margin.
     Gh,
+    /// The greatest horizontal margin.
     Rmax,
+    /// The first vertical margin.
     W0,
+    /// The growth of the vertical margin.
     Gv,
+    /// The greatest vertical margin.
     Wmax,
+    /// The tolerance across the track.
     Tc,
+    /// The tolerance along the track.
     Ta,
+    /// The vertical tolerance.
     Tv,
+    /// The greatest number of flights.
     Flights,
+    /// The greatest number of entries.
     History,
 }
 

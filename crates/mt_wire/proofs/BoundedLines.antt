@@ -8,10 +8,10 @@ use Rattle.serde_json.specs.Data.{Data, Members}
 use Rattle.serde_json.specs.Find.{as_object}
 use Rattle.mt_base.specs.declared.rules.RuleName.{RuleName}
 use Rattle.mt_base.specs.declared.rules.Rules.{Rules}
-use Rattle.mt_base.specs.Bounds.{AreWithinBounds, IsWithin}
+use Rattle.mt_base.specs.Bounds.{AreWithinBounds, IsBoundedStretch, IsWithin}
 use Rattle.mt_base.specs.Checks.{check, judged, next}
 use Rattle.mt_base.proofs.CheckLemmas.{all_passed}
-use Rattle.mt_base.proofs.RuleLemmas.{bounded}
+use Rattle.mt_base.proofs.RuleLemmas.{bounded, inside}
 use Rattle.mt_wire.specs.declared.key.Fault.{Fault}
 use Rattle.mt_wire.specs.declared.key.Key.TheVariants as key
 use Rattle.mt_wire.specs.declared.request.LineNo.{LineNo}
@@ -20,14 +20,11 @@ use Rattle.mt_wire.specs.declared.request.Place.TheVariants as place
 use Rattle.mt_wire.specs.declared.request.Request.{Request}
 use Rattle.mt_wire.specs.declared.word.Word.{Word}
 use Rattle.mt_wire.specs.declared.word.Word.TheVariants as word
-use Rattle.mt_wire.specs.Bounded.{IsBounded, IsBoundedRequest, IsBoundedOuter, IsSpan}
+use Rattle.mt_wire.specs.Bounded.{IsBounded, IsBoundedRequest, IsSpan}
 use Rattle.mt_wire.specs.Commands.{asked, bounds, fields_of, who_fields, rule_bounds, rules_with, set_in, standing, straight_in, who_bounds, who_in}
 use Rattle.mt_wire.specs.Field.{count, number}
 use Rattle.mt_wire.specs.Line.{◌>>=◌, Gives, checked, decoded, kinds, line, named, of_word, other_key, read_object, read_value, unless_other, word_in}
 use Rattle.mt_wire.proofs.StepLemmas.{judged_rules, ruled}
-
-inside : (low high z : ℤ) → (int_le low z && int_le z high) ≡ true → IsWithin low high z
-inside low high z test = record { least = grind (arith, ints); most = grind (arith, ints) }
 
 -- a number that isn't below 0, as a number of things
 within_counts : (low high : ℕ) (z : ℤ) → IsWithin (pos low) (pos high) z → (low ≤ unsigned_abs z) × (unsigned_abs z ≤ high)
@@ -37,23 +34,21 @@ within_counts low high (negsuc n) w = absurd (grind (arith, ints, w.least))
 counted : (low high : ℕ) (z : ℤ) → (int_le (pos low) z && int_le z (pos high)) ≡ true → (low ≤ unsigned_abs z) × (unsigned_abs z ≤ high)
 counted low high z test = within_counts low high z (inside (pos low) (pos high) z test)
 
-external_bounded : (ms : Members) → AllByRecursion (λ c. c.1 ≡ true) (bounds word.External ms) → IsBoundedOuter (straight_in ms)
+external_bounded : (ms : Members) → AllByRecursion (λ c. c.1 ≡ true) (bounds word.External ms) → IsBoundedStretch (straight_in ms)
 external_bounded ms passed =
     let (from, (to, (x, (y, (z, (vx, (vy, (vz, (r, (gr, (w, (gw, (x_end, (y_end, (z_end, (r_end, (w_end, _))))))))))))))))) = passed in
     let f = counted 0 10000000 (number key.From ms) from in
     let t = counted (count key.From ms + 1) (count key.From ms + 14400) (number key.To ms) to in
     record {
-      stretch = record {
-        begins = f.1;
-        some = omega (arith, t.0);
-        short = t.1;
-        kept = record {
-          x = record { value = inside _ _ _ x; growth = inside _ _ _ vx; end = inside _ _ _ x_end };
-          y = record { value = inside _ _ _ y; growth = inside _ _ _ vy; end = inside _ _ _ y_end };
-          z = record { value = inside _ _ _ z; growth = inside _ _ _ vz; end = inside _ _ _ z_end };
-          r = record { value = inside _ _ _ r; growth = inside _ _ _ gr; end = inside _ _ _ r_end };
-          w = record { value = inside _ _ _ w; growth = inside _ _ _ gw; end = inside _ _ _ w_end };
-        };
+      begins = f.1;
+      some = omega (arith, t.0);
+      short = t.1;
+      kept = record {
+        x = record { value = inside _ _ _ x; growth = inside _ _ _ vx; end = inside _ _ _ x_end };
+        y = record { value = inside _ _ _ y; growth = inside _ _ _ vy; end = inside _ _ _ y_end };
+        z = record { value = inside _ _ _ z; growth = inside _ _ _ vz; end = inside _ _ _ z_end };
+        r = record { value = inside _ _ _ r; growth = inside _ _ _ gr; end = inside _ _ _ r_end };
+        w = record { value = inside _ _ _ w; growth = inside _ _ _ gw; end = inside _ _ _ w_end };
       };
       no_leg = refl;
     }

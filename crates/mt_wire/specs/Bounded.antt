@@ -1,29 +1,16 @@
 -- What a line asks for has its numbers within their bounds.
-use Rattle.std.specs.Prelude.{◌≡◌, ℕ, ◌+◌, ◌≤◌, ⊤}
-use Rattle.mt_base.specs.declared.command.Command.{Command}
-use Rattle.mt_base.specs.declared.command.Command.TheVariants.{External, Drop, Tick}
-use Rattle.mt_base.specs.declared.flight.Straight.{Straight}
+use Rattle.std.specs.Prelude.{ℕ, ◌+◌, ◌≤◌, ⊤}
 use Rattle.mt_base.specs.declared.rules.Rules.{Rules}
-use Rattle.mt_base.specs.Bounds.{AreWithinBounds, IsBoundedStretch}
+use Rattle.mt_base.specs.Bounds.{AreWithinBounds, IsBoundedCommand}
 use Rattle.mt_wire.specs.declared.request.Request.{Request}
 use Rattle.mt_wire.specs.declared.request.Request.TheVariants as request
 use Rattle.mt_wire.specs.Commands.{rules_with}
-
--- a stretch within its bounds, of a flight with no route
-pub record IsBoundedOuter (straight : Straight) : Type 0 where
-  pub stretch : IsBoundedStretch straight
-  pub no_leg : straight.first.leg ≡ 0
 
 -- at most 64 numbers of entries, from one that a history can have
 pub record IsSpan (from to : ℕ) : Type 0 where
   pub begins : from ≤ 4194304
   pub forward : from ≤ to
   pub short : to ≤ from + 64
-
-abbrev pub IsBoundedCommand : Command → Type 0
-IsBoundedCommand (External call straight) = IsBoundedOuter straight
-IsBoundedCommand (Drop call) = ⊤
-IsBoundedCommand (Tick now) = now ≤ 10000000
 
 -- A change, a stretch of the history, and the rules as they would stand once they are set.
 abbrev pub IsBoundedRequest : Rules → Request → Type 0
