@@ -74,83 +74,54 @@ fn conflicts_are_put_in_order_each_once(rt: HostRuntime) -> Result<(), Fail> {
     Ok(())
 }
 
+/// The usual rules with one of them set.
+fn usual_but(name: RuleName, value: i64) -> Rules {
+    let mut rules = Rules::usual();
+    let rule = match name {
+        RuleName::Sh => &mut rules.sh,
+        RuleName::Sv => &mut rules.sv,
+        RuleName::R0 => &mut rules.r0,
+        RuleName::Gh => &mut rules.gh,
+        RuleName::Rmax => &mut rules.rmax,
+        RuleName::W0 => &mut rules.w0,
+        RuleName::Gv => &mut rules.gv,
+        RuleName::Wmax => &mut rules.wmax,
+        RuleName::Tc => &mut rules.tc,
+        RuleName::Ta => &mut rules.ta,
+        RuleName::Tv => &mut rules.tv,
+        RuleName::Flights => &mut rules.flights,
+        RuleName::History => &mut rules.history,
+    };
+    *rule = value;
+    rules
+}
+
+/// One rule set to a value, and the rule that is then named as outside its bounds.
+const RULES: [(RuleName, i64, Option<RuleName>); 17] = [
+    (RuleName::Sh, 72_000, None),
+    (RuleName::Sh, 0, Some(RuleName::Sh)),
+    (RuleName::Sv, 600_001, Some(RuleName::Sv)),
+    (RuleName::R0, 9_000, None),
+    (RuleName::R0, 9_001, Some(RuleName::R0)),
+    (RuleName::Rmax, -1, Some(RuleName::R0)),
+    (RuleName::Rmax, 72_001, Some(RuleName::Rmax)),
+    (RuleName::Gh, 1_001, Some(RuleName::Gh)),
+    (RuleName::W0, 30_001, Some(RuleName::W0)),
+    (RuleName::Gv, -1, Some(RuleName::Gv)),
+    (RuleName::Wmax, 600_001, Some(RuleName::Wmax)),
+    (RuleName::Tc, 360_001, Some(RuleName::Tc)),
+    (RuleName::Ta, -1, Some(RuleName::Ta)),
+    (RuleName::Tv, 600_001, Some(RuleName::Tv)),
+    (RuleName::Flights, 1_025, Some(RuleName::Flights)),
+    (RuleName::History, 4_194_304, None),
+    (RuleName::History, 0, Some(RuleName::History)),
+];
+
 #[test]
 fn the_first_rule_outside_its_bounds_is_named(rt: HostRuntime) {
     history_laws();
-    let usual = Rules::usual();
-    let cases = [
-        (usual, Ok(())),
-        (
-            Rules {
-                sh: 0,
-                tv: -1,
-                ..usual
-            },
-            Err(RuleName::Sh),
-        ),
-        (
-            Rules {
-                sv: 600_001,
-                ..usual
-            },
-            Err(RuleName::Sv),
-        ),
-        (Rules { r0: 9_001, ..usual }, Err(RuleName::R0)),
-        (Rules { rmax: -1, ..usual }, Err(RuleName::R0)),
-        (Rules { gh: 1_001, ..usual }, Err(RuleName::Gh)),
-        (
-            Rules {
-                rmax: 72_001,
-                ..usual
-            },
-            Err(RuleName::Rmax),
-        ),
-        (
-            Rules {
-                w0: 30_001,
-                ..usual
-            },
-            Err(RuleName::W0),
-        ),
-        (Rules { gv: -1, ..usual }, Err(RuleName::Gv)),
-        (
-            Rules {
-                wmax: 600_001,
-                ..usual
-            },
-            Err(RuleName::Wmax),
-        ),
-        (
-            Rules {
-                tc: 360_001,
-                ..usual
-            },
-            Err(RuleName::Tc),
-        ),
-        (Rules { ta: -1, ..usual }, Err(RuleName::Ta)),
-        (
-            Rules {
-                tv: 600_001,
-                ..usual
-            },
-            Err(RuleName::Tv),
-        ),
-        (
-            Rules {
-                flights: 1_025,
-                ..usual
-            },
-            Err(RuleName::Flights),
-        ),
-        (
-            Rules {
-                history: 0,
-                ..usual
-            },
-            Err(RuleName::History),
-        ),
-    ];
-    for (rules, answer) in cases {
-        assert!(rt; rules.check() == answer);
+    assert!(rt; Rules::usual().check() == Ok(()));
+    for (name, value, outside) in RULES {
+        assert!(rt; usual_but(name, value).check().err() == outside);
     }
 }

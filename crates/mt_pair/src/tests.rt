@@ -32,6 +32,75 @@ const WEST: Row = Row {
     ..EAST
 };
 
+/// 18,000 beside it, at the least: the minimum.
+const AT_MINIMUM: Row = Row { y: 18_000, ..WEST };
+
+/// One unit nearer: a loss between 149.80 and 150.20.
+const NEARER: Row = Row { y: 17_999, ..WEST };
+
+/// The same with no whole second inside: between 149.30 and 149.70.
+const BETWEEN_SECONDS: Row = Row {
+    x: 143_520,
+    ..NEARER
+};
+
+/// Head on at 450 knots each: a loss strictly between 100 and 140.
+const SLOW_EAST: Row = Row { vx: 450, ..EAST };
+
+const SLOW_WEST: Row = Row {
+    x: 108_000,
+    vx: -450,
+    ..WEST
+};
+
+/// One behind the other, until the growing margins meet.
+const GROWING: Row = Row {
+    gr: 15,
+    ..SLOW_EAST
+};
+
+const GROWING_AHEAD: Row = Row {
+    x: 20_000,
+    ..GROWING
+};
+
+/// Vertically apart before it is close.
+const CLIMBING: Row = Row {
+    z: 2_130_000,
+    vz: 300,
+    ..WEST
+};
+
+/// 1,000 feet above and below: the minimum. And one foot less.
+const ABOVE: Row = Row {
+    z: 2_160_000,
+    ..WEST
+};
+
+const BELOW: Row = Row {
+    z: 2_040_000,
+    ..WEST
+};
+
+const FOOT_LESS: Row = Row {
+    z: 2_159_940,
+    ..WEST
+};
+
+/// A vertical margin that is wide enough from second 150 on.
+const WIDENING: Row = Row { gw: 100, ..EAST };
+
+const HIGH: Row = Row {
+    z: 2_175_000,
+    ..WEST
+};
+
+/// Far away: the loss begins at second 1200.
+const FAR: Row = Row {
+    x: 1_170_000,
+    ..WEST
+};
+
 /// The conflict in a range of the stretches that fly from these rows, from second 0 up to `to`, is as wanted, and is one test.
 fn check(
     rt: &(impl Abort + Threads + Sync),
@@ -70,139 +139,51 @@ fn check(
 }
 
 #[test]
-fn conflicts_are_exact(rt: HostRuntime) -> Result<(), Fail> {
+fn conflicts_across_are_exact(rt: HostRuntime) -> Result<(), Fail> {
     let alloc = rt.alloc();
     let all = (0, 1200);
-    // head on: closer than 18,000 strictly between 131.25 and 168.75
     check(&rt, alloc, EAST, WEST, 1200, all, Some((131, 168)))?;
-    // 18,000 beside each other, at the least
-    check(&rt, alloc, EAST, Row { y: 18_000, ..WEST }, 1200, all, None)?;
-    // one unit less: between 149.80 and 150.20; and with no whole second inside
+    check(&rt, alloc, EAST, AT_MINIMUM, 1200, all, None)?;
+    check(&rt, alloc, EAST, NEARER, 1200, all, Some((149, 150)))?;
     check(
         &rt,
         alloc,
         EAST,
-        Row { y: 17_999, ..WEST },
-        1200,
-        all,
-        Some((149, 150)),
-    )?;
-    check(
-        &rt,
-        alloc,
-        EAST,
-        Row {
-            x: 143_520,
-            y: 17_999,
-            ..WEST
-        },
+        BETWEEN_SECONDS,
         1200,
         all,
         Some((149, 149)),
     )?;
-    // strictly between 100 and 140
     check(
         &rt,
         alloc,
-        Row { vx: 450, ..EAST },
-        Row {
-            x: 108_000,
-            vx: -450,
-            ..WEST
-        },
+        SLOW_EAST,
+        SLOW_WEST,
         1200,
         all,
         Some((100, 139)),
     )?;
-    // one behind the other, until the growing margins meet
     check(
         &rt,
         alloc,
-        Row {
-            vx: 450,
-            gr: 15,
-            ..EAST
-        },
-        Row {
-            x: 20_000,
-            vx: 450,
-            gr: 15,
-            ..EAST
-        },
+        GROWING,
+        GROWING_AHEAD,
         1200,
         all,
         Some((66, 1199)),
     )?;
-    // vertically apart before they are close
-    check(
-        &rt,
-        alloc,
-        EAST,
-        Row {
-            z: 2_130_000,
-            vz: 300,
-            ..WEST
-        },
-        1200,
-        all,
-        None,
-    )?;
-    // 1,000 feet above, and below; and one foot less
-    check(
-        &rt,
-        alloc,
-        EAST,
-        Row {
-            z: 2_160_000,
-            ..WEST
-        },
-        1200,
-        all,
-        None,
-    )?;
-    check(
-        &rt,
-        alloc,
-        EAST,
-        Row {
-            z: 2_159_940,
-            ..WEST
-        },
-        1200,
-        all,
-        Some((131, 168)),
-    )?;
-    check(
-        &rt,
-        alloc,
-        EAST,
-        Row {
-            z: 2_040_000,
-            ..WEST
-        },
-        1200,
-        all,
-        None,
-    )?;
-    // a vertical margin that is wide enough from second 150 on
-    check(
-        &rt,
-        alloc,
-        Row { gw: 100, ..EAST },
-        Row {
-            z: 2_175_000,
-            ..WEST
-        },
-        1200,
-        all,
-        Some((150, 168)),
-    )?;
-    // the ends of a range
-    let far = Row {
-        x: 1_170_000,
-        ..WEST
-    };
-    check(&rt, alloc, EAST, far, 1300, all, None)?;
-    check(&rt, alloc, EAST, far, 1300, (1, 1201), Some((1200, 1200)))?;
+    check(&rt, alloc, EAST, FAR, 1300, all, None)?;
+    check(&rt, alloc, EAST, FAR, 1300, (1, 1201), Some((1200, 1200)))?;
     check(&rt, alloc, EAST, WEST, 1200, (140, 150), Some((140, 149)))
+}
+
+#[test]
+fn conflicts_above_are_exact(rt: HostRuntime) -> Result<(), Fail> {
+    let alloc = rt.alloc();
+    let all = (0, 1200);
+    check(&rt, alloc, EAST, CLIMBING, 1200, all, None)?;
+    check(&rt, alloc, EAST, ABOVE, 1200, all, None)?;
+    check(&rt, alloc, EAST, BELOW, 1200, all, None)?;
+    check(&rt, alloc, EAST, FOOT_LESS, 1200, all, Some((131, 168)))?;
+    check(&rt, alloc, WIDENING, HIGH, 1200, all, Some((150, 168)))
 }

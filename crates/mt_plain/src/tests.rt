@@ -1,8 +1,11 @@
 //! Conflicts that were worked out by a program with exact fractions.
 
+ghost use Rattle.mt_base.specs.Bounds.{IsBoundedStretch};
+
 use crate::all_pairs;
 use mt_base::{Callsign, Conflict, Kind, Row, Rules, Straight, Tally};
 use mt_track::{Roster, Strand};
+use std::alloc::Global;
 use std::sync::Arc;
 use std::test::Fail;
 
@@ -39,11 +42,17 @@ const NORTH: Row = Row {
     ..EAST
 };
 
-const HOUR: Straight = Straight {
-    from: 0,
-    to: 3600,
-    first: EAST,
-};
+/// The strand of an hour that begins with that row.
+fn strand(alloc: Global, first: Row) -> Result<Arc<Strand>, Fail>
+    requires { IsBoundedStretch (record { from = 0; to = 3600; first = first }) }
+{
+    let hour = Straight {
+        from: 0,
+        to: 3600,
+        first,
+    };
+    Ok(Arc::new(alloc, Strand::straight(alloc, &hour)?)?)
+}
 
 #[test]
 fn conflicts_come_in_order_and_each_pair_is_tested_once(rt: HostRuntime) -> Result<(), Fail> {
@@ -51,37 +60,10 @@ fn conflicts_come_in_order_and_each_pair_is_tested_once(rt: HostRuntime) -> Resu
     let a = Callsign::of(b"AAA1").ok_or("no callsign")?;
     let b = Callsign::of(b"BBB1").ok_or("no callsign")?;
     let c = Callsign::of(b"CCC1").ok_or("no callsign")?;
-    let east = Arc::new(alloc, Strand::straight(alloc, &HOUR)?)?;
-    let west = Arc::new(
-        alloc,
-        Strand::straight(
-            alloc,
-            &Straight {
-                first: WEST,
-                ..HOUR
-            },
-        )?,
-    )?;
-    let beside = Arc::new(
-        alloc,
-        Strand::straight(
-            alloc,
-            &Straight {
-                first: BESIDE,
-                ..HOUR
-            },
-        )?,
-    )?;
-    let north = Arc::new(
-        alloc,
-        Strand::straight(
-            alloc,
-            &Straight {
-                first: NORTH,
-                ..HOUR
-            },
-        )?,
-    )?;
+    let east = strand(alloc, EAST)?;
+    let west = strand(alloc, WEST)?;
+    let beside = strand(alloc, BESIDE)?;
+    let north = strand(alloc, NORTH)?;
     let mut roster = Roster::make(alloc)?;
     roster.add(c, Kind::Tentative, &beside)?;
     roster.add(b, Kind::Actual, &west)?;
