@@ -1,3 +1,4 @@
+pub mod OneReply
 pub mod PlainLemmas
 pub mod Replying
 pub mod RosterLemmas

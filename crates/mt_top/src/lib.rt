@@ -1,6 +1,7 @@
 //! The top call: a script of lines in, their replies out.
 #![tactic(auto)]
 
+mod laws;
 mod plain;
 mod replay;
 mod reply_out;
@@ -8,5 +9,6 @@ mod status;
 mod top_call;
 mod world;
 
+pub use laws::one_reply_law;
 pub use status::Status;
 pub use top_call::run;
