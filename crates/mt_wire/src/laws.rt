@@ -3,10 +3,19 @@ ghost use Rattle.serde_json.specs.Read.{read};
 ghost use Rattle.serde_json.specs.Written.{compact_text};
 ghost use Rattle.mt_base.specs.declared.command.Entry.{Entry};
 ghost use Rattle.mt_wire.specs.declared.reply.Reply.{Reply};
+ghost use Rattle.mt_wire.specs.declared.reply.Reply.TheVariants.{Memory as no_memory};
 ghost use Rattle.mt_wire.specs.Entry.{entry_value};
 ghost use Rattle.mt_wire.specs.Held.{HoldsWhole};
 ghost use Rattle.mt_wire.specs.Reply.{reply_text, reply_value};
 ghost use Rattle.mt_wire.specs.Short.{IsShort};
+
+use crate::put_reply::NO_MEMORY;
+
+/// [`NO_MEMORY`](crate::NO_MEMORY) is the text of [`Reply::Memory`](crate::Reply::Memory).
+#[tactic(auto, unfolding(json::proofs::OnLiterals::json_on_literals))]
+pub fn no_memory_law()
+    ensures { NO_MEMORY.now ≡ reply_text no_memory }
+{}
 
 /// A reply that carries no list has at most 65,536 bytes, so that [`write_short`](crate::write_short) writes it.
 pub fn short_replies_law()

@@ -26,7 +26,7 @@ mod write;
 mod written;
 
 pub use field_name::FieldName;
-pub use laws::{read_back_law, short_replies_law};
+pub use laws::{no_memory_law, read_back_law, short_replies_law};
 pub use line::read_line;
 pub use put_reply::NO_MEMORY;
 pub use reply::{DoneWord, Reply};

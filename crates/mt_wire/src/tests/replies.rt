@@ -1,5 +1,6 @@
 use crate::{
-    DoneWord, FieldName, NO_MEMORY, Reply, Role, short_replies_law, write_reply, write_short,
+    DoneWord, FieldName, NO_MEMORY, Reply, Role, no_memory_law, read_back_law, short_replies_law,
+    write_reply, write_short,
 };
 use mt_base::{
     Callsign, Command, Conflict, Conflicts, Entered, Entries, Entry, Kind, Refusal, Row, Straight,
@@ -54,6 +55,7 @@ fn replies_without_a_list(rt: HostRuntime) -> Result<(), Fail> {
         let line = write_reply(rt.alloc(), reply)?;
         assert_eq!(rt; line.as_slice(), wanted.as_bytes());
     }
+    no_memory_law();
     assert_eq!(rt; NO_MEMORY, b"{\"no\":\"memory\"}\n".as_slice());
     Ok(())
 }
@@ -144,6 +146,7 @@ fn straight() -> Straight {
 
 #[test]
 fn entries_of_a_history(rt: HostRuntime) -> Result<(), Fail> {
+    read_back_law();
     let call = Callsign::of(b"AAA1").ok_or("a callsign")?;
     let mut entries = Entries::make(rt.alloc())?;
     entries.push(Entry {
