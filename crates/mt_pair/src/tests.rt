@@ -1,6 +1,7 @@
 //! Pairs of straight stretches whose conflicts were worked out by a program with exact fractions.
 
-ghost use Rattle.mt_base.specs.Bounds.{IsBoundedStretch};
+ghost use Rattle.std.specs.Prelude.{pos};
+ghost use Rattle.mt_base.specs.Bounds.{IsBoundedStretch, IsWithin};
 
 use crate::lose;
 use mt_base::{Row, Rules, Second, Straight, Tally};
@@ -186,4 +187,510 @@ fn conflicts_above_are_exact(rt: HostRuntime) -> Result<(), Fail> {
     check(&rt, alloc, EAST, BELOW, 1200, all, None)?;
     check(&rt, alloc, EAST, FOOT_LESS, 1200, all, Some((131, 168)))?;
     check(&rt, alloc, WIDENING, HIGH, 1200, all, Some((150, 168)))
+}
+
+/// Whether the two rows of second 0 lose separation in it, the vertical minimum being `sv`.
+fn check_second(
+    rt: &(impl Abort + Threads + Sync),
+    alloc: Global,
+    a: Row,
+    b: Row,
+    sv: i64,
+    wanted: bool,
+) -> Result<(), Fail>
+    requires a_kept { IsBoundedStretch (record { from = 0; to = 1; first = a }) }
+    requires b_kept { IsBoundedStretch (record { from = 0; to = 1; first = b }) }
+    requires sv_kept { IsWithin (pos 1) (pos 600000) sv }
+{
+    let left = Strand::straight(
+        alloc,
+        &Straight {
+            from: 0,
+            to: 1,
+            first: a,
+        },
+    )?;
+    let right = Strand::straight(
+        alloc,
+        &Straight {
+            from: 0,
+            to: 1,
+            first: b,
+        },
+    )?;
+    let mut tests = Tally::new(rt);
+    let mut rules = Rules::usual();
+    rules.sv = sv;
+    let lost = lose(&left, &right, &rules, 0, 1, &mut tests).is_some();
+    assert_eq!(rt; lost, wanted);
+    Ok(())
+}
+
+#[test]
+fn seconds_abreast_are_exact(rt: HostRuntime) -> Result<(), Fail> {
+    let alloc = rt.alloc();
+    check_second(&rt, alloc, EAST, EAST, 60_000, true)?;
+    check_second(&rt, alloc, EAST, Row { x: 18_000, ..EAST }, 60_000, false)?;
+    check_second(&rt, alloc, EAST, Row { x: 17_999, ..EAST }, 60_000, true)?;
+    check_second(&rt, alloc, EAST, Row { x: -18_000, ..EAST }, 60_000, false)?;
+    check_second(&rt, alloc, EAST, Row { y: -17_999, ..EAST }, 60_000, true)?;
+    check_second(
+        &rt,
+        alloc,
+        EAST,
+        Row {
+            x: 10_800,
+            y: 14_400,
+            ..EAST
+        },
+        60_000,
+        false,
+    )?;
+    check_second(
+        &rt,
+        alloc,
+        EAST,
+        Row {
+            x: 10_800,
+            y: 14_399,
+            ..EAST
+        },
+        60_000,
+        true,
+    )?;
+    check_second(
+        &rt,
+        alloc,
+        EAST,
+        Row {
+            x: 18_000,
+            vx: 479,
+            ..EAST
+        },
+        60_000,
+        true,
+    )?;
+    check_second(
+        &rt,
+        alloc,
+        EAST,
+        Row {
+            x: 18_000,
+            vx: 481,
+            ..EAST
+        },
+        60_000,
+        false,
+    )?;
+    check_second(
+        &rt,
+        alloc,
+        EAST,
+        Row {
+            x: 17_999,
+            vx: 1_000,
+            ..EAST
+        },
+        60_000,
+        true,
+    )
+}
+
+#[test]
+fn seconds_flying_by_are_exact(rt: HostRuntime) -> Result<(), Fail> {
+    let alloc = rt.alloc();
+    check_second(
+        &rt,
+        alloc,
+        EAST,
+        Row {
+            x: 18_480,
+            vx: 0,
+            ..EAST
+        },
+        60_000,
+        false,
+    )?;
+    check_second(
+        &rt,
+        alloc,
+        EAST,
+        Row {
+            x: 18_479,
+            vx: 0,
+            ..EAST
+        },
+        60_000,
+        true,
+    )?;
+    check_second(
+        &rt,
+        alloc,
+        Row { vx: 1_000, ..EAST },
+        Row {
+            x: 1_000,
+            y: 17_999,
+            vx: -1_000,
+            ..EAST
+        },
+        60_000,
+        true,
+    )?;
+    check_second(
+        &rt,
+        alloc,
+        Row { vx: 1_000, ..EAST },
+        Row {
+            x: 1_000,
+            y: 18_000,
+            vx: -1_000,
+            ..EAST
+        },
+        60_000,
+        false,
+    )?;
+    check_second(
+        &rt,
+        alloc,
+        Row { vx: 1_000, ..EAST },
+        Row {
+            x: 12_900,
+            y: 12_900,
+            vx: 0,
+            vy: -1_000,
+            ..EAST
+        },
+        60_000,
+        true,
+    )?;
+    check_second(
+        &rt,
+        alloc,
+        Row { vx: 1_000, ..EAST },
+        Row {
+            x: 13_800,
+            y: 13_800,
+            vx: 0,
+            vy: -1_000,
+            ..EAST
+        },
+        60_000,
+        false,
+    )?;
+    check_second(
+        &rt,
+        alloc,
+        EAST,
+        Row {
+            z: 2_160_000,
+            ..EAST
+        },
+        60_000,
+        false,
+    )?;
+    check_second(
+        &rt,
+        alloc,
+        EAST,
+        Row {
+            z: 2_159_999,
+            ..EAST
+        },
+        60_000,
+        true,
+    )?;
+    check_second(
+        &rt,
+        alloc,
+        EAST,
+        Row {
+            z: 2_040_000,
+            ..EAST
+        },
+        60_000,
+        false,
+    )?;
+    check_second(
+        &rt,
+        alloc,
+        EAST,
+        Row {
+            z: 2_040_001,
+            ..EAST
+        },
+        60_000,
+        true,
+    )
+}
+
+#[test]
+fn seconds_above_and_across_are_exact(rt: HostRuntime) -> Result<(), Fail> {
+    let alloc = rt.alloc();
+    check_second(
+        &rt,
+        alloc,
+        EAST,
+        Row {
+            z: 2_160_000,
+            vz: -1,
+            ..EAST
+        },
+        60_000,
+        true,
+    )?;
+    check_second(
+        &rt,
+        alloc,
+        EAST,
+        Row {
+            z: 2_160_000,
+            vz: 1,
+            ..EAST
+        },
+        60_000,
+        false,
+    )?;
+    check_second(
+        &rt,
+        alloc,
+        EAST,
+        Row {
+            z: 2_160_001,
+            vz: -1,
+            ..EAST
+        },
+        60_000,
+        false,
+    )?;
+    check_second(
+        &rt,
+        alloc,
+        Row { vz: 2, ..EAST },
+        Row {
+            z: 2_160_001,
+            vz: -1,
+            ..EAST
+        },
+        60_000,
+        true,
+    )?;
+    check_second(
+        &rt,
+        alloc,
+        Row { vz: 10_000, ..EAST },
+        Row {
+            z: 2_110_000,
+            vz: -10_000,
+            ..EAST
+        },
+        5_000,
+        true,
+    )?;
+    check_second(
+        &rt,
+        alloc,
+        Row {
+            vx: 1_000,
+            vz: 10_000,
+            ..EAST
+        },
+        Row {
+            x: 19_000,
+            vx: -1_000,
+            z: 2_110_000,
+            vz: -10_000,
+            ..EAST
+        },
+        5_000,
+        true,
+    )?;
+    check_second(
+        &rt,
+        alloc,
+        Row {
+            vx: 1_000,
+            vz: 10_000,
+            ..EAST
+        },
+        Row {
+            x: 17_700,
+            vx: 1_000,
+            vy: 1_000,
+            y: 3_200,
+            z: 2_110_000,
+            vz: -10_000,
+            ..EAST
+        },
+        5_000,
+        false,
+    )?;
+    check_second(
+        &rt,
+        alloc,
+        Row {
+            vx: 1_000,
+            vz: 10_000,
+            ..EAST
+        },
+        Row {
+            x: 19_600,
+            vx: -1_000,
+            z: 2_110_000,
+            vz: -10_000,
+            ..EAST
+        },
+        5_000,
+        false,
+    )?;
+    check_second(
+        &rt,
+        alloc,
+        Row {
+            vx: -1_000,
+            vz: 10_000,
+            ..EAST
+        },
+        Row {
+            x: 17_600,
+            vx: 1_000,
+            z: 2_110_000,
+            vz: -10_000,
+            ..EAST
+        },
+        5_000,
+        false,
+    )?;
+    check_second(
+        &rt,
+        alloc,
+        Row { gr: 1_000, ..EAST },
+        Row { x: 18_000, ..EAST },
+        60_000,
+        true,
+    )
+}
+
+#[test]
+fn seconds_with_growing_margins_are_exact(rt: HostRuntime) -> Result<(), Fail> {
+    let alloc = rt.alloc();
+    check_second(
+        &rt,
+        alloc,
+        Row { gr: 1_000, ..EAST },
+        Row {
+            x: 20_000,
+            gr: 1_000,
+            ..EAST
+        },
+        60_000,
+        false,
+    )?;
+    check_second(
+        &rt,
+        alloc,
+        Row { gr: 1_000, ..EAST },
+        Row {
+            x: 19_999,
+            gr: 1_000,
+            ..EAST
+        },
+        60_000,
+        true,
+    )?;
+    check_second(
+        &rt,
+        alloc,
+        Row { r: 500, ..EAST },
+        Row {
+            x: 19_000,
+            r: 500,
+            ..EAST
+        },
+        60_000,
+        false,
+    )?;
+    check_second(
+        &rt,
+        alloc,
+        Row { r: 500, ..EAST },
+        Row {
+            x: 18_999,
+            r: 500,
+            ..EAST
+        },
+        60_000,
+        true,
+    )?;
+    check_second(
+        &rt,
+        alloc,
+        Row { gr: 1_000, ..EAST },
+        Row {
+            x: 18_000,
+            vx: 1_000,
+            gr: 1_000,
+            ..EAST
+        },
+        60_000,
+        true,
+    )?;
+    check_second(
+        &rt,
+        alloc,
+        Row { gr: 100, ..EAST },
+        Row {
+            x: 18_000,
+            vx: 680,
+            gr: 100,
+            ..EAST
+        },
+        60_000,
+        false,
+    )?;
+    check_second(
+        &rt,
+        alloc,
+        Row { w: 500, ..EAST },
+        Row {
+            z: 2_161_000,
+            w: 500,
+            ..EAST
+        },
+        60_000,
+        false,
+    )?;
+    check_second(
+        &rt,
+        alloc,
+        Row { w: 500, ..EAST },
+        Row {
+            z: 2_160_999,
+            w: 500,
+            ..EAST
+        },
+        60_000,
+        true,
+    )?;
+    check_second(
+        &rt,
+        alloc,
+        Row { gw: 10_000, ..EAST },
+        Row {
+            z: 2_170_000,
+            ..EAST
+        },
+        60_000,
+        false,
+    )?;
+    check_second(
+        &rt,
+        alloc,
+        Row { gw: 10_000, ..EAST },
+        Row {
+            z: 2_169_999,
+            ..EAST
+        },
+        60_000,
+        true,
+    )
 }
