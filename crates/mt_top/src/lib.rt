@@ -6,6 +6,8 @@ mod plain;
 mod replay;
 mod reply_out;
 mod status;
+#[cfg(test)]
+mod tests;
 mod top_call;
 mod world;
 

@@ -1,0 +1,210 @@
+//! Whole scripts from bytes to bytes. What each is answered was worked out by hand, by the rules of the readme.
+ghost use Rattle.std.specs.Prelude.{◌≡◌, ◌<◌, ◌≤◌, None, vec_len};
+
+mod scripts;
+
+use super::*;
+use mt_base::Words;
+use mt_io::{Failed, MemSink, MemSource, Source};
+use scripts::SCRIPTS;
+use std::alloc::Global;
+use std::process::Abort;
+use std::test::Fail;
+use std::thread::Threads;
+
+/// Room for each answer but those of the tests of too little room.
+const AMPLE: u32 = 65_536;
+
+/// What is written where the words are no command.
+const USAGE: &str =
+    "usage: mtcd replay | serve [--port P] [--sessions N] [--workers W] | load [--flights N] [--number X]\n";
+
+/// Two flights head-on: the script, and its answers.
+const INPUT: &str = r#"{"do":"begin"}
+{"call":"AAA1","do":"external","from":0,"to":1200,"vx":480,"x":0,"y":0,"z":2100000}
+{"call":"BBB1","do":"external","from":0,"to":1200,"vx":-480,"x":144000,"y":0,"z":2100000}
+{"do":"list"}
+"#;
+
+const OUTPUT: &str = r#"{"done":"begin"}
+{"entered":1}
+{"entered":2}
+{"conflicts":[{"first":131,"kinds":"aa","last":168,"pair":["AAA1","BBB1"]}],"version":2}
+"#;
+
+/// Gives its bytes, at most 7 a call, and then fails in place of its end.
+#[derive(Drop)]
+struct Torn {
+    bytes: Vec<u8>,
+    at: usize,
+    faults: u64,
+    ghost within: { at ≤ vec_len bytes },
+}
+
+impl Source for Torn {
+    ghost left = { λ _. None };
+
+    ghost faults = { λ s. s.faults };
+
+    ghost reads_to = { λ a b. Unit {0} };
+
+    fn read_faults(&self) -> u64 {
+        self.faults
+    }
+
+    fn read_some(&mut self, buf: &mut [u8]) -> Result<usize, Failed> {
+        let count = buf.len().min(7).min(self.bytes.len() - self.at);
+        if count == 0 {
+            self.faults = self.faults.saturating_add(1);
+            return Err(Failed);
+        }
+        buf[..count].copy_from_slice(&self.bytes[self.at..self.at + count]);
+        self.at += count;
+        Ok(count)
+    }
+
+    ghost reads_to_itself = { λ s. tt };
+
+    ghost reads_on = { λ a b c ab bc. tt };
+}
+
+fn words_of(alloc: Global, text: &str) -> Result<Words, Fail> {
+    let mut words = Words::make(alloc)?;
+    for word in text.split_whitespace() {
+        words.add(alloc, word)?;
+    }
+    Ok(words)
+}
+
+// A run with these words on this input ends so, and has written this.
+fn answers(
+    rt: &(impl Abort + Threads + Sync),
+    alloc: Global,
+    words: &str,
+    input: &str,
+    output: &str,
+    status: Status,
+) -> Result<(), Fail> {
+    let words = words_of(alloc, words)?;
+    let mut source = MemSource::of(input.as_bytes().to_vec(alloc)?);
+    let mut sink = MemSink::make(alloc, AMPLE)?;
+    let ended = run(rt, alloc, &words, &mut source, &mut sink);
+    let written = std::str::from_utf8(sink.held()).ok().ok_or("UTF-8")?;
+    assert!(rt; !written.contains("memory"), "{written}");
+    assert_eq!(rt; written, output, "{input}");
+    assert_eq!(rt; ended, status, "{input}");
+    Ok(())
+}
+
+// The first lines of a text, as many as the count says, with their ends.
+fn first_lines(text: &str, count: usize) -> &str {
+    let mut rest = text;
+    for _ in 0..count {
+        match rest.split_once('\n') {
+            Some((_, after)) => rest = after,
+            None => rest = "",
+        }
+    }
+    text.strip_suffix(rest).unwrap_or(text)
+}
+
+#[test]
+fn scripts_are_answered_and_memory_that_is_ample_is_never_wanted(
+    rt: HostRuntime,
+) -> Result<(), Fail> {
+    let alloc = rt.alloc();
+    for script in SCRIPTS.split("# ").skip(1) {
+        let mut input = String::new(alloc);
+        let mut output = String::new(alloc);
+        for line in script.lines().skip(1) {
+            let (side, text) = line.split_once(' ').ok_or("two columns")?;
+            let bytes = if side == ">" { &mut input } else { &mut output };
+            bytes.push_str(text)?;
+            bytes.push_str("\n")?;
+        }
+        answers(
+            &rt,
+            alloc,
+            "replay",
+            input.as_str(),
+            output.as_str(),
+            Status::Done,
+        )?;
+    }
+    Ok(())
+}
+
+#[test]
+fn words_ends_of_the_input_and_long_lines(rt: HostRuntime) -> Result<(), Fail> {
+    let alloc = rt.alloc();
+    let rows = [
+        ("replay", "", "", Status::Done),
+        (
+            "replay",
+            "{\"do\":\"begin\"",
+            "{\"no\":\"json\"}\n",
+            Status::Done,
+        ),
+        (
+            "replay",
+            "{\"do\":\"begin\"}\n{\"do\":\"list\"}",
+            "{\"done\":\"begin\"}\n{\"conflicts\":[],\"version\":0}\n",
+            Status::Done,
+        ),
+        ("fly", INPUT, USAGE, Status::Usage),
+        ("", INPUT, USAGE, Status::Usage),
+        ("replay now", INPUT, USAGE, Status::Usage),
+        ("replays", "", USAGE, Status::Usage),
+    ];
+    for (words, input, output, status) in rows {
+        answers(&rt, alloc, words, input, output, status)?;
+    }
+    // how many spaces stand before the list, which has 13 bytes, and whether the line is too long
+    for (spaces, is_long) in [(65_523, false), (65_524, true)] {
+        let mut input = String::from_str(alloc, "{\"do\":\"begin\"}\n")?;
+        for _ in 0..spaces {
+            input.push(' ')?;
+        }
+        input.push_str("{\"do\":\"list\"}\n{\"do\":\"bye\"}\n\n")?;
+        let output = if is_long {
+            "{\"done\":\"begin\"}\n{\"no\":\"long\"}\n{\"done\":\"bye\"}\n"
+        } else {
+            "{\"done\":\"begin\"}\n{\"conflicts\":[],\"version\":0}\n{\"done\":\"bye\"}\n"
+        };
+        answers(&rt, alloc, "replay", input.as_str(), output, Status::Done)?;
+    }
+    Ok(())
+}
+
+#[test]
+fn streams_that_fail_at_each_place(rt: HostRuntime) -> Result<(), Fail> {
+    let alloc = rt.alloc();
+    let words = words_of(alloc, "replay")?;
+    for given in 0..INPUT.len() {
+        let mut source = Torn {
+            bytes: INPUT.as_bytes()[..given].to_vec(alloc)?,
+            at: 0,
+            faults: 0,
+        };
+        let mut sink = MemSink::make(alloc, AMPLE)?;
+        let ended = run(&rt, alloc, &words, &mut source, &mut sink);
+        let whole = source.bytes.iter().filter(|byte| **byte == b'\n').count();
+        assert_eq!(rt; ended, Status::ReadFault, "{given}");
+        assert_eq!(rt;
+            sink.held(),
+            first_lines(OUTPUT, whole).as_bytes(),
+            "{given}"
+        );
+    }
+    for (words, output) in [("replay", OUTPUT), ("fly", USAGE)] {
+        let words = words_of(alloc, words)?;
+        for room in 0..output.len() {
+            let mut source = MemSource::of(INPUT.as_bytes().to_vec(alloc)?);
+            let mut sink = MemSink::make(alloc, room as u32)?;
+            let ended = run(&rt, alloc, &words, &mut source, &mut sink);
+            assert_eq!(rt; ended, Status::WriteFault, "{room}");
+            assert_eq!(rt; sink.held(), &output.as_bytes()[..room], "{room}");
+        }
+    }
+    Ok(())
+}
