@@ -1,7 +1,7 @@
 use Rattle.std.proofs.Common.{◌≡◌, ◌≤◌, inl, inr, ℕ, Bool, true, false, List, [], ◌∷◌, ◌++◌, length, refl, sym, ◌∙◌, ap, append_assoc, append-nil, Some, None, arith}
 use Rattle.std.specs.declared.option.Option.{Option}
 use Rattle.mt_io.specs.HasRead.{HasRead}
-use Rattle.mt_io.specs.Lines.{lines_of, whole_lines_of}
+use Rattle.mt_io.specs.Lines.{whole_lines_of}
 use Rattle.mt_io.specs.Reading.{Reading, Takes, IsDone, IsStopped, IsFaultAt, fresh}
 use Rattle.mt_io.specs.declared.line.LineFault.{LineFault}
 use Rattle.mt_io.specs.declared.line.LineFault.TheVariants as faults
@@ -184,13 +184,5 @@ wanted before held =
       told = tells;
       told_after = tells_after;
       appended = appends_none held;
-      means = record {
-        lines = [];
-        unread = lines_of left;
-        lines_are = refl;
-        bytes = [];
-        answered = inl (opening_world, (refl, refl));
-        unwritten = [];
-        bytes_are = refl;
-      };
+      means = (refl, refl);
     }

@@ -42,13 +42,14 @@ pub record AnswersFront (input written : List ℕ) : Type 0 where
   pub unwritten : List ℕ
   pub bytes_are : bytes ≡ written ++ unwritten
 
--- What a replay's status says of its whole input, of what it left of it, and of the bytes that it wrote.
+-- What a replay's status says of its whole input, of what it left of it, and of the bytes that it wrote. Memory is wanted only before the
+-- first line: then nothing was read and nothing written.
 abbrev pub ReplayMeans : Status → List ℕ → List ℕ → List ℕ → Type 0
 ReplayMeans Done input left written = AnswersAll input left written ⊎ AnswersToBye input left written
 ReplayMeans ReadFault input left written = (taken : List ℕ) × AnswersWhole input left taken written
 ReplayMeans Spent input left written = (taken : List ℕ) × (length taken ≡ 2 ^ 32) × AnswersWhole input left taken written
 ReplayMeans WriteFault input left written = AnswersFront input written
-ReplayMeans Memory input left written = AnswersFront input written
+ReplayMeans Memory input left written = (left ≡ input) × (written ≡ [])
 ReplayMeans Usage input left written = ⊥
 
 -- the line that is written where the words are no command
