@@ -148,6 +148,25 @@ pub const SCRIPTS: &str = r##"
 < {"entered":1}
 > {"call":"BBB1","do":"external","from":0,"to":1200,"vx":-480,"x":144000,"y":0,"z":2100000}
 < {"no":"history-full","version":1}
+# A history of three entries
+> {"do":"rule","history":3}
+< {"done":"rule"}
+> {"do":"begin"}
+< {"done":"begin"}
+> {"do":"tick","now":1}
+< {"entered":1}
+> {"do":"tick","now":2}
+< {"entered":2}
+> {"do":"tick","now":3}
+< {"entered":3}
+> {"do":"tick","now":4}
+< {"no":"history-full","version":3}
+> {"do":"list"}
+< {"conflicts":[],"version":3}
+> {"do":"tick","now":1.5}
+< {"field":"now","no":"form"}
+> {"do":"tick","now":10000001}
+< {"field":"now","no":"range"}
 # Lines that ask for nothing
 > 
 < {"no":"json"}
