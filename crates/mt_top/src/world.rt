@@ -82,6 +82,7 @@ impl World {
         }
     }
 
+    // Sets rules, before the picture has begun.
     fn set_rules(&mut self, set: &RuleSet) -> Reply
         requires { AreWithinBounds (rules_with set.now self.old.rules) }
         ensures { MatchBool self.old.begun (IsRefused self.old replies.Begun result self.new)
@@ -94,6 +95,7 @@ impl World {
         Reply::Done(DoneWord::Rule)
     }
 
+    // Begins the picture, once.
     fn begin(&mut self) -> Reply
         ensures { MatchBool self.old.begun (IsRefused self.old replies.Begun result self.new)
             (IsGiven (replies.Done done.Begin) (record self.old { begun = true; history = [] }) result self.new) }
@@ -105,6 +107,7 @@ impl World {
         Reply::Done(DoneWord::Begin)
     }
 
+    // What is published of the history.
     fn list(&mut self, alloc: Global) -> Reply
         ensures { MatchBool self.old.begun (IsListed self.old result self.new) (IsRefused self.old replies.Unbegun result self.new)
             ⊎ IsRefused self.old replies.Memory result self.new }
@@ -121,8 +124,10 @@ impl World {
         }
     }
 
+    // Some entries of the history.
     fn entries(&self, alloc: Global, from: u64, to: u64) -> Reply
-        ensures { MatchBool self.now.begun (IsGiven (replies.History (take (to - from) (drop from self.now.history)) (length self.now.history)) self.now result self.now)
+        ensures { let part = take (to - from) (drop from self.now.history) in
+            MatchBool self.now.begun (IsGiven (replies.History part (length self.now.history)) self.now result self.now)
             (IsRefused self.now replies.Unbegun result self.now) ⊎ IsRefused self.now replies.Memory result self.now }
     {
         if !self.begun {
@@ -137,6 +142,7 @@ impl World {
         }
     }
 
+    // Decides a command, and enters it unless it is refused.
     fn change(&mut self, who: u32, command: &Command) -> Reply
         requires { IsBoundedCommand command.now }
         ensures { MatchBool self.old.begun (IsDecided self.old (decide self.old.rules (state_of self.old.history) who command.now) result self.new)
@@ -182,6 +188,7 @@ impl World {
         }
     }
 
+    // The number of entries.
     fn version(&self) -> u64
         ensures { result ≡ length self.now.history }
     {
