@@ -1,0 +1,44 @@
+-- What a seat is lent, what it may leave, and what stands at the end.
+use Rattle.std.specs.Prelude.{◌≡◌, ℕ, ◌^◌, ◌≤◌, ◌⊎◌, List, [], ◌∷◌, ◌++◌, length, Contains, Some}
+use Rattle.mt_turn.specs.declared.view.Joined.{Joined}
+use Rattle.mt_turn.specs.declared.view.View.{View}
+use Rattle.mt_turn.specs.Views.{entries_of, GoesOn}
+
+-- The value x is lent to a seat that knows v: its history begins with all that the seat has seen and has nothing later of the seat's number, and its plain data is the seat's
+pub record Lent {E F S : Type 0} (history : S → List E) (number : E → ℕ) (fixed : S → F) (v : View E F) (x : S) : Type 0 where
+  pub begins : (later : List E) × (history x ≡ v.seen ++ later) × (entries_of number v.number later ≡ [])
+  pub mine : entries_of number v.number (history x) ≡ v.mine
+  pub mine_seen : entries_of number v.number v.seen ≡ v.mine
+  pub same : Some (fixed x) ≡ v.fixed
+  pub short : length (history x) ≤ 2 ^ 32
+
+-- The history is the one that was lent, or that one with one entry more, which has the number n
+abbrev pub Grows : {E : Type 0} → (E → ℕ) → ℕ → List E → List E → Type 0
+Grows {E} number n lent log = (log ≡ lent) ⊎ ((e : E) × (number e ≡ n) × (log ≡ lent ++ e ∷ []))
+
+-- A seat that knew v leaves the history `log`, where it was lent `lent`, and knows w: it has seen all of `log`, and its own entries grew by the one that was added, or by none
+pub record Left {E F : Type 0} (number : E → ℕ) (v : View E F) (lent log : List E) (w : View E F) : Type 0 where
+  pub seen : w.seen ≡ log
+  pub begins : GoesOn v.seen log
+  pub mine : ((log ≡ lent) × (w.mine ≡ v.mine)) ⊎ ((e : E) × (number e ≡ v.number) × (log ≡ lent ++ e ∷ []) × (w.mine ≡ v.mine ++ e ∷ []))
+  pub mine_seen : entries_of number v.number log ≡ w.mine
+  pub number_same : w.number ≡ v.number
+  pub gave_same : w.gave ≡ v.gave
+  pub joined_same : w.joined ≡ v.joined
+  pub fixed_same : w.fixed ≡ v.fixed
+
+-- some joined seat has the number n
+abbrev pub IsJoined : {E : Type 0} → List (Joined E) → ℕ → Type 0
+IsJoined {E} joined n = (j : Joined E) × Contains joined j × (j.number ≡ n)
+
+-- every seat that was split off has been joined again
+abbrev pub AllJoined : {E F : Type 0} → View E F → Type 0
+AllJoined v = (n : ℕ) → Contains v.gave n → IsJoined v.joined n
+
+-- The history at the end, where the first seat knows v: it begins with what each seat has seen, each seat's entries are its own, and there are no others
+pub record Closes {E F : Type 0} (number : E → ℕ) (v : View E F) (log : List E) : Type 0 where
+  pub begins : GoesOn v.seen log
+  pub mine : entries_of number 0 log ≡ v.mine
+  pub joined_begins : (j : Joined E) → Contains v.joined j → GoesOn j.seen log
+  pub joined_mine : (j : Joined E) → Contains v.joined j → entries_of number j.number log ≡ j.mine
+  pub no_others : (e : E) → Contains log e → (number e ≡ 0) ⊎ IsJoined v.joined (number e)

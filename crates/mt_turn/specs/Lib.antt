@@ -1,0 +1,4 @@
+pub mod Views
+pub mod Lending
+pub mod Turning
+pub mod Steps

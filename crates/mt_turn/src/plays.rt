@@ -1,0 +1,65 @@
+//! The kinds of step: one type each, which says what the step tells or how it changes views.
+ghost use Rattle.mt_turn.specs.Steps.{Draws, Looks, Counts, Passes, Numbers};
+ghost use Rattle.mt_turn.specs.Views.{giver, newcomer, taker, spent};
+
+use crate::kept::Kept;
+use crate::view::View;
+use atomic_table::{Join, Play, Split};
+use std::marker::PhantomData;
+
+/// Draw a ticket.
+pub(crate) struct Draw;
+
+impl<T, E, F> Play<Option<T>, View<E, F>> for Draw {
+    ghost then = { Draws };
+}
+
+/// Look at the ticket being served.
+pub(crate) struct Look<T> {
+    value: PhantomData<T>,
+}
+
+impl<T: Kept> Play<Option<T>, View<T::Entry, T::Fixed>> for Look<T> {
+    ghost then = { Looks T.history T.number T.fixed };
+}
+
+/// Count the entries that were added.
+pub(crate) struct Count<T> {
+    value: PhantomData<T>,
+}
+
+impl<T: Kept> Play<Option<T>, View<T::Entry, T::Fixed>> for Count<T> {
+    ghost then = { Counts T.history T.number };
+}
+
+/// Pass the turn on.
+pub(crate) struct Pass;
+
+impl<T, E, F> Play<Option<T>, View<E, F>> for Pass {
+    ghost then = { Passes };
+}
+
+/// Draw the next seat's number.
+pub(crate) struct Number;
+
+impl<T, E, F> Play<Option<T>, View<E, F>> for Number {
+    ghost then = { Numbers };
+}
+
+/// Split a seat off.
+pub(crate) struct Cut;
+
+impl<E, F> Split<View<E, F>> for Cut {
+    ghost left = { giver };
+
+    ghost right = { newcomer };
+}
+
+/// Join a seat into the first one.
+pub(crate) struct Glue;
+
+impl<E, F> Join<View<E, F>> for Glue {
+    ghost both = { taker };
+
+    ghost spent = { spent };
+}
