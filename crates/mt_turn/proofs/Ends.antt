@@ -14,6 +14,7 @@ use Rattle.mt_turn.specs.Lending.{IsJoined, AllJoined, Closes}
 use Rattle.mt_turn.specs.Turning.{IsUnspent, HasTicket, IsServed, Knows, Taken, Rooted, AtHome, IsOut, Turning}
 use Rattle.mt_turn.proofs.Facts.{goes_self, up_to_has}
 use Rattle.mt_turn.proofs.Lists.{inside, same_at}
+use Rattle.mt_turn.proofs.Serving.{same_some}
 
 one_place : {A : Type 0} (P : ℕ → A → Type 0) (a : A) → P 0 a → (i : ℕ) (b : A) → get_elem? (a ∷ []) i ≡ some b → P i b
 one_place P a p zero b e = subst (P 0) (some-injective a b e) p
@@ -87,7 +88,7 @@ module _ {E F S : Type 0} (history : S → List E) (number : E → ℕ) (fixed :
       no_others = λ e h. dite (ℕ_discrete (number e) 0) inl (λ pos. inr (gone (number e) (omega arith) (r.entries e h)));
     }
 
-  pub ends : (plain : F) (id : ℕ) (v : View E F) (ws : List ℕ) (xs : List (Option S)) → v.number ≡ 0 → v.phase ≡ Idle → AllJoined v → Final (Seen (Turning history number fixed plain) id v) ws xs
+  ends : (plain : F) (id : ℕ) (v : View E F) (ws : List ℕ) (xs : List (Option S)) → v.number ≡ 0 → v.phase ≡ Idle → AllJoined v → Final (Seen (Turning history number fixed plain) id v) ws xs
       → (x : S) × (get_elem? xs 0 ≡ some (Some x)) × Closes number v (history x) × (Some (fixed x) ≡ v.fixed)
   ends plain id v ws xs zeroth idle all (s, seen, words, long, there) = let r = seen.0 in let h = home plain id v zeroth idle all s r seen.1 r.slot in (
     h.value,
@@ -95,3 +96,11 @@ module _ {E F S : Type 0} (history : S → List E) (number : E → ℕ) (fixed :
     subst (Closes number v) (sym h.is) (closes plain id v zeroth idle all s r seen.1),
     ap Some h.same ∙ sym (knows plain id v zeroth idle all s r seen.1).same,
   )
+
+  pub ends_some : (plain : F) (id : ℕ) (v : View E F) (ws : List ℕ) (xs : List (Option S)) (o : Option S) → v.number ≡ 0 → v.phase ≡ Idle → AllJoined v → Final (Seen (Turning history number fixed plain) id v) ws xs → get_elem? xs 0 ≡ some o → (x : S) × (o ≡ Some x)
+  ends_some plain id v ws xs o zeroth idle all final taken = let e = ends plain id v ws xs zeroth idle all final in (e.0, same_at xs 0 o (Some e.0) taken e.1)
+
+  pub ends_with : (plain : F) (id : ℕ) (v : View E F) (ws : List ℕ) (xs : List (Option S)) (o : Option S) (y : S) → v.number ≡ 0 → v.phase ≡ Idle → AllJoined v → Final (Seen (Turning history number fixed plain) id v) ws xs → get_elem? xs 0 ≡ some o → o ≡ Some y
+      → Closes number v (history y) × (Some (fixed y) ≡ v.fixed)
+  ends_with plain id v ws xs o y zeroth idle all final taken is = let e = ends plain id v ws xs zeroth idle all final in let same : e.0 ≡ y = same_some e.0 y (sym (same_at xs 0 o (Some e.0) taken e.1) ∙ is) in
+      subst (λ z. Closes number v (history z) × (Some (fixed z) ≡ v.fixed)) same (e.2, e.3)

@@ -8,3 +8,4 @@ mod Numbering
 mod Splitting
 mod Joining
 mod Ends
+mod Leaving

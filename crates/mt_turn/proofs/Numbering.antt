@@ -2,7 +2,7 @@
 use Rattle.std.proofs.Common.{◌≡◌, ◌≢◌, ℕ, ◌+◌, ◌%◌, ◌^◌, ◌<◌, ◌≤◌, List, [], ◌∷◌, length, get_or, set, sym, refl, ap, ◌∙◌, subst, arith, mod-eq_of_lt, Option}
 use mathlib.Core.Option.{some}
 use lib.ListN.{get_elem?}
-use Rattle.atomic_table.specs.Table.{State, Step, keeps, Allows}
+use Rattle.atomic_table.specs.Table.{State, keeps, Allows}
 use Rattle.mt_turn.specs.declared.view.Phase.{Phase}
 use Rattle.mt_turn.specs.declared.view.Phase.TheVariants.{Idle, Splits}
 use Rattle.mt_turn.specs.declared.view.View.{View}
@@ -14,8 +14,8 @@ use Rattle.mt_turn.proofs.Lists.{same_at, out_set}
 use Rattle.mt_turn.proofs.Moves.{Moves, moved, slot_stays}
 
 module _ {E F S : Type 0} (history : S → List E) (number : E → ℕ) (fixed : S → F) (plain : F) where
-  pub numbers : (slots id : ℕ) (st : Step (Option S)) (m : Seated E F S) → m.0.phase ≡ Idle → m.0.number ≡ 0 → Allows (Turning history number fixed plain) slots id m 3 (λ n. (n + 1) % 2 ^ 64) (Numbers st m)
-  numbers slots id st m idle zeroth s r _ at _ =
+  pub numbers : (slots id : ℕ) (m : Seated E F S) → m.0.phase ≡ Idle → m.0.number ≡ 0 → Allows (Turning history number fixed plain) slots id m 3 (λ n. (n + 1) % 2 ^ 64) (Numbers m)
+  numbers slots id m idle zeroth s r _ at _ =
       let n : ℕ = get_or s.words 3 0 in
       let w : View E F = with_phase m.0 (Splits n) in
       let un : IsUnspent m.0.phase = subst IsUnspent (sym idle) tt in

@@ -3,7 +3,7 @@ use Rattle.std.proofs.Common.{◌≡◌, ◌≢◌, ℕ, ◌+◌, ◌-◌, ◌%�
 use Rattle.std.proofs.Math.Nat.{mod-add-mod}
 use mathlib.Core.Option.{some, none}
 use lib.ListN.{get_elem?}
-use Rattle.atomic_table.specs.Table.{State, Step, Act, keeps, gives, Allows, put_back, rest}
+use Rattle.atomic_table.specs.Table.{State, Act, keeps, gives, Allows, put_back, rest}
 use Rattle.atomic_table.proofs.Lists.{at_set, set_here}
 use Rattle.mt_turn.specs.declared.view.Phase.{Phase}
 use Rattle.mt_turn.specs.declared.view.Phase.TheVariants.{Idle, Splits, Waits, Holds, Counted, Spent}
@@ -48,10 +48,10 @@ module _ {E F S : Type 0} (history : S → List E) (number : E → ℕ) (fixed :
   others_wait s r id v at sv j u other e su = let k = r.each id v at (served_unspent v.phase sv) in let k' = r.each j u e (served_unspent u.phase su) in
       other (r.apart j id r.served u v e at (served_ticket r.log r.served r.next (length s.views) u.seen u.phase su k'.at) (served_ticket r.log r.served r.next (length s.views) v.seen v.phase sv k.at))
 
-  pub counts : (slots id t added : ℕ) (y : S) (lent : List E) (st : Step (Option S)) (m : Seated E F S) → m.0.phase ≡ Holds t lent → m.1 ≡ (0, Some y) ∷ []
+  pub counts : (slots id t added : ℕ) (y : S) (lent : List E) (m : Seated E F S) → m.0.phase ≡ Holds t lent → m.1 ≡ (0, Some y) ∷ []
       → Grows number m.0.number lent (history y) → length lent + added ≡ length (history y) → length (history y) ≤ 2 ^ 32
-      → Allows Rule slots id m 2 (λ n. (n + added) % 2 ^ 64) (Counts history number st m)
-  counts slots id t added y lent st m holds has grows more room s r _ at _ =
+      → Allows Rule slots id m 2 (λ n. (n + added) % 2 ^ 64) (Counts history number m)
+  counts slots id t added y lent m holds has grows more room s r _ at _ =
       let w : View E F = counted_view number m.0 t (history y) in
       let un : IsUnspent m.0.phase = subst IsUnspent (sym holds) tt in
       let served : IsServed m.0.phase = subst IsServed (sym holds) tt in
@@ -103,9 +103,9 @@ module _ {E F S : Type 0} (history : S → List E) (number : E → ℕ) (fixed :
         ),
       )
 
-  pub passes : (slots id t : ℕ) (y : S) (st : Step (Option S)) (m : Seated E F S) → m.0.phase ≡ Counted t → m.1 ≡ (0, Some y) ∷ [] → history y ≡ m.0.seen → Some (fixed y) ≡ m.0.fixed
-      → Allows Rule slots id m 1 (λ n. (n + 1) % 2 ^ 64) (Passes st m)
-  passes slots id t y st m counted has is same s r _ at _ =
+  pub passes : (slots id t : ℕ) (y : S) (m : Seated E F S) → m.0.phase ≡ Counted t → m.1 ≡ (0, Some y) ∷ [] → history y ≡ m.0.seen → Some (fixed y) ≡ m.0.fixed
+      → Allows Rule slots id m 1 (λ n. (n + 1) % 2 ^ 64) (Passes m)
+  passes slots id t y m counted has is same s r _ at _ =
       let w : View E F = with_phase m.0 Idle in
       let un : IsUnspent m.0.phase = subst IsUnspent (sym counted) tt in
       let served : IsServed m.0.phase = subst IsServed (sym counted) tt in

@@ -5,7 +5,7 @@ use mathlib.Core.Logic.{dite}
 use mathlib.Core.Option.{some, none}
 use native.Mathlib.Decide.{ℕ_discrete}
 use lib.ListN.{get_elem?}
-use Rattle.atomic_table.specs.Table.{State, Step, Act, keeps, takes, Allows, Valid, stepped, carried_after}
+use Rattle.atomic_table.specs.Table.{State, Act, keeps, takes, Allows, Valid, stepped, carried_after}
 use Rattle.atomic_table.proofs.Lists.{set_here, one_turn}
 use Rattle.mt_turn.specs.declared.view.Phase.{Phase}
 use Rattle.mt_turn.specs.declared.view.Phase.TheVariants.{Idle, Waits, Holds}
@@ -23,8 +23,8 @@ module _ {E F S : Type 0} (history : S → List E) (number : E → ℕ) (fixed :
   abbrev Rule : State (Option S) (View E F) → Type 0
   Rule = Turning history number fixed plain
 
-  pub draws : (slots id : ℕ) (st : Step (Option S)) (m : Seated E F S) → m.0.phase ≡ Idle → Allows Rule slots id m 0 (λ n. (n + 1) % 2 ^ 64) (Draws st m)
-  draws slots id st m idle s r _ at _ =
+  pub draws : (slots id : ℕ) (m : Seated E F S) → m.0.phase ≡ Idle → Allows Rule slots id m 0 (λ n. (n + 1) % 2 ^ 64) (Draws m)
+  draws slots id m idle s r _ at _ =
       let v = m.0 in
       let un : IsUnspent m.0.phase = subst IsUnspent (sym idle) tt in
       let k = r.each id m.0 at un in
@@ -65,10 +65,10 @@ module _ {E F S : Type 0} (history : S → List E) (number : E → ℕ) (fixed :
         (r.next, sym (ap (λ ws. get_or ws 0 0) r.words), refl),
       )
 
-  module _ (slots id t : ℕ) (st : Step (Option S)) (m : Seated E F S) (waits : m.0.phase ≡ Waits t) (s : State (Option S) (View E F)) (r : Rule s) (at : get_elem? s.views id ≡ some m.0) where
+  module _ (slots id t : ℕ) (m : Seated E F S) (waits : m.0.phase ≡ Waits t) (s : State (Option S) (View E F)) (r : Rule s) (at : get_elem? s.views id ≡ some m.0) where
     -- what is to be shown of a look
     abbrev Goes : Type 0
-    Goes = (w : View E F) × (a : Act (Option S)) × Valid s.homes m.1 a × Rule (stepped s 1 (get_or s.words 1 0) id m.1 w a) × Looks history number fixed st m (get_or s.words 1 0) (w, carried_after m.1 a)
+    Goes = (w : View E F) × (a : Act (Option S)) × Valid s.homes m.1 a × Rule (stepped s 1 (get_or s.words 1 0) id m.1 w a) × Looks history number fixed m (get_or s.words 1 0) (w, carried_after m.1 a)
 
     un : IsUnspent m.0.phase
     un = subst IsUnspent (sym waits) tt
@@ -184,5 +184,5 @@ module _ {E F S : Type 0} (history : S → List E) (number : E → ℕ) (fixed :
     hit_or_miss (yes eq) = let inw = within in let low = inw.0 in let high = inw.1 in let total = r.tickets_out in let few = r.few in let all = out_le s.views in
         hits (one_turn r.served t (2 ^ 64) low (omega arith) (sym (eq ∙ the_word))) eq r.slot
 
-  pub looks : (slots id t : ℕ) (st : Step (Option S)) (m : Seated E F S) → m.0.phase ≡ Waits t → Allows Rule slots id m 1 (λ n. n) (Looks history number fixed st m)
-  looks slots id t st m waits s r _ at _ = hit_or_miss slots id t st m waits s r at (ℕ_discrete (t % 2 ^ 64) (get_or s.words 1 0))
+  pub looks : (slots id t : ℕ) (m : Seated E F S) → m.0.phase ≡ Waits t → Allows Rule slots id m 1 (λ n. n) (Looks history number fixed m)
+  looks slots id t m waits s r _ at _ = hit_or_miss slots id t m waits s r at (ℕ_discrete (t % 2 ^ 64) (get_or s.words 1 0))

@@ -1,6 +1,7 @@
 //! A turn: one value with one history, and seats that take it in turn, each knowing what it has seen and what it added.
 #![tactic(auto)]
 
+mod board;
 mod kept;
 mod plays;
 mod rule;

@@ -11,7 +11,7 @@ use std::marker::PhantomData;
 pub(crate) struct Draw;
 
 impl<T, E, F> Play<Option<T>, View<E, F>> for Draw {
-    ghost then = { Draws };
+    ghost then = { λ _. Draws };
 }
 
 /// Look at the ticket being served.
@@ -20,7 +20,7 @@ pub(crate) struct Look<T> {
 }
 
 impl<T: Kept> Play<Option<T>, View<T::Entry, T::Fixed>> for Look<T> {
-    ghost then = { Looks T.history T.number T.fixed };
+    ghost then = { λ _. Looks T.history T.number T.fixed };
 }
 
 /// Count the entries that were added.
@@ -29,21 +29,21 @@ pub(crate) struct Count<T> {
 }
 
 impl<T: Kept> Play<Option<T>, View<T::Entry, T::Fixed>> for Count<T> {
-    ghost then = { Counts T.history T.number };
+    ghost then = { λ _. Counts T.history T.number };
 }
 
 /// Pass the turn on.
 pub(crate) struct Pass;
 
 impl<T, E, F> Play<Option<T>, View<E, F>> for Pass {
-    ghost then = { Passes };
+    ghost then = { λ _. Passes };
 }
 
 /// Draw the next seat's number.
 pub(crate) struct Number;
 
 impl<T, E, F> Play<Option<T>, View<E, F>> for Number {
-    ghost then = { Numbers };
+    ghost then = { λ _. Numbers };
 }
 
 /// Split a seat off.

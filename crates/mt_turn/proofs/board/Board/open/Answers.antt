@@ -1,0 +1,12 @@
+use Rattle.std.proofs.Common.{rules, ◌≡◌, [], ◌∷◌, sym, subst₂, Some}
+use Rattle.atomic_table.specs.Table.{opening}
+use Rattle.mt_turn.specs.Views.{first_view}
+use Rattle.mt_turn.specs.Turning.{Turning}
+use Rattle.mt_turn.proofs.Ends.{opens}
+use Rattle.mt_turn.proofs.board.Board.open.Goals as goal
+
+pub new-requires : goal.new-requires
+new-requires g c =
+    let items : c.push.new.self.items ≡ Some c.args.value ∷ [] = search rules in
+    subst₂ (λ x xs. Turning g.T.Kept.history g.T.Kept.number g.T.Kept.fixed (g.T.Kept.fixed x) (opening (0 ∷ 0 ∷ 0 ∷ 1 ∷ []) xs (first_view (g.T.Kept.fixed x)))) (sym c.of-about.ensures) (sym items)
+    (opens g.T.Kept.history g.T.Kept.number g.T.Kept.fixed c.args.value c.requires.empty)

@@ -1,0 +1,10 @@
+use Rattle.std.proofs.Common.{rules, ap, ◌∙◌}
+use Rattle.mt_turn.proofs.Waiting.{looks}
+use Rattle.mt_turn.proofs.board.Board.wait.Goals as goal
+
+pub load-served-requires : goal.load-served-requires
+load-served-requires g c = (
+  search rules,
+  search rules,
+  looks g.T.Kept.history g.T.Kept.number g.T.Kept.fixed (g.T.Kept.fixed c.args.self.now.table.shared.key.value) _ _ c.requires.waits.0 _ (ap (λ m. m.0.phase) c.loop.invariant.1 ∙ c.requires.waits.2),
+)
