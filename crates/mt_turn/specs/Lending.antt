@@ -1,5 +1,6 @@
 -- What a seat is lent, what it may leave, and what stands at the end.
 use Rattle.std.specs.Prelude.{◌≡◌, ℕ, ◌^◌, ◌≤◌, ◌⊎◌, List, [], ◌∷◌, ◌++◌, length, Contains, Some}
+use Rattle.mt_turn.specs.declared.view.Phase.TheVariants.{Holds}
 use Rattle.mt_turn.specs.declared.view.Joined.{Joined}
 use Rattle.mt_turn.specs.declared.view.View.{View}
 use Rattle.mt_turn.specs.Views.{entries_of, GoesOn}
@@ -11,6 +12,10 @@ pub record Lent {E F S : Type 0} (history : S → List E) (number : E → ℕ) (
   pub mine_seen : entries_of number v.number v.seen ≡ v.mine
   pub same : Some (fixed x) ≡ v.fixed
   pub short : length (history x) ≤ 2 ^ 32
+
+-- The seat has the turn, and was lent a value with the history `lent`
+abbrev pub HasTurn : {E F : Type 0} → View E F → List E → Type 0
+HasTurn v lent = (t : ℕ) × (v.phase ≡ Holds t lent)
 
 -- The history is the one that was lent, or that one with one entry more, which has the number n
 abbrev pub Grows : {E : Type 0} → (E → ℕ) → ℕ → List E → List E → Type 0

@@ -1,6 +1,5 @@
 -- What seats know of a history, and what a split and a join make of it.
 use Rattle.std.specs.Prelude.{◌≡◌, ℕ, zero, suc, ◌+◌, ◌==◌, List, [], ◌∷◌, ◌++◌, length, filter, cond, nat_lt, Option, Some, None}
-use Rattle.atomic_table.specs.Seated.{TableId}
 use Rattle.mt_turn.specs.declared.view.Phase.{Phase}
 use Rattle.mt_turn.specs.declared.view.Phase.TheVariants.{Idle, Splits, Waits, Holds, Counted, Spent}
 use Rattle.mt_turn.specs.declared.view.Joined.{Joined}
@@ -22,11 +21,6 @@ longer xs ys = cond (nat_lt (length xs) (length ys)) ys xs
 abbrev pub up_to : ℕ → List ℕ
 up_to zero = []
 up_to (suc n) = up_to n ++ suc n ∷ []
-
--- A seat, as contracts see it: which turn it is of, and what it knows
-pub record Place (E F : Type 0) : Type 0 where
-  pub home : TableId
-  pub view : View E F
 
 -- While it has the turn, a seat has the place of the value, which is empty
 abbrev pub carried_of : {E T : Type 0} → Phase E → List (ℕ × Option T)

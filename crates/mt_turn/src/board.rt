@@ -3,7 +3,7 @@ ghost use Rattle.std.specs.Prelude.{◌≡◌, ℕ, ◌+◌, ◌%◌, ◌^◌, �
 ghost use Rattle.atomic_table.specs.Table.{rest};
 ghost use Rattle.mt_turn.specs.declared.view.Phase.TheVariants.{Idle, Waits, Holds};
 ghost use Rattle.mt_turn.specs.Views.{first_view, with_phase, giver, newcomer, taker, up_to};
-ghost use Rattle.mt_turn.specs.Lending.{Lent, Grows, Left, AllJoined, Closes};
+ghost use Rattle.mt_turn.specs.Lending.{HasTurn, Lent, Grows, Left, AllJoined, Closes};
 
 use crate::kept::Kept;
 use crate::plays::{Count, Cut, Draw, Glue, Look, Number, Pass};
@@ -37,6 +37,7 @@ const NUMBERS: usize = 3;
 const SLOT: usize = 0;
 
 /// The table behind a turn: four words, and a slot with the value.
+#[derive(Drop)]
 pub(crate) struct Board<T: Kept> {
     pub(crate) table: Table<
         Option<T>,
@@ -132,7 +133,7 @@ impl<T: Kept> Board<T> {
 
     pub(crate) fn leave(&self, token: &mut Token<T>, value: T, lent: Snapshot<T>, count: u64)
         requires own { token.old.table_id ≡ self.now.table.shared.table_id }
-        requires holds { (t : ℕ) × (token.old.me.0.phase ≡ Holds t (T.history lent.value)) }
+        requires holds { HasTurn token.old.me.0 (T.history lent.value) }
         requires empty { token.old.me.1 ≡ (0, None) ∷ [] }
         requires counted { count ≡ length (T.history lent.value) }
         requires fixed { Some (T.fixed value) ≡ token.old.me.0.fixed }
@@ -158,7 +159,7 @@ impl<T: Kept> Board<T> {
         ensures own { token.new.table_id ≡ token.old.table_id }
         ensures gives { token.new.me ≡ (giver token.old.me.0, token.old.me.1) }
         ensures comes { (result.0.table_id ≡ token.old.table_id) × (result.0.me ≡ (newcomer token.old.me.0, [])) × (result.1 ≡ length token.old.me.0.gave + 1) }
-        ensures in_order { token.old.me.0.gave ≡ up_to (length token.old.me.0.gave) }
+        ensures in_order { token.new.me.0.gave ≡ up_to result.1 }
     {
         let number = self.table.shared.fetch_add::<Number>(token, NUMBERS, 1);
         let other = self.table.shared.split_seat::<Cut>(token);

@@ -2,10 +2,15 @@
 #![tactic(auto)]
 
 mod board;
+mod calls;
+mod held;
 mod kept;
 mod plays;
 mod rule;
+mod seat;
 mod view;
 
+pub use held::Held;
 pub use kept::Kept;
+pub use seat::{Seat, Turn};
 pub use view::{Joined, Phase, View};

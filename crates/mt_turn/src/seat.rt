@@ -1,0 +1,62 @@
+//! A seat of a turn, and the turn itself.
+ghost use Rattle.std.specs.Prelude.{◌≡◌};
+ghost use Rattle.mt_turn.specs.Views.{carried_of};
+
+use crate::board::{Board, Token};
+use crate::kept::Kept;
+use std::marker::Model;
+
+/// A seat of a turn. Each thread that is to have the turn has one of its own.
+///
+/// Contracts see it as a `Place`: the turn that it is of, its `home`, and what it knows, its `view`.
+/// Outside of a turn its phase is `Idle`. A seat that is dropped while it has the turn stops all others.
+pub struct Seat<T: Kept> {
+    pub(crate) token: Token<T>,
+    pub(crate) number: u32,
+}
+
+impl<T: Kept> Model for Seat<T> {
+    ghost use Rattle.std.specs.Prelude.{◌≡◌};
+    ghost use Rattle.mt_turn.specs.Places.{Place};
+    ghost use Rattle.mt_turn.specs.Views.{carried_of};
+
+    ghost Value = { Place T.Entry T.Fixed };
+
+    ghost view = { λ s. record { home = s.token.table_id; view = s.token.me.0 } };
+
+    ghost invariant = { λ s. (s.number ≡ s.token.me.0.number) × (s.token.me.1 ≡ carried_of s.token.me.0.phase) };
+}
+
+impl<T: Kept> Seat<T> {
+    pub(crate) fn into_token(self) -> Token<T>
+        ensures own { result.table_id ≡ self.home }
+        ensures view { result.me.0 ≡ self.view }
+        ensures carries { result.me.1 ≡ carried_of self.view.phase }
+    {
+        let Self { token, number: _ } = self;
+        token
+    }
+}
+
+impl<T: Kept> Drop for Seat<T> {
+    fn drop(self) {
+        let Self {
+            token: _,
+            number: _,
+        } = self;
+    }
+}
+
+/// One value behind a turn. Contracts see it as the name that its seats have as their `home`.
+#[derive(Drop)]
+pub struct Turn<T: Kept> {
+    pub(crate) board: Board<T>,
+}
+
+impl<T: Kept> Model for Turn<T> {
+    ghost use Rattle.atomic_table.specs.Seated.{TableId};
+
+    ghost Value = { TableId };
+
+    ghost view = { λ t. t.board.table.shared.table_id };
+}
