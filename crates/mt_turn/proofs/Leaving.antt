@@ -51,9 +51,6 @@ module _ {E F S : Type 0} (history : S → List E) (number : E → ℕ) where
               (λ (o : (e : E) × (number e ≡ v.number) × (history y ≡ lent ++ e ∷ []) × (entries_of number v.number (history y) ≡ v.mine ++ e ∷ [])). inr (o.0, o.1, o.2, mine ∙ o.3))
               (left_mine v lent (history y) lent_mine grows);
           mine_seen = sym mine;
-          number_same = ap (λ z. z.0.number) end;
-          gave_same = ap (λ z. z.0.gave) end;
-          joined_same = ap (λ z. z.0.joined) end;
-          fixed_same = ap (λ z. z.0.fixed) end;
+          same = (ap (λ z. z.0.number) end, ap (λ z. z.0.gave) end, ap (λ z. z.0.joined) end, ap (λ z. z.0.fixed) end);
         },
       )

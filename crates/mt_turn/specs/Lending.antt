@@ -21,16 +21,17 @@ HasTurn v lent = (t : ℕ) × (v.phase ≡ Holds t lent)
 abbrev pub Grows : {E : Type 0} → (E → ℕ) → ℕ → List E → List E → Type 0
 Grows {E} number n lent log = (log ≡ lent) ⊎ ((e : E) × (number e ≡ n) × (log ≡ lent ++ e ∷ []))
 
+-- The two views are of one seat, which has split and joined nothing in between
+abbrev pub IsSameSeat : {E F : Type 0} → View E F → View E F → Type 0
+IsSameSeat v w = (w.number ≡ v.number) × (w.gave ≡ v.gave) × (w.joined ≡ v.joined) × (w.fixed ≡ v.fixed)
+
 -- A seat that knew v leaves the history `log`, where it was lent `lent`, and knows w: it has seen all of `log`, and its own entries grew by the one that was added, or by none
 pub record Left {E F : Type 0} (number : E → ℕ) (v : View E F) (lent log : List E) (w : View E F) : Type 0 where
   pub seen : w.seen ≡ log
   pub begins : GoesOn v.seen log
   pub mine : ((log ≡ lent) × (w.mine ≡ v.mine)) ⊎ ((e : E) × (number e ≡ v.number) × (log ≡ lent ++ e ∷ []) × (w.mine ≡ v.mine ++ e ∷ []))
   pub mine_seen : entries_of number v.number log ≡ w.mine
-  pub number_same : w.number ≡ v.number
-  pub gave_same : w.gave ≡ v.gave
-  pub joined_same : w.joined ≡ v.joined
-  pub fixed_same : w.fixed ≡ v.fixed
+  pub same : IsSameSeat v w
 
 -- some joined seat has the number n
 abbrev pub IsJoined : {E : Type 0} → List (Joined E) → ℕ → Type 0

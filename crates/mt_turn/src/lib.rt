@@ -8,6 +8,8 @@ mod kept;
 mod plays;
 mod rule;
 mod seat;
+#[cfg(test)]
+mod tests;
 mod view;
 
 pub use held::Held;
