@@ -1,16 +1,15 @@
 -- Joining a seat into the first one.
-use Rattle.std.proofs.Common.{◌≡◌, ◌≢◌, ℕ, ◌+◌, ◌<◌, ◌≤◌, ◌^◌, ◌⊎◌, inl, inr, ⊎_elim, List, [], ◌∷◌, ◌++◌, length, set, sym, refl, ap, ◌∙◌, subst, arith, length-set, Contains, Option}
+use Rattle.std.proofs.Common.{◌≡◌, ◌≢◌, ℕ, ◌+◌, ◌<◌, ◌⊎◌, inl, inr, ⊎_elim, List, [], ◌∷◌, ◌++◌, length, set, sym, refl, ap, ◌∙◌, subst, arith, length-set, Contains, Option}
 use Rattle.std.proofs.lemmas.List.Elements.{Contains-append_cases}
 use mathlib.Core.Option.{some}
 use lib.ListN.{get_elem?}
 use Rattle.atomic_table.specs.Table.{State, Joins}
 use Rattle.atomic_table.proofs.Lists.{at_set, set_here, set_else}
-use Rattle.mt_turn.specs.declared.view.Phase.{Phase}
 use Rattle.mt_turn.specs.declared.view.Phase.TheVariants.{Idle}
 use Rattle.mt_turn.specs.declared.view.Joined.{Joined}
 use Rattle.mt_turn.specs.declared.view.View.{View}
-use Rattle.mt_turn.specs.Views.{entries_of, GoesOn, longer, up_to, taker, spent, joined_as}
-use Rattle.mt_turn.specs.Turning.{IsUnspent, HasTicket, IsServed, tickets, drawn, IsInPhase, out, Knows, Taken, Rooted, AtHome, IsOut, Turning}
+use Rattle.mt_turn.specs.Views.{entries_of, longer, up_to, taker, spent, joined_as}
+use Rattle.mt_turn.specs.Turning.{IsUnspent, HasTicket, IsServed, tickets, drawn, IsInPhase, Knows, Taken, AtHome, IsOut, Turning}
 use Rattle.mt_turn.proofs.Facts.{longer_goes, longer_same, only_there}
 use Rattle.mt_turn.proofs.Lists.{inside, same_at, out_set}
 

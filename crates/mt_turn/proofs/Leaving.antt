@@ -1,7 +1,7 @@
 -- A leave as a whole: the value is put back and counted, and the turn passed on.
-use Rattle.std.proofs.Common.{◌≡◌, ℕ, ◌+◌, ◌-◌, ◌≤◌, ◌⊎◌, inl, inr, ⊎_elim, List, [], ◌∷◌, ◌++◌, length, sym, refl, ap, ◌∙◌, subst, arith, length-append, Option, Some, None, ◌%◌, ◌^◌}
+use Rattle.std.proofs.Common.{◌≡◌, ℕ, ◌+◌, ◌-◌, ◌⊎◌, inl, inr, ⊎_elim, List, [], ◌∷◌, ◌++◌, length, sym, ap, ◌∙◌, subst, arith, length-append, Option, Some, None, ◌%◌, ◌^◌}
 use Rattle.atomic_table.specs.Table.{rest, Allows}
-use Rattle.mt_turn.specs.declared.view.Phase.TheVariants.{Idle, Holds, Counted}
+use Rattle.mt_turn.specs.declared.view.Phase.TheVariants.{Idle, Holds}
 use Rattle.mt_turn.specs.declared.view.View.{View}
 use Rattle.mt_turn.specs.Views.{entries_of, GoesOn, with_phase}
 use Rattle.mt_turn.specs.Lending.{Grows, Left}

@@ -1,5 +1,5 @@
 -- Elements by their places, and the tickets that are out.
-use Rattle.std.proofs.Common.{◌≡◌, ℕ, zero, suc, ◌+◌, ◌<◌, ◌≤◌, ◌⊎◌, inl, inr, ⊎_elim, List, [], ◌∷◌, ◌++◌, length, get_or, set, sym, refl, ap, ◌∙◌, arith, Contains}
+use Rattle.std.proofs.Common.{◌≡◌, ℕ, zero, suc, ◌+◌, ◌<◌, ◌≤◌, ◌⊎◌, inl, inr, ⊎_elim, List, [], ◌∷◌, ◌++◌, length, set, sym, refl, ap, ◌∙◌, arith}
 use mathlib.Core.Option.{some, some-injective, some-ne-none}
 use lib.ListN.{get_elem?}
 use Rattle.mt_turn.specs.declared.view.Phase.{Phase}
@@ -12,11 +12,6 @@ module _ {A : Type 0} where
   inside [] i a e = absurd (some-ne-none a (sym e))
   inside (x ∷ xs) zero a e = omega arith
   inside (x ∷ xs) (suc i) a e = let h = inside xs i a e in omega arith
-
-  pub at_place : (l : List A) (i : ℕ) → i < length l → (a : A) × (get_elem? l i ≡ some a)
-  at_place [] i h = absurd (omega arith)
-  at_place (x ∷ xs) zero h = (x, refl)
-  at_place (x ∷ xs) (suc i) h = at_place xs i (omega arith)
 
   -- with its place, where it is the new one
   pub at_longer_place : (l : List A) (a b : A) (j : ℕ) → get_elem? (l ++ a ∷ []) j ≡ some b → (get_elem? l j ≡ some b) ⊎ ((j ≡ length l) × (a ≡ b))

@@ -1,17 +1,16 @@
 -- Drawing the number of the next seat.
-use Rattle.std.proofs.Common.{◌≡◌, ◌≢◌, ℕ, ◌+◌, ◌%◌, ◌^◌, ◌<◌, ◌≤◌, List, [], ◌∷◌, length, get_or, set, sym, refl, ap, ◌∙◌, subst, arith, mod-eq_of_lt, Option}
+use Rattle.std.proofs.Common.{◌≡◌, ℕ, ◌+◌, ◌%◌, ◌^◌, List, [], ◌∷◌, length, get_or, set, sym, refl, ap, ◌∙◌, subst, arith, mod-eq_of_lt}
 use mathlib.Core.Option.{some}
 use lib.ListN.{get_elem?}
-use Rattle.atomic_table.specs.Table.{State, keeps, Allows}
-use Rattle.mt_turn.specs.declared.view.Phase.{Phase}
+use Rattle.atomic_table.specs.Table.{keeps, Allows}
 use Rattle.mt_turn.specs.declared.view.Phase.TheVariants.{Idle, Splits}
 use Rattle.mt_turn.specs.declared.view.View.{View}
 use Rattle.mt_turn.specs.Views.{up_to, with_phase}
-use Rattle.mt_turn.specs.Turning.{IsUnspent, IsServed, HasTicket, tickets, drawn, out, Turning}
+use Rattle.mt_turn.specs.Turning.{IsUnspent, IsServed, tickets, drawn, Turning}
 use Rattle.mt_turn.specs.Steps.{Seated, Numbers}
 use Rattle.mt_turn.proofs.Facts.{goes_self}
 use Rattle.mt_turn.proofs.Lists.{same_at, out_set}
-use Rattle.mt_turn.proofs.Moves.{Moves, moved, slot_stays}
+use Rattle.mt_turn.proofs.Moves.{moved, slot_stays}
 
 module _ {E F S : Type 0} (history : S → List E) (number : E → ℕ) (fixed : S → F) (plain : F) where
   pub numbers : (slots id : ℕ) (m : Seated E F S) → m.0.phase ≡ Idle → m.0.number ≡ 0 → Allows (Turning history number fixed plain) slots id m 3 (λ n. (n + 1) % 2 ^ 64) (Numbers m)

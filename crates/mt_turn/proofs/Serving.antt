@@ -1,21 +1,21 @@
 -- Counting the entries that were added, and passing the turn on.
-use Rattle.std.proofs.Common.{◌≡◌, ◌≢◌, ℕ, ◌+◌, ◌-◌, ◌%◌, ◌^◌, ◌<◌, ◌≤◌, ◌⊎◌, inl, inr, ⊎_elim, List, [], ◌∷◌, ◌++◌, length, get_or, set, sym, refl, ap, ◌∙◌, subst, subst₂, arith, mod-eq_of_lt, Option, Some, None}
+use Rattle.std.proofs.Common.{◌≡◌, ◌≢◌, ℕ, ◌+◌, ◌%◌, ◌^◌, ◌<◌, ◌≤◌, inl, inr, ⊎_elim, List, [], ◌∷◌, length, get_or, set, sym, refl, ap, ◌∙◌, subst, subst₂, arith, mod-eq_of_lt, Option, Some, None}
 use Rattle.std.proofs.Math.Nat.{mod-add-mod}
-use mathlib.Core.Option.{some, none}
+use mathlib.Core.Option.{some}
 use lib.ListN.{get_elem?}
-use Rattle.atomic_table.specs.Table.{State, Act, keeps, gives, Allows, put_back, rest}
+use Rattle.atomic_table.specs.Table.{State, keeps, gives, Allows, put_back}
 use Rattle.atomic_table.proofs.Lists.{at_set, set_here}
 use Rattle.mt_turn.specs.declared.view.Phase.{Phase}
-use Rattle.mt_turn.specs.declared.view.Phase.TheVariants.{Idle, Splits, Waits, Holds, Counted, Spent}
+use Rattle.mt_turn.specs.declared.view.Phase.TheVariants.{Idle, Holds, Counted}
 use Rattle.mt_turn.specs.declared.view.View.{View}
 use Rattle.mt_turn.specs.Views.{entries_of, GoesOn, with_phase}
 use Rattle.mt_turn.specs.Lending.{Grows}
-use Rattle.mt_turn.specs.Turning.{IsUnspent, HasTicket, IsServed, tickets, drawn, IsInPhase, out, Knows, AtHome, IsOut, Turning}
+use Rattle.mt_turn.specs.Turning.{IsUnspent, HasTicket, IsServed, tickets, drawn, IsInPhase, AtHome, IsOut, Turning}
 use Rattle.mt_turn.specs.Steps.{Seated, counted_view, Counts, Passes}
 use Rattle.mt_turn.proofs.Facts.{goes_self, goes_trans, grows_goes, grows_other, grows_entries}
-use Rattle.mt_turn.proofs.Lists.{inside, same_at, out_set}
-use Rattle.mt_turn.proofs.Phases.{ticket_unspent, served_unspent, ticket_within, served_ticket, after_count, after_pass}
-use Rattle.mt_turn.proofs.Moves.{Moves, moved}
+use Rattle.mt_turn.proofs.Lists.{inside, out_set}
+use Rattle.mt_turn.proofs.Phases.{served_unspent, served_ticket, after_count, after_pass}
+use Rattle.mt_turn.proofs.Moves.{moved}
 
 -- what lies in the slot that a seat has taken, or `other`
 abbrev value_in : {S : Type 0} → S → List (ℕ × Option S) → S

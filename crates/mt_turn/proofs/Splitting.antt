@@ -1,16 +1,15 @@
 -- Splitting a seat off the first one.
-use Rattle.std.proofs.Common.{◌≡◌, ◌≢◌, ℕ, ◌+◌, ◌<◌, ◌≤◌, ◌^◌, ◌⊎◌, inl, inr, ⊎_elim, List, [], ◌∷◌, ◌++◌, length, set, sym, refl, ap, ◌∙◌, subst, arith, length-append, length-set, Contains, Option, eqb}
+use Rattle.std.proofs.Common.{◌≡◌, ◌≢◌, ℕ, ◌+◌, ◌<◌, ◌^◌, ◌⊎◌, inl, inr, ⊎_elim, List, [], ◌∷◌, ◌++◌, length, set, sym, refl, ap, ◌∙◌, subst, arith, length-append, length-set, Contains, Option, eqb}
 use mathlib.Core.Option.{some}
 use lib.ListN.{get_elem?}
 use Rattle.atomic_table.specs.Table.{State, Splits}
 use Rattle.atomic_table.proofs.Lists.{at_set, set_here, set_else, at_longer}
-use Rattle.mt_turn.specs.declared.view.Phase.{Phase}
-use Rattle.mt_turn.specs.declared.view.Phase.TheVariants.{Idle, Splits as SplitsOff}
+use Rattle.mt_turn.specs.declared.view.Phase.TheVariants.{Splits as SplitsOff}
 use Rattle.mt_turn.specs.declared.view.Joined.{Joined}
 use Rattle.mt_turn.specs.declared.view.View.{View}
-use Rattle.mt_turn.specs.Views.{entries_of, GoesOn, up_to, giver, newcomer}
-use Rattle.mt_turn.specs.Turning.{IsUnspent, HasTicket, IsServed, tickets, drawn, IsInPhase, out, Knows, Taken, Rooted, AtHome, IsOut, Turning}
-use Rattle.mt_turn.proofs.Facts.{none_made, nil_first, up_to_next, same_between, goes_self}
+use Rattle.mt_turn.specs.Views.{entries_of, up_to, giver, newcomer}
+use Rattle.mt_turn.specs.Turning.{IsUnspent, HasTicket, IsServed, tickets, drawn, Knows, Taken, AtHome, IsOut, Turning}
+use Rattle.mt_turn.proofs.Facts.{none_made, nil_first, up_to_next}
 use Rattle.mt_turn.proofs.Lists.{inside, same_at, at_longer_place, out_set, out_more}
 use Rattle.mt_turn.proofs.Phases.{after_split}
 use Rattle.std.proofs.lemmas.List.Elements.{filter-append}

@@ -1,23 +1,20 @@
 -- Drawing a ticket, and looking at the ticket being served.
 use Rattle.std.proofs.Common.{◌≡◌, ◌≢◌, ℕ, ◌+◌, ◌%◌, ◌^◌, ◌<◌, ◌≤◌, ◌⊎◌, inl, inr, List, [], ◌∷◌, length, get_or, set, sym, refl, ap, ◌∙◌, subst, arith, Option, Some}
 use Rattle.std.proofs.Math.Nat.{mod-add-mod}
-use mathlib.Core.Logic.{dite}
 use mathlib.Core.Option.{some, none}
 use native.Mathlib.Decide.{ℕ_discrete}
 use lib.ListN.{get_elem?}
 use Rattle.atomic_table.specs.Table.{State, Act, keeps, takes, Allows, Valid, stepped, carried_after}
 use Rattle.atomic_table.proofs.Lists.{set_here, one_turn}
-use Rattle.mt_turn.specs.declared.view.Phase.{Phase}
 use Rattle.mt_turn.specs.declared.view.Phase.TheVariants.{Idle, Waits, Holds}
 use Rattle.mt_turn.specs.declared.view.View.{View}
 use Rattle.mt_turn.specs.Views.{entries_of, with_phase}
-use Rattle.mt_turn.specs.Lending.{Lent}
-use Rattle.mt_turn.specs.Turning.{IsUnspent, HasTicket, IsServed, tickets, drawn, IsInPhase, out, Knows, AtHome, IsOut, Turning}
+use Rattle.mt_turn.specs.Turning.{IsUnspent, HasTicket, IsServed, tickets, drawn, Knows, AtHome, IsOut, Turning}
 use Rattle.mt_turn.specs.Steps.{Seated, Draws, Looks}
 use Rattle.mt_turn.proofs.Facts.{goes_self, none_later}
 use Rattle.mt_turn.proofs.Lists.{inside, same_at, out_set, out_le}
 use Rattle.mt_turn.proofs.Phases.{ticket_unspent, served_unspent, ticket_within, served_ticket, after_draw}
-use Rattle.mt_turn.proofs.Moves.{Moves, moved, slot_stays}
+use Rattle.mt_turn.proofs.Moves.{moved, slot_stays}
 
 module _ {E F S : Type 0} (history : S → List E) (number : E → ℕ) (fixed : S → F) (plain : F) where
   abbrev Rule : State (Option S) (View E F) → Type 0

@@ -1,7 +1,6 @@
 -- What each step of a turn tells the seat that makes it. `m` is the seat before, `r` the word that was found, and `m'` the seat after: what it knows, and the slot that it has.
 use Rattle.std.specs.Prelude.{◌≡◌, ◌≢◌, ℕ, ◌+◌, ◌%◌, ◌^◌, List, [], ◌∷◌, length, Option, Some}
 use Rattle.atomic_table.specs.Table.{Me, rest}
-use Rattle.mt_turn.specs.declared.view.Phase.{Phase}
 use Rattle.mt_turn.specs.declared.view.Phase.TheVariants.{Idle, Splits, Waits, Holds, Counted}
 use Rattle.mt_turn.specs.declared.view.View.{View}
 use Rattle.mt_turn.specs.Views.{entries_of, GoesOn, up_to, with_phase}

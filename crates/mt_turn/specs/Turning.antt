@@ -1,11 +1,11 @@
 -- The rule of a turn: what holds of its words, its slot and what its seats know, at every moment.
 -- The words are the next ticket, the ticket being served, the count of entries, and the next seat's number. The slot has the value, or is out with the seat being served.
-use Rattle.std.specs.Prelude.{◌≡◌, ◌≢◌, ℕ, ◌+◌, ◌%◌, ◌^◌, ◌<◌, ◌≤◌, ◌⊎◌, List, [], ◌∷◌, length, Contains, Option, Some}
+use Rattle.std.specs.Prelude.{◌≡◌, ℕ, ◌+◌, ◌%◌, ◌^◌, ◌<◌, ◌≤◌, ◌⊎◌, List, [], ◌∷◌, length, Contains, Option, Some}
 use mathlib.Core.Option.{some, none}
 use lib.ListN.{get_elem?}
 use Rattle.atomic_table.specs.Table.{State}
 use Rattle.mt_turn.specs.declared.view.Phase.{Phase}
-use Rattle.mt_turn.specs.declared.view.Phase.TheVariants.{Idle, Splits, Waits, Holds, Counted, Spent}
+use Rattle.mt_turn.specs.declared.view.Phase.TheVariants.{Splits, Waits, Holds, Counted, Spent}
 use Rattle.mt_turn.specs.declared.view.Joined.{Joined}
 use Rattle.mt_turn.specs.declared.view.View.{View}
 use Rattle.mt_turn.specs.Views.{entries_of, GoesOn, up_to}

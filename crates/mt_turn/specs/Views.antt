@@ -1,7 +1,7 @@
 -- What seats know of a history, and what a split and a join make of it.
 use Rattle.std.specs.Prelude.{◌≡◌, ℕ, zero, suc, ◌+◌, ◌==◌, List, [], ◌∷◌, ◌++◌, length, filter, cond, nat_lt, Option, Some, None}
 use Rattle.mt_turn.specs.declared.view.Phase.{Phase}
-use Rattle.mt_turn.specs.declared.view.Phase.TheVariants.{Idle, Splits, Waits, Holds, Counted, Spent}
+use Rattle.mt_turn.specs.declared.view.Phase.TheVariants.{Idle, Holds, Spent}
 use Rattle.mt_turn.specs.declared.view.Joined.{Joined}
 use Rattle.mt_turn.specs.declared.view.View.{View}
 

@@ -4,10 +4,10 @@ ghost use Rattle.mt_turn.specs.declared.view.Phase.TheVariants.{Idle, Holds};
 ghost use Rattle.mt_turn.specs.Views.{first_view, with_phase, giver, newcomer, taker, up_to};
 ghost use Rattle.mt_turn.specs.Lending.{HasTurn, Lent, Grows, Left, AllJoined, Closes};
 
-use crate::board::Board;
 use crate::held::Held;
 use crate::kept::Kept;
 use crate::seat::{Seat, Turn};
+use crate::turn_table::TurnTable;
 use mt_memory::Memory;
 use std::alloc::Global;
 use std::snapshot::Snapshot;
@@ -31,8 +31,8 @@ impl<T: Kept> Turn<T> {
         ensures ok { IfOk result (λ r. (r.1.home ≡ r.0) × (r.1.view ≡ first_view (T.fixed value))) }
         ensures err { IfErr result (λ e. e.0 ≡ value) }
     {
-        match Board::open(alloc, value) {
-            Ok((board, token)) => Ok((Turn { board }, Seat { token, number: 0 })),
+        match TurnTable::open(alloc, value) {
+            Ok((inner, token)) => Ok((Turn { inner }, Seat { token, number: 0 })),
             Err(failed) => Err(failed),
         }
     }
@@ -48,7 +48,7 @@ impl<T: Kept> Turn<T> {
         ensures comes { result.view ≡ newcomer seat.old.view }
         ensures in_order { seat.new.view.gave ≡ up_to result.view.number }
     {
-        let (token, number) = self.board.split(&mut seat.token);
+        let (token, number) = self.inner.split(&mut seat.token);
         Seat { token, number }
     }
 
@@ -61,7 +61,7 @@ impl<T: Kept> Turn<T> {
         ensures joins { seat.new.view ≡ taker seat.old.view other.view }
     {
         let token = other.into_token();
-        self.board.join(&mut seat.token, token);
+        self.inner.join(&mut seat.token, token);
     }
 
     /// Waits for the turn, and lends the value. What is said holds if it returns.
@@ -73,7 +73,7 @@ impl<T: Kept> Turn<T> {
         ensures lent { Lent T.history T.number T.fixed seat.old.view result.value }
         ensures unchanged { result.value ≡ result.lent }
     {
-        let value = self.board.enter(rt, &mut seat.token);
+        let value = self.inner.enter(rt, &mut seat.token);
         Held {
             lent: Snapshot::of(&value),
             of: Snapshot::of(self),
@@ -99,7 +99,7 @@ impl<T: Kept> Turn<T> {
             of: _,
             count,
         } = held;
-        self.board.leave(&mut seat.token, value, lent, count);
+        self.inner.leave(&mut seat.token, value, lent, count);
     }
 
     /// Gives the value, where every seat that was split off is joined again. It takes no memory.
@@ -111,7 +111,7 @@ impl<T: Kept> Turn<T> {
         ensures history { Closes T.number seat.view (T.history result) }
         ensures fixed { Some (T.fixed result) ≡ seat.view.fixed }
     {
-        let Turn { board } = self;
-        board.close(seat.into_token())
+        let Turn { inner } = self;
+        inner.close(seat.into_token())
     }
 }

@@ -1,7 +1,6 @@
 //! A turn: one value with one history, and seats that take it in turn, each knowing what it has seen and what it added.
 #![tactic(auto)]
 
-mod board;
 mod calls;
 mod held;
 mod kept;
@@ -10,6 +9,7 @@ mod rule;
 mod seat;
 #[cfg(test)]
 mod tests;
+mod turn_table;
 mod view;
 
 pub use held::Held;

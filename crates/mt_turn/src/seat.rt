@@ -2,8 +2,8 @@
 ghost use Rattle.std.specs.Prelude.{◌≡◌};
 ghost use Rattle.mt_turn.specs.Views.{carried_of};
 
-use crate::board::{Board, Token};
 use crate::kept::Kept;
+use crate::turn_table::{Token, TurnTable};
 use std::marker::Model;
 
 /// A seat of a turn. Each thread that is to have the turn has one of its own.
@@ -50,7 +50,7 @@ impl<T: Kept> Drop for Seat<T> {
 /// One value behind a turn. Contracts see it as the name that its seats have as their `home`.
 #[derive(Drop)]
 pub struct Turn<T: Kept> {
-    pub(crate) board: Board<T>,
+    pub(crate) inner: TurnTable<T>,
 }
 
 impl<T: Kept> Model for Turn<T> {
@@ -58,5 +58,5 @@ impl<T: Kept> Model for Turn<T> {
 
     ghost Value = { TableId };
 
-    ghost view = { λ t. t.board.table.shared.table_id };
+    ghost view = { λ t. t.inner.table.shared.table_id };
 }

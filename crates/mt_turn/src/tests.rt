@@ -58,12 +58,7 @@ impl Register {
 }
 
 /// One turn, with an entry or without.
-fn take_turn<R: Wait>(
-    rt: &R,
-    turn: &Turn<Register>,
-    seat: &mut Seat<Register>,
-    item: Option<u32>,
-)
+fn take_turn<R: Wait>(rt: &R, turn: &Turn<Register>, seat: &mut Seat<Register>, item: Option<u32>)
     requires own { seat.old.home ≡ turn.now }
     requires idle { seat.old.view.phase ≡ Idle }
     ensures own { seat.new.home ≡ turn.now }
@@ -79,11 +74,7 @@ fn take_turn<R: Wait>(
 }
 
 /// Takes 400 turns, every second one with an entry.
-fn take_turns<R: Wait>(
-    rt: &R,
-    turn: &Turn<Register>,
-    mut seat: Seat<Register>,
-) -> Seat<Register>
+fn take_turns<R: Wait>(rt: &R, turn: &Turn<Register>, mut seat: Seat<Register>) -> Seat<Register>
     requires own { seat.home ≡ turn.now }
     requires idle { seat.view.phase ≡ Idle }
     ensures own { result.home ≡ turn.now }
@@ -105,6 +96,10 @@ fn three_seats_keep_each_entry_once_and_in_order(rt: HostRuntime) -> Result<(), 
     let Ok((turn, mut first)) = Turn::make(rt.alloc(), register) else {
         panic!(rt; "no memory")
     };
+    let held = turn.enter(&rt, &mut first);
+    let entries = held.value().count();
+    turn.leave(&mut first, held);
+    assert!(rt; entries == 0);
     let second = turn.split(&mut first);
     let third = turn.split(&mut first);
     assert!(rt; first.number() == 0 && second.number() == 1 && third.number() == 2);

@@ -38,7 +38,7 @@ const SLOT: usize = 0;
 
 /// The table behind a turn: four words, and a slot with the value.
 #[derive(Drop)]
-pub(crate) struct Board<T: Kept> {
+pub(crate) struct TurnTable<T: Kept> {
     pub(crate) table: Table<
         Option<T>,
         View<<T as Kept>::Entry, <T as Kept>::Fixed>,
@@ -49,8 +49,8 @@ pub(crate) struct Board<T: Kept> {
     ghost counts: { (table.shared.table_id.words ≡ 4) × (table.shared.table_id.slots ≡ 1) },
 }
 
-impl<T: Kept> Board<T> {
-    pub(crate) fn open(alloc: Global, value: T) -> Result<(Board<T>, Token<T>), (T, Memory)>
+impl<T: Kept> TurnTable<T> {
+    pub(crate) fn open(alloc: Global, value: T) -> Result<(TurnTable<T>, Token<T>), (T, Memory)>
         requires empty { T.history value ≡ [] }
         ensures ok { IfOk result (λ r. (r.1.table_id ≡ r.0.table.shared.table_id) × (r.1.me ≡ (first_view (T.fixed value), []))) }
         ensures err { IfErr result (λ e. e.0 ≡ value) }
@@ -62,7 +62,7 @@ impl<T: Kept> Board<T> {
             return Err((failed.value.unwrap(), Memory));
         }
         match Table::new(alloc, &[0, 0, 0, 1], slots, &about) {
-            Ok((table, token)) => Ok((Board { table }, token)),
+            Ok((table, token)) => Ok((TurnTable { table }, token)),
             Err(Refused { mut slots }) => {
                 let value = slots.pop().unwrap().unwrap();
                 slots.destroy_empty();
@@ -184,7 +184,7 @@ impl<T: Kept> Board<T> {
         ensures history { Closes T.number token.me.0 (T.history result) }
         ensures fixed { Some (T.fixed result) ≡ token.me.0.fixed }
     {
-        let Board { table } = self;
+        let TurnTable { table } = self;
         let mut closed = table.close_with(token);
         let value = closed.take(SLOT).unwrap();
         closed.free();

@@ -1,6 +1,6 @@
-use Rattle.std.proofs.Common.{rules, subst, sym, IsSome}
+use Rattle.std.proofs.Common.{rules}
 use Rattle.mt_turn.proofs.Ends.{ends_some, ends_with}
-use Rattle.mt_turn.proofs.board.Board.close.Goals as goal
+use Rattle.mt_turn.proofs.turn_table.TurnTable.close.Goals as goal
 
 pub unwrap-value-requires : goal.unwrap-value-requires
 unwrap-value-requires g c =

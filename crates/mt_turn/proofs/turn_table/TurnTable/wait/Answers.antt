@@ -1,6 +1,6 @@
 use Rattle.std.proofs.Common.{rules, ap, ◌∙◌}
 use Rattle.mt_turn.proofs.Waiting.{looks}
-use Rattle.mt_turn.proofs.board.Board.wait.Goals as goal
+use Rattle.mt_turn.proofs.turn_table.TurnTable.wait.Goals as goal
 
 pub load-served-requires : goal.load-served-requires
 load-served-requires g c = (

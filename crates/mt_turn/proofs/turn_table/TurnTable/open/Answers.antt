@@ -3,7 +3,7 @@ use Rattle.atomic_table.specs.Table.{opening}
 use Rattle.mt_turn.specs.Views.{first_view}
 use Rattle.mt_turn.specs.Turning.{Turning}
 use Rattle.mt_turn.proofs.Ends.{opens}
-use Rattle.mt_turn.proofs.board.Board.open.Goals as goal
+use Rattle.mt_turn.proofs.turn_table.TurnTable.open.Goals as goal
 
 pub new-requires : goal.new-requires
 new-requires g c =

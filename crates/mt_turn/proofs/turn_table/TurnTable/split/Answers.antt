@@ -1,7 +1,7 @@
-use Rattle.std.proofs.Common.{rules, ◌≡◌, ℕ, ◌+◌, ◌^◌, ◌<◌, length, sym, ap, ◌∙◌, subst}
+use Rattle.std.proofs.Common.{rules, ◌^◌, ◌<◌, length, sym, ap, subst}
 use Rattle.mt_turn.proofs.Numbering.{numbers}
 use Rattle.mt_turn.proofs.Splitting.{splits}
-use Rattle.mt_turn.proofs.board.Board.split.Goals as goal
+use Rattle.mt_turn.proofs.turn_table.TurnTable.split.Goals as goal
 
 pub fetch_add-number-requires : goal.fetch_add-number-requires
 fetch_add-number-requires g c = (search rules, search rules, numbers g.T.Kept.history g.T.Kept.number g.T.Kept.fixed (g.T.Kept.fixed c.args.self.now.table.shared.key.value) _ _ _ c.requires.idle c.requires.first)

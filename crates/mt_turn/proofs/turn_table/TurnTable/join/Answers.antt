@@ -1,6 +1,6 @@
 use Rattle.std.proofs.Common.{rules}
 use Rattle.mt_turn.proofs.Joining.{joins}
-use Rattle.mt_turn.proofs.board.Board.join.Goals as goal
+use Rattle.mt_turn.proofs.turn_table.TurnTable.join.Goals as goal
 
 pub join_seat-requires : goal.join_seat-requires
 join_seat-requires g c = (

@@ -1,9 +1,9 @@
-use Rattle.std.proofs.Common.{rules, ◌≡◌, ℕ, ◌+◌, ◌-◌, ◌∷◌, [], length, sym, ap, ◌∙◌, subst, Some}
+use Rattle.std.proofs.Common.{rules, ◌∷◌, sym, ap, ◌∙◌, subst, Some}
 use Rattle.atomic_table.specs.Table.{rest}
 use Rattle.mt_turn.specs.Lending.{Grows}
 use Rattle.mt_turn.proofs.Serving.{counts}
 use Rattle.mt_turn.proofs.Leaving.{grown_by, put_there, passes_counted, leaves}
-use Rattle.mt_turn.proofs.board.Board.leave.Goals as goal
+use Rattle.mt_turn.proofs.turn_table.TurnTable.leave.Goals as goal
 
 pub fetch_add-requires : goal.fetch_add-requires
 fetch_add-requires g c =
