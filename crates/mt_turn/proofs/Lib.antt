@@ -1,4 +1,4 @@
-mod Facts
+pub mod Facts
 mod Lists
 mod Phases
 mod Moves

@@ -25,7 +25,7 @@ impl<T: Kept> Seat<T> {
 impl<T: Kept> Turn<T> {
     /// A turn over a value with no entry yet, and its first seat, which has the number 0 and has seen nothing.
     ///
-    /// Where memory is wanting, the value comes back.
+    /// `first_view` says what the seat knows. The one error is want of memory, and the value comes back with it.
     pub fn make(alloc: Global, value: T) -> Result<(Turn<T>, Seat<T>), (T, Memory)>
         requires empty { T.history value ≡ [] }
         ensures ok { IfOk result (λ r. (r.1.home ≡ r.0) × (r.1.view ≡ first_view (T.fixed value))) }
@@ -38,6 +38,8 @@ impl<T: Kept> Turn<T> {
     }
 
     /// Splits a seat off the first one, with the next number and with all that the first one has seen. It takes no memory.
+    ///
+    /// The numbers are 1, 2, 3 and so on, at most 2^31 of them. `giver` and `newcomer` say what the two seats know.
     pub fn split(&self, seat: &mut Seat<T>) -> Seat<T>
         requires own { seat.old.home ≡ self.now }
         requires first { seat.old.view.number ≡ 0 }
@@ -53,6 +55,8 @@ impl<T: Kept> Turn<T> {
     }
 
     /// Joins a seat into the first one, which keeps the longer of what the two have seen. It takes no memory.
+    ///
+    /// `taker` says what the first seat knows then: the other's number, seen and mine are among its joined.
     pub fn join(&self, seat: &mut Seat<T>, other: Seat<T>)
         requires own { (seat.old.home ≡ self.now) × (other.home ≡ self.now) }
         requires first { seat.old.view.number ≡ 0 }
@@ -65,6 +69,9 @@ impl<T: Kept> Turn<T> {
     }
 
     /// Waits for the turn, and lends the value. What is said holds if it returns.
+    ///
+    /// `Lent` says how the value stands to what the seat knows: its history begins with what the seat has seen, and no later entry has the seat's number.
+    /// While another seat has the turn the thread sleeps. No clause says that the turn comes.
     pub fn enter<R: Wait>(&self, rt: &R, seat: &mut Seat<T>) -> Held<T>
         requires own { seat.old.home ≡ self.now }
         requires idle { seat.old.view.phase ≡ Idle }
@@ -83,6 +90,8 @@ impl<T: Kept> Turn<T> {
     }
 
     /// Takes the value back, and passes the turn on. It takes no memory.
+    ///
+    /// `Grows` says what history may be left, of at most 2^32 entries, and `Left` what the seat knows then: it has seen all of that history.
     pub fn leave(&self, seat: &mut Seat<T>, held: Held<T>)
         requires own { (seat.old.home ≡ self.now) × (held.home ≡ self.now) }
         requires holds { HasTurn seat.old.view (T.history held.lent) }
@@ -102,7 +111,9 @@ impl<T: Kept> Turn<T> {
         self.inner.leave(&mut seat.token, value, lent, count);
     }
 
-    /// Gives the value, where every seat that was split off is joined again. It takes no memory.
+    /// Gives the value, where every seat that was split off is joined again, as `AllJoined` says. It takes no memory.
+    ///
+    /// `Closes` says what its history is: it begins with what each seat has seen, has each seat's entries and no others.
     pub fn close(self, seat: Seat<T>) -> T
         requires own { seat.home ≡ self }
         requires first { seat.view.number ≡ 0 }

@@ -31,13 +31,14 @@ impl<T: Kept> Model for Held<T> {
 }
 
 impl<T: Kept> Held<T> {
+    /// The value as it is.
     pub fn value(&self) -> &T
         ensures { result.now ≡ self.now.value }
     {
         &self.value
     }
 
-    /// When the borrow ends, the value is what was written through it.
+    /// The value, to be changed. When the borrow ends, it is what was written through it.
     pub fn value_mut(&mut self) -> &mut T
         ensures* writes_back { sem 𝓛 (Lends (the_row T.row T.Entry.row T.Fixed.row T.Kept) T.row self.entry result (λ w. record { home = self.old.home; lent = self.old.lent; value = w })) }
         ensures value { result.now ≡ self.old.value }

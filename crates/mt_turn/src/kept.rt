@@ -17,6 +17,7 @@ pub trait Kept {
     /// The number of the seat that an entry belongs to.
     ghost number: { Self.Entry → ℕ };
 
+    /// The plain data.
     ghost fixed: { Self → Self.Fixed };
 
     /// The number of entries so far.

@@ -71,6 +71,7 @@ impl<T: Kept> TurnTable<T> {
         }
     }
 
+    /// Draws a ticket, and gives its remainder.
     fn draw(&self, token: &mut Token<T>) -> u64
         requires own { token.old.table_id ≡ self.now.table.shared.table_id }
         requires idle { token.old.me.0.phase ≡ Idle }
@@ -80,6 +81,7 @@ impl<T: Kept> TurnTable<T> {
         self.table.shared.fetch_add::<Draw>(token, TICKET, 1)
     }
 
+    /// Takes the value out of the slot that the seat has.
     fn take(&self, token: &mut Token<T>) -> T
         requires own { token.old.table_id ≡ self.now.table.shared.table_id }
         requires taken { (x : T) × (token.old.me.1 ≡ (0, Some x) ∷ rest token.old.me.1) }
@@ -90,7 +92,9 @@ impl<T: Kept> TurnTable<T> {
         self.table.shared.exchange(token, SLOT, None).unwrap()
     }
 
-    /// Looks until the ticket is the one being served, and takes the value. Between looks it sleeps.
+    /// Looks until the ticket is the one being served, and takes the value.
+    ///
+    /// After each look that finds another ticket it sleeps, if the word still has what was read, until a wake.
     fn wait<R: Wait>(&self, rt: &R, token: &mut Token<T>, ticket: u64) -> T
         requires own { token.old.table_id ≡ self.now.table.shared.table_id }
         requires waits { (t : ℕ) × (t % 2 ^ 64 ≡ ticket) × (token.old.me.0.phase ≡ Waits t) }
@@ -121,6 +125,7 @@ impl<T: Kept> TurnTable<T> {
         self.wait(rt, token, ticket)
     }
 
+    /// Puts a value into the slot that the seat has.
     fn put(&self, token: &mut Token<T>, value: T)
         requires own { token.old.table_id ≡ self.now.table.shared.table_id }
         requires empty { token.old.me.1 ≡ (0, None) ∷ rest token.old.me.1 }
@@ -131,6 +136,9 @@ impl<T: Kept> TurnTable<T> {
         let None = was else { unreachable!() };
     }
 
+    /// Puts the value back, counts its entries, and passes the turn on.
+    ///
+    /// It wakes all that sleep, since any of them may have the next ticket.
     pub(crate) fn leave(&self, token: &mut Token<T>, value: T, lent: Snapshot<T>, count: u64)
         requires own { token.old.table_id ≡ self.now.table.shared.table_id }
         requires holds { HasTurn token.old.me.0 (T.history lent.value) }

@@ -19,8 +19,11 @@ pub enum Phase<E> {
 
 /// A seat that was joined into the first one.
 pub struct Joined<E> {
+    /// Its number.
     pub number: u64,
+    /// What it had seen of the history.
     pub seen: LinkedList<E>,
+    /// The entries of its number, in order.
     pub mine: LinkedList<E>,
 }
 
@@ -38,5 +41,6 @@ pub struct View<E, F> {
     pub joined: LinkedList<Joined<E>>,
     /// The plain data of the value. A spent view has none.
     pub fixed: Option<F>,
+    /// Where the seat is on its way through the turn.
     pub phase: Phase<E>,
 }
