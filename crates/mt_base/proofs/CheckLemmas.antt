@@ -1,4 +1,4 @@
-use Rattle.std.proofs.Common.{Ok, Err, ◌≡◌, Bool, true, false, List, [], ◌∷◌, Result, IsOk, refl}
+use Rattle.std.proofs.Common.{Ok, Err, ◌≡◌, Bool, true, false, List, [], ◌∷◌, ◌++◌, map, Result, IsOk, refl, subst}
 use Rattle.std.specs.List.{AllByRecursion}
 use Rattle.std.specs.Prelude.{⊤}
 use Rattle.mt_base.specs.Checks.{check, next, judged}
@@ -29,3 +29,51 @@ answer_is {F = F} (c ∷ cs) x y e = answer_is cs x y (rest_is (check c) e) wher
   rest_is : (r : Result ⊤ F) → next r (judged cs x) ≡ Ok y → judged cs x ≡ Ok y
   rest_is (Ok _) e = e
   rest_is (Err f) e = cc
+
+refused_at_front : {A F : Type 0} (P : F → Type 0) (name : F) (test : Bool) (rest : Result A F) (e : F) → P name → (rest ≡ Err e → P e)
+    → next (check (name, test)) rest ≡ Err e → P e
+unfolding check
+refused_at_front P name true rest e has behind is = behind is
+refused_at_front P name false rest e has behind is = let same : name ≡ e = cc in subst P same has
+
+-- a refusal is that of a check, and so has what each of them has
+pub refused_has : {A F : Type 0} (P : F → Type 0) (cs : List (F × Bool)) (x : A) (e : F) → AllByRecursion (λ c. P c.0) cs → judged cs x ≡ Err e → P e
+refused_has P [] x e all is = cc
+refused_has P (c ∷ cs) x e all is = refused_at_front P c.0 c.1 (judged cs x) e all.0 (refused_has P cs x e all.1) is
+
+-- a last check
+pub next-ok : {F : Type 0} (r : Result ⊤ F) → next r (Ok (tt {0})) ≡ r
+next-ok (Ok _) = refl
+next-ok (Err e) = refl
+
+-- checks behind others are made where those are passed
+pub judged-append : {A F : Type 0} (cs ds : List (F × Bool)) (x : A) → judged (cs ++ ds) x ≡ next (judged cs (tt {0})) (judged ds x)
+judged-append [] ds x = refl
+judged-append {A = A} {F = F} (c ∷ cs) ds x = rw (judged-append cs ds x) (regroup (check c)) where
+  regroup : (r : Result ⊤ F) → next r (next (judged cs (tt {0})) (judged ds x)) ≡ next (next r (judged cs (tt {0}))) (judged ds x)
+  regroup (Ok _) = refl
+  regroup (Err e) = refl
+
+-- the same answer with its refusal renamed
+abbrev pub renamed : {A F G : Type 0} → (F → G) → Result A F → Result A G
+renamed f (Ok x) = Ok x
+renamed f (Err e) = Err (f e)
+
+renamed_at_front : {A F G : Type 0} (f : F → G) (name : F) (test : Bool) (rest : Result A F)
+    → next (check (f name, test)) (renamed f rest) ≡ renamed f (next (check (name, test)) rest)
+unfolding check
+renamed_at_front f name true rest = refl
+renamed_at_front f name false rest = refl
+
+-- checks whose refusals are renamed
+pub judged-map : {A F G : Type 0} (f : F → G) (cs : List (F × Bool)) (x : A) → judged (map (λ c. (f c.0, c.1)) cs) x ≡ renamed f (judged cs x)
+judged-map f [] x = refl
+judged-map f (c ∷ cs) x = rw (judged-map f cs x) (renamed_at_front f c.0 c.1 (judged cs x))
+
+-- what is answered where all checks are passed, and where one is not, whatever stands for the answer
+pub judged-answer : {A F : Type 0} (cs : List (F × Bool)) (x : A) → judged cs x ≡ next (judged cs (tt {0})) (Ok x)
+judged-answer [] x = refl
+judged-answer {A = A} {F = F} (c ∷ cs) x = rw (judged-answer cs x) (regroup (check c)) where
+  regroup : (r : Result ⊤ F) → next r (next (judged cs (tt {0})) (Ok x)) ≡ next (next r (judged cs (tt {0}))) (Ok x)
+  regroup (Ok _) = refl
+  regroup (Err e) = refl

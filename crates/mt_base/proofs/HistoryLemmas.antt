@@ -5,9 +5,9 @@ use Rattle.std.proofs.lemmas.List.Sums.{fold-append}
 use Rattle.std.proofs.lemmas.Option.{slice_get_within}
 use Rattle.std.specs.Prelude.{slice_get, fold}
 use Rattle.mt_base.specs.declared.command.Entry.{Entry}
-use Rattle.mt_base.specs.declared.rules.Rules.{Rules}
 use Rattle.mt_base.specs.History.{IsReplayable, decide, effect, state_of}
 use Rattle.mt_base.specs.Picture.{State, opening}
+use Rattle.mt_base.specs.Tables.{Setup}
 
 -- a place of the front list
 pub slice_get-append_left : {X : Type 0} (xs ys : List X) (i : ℕ) → i < length xs → slice_get (xs ++ ys) i ≡ slice_get xs i
@@ -23,26 +23,26 @@ slice_get-push (z ∷ zs) y zero x e = inl (omega arith)
 slice_get-push (z ∷ zs) y (suc i) x e = ⊎_elim (λ below. inl (omega arith)) (λ (at, is). inr (omega arith, is)) (slice_get-push zs y i x e)
 
 -- one entry more
-pub state_of-push : (h : List Entry) (e : Entry) → state_of (h ++ e ∷ []) ≡ effect (state_of h) e
-state_of-push h e = fold-append effect opening h (e ∷ [])
+pub state_of-push : (setup : Setup) (h : List Entry) (e : Entry) → state_of setup (h ++ e ∷ []) ≡ effect setup (state_of setup h) e
+state_of-push setup h e = fold-append (effect setup) opening h (e ∷ [])
 
 -- the version is the number of entries
-pub version_is : (h : List Entry) → (state_of h).version ≡ length h
-version_is h = from opening h ∙ zero-add (length h) where
-  from : (s : State) (h : List Entry) → (fold effect s h).version ≡ s.version + length h
+pub version_is : (setup : Setup) (h : List Entry) → (state_of setup h).version ≡ length h
+version_is setup h = from opening h ∙ zero-add (length h) where
+  from : (s : State) (h : List Entry) → (fold (effect setup) s h).version ≡ s.version + length h
   from s [] = omega arith
-  from s (e ∷ es) = from (effect s e) es ∙ omega arith
+  from s (e ∷ es) = from (effect setup s e) es ∙ omega arith
 
-pub replayable_prefix : (rules : Rules) (h t : List Entry) → IsReplayable rules (h ++ t) → IsReplayable rules h
-replayable_prefix rules h t replayable i e at =
+pub replayable_prefix : (setup : Setup) (h t : List Entry) → IsReplayable setup (h ++ t) → IsReplayable setup h
+replayable_prefix setup h t replayable i e at =
     let below = slice_get_within h i e at in
     let within : i ≤ length h = omega arith in
     let decided = replayable i e (slice_get-append_left h t i below ∙ at) in
     rw (take-append-le i h t within) at decided
 
-pub replayable_push : (rules : Rules) (h : List Entry) (e : Entry) → IsReplayable rules h → decide rules (state_of h) e.who e.command ≡ Ok e
-    → IsReplayable rules (h ++ e ∷ [])
-replayable_push rules h e replayable decided i f at = ⊎_elim
+pub replayable_push : (setup : Setup) (h : List Entry) (e : Entry) → IsReplayable setup h → decide setup (state_of setup h) e.who e.command ≡ Ok e
+    → IsReplayable setup (h ++ e ∷ [])
+replayable_push setup h e replayable decided i f at = ⊎_elim
     (λ below. let within : i ≤ length h = omega arith in
     rw (take-append-le i h (e ∷ []) within) (replayable i f (sym (slice_get-append_left h (e ∷ []) i below) ∙ at)))
     (λ (last, is). rw (← is, last, take-append_seam h (e ∷ [])) decided)

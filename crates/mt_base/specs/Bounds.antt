@@ -1,12 +1,20 @@
-use Rattle.std.specs.Prelude.{◌≡◌, ℕ, ℤ, pos, neg_ℤ, ◌+ℤ◌, ◌*ℤ◌, ◌<◌, ◌≤◌, ◌+◌, ◌-◌, ◌≤ℤ◌}
+use Rattle.std.specs.Prelude.{◌≡◌, ℕ, ℤ, pos, neg_ℤ, ◌+ℤ◌, ◌*ℤ◌, ◌<◌, ◌≤◌, ◌+◌, ◌-◌, ◌≤ℤ◌, true, List, length, All, IfSome, is_some, Ok}
 use Rattle.mt_base.specs.declared.command.Command.{Command}
-use Rattle.mt_base.specs.declared.command.Command.TheVariants.{External, Drop, Tick}
+use Rattle.mt_base.specs.declared.command.Command.TheVariants.{Plan, External, Drop, Tick}
+use Rattle.mt_base.specs.declared.band.Band.{Band}
+use Rattle.mt_base.specs.declared.flight.Base.{Base}
+use Rattle.mt_base.specs.declared.flight.Course.{Course}
+use Rattle.mt_base.specs.declared.flight.Mark.{Mark}
 use Rattle.mt_base.specs.declared.flight.Path.{Path}
-use Rattle.mt_base.specs.declared.flight.Path.TheVariants.{Outer}
+use Rattle.mt_base.specs.declared.flight.Path.TheVariants.{Planned, Outer}
 use Rattle.mt_base.specs.declared.flight.Record.{Record}
 use Rattle.mt_base.specs.declared.flight.Straight.{Straight}
+use Rattle.mt_base.specs.declared.place.Point.{Point}
 use Rattle.mt_base.specs.declared.row.Row.{Row}
 use Rattle.mt_base.specs.declared.rules.Rules.{Rules}
+use Rattle.mt_base.specs.Checks.{judged}
+use Rattle.mt_base.specs.History.{route_checks}
+use Rattle.mt_base.specs.Tables.{Setup, Tables, bands_of}
 
 -- at least `low` and at most `high`
 pub record IsWithin (low high z : ℤ) : Type 0 where
@@ -40,14 +48,65 @@ pub record IsBoundedStretch (stretch : Straight) : Type 0 where
   pub kept : IsBoundedOver stretch.first (stretch.to - stretch.from)
   pub no_leg : stretch.first.leg ≡ 0
 
--- the numbers of a path, of a flight and of a command are within their bounds
-abbrev pub IsBoundedPath : Path → Type 0
-IsBoundedPath (Outer stretch) = IsBoundedStretch stretch
+-- a position in the plane, and a height up to flight level 600
+abbrev pub IsInPlane : ℤ → ℤ → Type 0
+IsInPlane x y = IsWithin (neg_ℤ (pos 3686400)) (pos 3686400) x × IsWithin (neg_ℤ (pos 3686400)) (pos 3686400) y
 
-abbrev pub IsBoundedFlight : Record → Type 0
-IsBoundedFlight flight = IsBoundedPath flight.path
+abbrev pub IsHeight : ℤ → Type 0
+IsHeight z = IsWithin (pos 0) (pos 3600000) z
 
+-- The numbers of a band: a flight level of 1 to 600, 1 to 1,000 knots, and rates of 1 to 10,000 feet a minute.
+pub record IsBoundedBand (b : Band) : Type 0 where
+  pub top : (1 ≤ b.top) × (b.top ≤ 600)
+  pub speed : IsWithin (pos 1) (pos 1000) b.speed
+  pub climb : IsWithin (pos 1) (pos 10000) b.climb
+  pub descent : IsWithin (pos 1) (pos 10000) b.descent
+
+-- Bands of a type: 1 to 8 of them.
+pub record AreBoundedBands (bands : List Band) : Type 0 where
+  pub some : 1 ≤ length bands
+  pub few : length bands ≤ 8
+  pub each : All IsBoundedBand bands
+
+-- each fix of the tables lies in the plane, and each type has bounded bands
+pub record AreBoundedTables (tables : Tables) : Type 0 where
+  pub fixes : All (λ (fix : List ℕ × Point). IsInPlane fix.1.x fix.1.y) tables.fixes
+  pub types : All (λ (kind : List ℕ × List Band). AreBoundedBands kind.1) tables.types
+
+-- A base is right for rules and a route of so many names: it begins by second 10,000,000, in the plane, with margins up to the greatest,
+-- and flies to a place of the route.
+pub record IsRightBase (rules : Rules) (names : ℕ) (base : Base) : Type 0 where
+  pub early : base.at ≤ 10000000
+  pub plane : IsInPlane base.x base.y
+  pub height : IsHeight base.z
+  pub r : IsWithin (pos 0) rules.rmax base.r
+  pub w : IsWithin (pos 0) rules.wmax base.w
+  pub next : base.next < names
+
+pub record IsRightMark (rules : Rules) (names : ℕ) (mark : Mark) : Type 0 where
+  pub base : IsRightBase rules names mark.base
+  pub level : mark.level ≤ 600
+
+-- A course is sound for rules and tables: its type and its fixes are known, it has 2 to 64 of them, no two neighbours equal, its level and
+-- its base are right, and so is its tentative clearance.
+pub record IsSoundCourse (setup : Setup) (course : Course) : Type 0 where
+  pub kind : is_some (bands_of setup.tables course.kind) ≡ true
+  pub route : judged (route_checks setup.tables course.route) (tt {0}) ≡ Ok (tt {0})
+  pub level : course.level ≤ 600
+  pub base : IsRightBase setup.rules (length course.route) course.base
+  pub mark : IfSome course.mark (IsRightMark setup.rules (length course.route))
+
+-- a path and a flight are sound for rules and tables
+abbrev pub IsSoundPath : Setup → Path → Type 0
+IsSoundPath setup (Planned course) = IsSoundCourse setup course
+IsSoundPath setup (Outer stretch) = IsBoundedStretch stretch
+
+abbrev pub IsSoundFlight : Setup → Record → Type 0
+IsSoundFlight setup flight = IsSoundPath setup flight.path
+
+-- the numbers of a command are within their bounds
 abbrev pub IsBoundedCommand : Command → Type 0
+IsBoundedCommand (Plan call kind route at from level) = (at ≤ 10000000) × (from ≤ 600) × (level ≤ 600)
 IsBoundedCommand (External call straight) = IsBoundedStretch straight
 IsBoundedCommand (Drop call) = Unit {0}
 IsBoundedCommand (Tick now) = now ≤ 10000000

@@ -7,6 +7,9 @@ pub mod Loss
 pub mod Name
 pub mod Padded
 pub mod Picture
+pub mod Predictor
 pub mod Rules
+pub mod Tables
 pub mod Tally
 pub mod Trajectory
+pub mod View

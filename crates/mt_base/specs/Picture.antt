@@ -1,5 +1,7 @@
-use Rattle.std.specs.Prelude.{◌≡◌, ◌≢◌, ℕ, ◌+◌, List, [], ◌∷◌, AllPairs, Contains, ◌↔◌}
+use Rattle.std.specs.Prelude.{◌≡◌, ◌≢◌, ℕ, ◌+◌, List, [], ◌∷◌, Option, find, AllPairs, Contains, ◌↔◌}
+use Rattle.std.specs.Str.{bytes_eq}
 use Rattle.std.specs.List.{flat_map}
+use Rattle.std.specs.Option.{option_map_or}
 use Rattle.std.specs.List.Sorted.{IsStrictlySortedBy}
 use Rattle.std.specs.Cmp.Lexicographic.{slice_cmp}
 use Rattle.std.specs.Ordering.{nat_cmp, ordering_then}
@@ -9,10 +11,14 @@ use Rattle.mt_base.specs.declared.conflict.Conflict.{Conflict}
 use Rattle.mt_base.specs.declared.conflict.Kind.{Kind}
 use Rattle.mt_base.specs.declared.conflict.Kind.TheVariants.{Actual, Tentative}
 use Rattle.mt_base.specs.declared.flight.Path.{Path}
-use Rattle.mt_base.specs.declared.flight.Path.TheVariants.{Outer}
+use Rattle.mt_base.specs.declared.flight.Course.{Course}
+use Rattle.mt_base.specs.declared.flight.Mark.{Mark}
+use Rattle.mt_base.specs.declared.flight.Path.TheVariants.{Planned, Outer}
 use Rattle.mt_base.specs.declared.flight.Record.{Record}
 use Rattle.mt_base.specs.declared.rules.Rules.{Rules}
 use Rattle.mt_base.specs.Conflict.{IsSpanOfLoss}
+use Rattle.mt_base.specs.Predictor.{flown}
+use Rattle.mt_base.specs.Tables.{Setup}
 use Rattle.mt_base.specs.Trajectory.{Trajectory, straight}
 
 -- The state of a picture: its moment, its flights in the order of filing, and its version.
@@ -25,6 +31,10 @@ pub record State : Type 0 where
 abbrev pub opening : State
 opening = record { now = 0; records = []; version = 0 }
 
+-- the flight of that callsign
+abbrev pub flight_of : List Record → List ℕ → Option Record
+flight_of flights call = find (λ flight. bytes_eq flight.call call) flights
+
 -- no two of these flights have one callsign
 abbrev pub HaveOwnCalls : List Record → Type 0
 HaveOwnCalls flights = AllPairs (λ f g. f.call ≢ g.call) flights
@@ -35,16 +45,28 @@ pub record NamedTrajectory : Type 0 where
   pub kind : Kind
   pub path : Trajectory
 
-abbrev pub trajectory_of : Path → Trajectory
-trajectory_of (Outer stretch) = straight stretch
+-- the trajectory that a flight flies, and the one of a tentative clearance
+abbrev pub trajectory_of : Setup → Path → Trajectory
+trajectory_of setup (Planned course) = flown setup course.kind course.route course.base course.level
+trajectory_of setup (Outer stretch) = straight stretch
 
--- the trajectories of a flight: the one that it flies
-abbrev pub trajectories_of : Record → List NamedTrajectory
-trajectories_of flight = record { call = flight.call; kind = Actual; path = trajectory_of flight.path } ∷ []
+abbrev pub trajectory_marked : Setup → Course → Mark → Trajectory
+trajectory_marked setup course mark = flown setup course.kind course.route mark.base mark.level
+
+-- the tentative trajectory of a flight that has a tentative clearance
+abbrev pub tentative_of : Setup → List ℕ → Path → List NamedTrajectory
+tentative_of setup call (Outer stretch) = []
+tentative_of setup call (Planned course) =
+    option_map_or (λ mark. record { call = call; kind = Tentative; path = trajectory_marked setup course mark } ∷ []) course.mark []
+
+-- the trajectories of a flight: the one that it flies, and its tentative one
+abbrev pub trajectories_of : Setup → Record → List NamedTrajectory
+trajectories_of setup flight =
+    record { call = flight.call; kind = Actual; path = trajectory_of setup flight.path } ∷ tentative_of setup flight.call flight.path
 
 -- all trajectories of a picture
-abbrev pub trajectories : State → List NamedTrajectory
-trajectories s = flat_map trajectories_of s.records
+abbrev pub trajectories : Setup → State → List NamedTrajectory
+trajectories setup s = flat_map (trajectories_of setup) s.records
 
 -- The window: the 1,200 seconds from the moment.
 abbrev pub window_end : ℕ → ℕ
@@ -83,5 +105,5 @@ pub record IsPublishedOf (rules : Rules) (now : ℕ) (all : List NamedTrajectory
   pub sorted : IsStrictlySortedBy conflict_cmp cs
 
 -- what is published of a state
-abbrev pub IsPublished : Rules → State → List Conflict → Type 0
-IsPublished rules s cs = IsPublishedOf rules s.now (trajectories s) cs
+abbrev pub IsPublished : Setup → State → List Conflict → Type 0
+IsPublished setup s cs = IsPublishedOf setup.rules s.now (trajectories setup s) cs

@@ -1,11 +1,34 @@
+ghost use Rattle.std.specs.Prelude.{◌≡◌, IfOk};
+ghost use Rattle.mt_base.specs.History.{call_of};
+
 use crate::callsign::Callsign;
+use crate::fix_name::FixName;
 use crate::flight::Straight;
 use crate::list::Listed;
+use crate::route::{Route, RouteNo};
 use crate::row::Second;
+use crate::type_name::TypeName;
+use mt_memory::Memory;
+use std::alloc::Global;
 
 /// A change of the picture that is asked for.
-#[derive(Clone, Copy, PartialEq, Eq)]
+#[derive(Drop)]
 pub enum Command {
+    /// File a planned flight.
+    Plan {
+        /// Its callsign.
+        call: Callsign,
+        /// The aircraft's type.
+        kind: TypeName,
+        /// The fixes that it flies along.
+        route: Route,
+        /// The second at which it is at the first of them.
+        at: Second,
+        /// The flight level that it has then.
+        from: u32,
+        /// The flight level that it is cleared to.
+        level: u32,
+    },
     /// File an external flight.
     External {
         /// Its callsign.
@@ -25,13 +48,67 @@ pub enum Command {
     },
 }
 
+impl Command {
+    /// The callsign that it names; a tick names none.
+    pub fn call(&self) -> Option<Callsign>
+        ensures { result ≡ call_of self.now }
+    {
+        match self {
+            Command::Plan { call, .. } | Command::External { call, .. } | Command::Drop { call } =>
+                Some(*call),
+            Command::Tick { .. } => None,
+        }
+    }
+
+    /// The same command once more.
+    pub fn copy(&self, alloc: Global) -> Result<Command, Memory>
+        ensures { IfOk result (λ command. command ≡ self.now) }
+    {
+        match self {
+            Command::Plan {
+                call,
+                kind,
+                route,
+                at,
+                from,
+                level,
+            } => Ok(Command::Plan {
+                call: *call,
+                kind: *kind,
+                route: route.copy(alloc)?,
+                at: *at,
+                from: *from,
+                level: *level,
+            }),
+            Command::External { call, straight } => Ok(Command::External {
+                call: *call,
+                straight: *straight,
+            }),
+            Command::Drop { call } => Ok(Command::Drop { call: *call }),
+            Command::Tick { now } => Ok(Command::Tick { now: *now }),
+        }
+    }
+}
+
 /// A command that was entered into the history.
-#[derive(Clone, Copy, PartialEq, Eq)]
+#[derive(Drop)]
 pub struct Entry {
     /// The number of the actor that asked for it.
     pub who: u32,
     /// The command.
     pub command: Command,
+}
+
+impl Entry {
+    /// The same entry once more.
+    pub fn copy(&self, alloc: Global) -> Result<Entry, Memory>
+        ensures { IfOk result (λ entry. entry ≡ self.now) }
+    {
+        Ok(Entry {
+            who: self.who,
+            command: self.command.copy(alloc)?,
+        })
+    }
 }
 
 /// Entries, seen as their list.
@@ -51,10 +128,37 @@ pub enum Refusal {
     HeldCall,
     /// No flight of that callsign is in the picture.
     UnknownCall(Callsign),
+    /// No type has that name.
+    UnknownType(TypeName),
+    /// No fix has that name; of a route it is the first such.
+    UnknownFix(FixName),
+    /// The route has fewer than two names.
+    RouteShort,
+    /// The route has more than 64 names.
+    RouteLong,
+    /// Two neighbours of the route are equal.
+    RouteTwice,
+    /// A level is above the ceiling of the aircraft's type.
+    Ceiling,
     /// As many flights are held as the rule `flights` says.
     Full,
     /// As many entries are held as the rule `history` says.
     HistoryFull,
     /// The new moment is not above the moment now.
     Backward,
+}
+
+impl From<RouteNo> for Refusal {
+    ghost use Rattle.mt_base.specs.History.{refusal_of};
+
+    ghost from_gives = { λ no refusal. refusal ≡ refusal_of no };
+
+    fn from(no: RouteNo) -> Refusal {
+        match no {
+            RouteNo::UnknownFix(name) => Refusal::UnknownFix(name),
+            RouteNo::Short => Refusal::RouteShort,
+            RouteNo::Long => Refusal::RouteLong,
+            RouteNo::Twice => Refusal::RouteTwice,
+        }
+    }
 }

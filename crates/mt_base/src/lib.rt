@@ -3,31 +3,41 @@
 //! Units are whole: 1/3600 of a nautical mile horizontally, 1/60 of a foot vertically, and seconds.
 #![tactic(auto)]
 
+mod band;
 mod callsign;
 mod checks;
 mod command;
 mod conflict;
+mod fix_name;
 mod flight;
 mod laws;
 mod list;
 mod name;
+mod place;
+mod route;
 mod row;
 mod rules;
 mod tally;
 #[cfg(test)]
 mod tests;
+mod type_name;
 mod words;
 
+pub use band::{Band, Bands};
 pub use callsign::Callsign;
 pub use checks::must;
 pub use command::{Command, Entered, Entries, Entry, Refusal};
 pub use conflict::{Conflict, Conflicts, Kind};
-pub use flight::{Path, Record, Straight};
+pub use fix_name::FixName;
+pub use flight::{Base, Course, FlightView, Mark, Path, Record, Report, Straight, Tent};
 pub use laws::{history_laws, one_published_list_law};
 pub use list::Listed;
 pub use mt_memory::Memory;
 pub use name::Name;
+pub use place::{Leg, Place, Point};
+pub use route::{Route, RouteNo};
 pub use row::{Row, Second};
 pub use rules::{RuleName, Rules};
 pub use tally::Tally;
+pub use type_name::TypeName;
 pub use words::Words;

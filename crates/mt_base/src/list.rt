@@ -1,4 +1,4 @@
-ghost use Rattle.std.specs.Prelude.{◌≡◌, [], ◌∷◌, ◌++◌, ◌<◌, List, length, OnOk, OnErr};
+ghost use Rattle.std.specs.Prelude.{◌≡◌, [], ◌∷◌, ◌++◌, ◌<◌, List, length, IfOk, OnOk, OnErr};
 
 use mt_memory::Memory;
 use std::alloc::Global;
@@ -45,10 +45,29 @@ impl<T: Drop> Listed<T> {
         self.values.truncate(self.values.len() - 1);
     }
 
+    /// Its last value.
+    pub fn last(&self) -> &T
+        requires { 0 < length self.now }
+        ensures { (front : List T) (value : T) → self.now ≡ front ++ value ∷ [] → result.now ≡ value }
+    {
+        &self.values[self.values.len() - 1]
+    }
+
     /// Its values, in order.
     pub fn items(&self) -> &[T]
         ensures { result.now ≡ self.now }
     {
         &self.values
+    }
+}
+
+impl<T: Copy + Drop> Listed<T> {
+    /// The same list once more.
+    pub fn copy(&self, alloc: Global) -> Result<Listed<T>, Memory>
+        ensures { IfOk result (λ list. list ≡ self.now) }
+    {
+        let mut values = Vec::new(alloc);
+        values.extend_from_slice(&self.values)?;
+        Ok(Listed { values })
     }
 }

@@ -15,7 +15,7 @@ use std::marker::Model;
 const LONGEST: usize = 7;
 
 /// One to seven capital letters and digits, seen as their list.
-#[derive(Clone, Copy)]
+#[derive(Clone, Copy, Hash)]
 pub struct Name {
     letters: [u8; LONGEST],
     len: usize,

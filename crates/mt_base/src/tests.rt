@@ -1,7 +1,8 @@
 use crate::{
-    Callsign, Conflict, Conflicts, Kind, RuleName, Rules, Words, history_laws,
-    one_published_list_law,
+    Base, Callsign, Command, Conflict, Conflicts, Course, Entry, FixName, Kind, Path, Record,
+    Route, RuleName, Rules, TypeName, Words, history_laws, one_published_list_law,
 };
+use std::alloc::Global;
 use std::test::Fail;
 
 #[test]
@@ -24,6 +25,86 @@ fn callsigns_are_one_to_seven_capitals_and_digits(rt: HostRuntime) -> Result<(),
             assert!(rt; call.bytes() == text);
         }
     }
+    Ok(())
+}
+
+#[test]
+fn fixes_and_types_have_short_names(rt: HostRuntime) -> Result<(), Fail> {
+    let cases: [(&[u8], bool, bool); 7] = [
+        (b"Q", false, false),
+        (b"Q0", true, true),
+        (b"JA1X", true, true),
+        (b"JA1XY", true, false),
+        (b"JA1XYZ", false, false),
+        (b"q0", false, false),
+        (b"Q-", false, false),
+    ];
+    for (text, is_fix, is_type) in cases {
+        let fix = FixName::of(text);
+        let kind = TypeName::of(text);
+        assert_eq!(rt; (fix.is_some(), kind.is_some()), (is_fix, is_type));
+        assert!(rt; fix.is_none_or(|name| name.bytes() == text));
+        assert!(rt; kind.is_none_or(|name| name.bytes() == text));
+    }
+    Ok(())
+}
+
+/// A route of two fixes.
+fn route(alloc: Global) -> Result<Route, Fail> {
+    let mut route = Route::make(alloc)?;
+    route.push(FixName::of(b"Q0").ok_or("no fix name")?)?;
+    route.push(FixName::of(b"Q1").ok_or("no fix name")?)?;
+    Ok(route)
+}
+
+#[test]
+fn copies_have_the_same_route(rt: HostRuntime) -> Result<(), Fail> {
+    let alloc = rt.alloc();
+    let call = Callsign::of(b"DDD1").ok_or("no callsign")?;
+    let kind = TypeName::of(b"JA1").ok_or("no type name")?;
+    let entry = Entry {
+        who: 2,
+        command: Command::Plan {
+            call,
+            kind,
+            route: route(alloc)?,
+            at: 7,
+            from: 350,
+            level: 360,
+        },
+    };
+    let copy = entry.copy(alloc)?;
+    assert!(rt; copy.who == 2 && copy.command.call() == Some(call));
+    let Command::Plan { route: names, .. } = &copy.command else {
+        return Err(Fail::from("another command"));
+    };
+    assert!(rt; names.items() == route(alloc)?.items());
+    let record = Record {
+        call,
+        path: Path::Planned(Course {
+            kind,
+            route: route(alloc)?,
+            base: Base {
+                at: 7,
+                x: 0,
+                y: 0,
+                z: 2_100_000,
+                r: 0,
+                w: 0,
+                next: 1,
+            },
+            level: 360,
+            last: None,
+            due: false,
+            mark: None,
+        }),
+    };
+    let copy = record.copy(alloc)?;
+    let Path::Planned(course) = &copy.path else {
+        return Err(Fail::from("another path"));
+    };
+    assert!(rt; copy.call == call && course.kind == kind && course.base.at == 7);
+    assert!(rt; course.route.items() == route(alloc)?.items());
     Ok(())
 }
 
