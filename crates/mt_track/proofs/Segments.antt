@@ -8,7 +8,7 @@ use Rattle.mt_track.specs.Rows.{row_after}
 use Rattle.mt_track.proofs.Straight.{length-straight_rows, slice_get-straight_rows}
 
 -- a place of the list behind another
-slice_get-append_right : {X : Type 0} (xs ys : List X) (i j : ℕ) → i ≡ length xs + j → slice_get (xs ++ ys) i ≡ slice_get ys j
+pub slice_get-append_right : {X : Type 0} (xs ys : List X) (i j : ℕ) → i ≡ length xs + j → slice_get (xs ++ ys) i ≡ slice_get ys j
 slice_get-append_right [] ys i j e = ap (slice_get ys) (e ∙ omega arith)
 slice_get-append_right (x ∷ xs) ys zero j e = absurd (omega arith)
 slice_get-append_right (x ∷ xs) ys (suc i) j e = slice_get-append_right xs ys i j (omega arith)
@@ -30,7 +30,7 @@ some_segment from to [] lie longer = absurd (omega (arith, lie))
 some_segment from to (s ∷ ss) lie longer = omega arith
 
 -- no segment begins before the first
-edge_from : (from to : ℕ) (ss : List Segment) (i : ℕ) → Adjoin from ss to → from ≤ edge from ss i
+pub edge_from : (from to : ℕ) (ss : List Segment) (i : ℕ) → Adjoin from ss to → from ≤ edge from ss i
 edge_from from to ss zero lie = omega arith
 edge_from from to [] (suc i) lie = omega arith
 edge_from from to (s ∷ ss) (suc i) lie = let later = edge_from s.to to ss i lie.2 in omega (arith, later)

@@ -8,5 +8,5 @@ mod strand;
 mod tests;
 
 pub use roster::{Item, Roster};
-pub use segment::Segment;
+pub use segment::{Segment, later};
 pub use strand::Strand;

@@ -1,4 +1,4 @@
-ghost use Rattle.std.specs.Prelude.{◌≡◌, pos, neg_ℤ, ◌+ℤ◌, ◌*ℤ◌};
+ghost use Rattle.std.specs.Prelude.{◌≡◌, ◌↔◌, ◌-◌, ◌≤◌, pos, neg_ℤ, ◌+ℤ◌, ◌*ℤ◌, IsTrue};
 ghost use Rattle.mt_base.specs.Bounds.{IsBoundedOver, IsWithin};
 ghost use Rattle.mt_track.specs.Rows.{row_after};
 
@@ -25,7 +25,7 @@ fn moved(value: i64, gain: i64, seconds: u32) -> i64
 }
 
 /// The row that many seconds later, with the same gains.
-pub(crate) fn later(first: &Row, seconds: u32) -> Row
+pub fn later(first: &Row, seconds: u32) -> Row
     requires { IsBoundedOver first.now seconds }
     ensures { result ≡ row_after first.now seconds }
 {
@@ -37,4 +37,13 @@ pub(crate) fn later(first: &Row, seconds: u32) -> Row
         w: moved(first.w, first.gw, seconds),
         ..*first
     }
+}
+
+/// Whether a row is the next one of a segment: its gains and its leg are the same, and each value goes on.
+pub(crate) fn goes_on(segment: &Segment, row: &Row) -> bool
+    requires kept { IsBoundedOver segment.now.first (segment.now.to - segment.now.from) }
+    requires ordered { segment.now.from ≤ segment.now.to }
+    ensures { IsTrue result ↔ (row.now ≡ row_after segment.now.first (segment.now.to - segment.now.from)) }
+{
+    *row == later(&segment.first, segment.to - segment.from)
 }

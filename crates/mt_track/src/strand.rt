@@ -3,7 +3,7 @@ ghost use Rattle.mt_base.specs.Bounds.{IsBoundedRow, IsBoundedStretch};
 ghost use Rattle.mt_base.specs.Trajectory.{row_at, straight};
 ghost use Rattle.mt_track.specs.Laid.{Adjoin, IsStrand, Follows, Holds, all_rows, extended};
 
-use crate::segment::{Segment, later};
+use crate::segment::{Segment, goes_on, later};
 use mt_base::{Memory, Row, Second, Straight};
 use std::alloc::Global;
 use std::marker::Model;
@@ -51,6 +51,27 @@ impl Strand {
     {
         self.segments.push(segment)?;
         self.end = segment.to;
+        Ok(())
+    }
+
+    /// Puts the rows of a segment behind those of the strand: into its last segment where they go on from it with the same gains and leg,
+    /// else as a segment of their own. On an error the strand stays as it was.
+    pub fn add(&mut self, segment: Segment) -> Result<(), Memory>
+        requires { Follows self.old segment }
+        ensures ok { OnOk result (self.new ≡ extended self.old segment) }
+        ensures err { OnErr result (self.new ≡ self.old) }
+    {
+        let count = self.segments.len();
+        if count == 0 {
+            return self.push(segment);
+        }
+        let last = self.segments[count - 1];
+        if !goes_on(&last, &segment.first) {
+            return self.push(segment);
+        }
+        let to = segment.to;
+        self.segments[count - 1].to = to;
+        self.end = to;
         Ok(())
     }
 
