@@ -1,0 +1,37 @@
+-- What may be added to the tables, and the tables with it.
+use Rattle.std.specs.Prelude.{◌≡◌, ℕ, Bool, true, List, [], ◌∷◌, ◌++◌, length, not, ◌&&◌, is_some, nat_lt, Result, Ok, Err, ⊤}
+use Rattle.mt_base.specs.declared.band.Band.{Band}
+use Rattle.mt_base.specs.declared.place.Point.{Point}
+use Rattle.mt_base.specs.Tables.{Tables, bands_of, fix_of}
+use Rattle.mt_tables.specs.declared.add_no.AddNo.{AddNo}
+use Rattle.mt_tables.specs.declared.add_no.AddNo.TheVariants.{Taken, Bands, Full, Memory}
+
+-- the tops of bands rise strictly
+abbrev pub tops_rise : List Band → Bool
+tops_rise [] = true
+tops_rise (b ∷ []) = true
+tops_rise (b ∷ c ∷ bs) = nat_lt b.top c.top && tops_rise (c ∷ bs)
+
+-- What is checked before a fix is added: that its name is new, and that fewer than 20,000 fixes stand.
+abbrev pub fix_adding : Tables → List ℕ → List (AddNo × Bool)
+fix_adding tables name = (Taken, not (is_some (fix_of tables name))) ∷ (Full, nat_lt (length tables.fixes) 20000) ∷ []
+
+-- What is checked before a type is added: that its name is new, that its bands rise, and that fewer than 1,000 types stand.
+abbrev pub type_adding : Tables → List ℕ → List Band → List (AddNo × Bool)
+type_adding tables name bands =
+    (Taken, not (is_some (bands_of tables name))) ∷ (Bands, tops_rise bands) ∷ (Full, nat_lt (length tables.types) 1000) ∷ []
+
+-- the tables with one pair more
+abbrev pub with_fix : Tables → List ℕ → Point → Tables
+with_fix tables name point = record { fixes = tables.fixes ++ (name, point) ∷ []; types = tables.types }
+
+abbrev pub with_type : Tables → List ℕ → List Band → Tables
+with_type tables name bands = record { fixes = tables.fixes; types = tables.types ++ (name, bands) ∷ [] }
+
+-- An answer is what the checks say. Want of memory comes only where all of them are passed.
+abbrev pub Answers : Result ⊤ AddNo → Result ⊤ AddNo → Type 0
+Answers checked (Ok _) = checked ≡ Ok (tt {0})
+Answers checked (Err Taken) = checked ≡ Err Taken
+Answers checked (Err Bands) = checked ≡ Err Bands
+Answers checked (Err Full) = checked ≡ Err Full
+Answers checked (Err Memory) = checked ≡ Ok (tt {0})
