@@ -1,0 +1,13 @@
+pub mod Aboard
+pub mod Bounds
+pub mod Casts
+pub mod Durations
+pub mod Gains
+pub mod Legs
+pub mod Margins
+pub mod Reading
+pub mod Remains
+pub mod Routes
+pub mod Rows
+pub mod Sound
+pub mod Steadiness

@@ -1,0 +1,55 @@
+use Rattle.std.proofs.Common.{◌-◌, length, refl, arith}
+use Rattle.mt_predict.specs.Manners.{manner}
+use Rattle.mt_predict.proofs.Legs.{IsNext, first_bounded, margin_within, place_flown, rows_flown, stretch_bounded, stretch_flown, stretch_follows}
+use Rattle.mt_predict.proofs.fly.fly_leg.Goals as goal
+
+pub row_on-row-requires-clause-bounded : goal.row_on-row-requires-clause-bounded
+row_on-row-requires-clause-bounded c = first_bounded _ _ _ _ (omega (arith, c.loop-left-test.true)) c.loop-left.invariant.bounded
+
+pub steady-seconds-requires-clause-r_kept : goal.steady-seconds-requires-clause-r_kept
+steady-seconds-requires-clause-r_kept c =
+    margin_within _ _ _ _ _ c.row_on-row.ensures (first_bounded _ _ _ _ (omega (arith, c.loop-left-test.true)) c.loop-left.invariant.bounded)
+
+pub add-requires : goal.add-requires
+add-requires c =
+    let m = manner c.args.rules.now c.args.bands.now c.args.level in
+    let next : IsNext m c.args.leg.now (c.args.leg.now.seconds - c.min.result) c.loop-left.left c.loop-left.place c.row_on-row.result c.steady-seconds.result = record {
+      is = c.row_on-row.ensures;
+      steady = c.steady-seconds.ensures.steady m c.loop-left.place refl c.row_on-row.ensures;
+      some = c.steady-seconds.ensures.some;
+      few = c.steady-seconds.ensures.within;
+    } in
+    stretch_follows c.end-begin.result (14400 - length c.args.strand.now.rows) c.loop-left.invariant next c.end-begin.ensures.end c.requires.early
+    (omega (arith, c.end.ensures.kept.short)) (omega (arith, c.min.ensures, c.start.ensures, c.end.ensures.end))
+
+pub place_at-place-requires : goal.place_at-place-requires
+place_at-place-requires c =
+    let m = manner c.args.rules.now c.args.bands.now c.args.level in
+    let next : IsNext m c.args.leg.now (c.args.leg.now.seconds - c.min.result) c.loop-left.left c.loop-left.place c.row_on-row.result c.steady-seconds.result = record {
+      is = c.row_on-row.ensures;
+      steady = c.steady-seconds.ensures.steady m c.loop-left.place refl c.row_on-row.ensures;
+      some = c.steady-seconds.ensures.some;
+      few = c.steady-seconds.ensures.within;
+    } in
+    stretch_bounded next c.loop-left.invariant.bounded
+
+pub loop-left-preserved : goal.loop-left-preserved
+loop-left-preserved c =
+    let m = manner c.args.rules.now c.args.bands.now c.args.level in
+    let next : IsNext m c.args.leg.now (c.args.leg.now.seconds - c.min.result) c.loop-left.left c.loop-left.place c.row_on-row.result c.steady-seconds.result = record {
+      is = c.row_on-row.ensures;
+      steady = c.steady-seconds.ensures.steady m c.loop-left.place refl c.row_on-row.ensures;
+      some = c.steady-seconds.ensures.some;
+      few = c.steady-seconds.ensures.within;
+    } in
+    stretch_flown c.end-begin.result c.loop-left.invariant next c.in_ok-add.ensures.ok c.place_at-place.ensures
+
+pub returns-clause-rows : goal.returns-clause-rows
+returns-clause-rows c =
+    rows_flown (14400 - length c.args.strand.now.rows) c.loop-left.invariant (omega (arith, c.loop-left-test.false)) (omega (arith, c.end.ensures.kept.short))
+    (omega (arith, c.min.ensures, c.start.ensures, c.end.ensures.end))
+
+pub returns-clause-place : goal.returns-clause-place
+returns-clause-place c = λ more.
+    place_flown (14400 - length c.args.strand.now.rows) c.loop-left.invariant (omega (arith, c.loop-left-test.false)) (omega (arith, c.end.ensures.kept.short))
+    (omega (arith, c.min.ensures, c.start.ensures, c.end.ensures.end)) more

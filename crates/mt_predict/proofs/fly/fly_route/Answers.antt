@@ -1,0 +1,52 @@
+use Rattle.std.proofs.Common.{pos, get_or, arith}
+use Rattle.mt_base.specs.declared.place.Point.{Point}
+use Rattle.mt_predict.specs.Manners.{manner}
+use Rattle.mt_predict.proofs.Aboard.{leg_bounded, leg_rows_kept}
+use Rattle.mt_predict.proofs.Routes.{IsLegFlown, full, next_leg, over_last}
+use Rattle.mt_predict.proofs.fly.fly_route.Goals as goal
+
+origin : Point
+origin = record { x = pos 0; y = pos 0 }
+
+pub fly_leg-requires-clause-leg_kept : goal.fly_leg-requires-clause-leg_kept
+unfolding origin
+fly_leg-requires-clause-leg_kept c =
+    rw (c.leg_to-leg.ensures) (leg_bounded (manner c.args.rules.now c.args.bands.now c.args.level) c.loop-number.number (get_or c.args.fixes.now c.loop-number.number origin) c.loop-number.place
+    (c.requires.fixes_kept c.loop-number.number origin c.loop-number-test.true) c.loop-number.invariant.held.plane)
+
+pub fly_leg-requires-clause-bounded : goal.fly_leg-requires-clause-bounded
+unfolding origin
+fly_leg-requires-clause-bounded c =
+    leg_rows_kept (manner c.args.rules.now c.args.bands.now c.args.level) c.loop-number.number (get_or c.args.fixes.now c.loop-number.number origin)
+    c.loop-number.place c.leg_to-leg.result c.leg_to-leg.ensures c.requires.manner_kept
+    (c.requires.fixes_kept c.loop-number.number origin c.loop-number-test.true) c.loop-number.invariant.held
+
+pub loop-number-preserved : goal.loop-number-preserved
+unfolding origin
+loop-number-preserved c =
+    let flown : IsLegFlown (manner c.args.rules.now c.args.bands.now c.args.level) c.leg_to-leg.result c.loop-number.strand c.fly_leg.new.strand c.loop-number.place c.in_ok-place.place =
+    record {
+      start = c.in_ok-place.ensures.start;
+      rows = c.in_ok-place.ensures.rows;
+      at = c.in_ok-place.ensures.at;
+      place = c.in_ok-place.ensures.place;
+    } in
+    next_leg origin c.leg_to-leg.result c.loop-number.invariant c.loop-number-test.true c.leg_to-leg.ensures c.requires.manner_kept
+    (c.requires.fixes_kept c.loop-number.number origin c.loop-number-test.true) flown
+    (omega (arith, c.end.ensures.end, c.end.ensures.kept.short, c.if-end-at-eq-MOST.false, flown.start, c.loop-number.invariant.start))
+
+pub returns-then-end-at-eq-MOST-clause-rows : goal.returns-then-end-at-eq-MOST-clause-rows
+unfolding origin
+returns-then-end-at-eq-MOST-clause-rows c =
+    let flown : IsLegFlown (manner c.args.rules.now c.args.bands.now c.args.level) c.leg_to-leg.result c.loop-number.strand c.fly_leg.new.strand c.loop-number.place c.in_ok-place.place =
+    record {
+      start = c.in_ok-place.ensures.start;
+      rows = c.in_ok-place.ensures.rows;
+      at = c.in_ok-place.ensures.at;
+      place = c.in_ok-place.ensures.place;
+    } in
+    full origin c.leg_to-leg.result c.loop-number.invariant c.loop-number-test.true c.leg_to-leg.ensures flown
+    (omega (arith, c.end.ensures.end, c.if-end-at-eq-MOST.true, flown.start, c.loop-number.invariant.start))
+
+pub returns-clause-rows : goal.returns-clause-rows
+returns-clause-rows c = over_last c.loop-number.invariant c.loop-number-test.false

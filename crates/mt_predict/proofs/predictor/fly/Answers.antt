@@ -1,0 +1,8 @@
+use Rattle.std.proofs.lemmas.List.{length-map}
+use Rattle.mt_predict.proofs.Sound.{route_short}
+use Rattle.mt_predict.proofs.predictor.fly.Goals as goal
+
+pub fly_route-requires-clause-short : goal.fly_route-requires-clause-short
+fly_route-requires-clause-short c =
+    let short = route_short c.args.tables.now c.args.course.now.route c.requires.sound.route in
+    rw (c.deref.ensures.value, c.in_ok-points.ensures.points, length-map) short

@@ -1,0 +1,4 @@
+pub mod Flying
+pub mod Looking
+pub mod Manners
+pub mod Paths

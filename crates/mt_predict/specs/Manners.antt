@@ -1,0 +1,33 @@
+use Rattle.std.specs.Prelude.{ℕ, ℤ, ◌≤◌, pos, neg_ℤ, List}
+use Rattle.mt_base.specs.declared.band.Band.{Band}
+use Rattle.mt_base.specs.declared.place.Leg.{Leg}
+use Rattle.mt_base.specs.declared.place.Place.{Place}
+use Rattle.mt_base.specs.declared.rules.Rules.{Rules}
+use Rattle.mt_base.specs.Bounds.{AreBoundedBands, AreWithinBounds, IsHeight, IsInPlane, IsWithin}
+use Rattle.mt_base.specs.Predictor.{Manner}
+
+-- how a type with these bands flies to a level
+abbrev pub manner : Rules → List Band → ℕ → Manner
+manner rules bands level = record { rules = rules; bands = bands; level = level }
+
+-- Its rules, its bands and its level are within their bounds.
+pub record IsBoundedManner (m : Manner) : Type 0 where
+  pub rules : AreWithinBounds m.rules
+  pub bands : AreBoundedBands m.bands
+  pub level : m.level ≤ 600
+
+-- A place in the plane, at a height that is flown, with margins up to the greatest.
+pub record IsHeld (rules : Rules) (a : Place) : Type 0 where
+  pub plane : IsInPlane a.x a.y
+  pub height : IsHeight a.z
+  pub r : IsWithin (pos 0) rules.rmax a.r
+  pub w : IsWithin (pos 0) rules.wmax a.w
+
+-- how far two places of the plane can be apart in one direction
+abbrev pub IsAcross : ℤ → Type 0
+IsAcross d = IsWithin (neg_ℤ (pos 7372800)) (pos 7372800) d
+
+-- A leg between two places of the plane.
+pub record IsBoundedLeg (leg : Leg) : Type 0 where
+  pub east : IsAcross leg.dx
+  pub north : IsAcross leg.dy

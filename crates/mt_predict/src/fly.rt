@@ -1,0 +1,88 @@
+ghost use Rattle.std.specs.Prelude.{◌≡◌, ◌<◌, ◌≤◌, ◌++◌, length, take, drop, All, IfOk};
+ghost use Rattle.mt_base.specs.Bounds.{IsBoundedRow, IsInPlane};
+ghost use Rattle.mt_base.specs.Predictor.{end_after, predicted, rows_on};
+ghost use Rattle.mt_predict.specs.Flying.{EndAt};
+ghost use Rattle.mt_predict.specs.Manners.{IsBoundedLeg, IsBoundedManner, IsHeld, manner};
+
+use crate::leg::leg_to;
+use crate::second::{place_at, row_on};
+use crate::steady::steady;
+use mt_base::{Band, Leg, Memory, Place, Point, Rules, Second};
+use mt_track::{Segment, Strand};
+use std::alloc::Global;
+
+/// The most seconds of a trajectory.
+const MOST: u32 = 14_400;
+
+/// Puts the rows of a leg behind those of a strand, as far as there is room, and answers where they end.
+fn fly_leg(
+    strand: &mut Strand,
+    rules: &Rules,
+    bands: &[Band],
+    level: u32,
+    leg: &Leg,
+    from: Place,
+) -> Result<Place, Memory>
+    requires manner_kept { IsBoundedManner (manner rules.now bands.now level) }
+    requires leg_kept { IsBoundedLeg leg.now }
+    requires bounded { All IsBoundedRow (rows_on (manner rules.now bands.now level) leg.now leg.now.seconds from) }
+    requires early { strand.old.start ≤ 10000000 }
+    requires at { EndAt strand.old.rows from }
+    ensures start { strand.new.start ≡ strand.old.start }
+    ensures rows { IfOk result (λ end. strand.new.rows ≡ take 14400 (strand.old.rows ++ rows_on (manner rules.now bands.now level) leg.now leg.now.seconds from)) }
+    ensures at { IfOk result (λ end. EndAt strand.new.rows end) }
+    ensures place { IfOk result (λ end. length strand.new.rows < 14400 → end ≡ end_after from (rows_on (manner rules.now bands.now level) leg.now leg.now.seconds from)) }
+{
+    let room = strand.start() + MOST - strand.end();
+    let cut = leg.seconds - leg.seconds.min(room);
+    let mut left = leg.seconds;
+    let mut place = from;
+    while left > cut {
+        let row = row_on(rules, bands, level, leg, left - 1, &place);
+        let seconds = steady(rules, leg, left, left - cut, &row);
+        let begin = strand.end();
+        strand.add(Segment {
+            from: begin,
+            to: begin + seconds,
+            first: row,
+        })?;
+        place = place_at(&row, seconds);
+        left -= seconds;
+    }
+    Ok(place)
+}
+
+/// The trajectory of a flight that begins at a second and a place, flies to the fixes of a route from the next one on, and climbs or
+/// descends to a level. It ends over the last fix, or at its greatest length.
+pub fn fly_route(
+    alloc: Global,
+    rules: &Rules,
+    bands: &[Band],
+    level: u32,
+    fixes: &[Point],
+    next: u32,
+    at: Second,
+    from: Place,
+) -> Result<Strand, Memory>
+    requires manner_kept { IsBoundedManner (manner rules.now bands.now level) }
+    requires fixes_kept { All (λ p. IsInPlane p.x p.y) fixes.now }
+    requires short { length fixes.now ≤ 64 }
+    requires next { next ≤ length fixes.now }
+    requires early { at ≤ 10000000 }
+    requires held { IsHeld rules.now from }
+    ensures start { IfOk result (λ strand. strand.start ≡ at) }
+    ensures rows { IfOk result (λ strand. strand.rows ≡ predicted (manner rules.now bands.now level) next (drop next fixes.now) from) }
+{
+    let mut strand = Strand::empty(alloc, at);
+    let mut place = from;
+    let mut number = next;
+    while (number as usize) < fixes.len() {
+        let leg = leg_to(bands, number, &fixes[number as usize], &place);
+        place = fly_leg(&mut strand, rules, bands, level, &leg, place)?;
+        if strand.end() - at == MOST {
+            return Ok(strand);
+        }
+        number += 1;
+    }
+    Ok(strand)
+}

@@ -1,0 +1,194 @@
+//! Commands with two faults, and which of them is told.
+ghost use Rattle.std.specs.Prelude.{◌≤◌};
+ghost use Rattle.mt_base.specs.Bounds.{AreBoundedBands, IsBoundedBand};
+
+use crate::{Looked, judge};
+use mt_base::{
+    Band, Callsign, Command, FixName, Path, Record, Refusal, Route, Row, Rules, Straight, TypeName,
+};
+use mt_tables::Tables;
+use std::alloc::Global;
+use std::test::Fail;
+
+const STRETCH: Straight = Straight {
+    from: 0,
+    to: 60,
+    first: Row {
+        x: 0,
+        y: 0,
+        z: 600_000,
+        r: 0,
+        w: 0,
+        vx: 480,
+        vy: 0,
+        vz: 0,
+        gr: 0,
+        gw: 0,
+        leg: 0,
+    },
+};
+
+fn fix_name(text: &[u8]) -> Result<FixName, Fail> {
+    Ok(FixName::of(text).ok_or("no fix name")?)
+}
+
+fn type_name(text: &[u8]) -> Result<TypeName, Fail> {
+    Ok(TypeName::of(text).ok_or("no type name")?)
+}
+
+/// A band up to that level.
+fn band(top: u32) -> Band
+    requires low { 1 ≤ top }
+    requires high { top ≤ 600 }
+    ensures { IsBoundedBand result }
+{
+    Band {
+        top,
+        speed: 480,
+        climb: 2_000,
+        descent: 1_500,
+    }
+}
+
+fn one_band(top: u32) -> [Band; 1]
+    requires low { 1 ≤ top }
+    requires high { top ≤ 600 }
+    ensures { AreBoundedBands result }
+{
+    [band(top)]
+}
+
+/// The fixes AA and BB, and the type B7 up to flight level 410.
+fn small_tables(alloc: Global) -> Result<Tables, Fail> {
+    let mut tables = Tables::make(alloc)?;
+    let _first = tables.add_fix(fix_name(b"AA")?, 0, 0);
+    let _second = tables.add_fix(fix_name(b"BB")?, 72_000, 0);
+    let _kind = tables.add_type(type_name(b"B7")?, &one_band(410));
+    Ok(tables)
+}
+
+/// At most two flights and five entries.
+fn small_rules() -> Rules {
+    Rules {
+        flights: 2,
+        history: 5,
+        ..Rules::usual()
+    }
+}
+
+fn flight() -> Result<Record, Fail> {
+    Ok(Record {
+        call: Callsign::of(b"AAA1").ok_or("no callsign")?,
+        path: Path::Outer(STRETCH),
+    })
+}
+
+/// What is told of a command where so many flights and entries are held, at second 9.
+fn told(
+    alloc: Global,
+    is_held: bool,
+    counts: (u32, u64),
+    command: &Command,
+) -> Result<Result<(), Refusal>, Fail> {
+    let record = flight()?;
+    let (held, entries) = counts;
+    let looked = Looked {
+        now: 9,
+        held,
+        entries,
+        flight: if is_held { Some(&record) } else { None },
+    };
+    let tables = small_tables(alloc)?;
+    Ok(judge(&tables, &small_rules(), &looked, 1, command))
+}
+
+/// What is told of the plan of a type along names of two letters each, from a level to a level.
+fn planned(
+    alloc: Global,
+    is_held: bool,
+    counts: (u32, u64),
+    plan: (&[u8], &[u8], u32, u32),
+) -> Result<Result<(), Refusal>, Fail> {
+    let (kind, names, from, level) = plan;
+    let mut route = Route::make(alloc)?;
+    for name in names.chunks(2) {
+        route.push(fix_name(name)?)?;
+    }
+    let command = Command::Plan {
+        call: Callsign::of(b"AAA1").ok_or("no callsign")?,
+        kind: type_name(kind)?,
+        route,
+        at: 0,
+        from,
+        level,
+    };
+    told(alloc, is_held, counts, &command)
+}
+
+#[test]
+fn a_held_callsign_and_an_unknown_type_come_first(rt: HostRuntime) -> Result<(), Fail> {
+    let alloc = rt.alloc();
+    let held = Err(Refusal::HeldCall);
+    let unknown = Err(Refusal::UnknownType(type_name(b"B8")?));
+    assert!(rt; planned(alloc, true, (1, 4), (b"B8", b"AABB", 300, 410))? == held);
+    assert!(rt; planned(alloc, true, (2, 4), (b"B7", b"AABB", 300, 410))? == held);
+    assert!(rt; planned(alloc, false, (1, 4), (b"B8", b"AAXX", 300, 410))? == unknown);
+    assert!(rt; planned(alloc, false, (1, 4), (b"B8", b"AA", 300, 410))? == unknown);
+    assert!(rt; planned(alloc, false, (1, 4), (b"B8", b"AABB", 300, 411))? == unknown);
+    Ok(())
+}
+
+#[test]
+fn the_route_comes_before_the_levels(rt: HostRuntime) -> Result<(), Fail> {
+    let alloc = rt.alloc();
+    let unknown = Err(Refusal::UnknownFix(fix_name(b"XX")?));
+    let short = Err(Refusal::RouteShort);
+    let twice = Err(Refusal::RouteTwice);
+    assert!(rt; planned(alloc, false, (1, 4), (b"B7", b"XX", 300, 410))? == unknown);
+    assert!(rt; planned(alloc, false, (1, 4), (b"B7", b"AAXXYY", 411, 410))? == unknown);
+    assert!(rt; planned(alloc, false, (1, 4), (b"B7", b"AA", 411, 410))? == short);
+    assert!(rt; planned(alloc, false, (1, 4), (b"B7", b"AABBBB", 300, 411))? == twice);
+    Ok(())
+}
+
+#[test]
+fn the_levels_come_before_the_room(rt: HostRuntime) -> Result<(), Fail> {
+    let alloc = rt.alloc();
+    let ceiling = Err(Refusal::Ceiling);
+    assert!(rt; planned(alloc, false, (2, 4), (b"B7", b"AABB", 411, 410))? == ceiling);
+    assert!(rt; planned(alloc, false, (1, 5), (b"B7", b"AABB", 300, 411))? == ceiling);
+    assert!(rt; planned(alloc, false, (2, 5), (b"B7", b"AABB", 300, 410))? == Err(Refusal::Full));
+    assert!(rt;
+        planned(alloc, false, (1, 5), (b"B7", b"AABB", 0, 0))? == Err(Refusal::HistoryFull)
+    );
+    assert!(rt; planned(alloc, false, (1, 4), (b"B7", b"AABB", 410, 410))? == Ok(()));
+    Ok(())
+}
+
+#[test]
+fn an_external_flight_wants_room(rt: HostRuntime) -> Result<(), Fail> {
+    let alloc = rt.alloc();
+    let call = flight()?.call;
+    let straight = STRETCH;
+    let command = Command::External { call, straight };
+    assert!(rt; told(alloc, true, (2, 5), &command)? == Err(Refusal::HeldCall));
+    assert!(rt; told(alloc, false, (2, 5), &command)? == Err(Refusal::Full));
+    assert!(rt; told(alloc, false, (1, 5), &command)? == Err(Refusal::HistoryFull));
+    assert!(rt; told(alloc, false, (1, 4), &command)? == Ok(()));
+    Ok(())
+}
+
+#[test]
+fn a_drop_wants_its_flight_and_a_tick_a_later_moment(rt: HostRuntime) -> Result<(), Fail> {
+    let alloc = rt.alloc();
+    let call = flight()?.call;
+    let drop = Command::Drop { call };
+    assert!(rt; told(alloc, false, (2, 5), &drop)? == Err(Refusal::UnknownCall(call)));
+    assert!(rt; told(alloc, true, (2, 5), &drop)? == Err(Refusal::HistoryFull));
+    assert!(rt; told(alloc, true, (2, 4), &drop)? == Ok(()));
+    let (same, later) = (Command::Tick { now: 9 }, Command::Tick { now: 10 });
+    assert!(rt; told(alloc, false, (2, 5), &same)? == Err(Refusal::Backward));
+    assert!(rt; told(alloc, false, (2, 5), &later)? == Err(Refusal::HistoryFull));
+    assert!(rt; told(alloc, false, (2, 4), &later)? == Ok(()));
+    Ok(())
+}

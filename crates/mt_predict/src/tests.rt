@@ -1,0 +1,215 @@
+//! Trajectories whose rows were worked out by a program with whole numbers.
+
+ghost use Rattle.std.specs.Prelude.{◌≡◌, pos, IsTrue, All};
+ghost use Rattle.mt_base.specs.Bounds.{AreBoundedBands, IsBoundedBand, IsInPlane, IsWithin};
+ghost use Rattle.mt_predict.specs.Manners.{IsHeld};
+
+mod bands_down;
+mod bands_up;
+mod climbs;
+mod courses;
+mod legs;
+mod long_route;
+mod longest;
+mod margins;
+
+use crate::fly_route;
+use mt_base::{Band, Place, Point, Row, Rules};
+use mt_track::Strand;
+use std::alloc::Global;
+use std::process::Abort;
+use std::test::Fail;
+
+/// The values of a row, in the order of its fields.
+type Values = [i64; 11];
+
+fn values(row: &Row) -> Values {
+    [
+        row.x,
+        row.y,
+        row.z,
+        row.r,
+        row.w,
+        row.vx,
+        row.vy,
+        row.vz,
+        row.gr,
+        row.gw,
+        i64::from(row.leg),
+    ]
+}
+
+fn is_within(low: i64, high: i64, z: &i64) -> bool
+    ensures { IsTrue result → IsWithin low high z.now }
+{
+    low <= *z && *z <= high
+}
+
+fn is_up_to(most: &i64, z: &i64) -> bool
+    ensures { IsTrue result → IsWithin (pos 0) most.now z.now }
+{
+    0 <= *z && *z <= *most
+}
+
+fn is_in_plane(x: &i64, y: &i64) -> bool
+    ensures { IsTrue result → IsInPlane x.now y.now }
+{
+    is_within(-3_686_400, 3_686_400, x) && is_within(-3_686_400, 3_686_400, y)
+}
+
+fn is_band(band: &Band) -> bool
+    ensures { IsTrue result → IsBoundedBand band.now }
+{
+    if band.top < 1 || band.top > 600 {
+        return false;
+    }
+    if !is_within(1, 1_000, &band.speed) || !is_within(1, 10_000, &band.climb) {
+        return false;
+    }
+    is_within(1, 10_000, &band.descent)
+}
+
+fn are_bands(bands: &[Band]) -> bool
+    ensures { IsTrue result → AreBoundedBands bands.now }
+{
+    let count = bands.len();
+    if count < 1 || count > 8 {
+        return false;
+    }
+    for band in bands {
+        if !is_band(band) {
+            return false;
+        }
+    }
+    true
+}
+
+fn are_in_plane(fixes: &[Point]) -> bool
+    ensures { IsTrue result → All (λ p. IsInPlane p.x p.y) fixes.now }
+{
+    for fix in fixes {
+        if !is_in_plane(&fix.x, &fix.y) {
+            return false;
+        }
+    }
+    true
+}
+
+fn is_held(rules: &Rules, a: &Place) -> bool
+    ensures { IsTrue result → IsHeld rules.now a.now }
+{
+    if !is_in_plane(&a.x, &a.y) || !is_within(0, 3_600_000, &a.z) {
+        return false;
+    }
+    is_up_to(&rules.rmax, &a.r) && is_up_to(&rules.wmax, &a.w)
+}
+
+/// The trajectory over fixes that begins at a second and a place, in the usual rules.
+fn fly(
+    rt: &impl Abort,
+    alloc: Global,
+    bands: &[Band],
+    level: u32,
+    fixes: &[Point],
+    next: u32,
+    at: u32,
+    from: Place,
+) -> Result<Strand, Fail> {
+    let rules = Rules::usual();
+    assert!(rt; are_bands(bands));
+    assert!(rt; level <= 600);
+    assert!(rt; are_in_plane(fixes));
+    assert!(rt; fixes.len() <= 64);
+    assert!(rt; (next as usize) < fixes.len());
+    assert!(rt; at <= 10_000_000);
+    assert!(rt; is_held(&rules, &from));
+    Ok(fly_route(alloc, &rules, bands, level, fixes, next, at, from)?)
+}
+
+/// What the strand says of each second of the table, its first second and the one after its last, and how many segments it has.
+fn check(
+    rt: &impl Abort,
+    strand: &Strand,
+    ends: (u32, u32),
+    segments: usize,
+    table: &[(u32, Values)],
+) {
+    assert_eq!(rt; (strand.start(), strand.end()), ends);
+    assert_eq!(rt; strand.segments().len(), segments);
+    assert!(rt; strand.at(ends.1).is_none());
+    for (k, wanted) in table {
+        let row = strand.at(*k);
+        assert!(rt; row.as_ref().map(values) == Some(*wanted), "at second {k}");
+    }
+}
+
+fn band(top: u32, speed: i64, climb: i64, descent: i64) -> Band {
+    Band {
+        top,
+        speed,
+        climb,
+        descent,
+    }
+}
+
+fn at(x: i64, y: i64) -> Point {
+    Point { x, y }
+}
+
+fn over(x: i64, y: i64, z: i64) -> Place {
+    Place {
+        x,
+        y,
+        z,
+        r: 0,
+        w: 0,
+    }
+}
+
+fn one_band() -> [Band; 1] {
+    [band(410, 480, 2100, 2100)]
+}
+
+fn two_bands() -> [Band; 2] {
+    [band(300, 480, 2000, 2000), band(410, 480, 1000, 1000)]
+}
+
+fn eight_bands() -> [Band; 8] {
+    [
+        band(50, 200, 3000, 1500),
+        band(100, 250, 2800, 1800),
+        band(180, 300, 2500, 2000),
+        band(250, 380, 2200, 2400),
+        band(300, 420, 1900, 2600),
+        band(350, 450, 1500, 2800),
+        band(410, 470, 1000, 3000),
+        band(600, 440, 500, 3500),
+    ]
+}
+
+/// In level flight over fixes, from the first of them, at so many knots.
+fn level(
+    rt: &impl Abort,
+    alloc: Global,
+    speed: i64,
+    begin: u32,
+    fixes: &[Point],
+) -> Result<Strand, Fail> {
+    let bands = [band(410, speed, 2100, 2100)];
+    assert!(rt; !fixes.is_empty());
+    let from = over(fixes[0].x, fixes[0].y, 2_100_000);
+    fly(rt, alloc, &bands, 350, fixes, 1, begin, from)
+}
+
+/// From one flight level to another, over fixes from the origin.
+fn climb(
+    rt: &impl Abort,
+    alloc: Global,
+    bands: &[Band],
+    from: u32,
+    to: u32,
+    fixes: &[Point],
+) -> Result<Strand, Fail> {
+    let place = over(0, 0, 6_000 * i64::from(from));
+    fly(rt, alloc, bands, to, fixes, 1, 0, place)
+}

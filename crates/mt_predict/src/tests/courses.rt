@@ -1,0 +1,192 @@
+//! The trajectory of a course, and that of its tentative clearance.
+
+ghost use Rattle.std.specs.Prelude.{IfSome, IsTrue};
+ghost use Rattle.mt_base.specs.Bounds.{IsRightBase, IsRightMark, IsSoundCourse};
+
+use super::{Values, are_bands, check, is_in_plane, is_up_to, is_within, two_bands};
+use crate::predict;
+use mt_base::{Base, Course, FixName, Kind, Mark, Route, Rules, TypeName};
+use mt_tables::Tables;
+use std::alloc::Global;
+use std::process::Abort;
+use std::test::Fail;
+
+const ACTUAL: [(u32, Values); 18] = [
+    (0, [0, 0, 1794000, 0, 0, 480, 0, 2000, 15, 100, 1]),
+    (1, [480, 0, 1796000, 15, 100, 480, 0, 2000, 15, 100, 1]),
+    (3, [1440, 0, 1800000, 45, 300, 480, 0, 2000, 15, 100, 1]),
+    (4, [1920, 0, 1802000, 60, 400, 480, 0, 1000, 15, 100, 1]),
+    (5, [2400, 0, 1803000, 75, 500, 480, 0, 1000, 15, 100, 1]),
+    (7, [3360, 0, 1805000, 105, 700, 480, 0, 1000, 15, 100, 1]),
+    (8, [3840, 0, 1806000, 120, 0, 480, 0, 0, 15, 0, 1]),
+    (9, [4320, 0, 1806000, 135, 0, 480, 0, 0, 15, 0, 1]),
+    (599, [287520, 0, 1806000, 8985, 0, 480, 0, 0, 15, 0, 1]),
+    (600, [288000, 0, 1806000, 9000, 0, 480, 0, 0, 0, 0, 1]),
+    (601, [288480, 0, 1806000, 9000, 0, 480, 0, 0, 0, 0, 1]),
+    (999, [479520, 0, 1806000, 9000, 0, 480, 0, 0, 0, 0, 1]),
+    (1000, [480000, 0, 1806000, 9000, 0, 0, 476, 0, 0, 0, 2]),
+    (1001, [480000, 476, 1806000, 9000, 0, 0, 476, 0, 0, 0, 2]),
+    (1050, [480000, 23800, 1806000, 9000, 0, 0, 476, 0, 0, 0, 2]),
+    (1051, [480000, 24276, 1806000, 9000, 0, 0, 477, 0, 0, 0, 2]),
+    (1052, [480000, 24753, 1806000, 9000, 0, 0, 477, 0, 0, 0, 2]),
+    (1062, [480000, 29523, 1806000, 9000, 0, 0, 477, 0, 0, 0, 2]),
+];
+
+const TENTATIVE: [(u32, Values); 15] = [
+    (
+        60,
+        [
+            470000, 100, 1806050, 8990, 1300, 151, 453, -1000, 10, 100, 2,
+        ],
+    ),
+    (
+        61,
+        [470151, 553, 1805050, 9000, 1400, 151, 453, -1000, 0, 100, 2],
+    ),
+    (
+        62,
+        [
+            470302, 1006, 1804050, 9000, 1500, 151, 453, -1000, 0, 100, 2,
+        ],
+    ),
+    (
+        66,
+        [
+            470906, 2818, 1800050, 9000, 1900, 151, 453, -1000, 0, 100, 2,
+        ],
+    ),
+    (
+        67,
+        [
+            471057, 3271, 1799050, 9000, 2000, 151, 453, -2000, 0, 100, 2,
+        ],
+    ),
+    (
+        68,
+        [
+            471208, 3724, 1797050, 9000, 2100, 151, 453, -2000, 0, 100, 2,
+        ],
+    ),
+    (
+        69,
+        [
+            471359, 4177, 1795050, 9000, 2200, 151, 453, -1050, 0, 100, 2,
+        ],
+    ),
+    (70, [471510, 4630, 1794000, 9000, 0, 151, 453, 0, 0, 0, 2]),
+    (71, [471661, 5083, 1794000, 9000, 0, 151, 453, 0, 0, 0, 2]),
+    (91, [474681, 14143, 1794000, 9000, 0, 151, 453, 0, 0, 0, 2]),
+    (92, [474832, 14596, 1794000, 9000, 0, 152, 453, 0, 0, 0, 2]),
+    (93, [474984, 15049, 1794000, 9000, 0, 152, 453, 0, 0, 0, 2]),
+    (123, [479544, 28639, 1794000, 9000, 0, 152, 453, 0, 0, 0, 2]),
+    (124, [479696, 29092, 1794000, 9000, 0, 152, 454, 0, 0, 0, 2]),
+    (125, [479848, 29546, 1794000, 9000, 0, 152, 454, 0, 0, 0, 2]),
+];
+
+fn fix_name(text: &[u8]) -> Result<FixName, Fail> {
+    Ok(FixName::of(text).ok_or("no fix name")?)
+}
+
+fn is_base(rules: &Rules, names: usize, base: &Base) -> bool
+    ensures { IsTrue result → IsRightBase rules.now names base.now }
+{
+    if base.at > 10_000_000 || base.next as usize >= names {
+        return false;
+    }
+    if !is_in_plane(&base.x, &base.y) || !is_within(0, 3_600_000, &base.z) {
+        return false;
+    }
+    is_up_to(&rules.rmax, &base.r) && is_up_to(&rules.wmax, &base.w)
+}
+
+fn is_mark(rules: &Rules, names: usize, mark: &Option<Mark>) -> bool
+    ensures { IsTrue result → IfSome mark.now (IsRightMark rules.now names) }
+{
+    match mark {
+        None => true,
+        Some(mark) => mark.level <= 600 && is_base(rules, names, &mark.base),
+    }
+}
+
+fn is_sound(tables: &Tables, rules: &Rules, course: &Course) -> bool
+    ensures { IsTrue result → IsSoundCourse (record { rules = rules.now; tables = tables.now }) course.now }
+{
+    let Some(_) = tables.bands(course.kind) else {
+        return false;
+    };
+    let Ok(()) = tables.route_check(&course.route) else {
+        return false;
+    };
+    let names = course.route.items().len();
+    if course.level > 600 || !is_base(rules, names, &course.base) {
+        return false;
+    }
+    is_mark(rules, names, &course.mark)
+}
+
+fn tables(rt: &impl Abort, alloc: Global) -> Result<Tables, Fail> {
+    let mut tables = Tables::make(alloc)?;
+    let kind = TypeName::of(b"JA5").ok_or("no type name")?;
+    tables.add_fix(fix_name(b"Q0")?, 0, 0).or(Err("Q0"))?;
+    tables.add_fix(fix_name(b"Q1")?, 480_000, 0).or(Err("Q1"))?;
+    tables
+        .add_fix(fix_name(b"Q2")?, 480_000, 30_000)
+        .or(Err("Q2"))?;
+    let bands = two_bands();
+    assert!(rt; are_bands(&bands));
+    tables.add_type(kind, &bands).or(Err("JA5"))?;
+    Ok(tables)
+}
+
+fn course(alloc: Global) -> Result<Course, Fail> {
+    let mut route = Route::make(alloc)?;
+    route.push(fix_name(b"Q0")?)?;
+    route.push(fix_name(b"Q1")?)?;
+    route.push(fix_name(b"Q2")?)?;
+    let base = Base {
+        at: 0,
+        x: 0,
+        y: 0,
+        z: 1_794_000,
+        r: 0,
+        w: 0,
+        next: 1,
+    };
+    let tentative = Base {
+        at: 60,
+        x: 470_000,
+        y: 100,
+        z: 1_806_050,
+        r: 8990,
+        w: 1300,
+        next: 2,
+    };
+    Ok(Course {
+        kind: TypeName::of(b"JA5").ok_or("no type name")?,
+        route,
+        base,
+        level: 301,
+        last: None,
+        due: false,
+        mark: Some(Mark {
+            owner: 1,
+            base: tentative,
+            level: 299,
+        }),
+    })
+}
+
+#[test]
+fn a_course_and_its_tentative_clearance(rt: HostRuntime) -> Result<(), Fail> {
+    let alloc = rt.alloc();
+    let rules = Rules::usual();
+    let tables = tables(&rt, alloc)?;
+    let course = course(alloc)?;
+    assert!(rt; is_sound(&tables, &rules, &course));
+    let strand = predict(alloc, &tables, &rules, &course, Kind::Actual)?;
+    check(&rt, &strand, (0, 1063), 6, &ACTUAL);
+    assert!(rt; course.mark.is_some());
+    let strand = predict(alloc, &tables, &rules, &course, Kind::Tentative)?;
+    check(&rt, &strand, (60, 126), 7, &TENTATIVE);
+    Ok(())
+}

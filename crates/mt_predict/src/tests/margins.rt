@@ -1,0 +1,149 @@
+//! Margins that go on from a base, and how many segments they make.
+
+use super::{Values, at, check, fly, one_band, over};
+use mt_base::Place;
+use std::test::Fail;
+
+const A_LEVEL_BASE_IS_RESET_AT_ONCE: [(u32, Values); 2] = [
+    (100, [0, 0, 2100000, 120, 0, 480, 0, 0, 15, 0, 1]),
+    (101, [480, 0, 2100000, 135, 0, 480, 0, 0, 15, 0, 1]),
+];
+
+const A_CLIMB_GOES_ON: [(u32, Values); 8] = [
+    (100, [0, 0, 2130000, 8985, 1234, 480, 0, 2100, 15, 100, 1]),
+    (101, [480, 0, 2132100, 9000, 1334, 480, 0, 2100, 0, 100, 1]),
+    (102, [960, 0, 2134200, 9000, 1434, 480, 0, 2100, 0, 100, 1]),
+    (113, [6240, 0, 2157300, 9000, 2534, 480, 0, 2100, 0, 100, 1]),
+    (114, [6720, 0, 2159400, 9000, 2634, 480, 0, 600, 0, 100, 1]),
+    (115, [7200, 0, 2160000, 9000, 0, 480, 0, 0, 0, 0, 1]),
+    (116, [7680, 0, 2160000, 9000, 0, 480, 0, 0, 0, 0, 1]),
+    (119, [9120, 0, 2160000, 9000, 0, 480, 0, 0, 0, 0, 1]),
+];
+
+const THE_GREATEST_MARGIN: [(u32, Values); 8] = [
+    (100, [0, 0, 2130000, 0, 29950, 480, 0, 2100, 15, 50, 1]),
+    (101, [480, 0, 2132100, 15, 30000, 480, 0, 2100, 15, 0, 1]),
+    (102, [960, 0, 2134200, 30, 30000, 480, 0, 2100, 15, 0, 1]),
+    (113, [6240, 0, 2157300, 195, 30000, 480, 0, 2100, 15, 0, 1]),
+    (114, [6720, 0, 2159400, 210, 30000, 480, 0, 600, 15, 0, 1]),
+    (115, [7200, 0, 2160000, 225, 0, 480, 0, 0, 15, 0, 1]),
+    (116, [7680, 0, 2160000, 240, 0, 480, 0, 0, 15, 0, 1]),
+    (119, [9120, 0, 2160000, 285, 0, 480, 0, 0, 15, 0, 1]),
+];
+
+const A_CLIMB_OF_ONE_UNIT: [(u32, Values); 2] = [
+    (0, [0, 0, 2159999, 0, 7, 480, 0, 1, 15, 100, 1]),
+    (1, [480, 0, 2160000, 15, 0, 480, 0, 0, 15, 0, 1]),
+];
+
+#[test]
+fn margins_go_on_from_a_base(rt: HostRuntime) -> Result<(), Fail> {
+    let alloc = rt.alloc();
+    // a level base is reset at once
+    let from = Place {
+        r: 120,
+        w: 1234,
+        ..over(0, 0, 2_100_000)
+    };
+    let strand = fly(
+        &rt,
+        alloc,
+        &one_band(),
+        350,
+        &[at(0, 0), at(960, 0)],
+        1,
+        100,
+        from,
+    )?;
+    check(&rt, &strand, (100, 102), 1, &A_LEVEL_BASE_IS_RESET_AT_ONCE);
+    // a climb goes on
+    let from = Place {
+        r: 8985,
+        w: 1234,
+        ..over(0, 0, 2_130_000)
+    };
+    let strand = fly(
+        &rt,
+        alloc,
+        &one_band(),
+        360,
+        &[at(0, 0), at(9600, 0)],
+        1,
+        100,
+        from,
+    )?;
+    check(&rt, &strand, (100, 120), 4, &A_CLIMB_GOES_ON);
+    Ok(())
+}
+
+#[test]
+fn margins_end_at_the_greatest_and_in_level_flight(rt: HostRuntime) -> Result<(), Fail> {
+    let alloc = rt.alloc();
+    // the greatest margin
+    let from = Place {
+        r: 0,
+        w: 29_950,
+        ..over(0, 0, 2_130_000)
+    };
+    let strand = fly(
+        &rt,
+        alloc,
+        &one_band(),
+        360,
+        &[at(0, 0), at(9600, 0)],
+        1,
+        100,
+        from,
+    )?;
+    check(&rt, &strand, (100, 120), 4, &THE_GREATEST_MARGIN);
+    // a climb of one unit
+    let from = Place {
+        r: 0,
+        w: 7,
+        ..over(0, 0, 2_159_999)
+    };
+    let strand = fly(
+        &rt,
+        alloc,
+        &one_band(),
+        360,
+        &[at(0, 0), at(960, 0)],
+        1,
+        0,
+        from,
+    )?;
+    check(&rt, &strand, (0, 2), 2, &A_CLIMB_OF_ONE_UNIT);
+    Ok(())
+}
+
+/// The gains of x and y change once each in a leg, and that of the horizontal margin twice, at the greatest margin.
+#[test]
+fn a_level_leg_has_at_most_five_segments(rt: HostRuntime) -> Result<(), Fail> {
+    let from = Place {
+        r: 5,
+        ..over(0, 0, 2_100_000)
+    };
+    let fixes = [at(0, 0), at(-123_457, 654_321)];
+    let strand = fly(&rt, rt.alloc(), &one_band(), 350, &fixes, 1, 0, from)?;
+    assert_eq!(rt; strand.end(), 1388);
+    assert_eq!(rt; strand.segments().len(), 5);
+    for fix in [
+        at(1, 0),
+        at(7, -100_000),
+        at(99_999, 1),
+        at(-654_321, 123_457),
+    ] {
+        let strand = fly(
+            &rt,
+            rt.alloc(),
+            &one_band(),
+            350,
+            &[at(0, 0), fix],
+            1,
+            0,
+            from,
+        )?;
+        assert!(rt; strand.segments().len() <= 5);
+    }
+    Ok(())
+}
