@@ -1,0 +1,144 @@
+use Rattle.std.proofs.Common.{◌≡◌, ◌≢◌, ℕ, ℤ, ◌+◌, ◌<◌, ◌≤◌, pos, ◌≤ℤ◌, ◌<ℤ◌, Bool, true, not, List, [], ◌∷◌, ◌++◌, length, map, Result, Ok, Err, IsOk, refl, arith, length-append}
+use Rattle.std.proofs.lemmas.Int.{ints}
+use Rattle.std.proofs.lemmas.Bool.Decides.{nat_tests}
+use Rattle.std.proofs.lemmas.List.{map-append}
+use Rattle.std.proofs.lemmas.List.Elements.{All-push, All-filter, All-from_recursion}
+use Rattle.std.proofs.lemmas.List.Filters.{length-filter_both}
+use Rattle.std.proofs.lemmas.List.Kept.{AllPairs-filter}
+use Rattle.std.proofs.lemmas.List.Quantifiers.{all_pairs_push}
+use Rattle.std.specs.List.{AllByRecursion, filter}
+use Rattle.std.specs.Prelude.{int_lt, nat_le, is_some, ⊤}
+use Rattle.std.specs.Str.{bytes_eq}
+use Rattle.mt_base.specs.declared.command.Command.{Command}
+use Rattle.mt_base.specs.declared.command.Command.TheVariants.{Plan, External, Drop, Tick}
+use Rattle.mt_base.specs.declared.command.Entry.{Entry}
+use Rattle.mt_base.specs.declared.command.Refusal.{Refusal}
+use Rattle.mt_base.specs.declared.flight.Path.{Path}
+use Rattle.mt_base.specs.declared.flight.Path.TheVariants.{Planned, Outer}
+use Rattle.mt_base.specs.declared.flight.Straight.{Straight}
+use Rattle.mt_base.specs.declared.route.RouteNo.{RouteNo}
+use Rattle.mt_base.specs.Bounds.{AreWithinBounds, IsBoundedCommand, IsInPlane, IsSoundCourse, IsSoundFlight, IsSoundPath}
+use Rattle.mt_base.specs.Checks.{judged}
+use Rattle.mt_base.specs.History.{checks, course_of, decide, first_of, look_at, refusal_of, route_checks}
+use Rattle.mt_base.specs.Picture.{State, flight_of, opening}
+use Rattle.mt_base.specs.Predictor.{points_of}
+use Rattle.mt_base.specs.Tables.{Setup, Tables, bands_of, fix_checks, length_checks}
+use Rattle.mt_base.proofs.CheckLemmas.{all_pass, all_passed}
+use Rattle.mt_machine.specs.Sound.{IsSoundState, Passes}
+use Rattle.mt_machine.proofs.Found.{none_found}
+
+-- the opening state is sound
+pub opening_sound : (setup : Setup) → IsSoundState setup opening
+opening_sound setup = record {
+  sound = λ k d below. absurd (omega arith);
+  own_calls = λ i j d before below. absurd (omega arith);
+  few = omega arith;
+  early = omega arith;
+  counted = omega arith;
+}
+
+pub passed : (setup : Setup) (s : State) (e : Entry) → decide setup s e.who e.command ≡ Ok e → Passes setup s e.command
+passed setup s e decided = all_passed (checks setup (look_at s e.command) e.command) e (rw decided refl)
+
+-- both halves of a list of which all holds
+halves : {X : Type 0} (P : X → Type 0) (xs ys : List X) → AllByRecursion P (xs ++ ys) → AllByRecursion P xs × AllByRecursion P ys
+halves P [] ys all = (tt, all)
+halves P (x ∷ xs) ys all = let h = halves P xs ys all.1 in ((all.0, h.0), h.1)
+
+-- a check that passes answers the one thing that it can
+ok_is : {F : Type 0} (r : Result ⊤ F) → IsOk r → r ≡ Ok (tt {0})
+ok_is (Ok _) ok = refl
+ok_is (Err f) ok = cc
+
+-- a route whose checks are passed has at least two names
+two_names : (tables : Tables) (route : List (List ℕ)) → AllByRecursion (λ c. c.1 ≡ true) (route_checks tables route) → 2 ≤ length route
+two_names tables route tests =
+    let split : AllByRecursion (λ (c : Refusal × Bool). c.1 ≡ true) (map (λ (c : RouteNo × Bool). (refusal_of c.0, c.1)) (fix_checks tables route)
+    ++ map (λ (c : RouteNo × Bool). (refusal_of c.0, c.1)) (length_checks route))
+    = rw (← map-append {B = Refusal × Bool} (λ c. (refusal_of c.0, c.1)) (fix_checks tables route) (length_checks route)) tests in
+    let lengths = (halves (λ (c : Refusal × Bool). c.1 ≡ true) (map (λ (c : RouteNo × Bool). (refusal_of c.0, c.1)) (fix_checks tables route)) _ split).1 in
+    let enough : nat_le 2 (length route) ≡ true = lengths.0 in grind (arith, nat_tests)
+
+-- a flight of a new callsign behind the others
+filed : (setup : Setup) (s : State) (call : List ℕ) (path : Path) → IsSoundState setup s → IsSoundPath setup path
+    → not (is_some (flight_of s.records call)) ≡ true → int_lt (pos (length s.records)) setup.rules.flights ≡ true → setup.rules.flights ≤ℤ pos 1024
+    → IsSoundState setup (record s { records = s.records ++ (record { call = call; path = path }) ∷ [] })
+filed setup s call path sound within free room most = record {
+  sound = All-push (IsSoundFlight setup) s.records (record { call = call; path = path }) sound.sound within;
+  own_calls = all_pairs_push (λ f g. f.call ≢ g.call) s.records (record { call = call; path = path }) sound.own_calls
+      (All-from_recursion (λ f. f.call ≢ call) s.records (none_found call s.records free));
+  few = few_enough;
+  early = sound.early;
+  counted = sound.counted;
+} where
+  below : (n : ℕ) (m : ℤ) → int_lt (pos n) m ≡ true → m ≤ℤ pos 1024 → n < 1024
+  below n m test most = grind (arith, ints)
+
+  few_enough : length (s.records ++ (record { call = call; path = path }) ∷ []) ≤ 1024
+  few_enough = let fewer = below (length s.records) setup.rules.flights room most in
+      rw (length-append s.records ((record { call = call; path = path }) ∷ [])) (omega arith)
+
+-- the course of a plan that passed its checks is sound
+planned : (setup : Setup) (kind : List ℕ) (route : List (List ℕ)) (at from level : ℕ) → AreWithinBounds setup.rules
+    → at ≤ 10000000 → from ≤ 600 → level ≤ 600 → IsInPlane (first_of (points_of setup.tables route)).x (first_of (points_of setup.tables route)).y
+    → is_some (bands_of setup.tables kind) ≡ true → AllByRecursion (λ c. c.1 ≡ true) (route_checks setup.tables route)
+    → IsSoundCourse setup (course_of setup kind route at from level)
+planned setup kind route at from level rules at_early from_low level_low plane known tests = record {
+  kind = known;
+  route = ok_is (judged (route_checks setup.tables route) (tt {0})) (all_pass (route_checks setup.tables route) (tt {0}) tests);
+  level = level_low;
+  base = record {
+    early = at_early;
+    plane = plane;
+    height = record { least = omega (arith, ints); most = omega (arith, ints) };
+    r = rules.r0;
+    w = rules.w0;
+    next = let enough = two_names setup.tables route tests in omega arith;
+  };
+  mark = tt;
+}
+
+pub sound_plan : (setup : Setup) (s : State) (call kind : List ℕ) (route : List (List ℕ)) (at from level : ℕ) → AreWithinBounds setup.rules
+    → IsSoundState setup s → Passes setup s (Plan call kind route at from level) → IsBoundedCommand (Plan call kind route at from level)
+    → IsInPlane (first_of (points_of setup.tables route)).x (first_of (points_of setup.tables route)).y
+    → IsSoundState setup (record s { records = s.records ++ (record { call = call; path = Planned (course_of setup kind route at from level) }) ∷ [] })
+sound_plan setup s call kind route at from level rules sound tests within plane =
+    let split = halves (λ c. c.1 ≡ true) (route_checks setup.tables route) _ tests.1.1 in
+    filed setup s call (Planned (course_of setup kind route at from level)) sound
+    (planned setup kind route at from level rules within.0 within.1 within.2 plane tests.1.0 split.0) tests.0 split.1.1.1.0 rules.flights.most
+
+pub sound_external : (setup : Setup) (s : State) (call : List ℕ) (stretch : Straight) → AreWithinBounds setup.rules → IsSoundState setup s
+    → Passes setup s (External call stretch) → IsBoundedCommand (External call stretch)
+    → IsSoundState setup (record s { records = s.records ++ (record { call = call; path = Outer stretch }) ∷ [] })
+sound_external setup s call stretch rules sound tests within = filed setup s call (Outer stretch) sound within tests.0 tests.1.0 rules.flights.most
+
+pub sound_drop : (setup : Setup) (s : State) (call : List ℕ) → IsSoundState setup s
+    → IsSoundState setup (record s { records = filter (λ f. not (bytes_eq f.call call)) s.records })
+sound_drop setup s call sound = record {
+  sound = All-filter (λ f. not (bytes_eq f.call call)) (IsSoundFlight setup) s.records sound.sound;
+  own_calls = AllPairs-filter (λ f g. f.call ≢ g.call) (λ f. not (bytes_eq f.call call)) s.records sound.own_calls;
+  few = let both = length-filter_both (λ f. not (bytes_eq f.call call)) (λ f. not (not (bytes_eq f.call call))) (λ f. refl) s.records in omega (arith, sound.few);
+  early = sound.early;
+  counted = sound.counted;
+}
+
+-- a command is entered only where there is room in the history
+room_by : (setup : Setup) (s : State) (c : Command) → Passes setup s c → int_lt (pos s.version) setup.rules.history ≡ true
+room_by setup s (Plan call kind route at from level) tests = (halves (λ c. c.1 ≡ true) (route_checks setup.tables route) _ tests.1.1).1.1.1.1.0
+room_by setup s (External call stretch) tests = tests.1.1.0
+room_by setup s (Drop call) tests = tests.1.0
+room_by setup s (Tick now) tests = tests.1.0
+
+-- with one entry more it is sound
+pub sound_counted : (setup : Setup) (s after : State) (e : Entry) → decide setup s e.who e.command ≡ Ok e → AreWithinBounds setup.rules
+    → IsSoundState setup after → after.version ≡ s.version → IsSoundState setup (record after { version = after.version + 1 })
+sound_counted setup s after e decided rules sound same = record {
+  sound = sound.sound;
+  own_calls = sound.own_calls;
+  few = sound.few;
+  early = sound.early;
+  counted = let room = below (pos s.version) setup.rules.history (room_by setup s e.command (passed setup s e decided)) rules.history.most in
+      omega (arith, ints, same);
+} where
+  below : (v h : ℤ) → int_lt v h ≡ true → h ≤ℤ pos 4194304 → v <ℤ pos 4194304
+  below v h test most = grind (arith, ints)

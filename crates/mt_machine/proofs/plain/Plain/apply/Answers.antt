@@ -1,0 +1,14 @@
+use Rattle.std.proofs.Common.{◌∙◌, ap}
+use Rattle.mt_base.specs.Picture.{State}
+use Rattle.mt_machine.specs.contracts.plain.Plain.{the_view}
+use Rattle.mt_machine.proofs.Effects.{passed, sound_counted}
+use Rattle.mt_machine.proofs.plain.Plain.apply.Goals as goal
+
+pub change-requires-clause-passed : goal.change-requires-clause-passed
+change-requires-clause-passed c =
+    passed (record { rules = c.args.rules.now; tables = c.args.tables.now }) c.args.self.now c.args.entry.now c.requires.decided
+
+pub returns-clause-sound : goal.returns-clause-sound
+returns-clause-sound c = sound_counted (record { rules = c.args.rules.now; tables = c.args.tables.now }) c.args.self.now (the_view c.self.inside)
+    c.args.entry.now c.requires.decided c.requires.rules (rw c.self.view_is c.in_ok-change.ensures.sound)
+    (ap (λ (s : State). s.version) (c.self.view_is ∙ c.in_ok-change.ensures.ok))
