@@ -1,17 +1,21 @@
 -- A line that is read has its numbers within their bounds.
-use Rattle.std.proofs.Common.{◌≡◌, ℕ, ℤ, pos, negsuc, ◌+◌, ◌≤◌, Bool, true, List, [], ◌∷◌, Result, Ok, Err, IsOk, refl, sym, ap, subst, arith, unsigned_abs}
+use Rattle.std.proofs.Common.{◌≡◌, ℕ, ℤ, pos, negsuc, ◌+◌, ◌≤◌, Bool, true, false, cond, List, [], ◌∷◌, Result, Ok, Err, IsOk, refl, sym, ap, subst, arith, unsigned_abs}
 use Rattle.std.specs.Bool.{⊤}
-use Rattle.std.specs.Prelude.{◌&&◌, int_le, Option, Some, None, IfOk}
+use Rattle.std.specs.Prelude.{◌&&◌, int_le, Option, Some, None, is_some, option_and_then, option_map, unwrap_or, IfOk, IfSome, All}
 use Rattle.std.specs.List.{AllByRecursion}
+use Rattle.std.proofs.lemmas.Bool.Decides.{nat_tests}
 use Rattle.std.proofs.lemmas.Int.{ints}
-use Rattle.serde_json.specs.Data.{Data, Members}
-use Rattle.serde_json.specs.Find.{as_object}
+use Rattle.std.proofs.lemmas.List.Elements.{All-nil, All-cons}
+use Rattle.serde_json.specs.Data.{Data, Items, no_items, item, Members}
+use Rattle.serde_json.specs.Find.{as_array, as_object, get_member}
 use Rattle.mt_base.specs.declared.rules.RuleName.{RuleName}
 use Rattle.mt_base.specs.declared.rules.Rules.{Rules}
-use Rattle.mt_base.specs.Bounds.{AreWithinBounds, IsBoundedStretch, IsWithin}
+use Rattle.mt_base.specs.declared.band.Band.{Band}
+use Rattle.mt_base.specs.Bounds.{AreBoundedBands, AreWithinBounds, IsBoundedBand, IsBoundedCommand, IsBoundedStretch, IsInPlane, IsWithin}
 use Rattle.mt_base.specs.Checks.{check, judged, next}
 use Rattle.mt_base.proofs.CheckLemmas.{all_passed}
 use Rattle.mt_base.proofs.RuleLemmas.{bounded, inside}
+use Rattle.mt_json.specs.Field.{as_whole}
 use Rattle.mt_wire.specs.declared.key.Fault.{Fault}
 use Rattle.mt_wire.specs.declared.key.Key.TheVariants as key
 use Rattle.mt_wire.specs.declared.request.LineNo.{LineNo}
@@ -20,9 +24,11 @@ use Rattle.mt_wire.specs.declared.request.Place.TheVariants as place
 use Rattle.mt_wire.specs.declared.request.Request.{Request}
 use Rattle.mt_wire.specs.declared.word.Word.{Word}
 use Rattle.mt_wire.specs.declared.word.Word.TheVariants as word
+use Rattle.mt_wire.specs.Bands.{Four, are_few, as_band, as_bands, as_four, band, band_of}
 use Rattle.mt_wire.specs.Bounded.{IsBounded, IsBoundedRequest, IsSpan}
-use Rattle.mt_wire.specs.Commands.{asked, bounds, fields_of, who_fields, rule_bounds, rules_with, set_in, standing, straight_in, who_bounds, who_in}
-use Rattle.mt_wire.specs.Field.{count, number}
+use Rattle.mt_wire.specs.Commands.{asked, bands_in, bounds, plan_in, fields_of, who_fields, rule_bounds, rules_with, set_in, standing, straight_in, who_bounds, who_in}
+use Rattle.mt_wire.specs.Field.{as_list_of, count, count_if_there, each_of, number, read_at}
+use Rattle.mt_wire.specs.Key.{key_text}
 use Rattle.mt_wire.specs.Line.{◌>>=◌, Gives, checked, decoded, kinds, line, named, of_word, other_key, read_object, read_value, unless_other, word_in}
 use Rattle.mt_wire.proofs.StepLemmas.{judged_rules, ruled}
 
@@ -59,6 +65,100 @@ history_bounded ms passed =
     let t = counted (count key.From ms) (count key.From ms + 64) (number key.To ms) passed.1.0 in
     record { begins = f.1; forward = t.0; short = t.1 }
 
+fix_bounded : (ms : Members) → AllByRecursion (λ c. c.1 ≡ true) (bounds word.Fix ms) → IsInPlane (number key.X ms) (number key.Y ms)
+fix_bounded ms passed = (inside _ _ _ passed.0, inside _ _ _ passed.1.0)
+
+if_some : {A : Type 0} (b : Bool) (x y : A) → cond b (Some x) None ≡ Some y → (b ≡ true) × (x ≡ y)
+if_some true x y e = (refl, (cc))
+if_some false x y e = cc
+
+number_bounded : (low high : ℤ) (o : Option ℤ) (y : ℤ) → option_and_then (λ z. cond (int_le low z && int_le z high) (Some z) None) o ≡ Some y → IsWithin low high y
+number_bounded low high None y e = cc
+number_bounded low high (Some z) y e = let was = if_some (int_le low z && int_le z high) z y e in subst (IsWithin low high) was.1 (inside low high z was.0)
+
+band_bounded : (top speed climb descent : Option ℤ) (b : Band)
+    → ((z : ℤ) → top ≡ Some z → IsWithin (pos 1) (pos 600) z) → ((z : ℤ) → speed ≡ Some z → IsWithin (pos 1) (pos 1000) z)
+    → ((z : ℤ) → climb ≡ Some z → IsWithin (pos 1) (pos 10000) z) → ((z : ℤ) → descent ≡ Some z → IsWithin (pos 1) (pos 10000) z)
+    → band top speed climb descent ≡ Some b → IsBoundedBand b
+band_bounded (Some t) (Some s) (Some c) (Some d) b top speed climb descent e =
+    let is : record { top = unsigned_abs t; speed = s; climb = c; descent = d } ≡ b = cc in
+    subst IsBoundedBand is (record { top = within_counts 1 600 t (top t refl); speed = speed s refl; climb = climb c refl; descent = descent d refl })
+band_bounded None s c d b top speed climb descent e = cc
+band_bounded (Some t) None c d b top speed climb descent e = cc
+band_bounded (Some t) (Some s) None d b top speed climb descent e = cc
+band_bounded (Some t) (Some s) (Some c) None b top speed climb descent e = cc
+
+four_bounded : (o : Option Four) (b : Band) → option_and_then band_of o ≡ Some b → IsBoundedBand b
+four_bounded None b e = cc
+four_bounded (Some n) b e =
+    band_bounded _ _ _ _ b (number_bounded (pos 1) (pos 600) (as_whole n.top)) (number_bounded (pos 1) (pos 1000) (as_whole n.speed))
+    (number_bounded (pos 1) (pos 10000) (as_whole n.climb)) (number_bounded (pos 1) (pos 10000) (as_whole n.descent)) e
+
+-- a list that was read has a first item and others that were read
+record FirstAndOthers {A : Type 0} (first : Option A) (others : Option (List A)) (xs : List A) : Type 0 where
+  y : A
+  ys : List A
+  first_is : first ≡ Some y
+  others_are : others ≡ Some ys
+  list_is : y ∷ ys ≡ xs
+
+first_and_others : {A : Type 0} (first : Option A) (others : Option (List A)) (xs : List A)
+    → option_and_then (λ x. option_map (λ ys. x ∷ ys) others) first ≡ Some xs → FirstAndOthers first others xs
+first_and_others None others xs e = cc
+first_and_others (Some x) None xs e = cc
+first_and_others (Some x) (Some ys) xs e = record { y = x; ys = ys; first_is = refl; others_are = refl; list_is = (cc) }
+
+each_bounded : (ds : Items) (bands : List Band) → each_of as_band ds ≡ Some bands → All IsBoundedBand bands
+each_bounded no_items bands e = let is : [] ≡ bands = cc in subst (All IsBoundedBand) is (All-nil IsBoundedBand)
+each_bounded (item d ds) bands e =
+    let was = first_and_others (as_band d) (each_of as_band ds) bands e in
+    subst (All IsBoundedBand) was.list_is (All-cons IsBoundedBand was.y was.ys (four_bounded (as_four d) was.y was.first_is) (each_bounded ds was.ys was.others_are))
+
+list_bounded : (o : Option Items) (bands : List Band) → option_and_then (each_of as_band) o ≡ Some bands → All IsBoundedBand bands
+list_bounded None bands e = cc
+list_bounded (Some ds) bands e = each_bounded ds bands e
+
+few_bounded : (b : Bool) (bands : List Band) → (b ≡ true → AreBoundedBands bands) → is_some (cond b (Some bands) None) ≡ true
+    → AreBoundedBands (unwrap_or (cond b (Some bands) None) [])
+few_bounded true bands h e = h refl
+few_bounded false bands h e = cc
+
+counted_bands : (bands : List Band) → All IsBoundedBand bands → are_few bands ≡ true → AreBoundedBands bands
+counted_bands bands each test = record { some = grind (arith, nat_tests); few = grind (arith, nat_tests); each = each }
+
+bands_bounded : (o : Option (List Band)) → ((bands : List Band) → o ≡ Some bands → All IsBoundedBand bands)
+    → is_some (option_and_then (λ bands. cond (are_few bands) (Some bands) None) o) ≡ true
+    → AreBoundedBands (unwrap_or (option_and_then (λ bands. cond (are_few bands) (Some bands) None) o) [])
+bands_bounded None each e = cc
+bands_bounded (Some bands) each e = few_bounded (are_few bands) bands (counted_bands bands (each bands refl)) e
+
+type_read : (o : Option Data) → is_some (option_and_then as_bands o) ≡ true → AreBoundedBands (unwrap_or (option_and_then as_bands o) [])
+type_read None e = cc
+type_read (Some d) e = bands_bounded (as_list_of as_band d) (list_bounded (as_array d)) e
+
+type_bounded : (ms : Members) → AllByRecursion (λ c. c.1 ≡ true) (bounds word.TypeLine ms) → AreBoundedBands (bands_in ms)
+type_bounded ms passed = type_read (get_member (key_text key.Bands) ms) passed.0
+
+-- a number, or another where there is none
+either_bounded : (high n : ℕ) (o : Option ℤ) → (int_le (pos 0) (unwrap_or o (pos 0)) && int_le (unwrap_or o (pos 0)) (pos high)) ≡ true → n ≤ high
+    → unwrap_or (option_map unsigned_abs o) n ≤ high
+either_bounded high n None test h = h
+either_bounded high n (Some z) test h = (counted 0 high z test).1
+
+some_bounded : (high : ℕ) (o : Option ℤ) → (int_le (pos 0) (unwrap_or o (pos 0)) && int_le (unwrap_or o (pos 0)) (pos high)) ≡ true
+    → IfSome (option_map unsigned_abs o) (λ n. n ≤ high)
+some_bounded high None test = tt
+some_bounded high (Some z) test = (counted 0 high z test).1
+
+plan_bounded : (ms : Members) → AllByRecursion (λ c. c.1 ≡ true) (bounds word.Plan ms) → IsBoundedCommand (plan_in ms)
+plan_bounded ms passed =
+    let at = counted 0 10000000 (number key.At ms) passed.0 in
+    let level = counted 0 600 (number key.Level ms) passed.1.1.0 in
+    (at.1, either_bounded 600 (count key.Level ms) (read_at key.From as_whole ms) passed.1.0 level.1, level.1)
+
+flight_bounded : (ms : Members) → AllByRecursion (λ c. c.1 ≡ true) (bounds word.Flight ms) → IfSome (count_if_there key.Sec ms) (λ s. s ≤ 10014400)
+flight_bounded ms passed = some_bounded 10014400 (read_at key.Sec as_whole ms) passed.0
+
 unruled : (r : Result ⊤ RuleName) → IsOk (ruled r) → IsOk r
 unruled (Ok u) ok = ok
 unruled (Err name) ok = cc
@@ -69,6 +169,10 @@ rules_bounded rules ok = bounded rules (unruled _ (rw judged_rules at ok))
 request_bounded : (rules : Rules) (w : Word) (ms : Members) → IsOk (judged (bounds w ms) (tt {0})) → IsOk (judged (standing w rules ms) (tt {0}))
     → IsBoundedRequest rules (asked w ms)
 request_bounded rules word.Begin ms passed stands = tt
+request_bounded rules word.Fix ms passed stands = fix_bounded ms (all_passed (bounds word.Fix ms) (tt {0}) passed)
+request_bounded rules word.TypeLine ms passed stands = type_bounded ms (all_passed (bounds word.TypeLine ms) (tt {0}) passed)
+request_bounded rules word.Plan ms passed stands = plan_bounded ms (all_passed (bounds word.Plan ms) (tt {0}) passed)
+request_bounded rules word.Flight ms passed stands = flight_bounded ms (all_passed (bounds word.Flight ms) (tt {0}) passed)
 request_bounded rules word.Rule ms passed stands = rules_bounded (rules_with (set_in ms) rules) stands
 request_bounded rules word.External ms passed stands = external_bounded ms (all_passed (bounds word.External ms) (tt {0}) passed)
 request_bounded rules word.Drop ms passed stands = tt

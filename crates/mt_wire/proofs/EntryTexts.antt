@@ -1,5 +1,5 @@
 -- The pieces of a text, joined, are the compact text of the value.
-use Rattle.std.proofs.Common.{◌≡◌, ℕ, ℤ, pos, negsuc, List, [], ◌∷◌, ◌++◌, decimal, codes, refl, append_assoc, append-nil}
+use Rattle.std.proofs.Common.{◌≡◌, ℕ, ℤ, pos, negsuc, List, [], ◌∷◌, ◌++◌, decimal, codes, refl, ap, ◌∙◌, append_assoc, append-nil}
 use Rattle.std.specs.Fmt.{signed_decimal}
 use Rattle.json.proofs.OnLiterals.{json_on_literals}
 use Rattle.json.specs.Print.{escape}
@@ -8,11 +8,15 @@ use Rattle.serde_json.specs.Written.{compact_text, number_text}
 use Rattle.serde_json.specs.Find.{of_integer}
 use Rattle.mt_base.specs.declared.conflict.Kind.{Kind}
 use Rattle.mt_base.specs.declared.conflict.Kind.TheVariants.{Actual, Tentative}
-use Rattle.mt_base.specs.declared.command.Command.TheVariants.{External, Drop, Tick}
+use Rattle.mt_base.specs.declared.command.Command.TheVariants.{Plan, External, Drop, Tick}
+use Rattle.mt_base.specs.declared.flight.FlightView.{FlightView}
+use Rattle.mt_base.specs.declared.flight.Tent.{Tent}
 use Rattle.mt_base.specs.declared.flight.Straight.{Straight}
+use Rattle.mt_wire.specs.declared.reply.Reply.TheVariants as reply
+use Rattle.mt_wire.specs.Flight.{or_null, row_value, tent_value}
 use Rattle.mt_wire.specs.Entry.{whole, entry_members}
-use Rattle.mt_wire.specs.Numbers.{external_front, external_text}
-use Rattle.mt_wire.specs.Reply.{kind_letter}
+use Rattle.mt_wire.specs.Numbers.{external_front, external_text, flight_front, flight_text, plan_back, plan_front, plan_route}
+use Rattle.mt_wire.specs.Reply.{kind_letter, reply_text}
 
 pub plain_kinds : (a b : Kind) → kind_letter a ∷ kind_letter b ∷ [] ≡ escape (kind_letter a ∷ kind_letter b ∷ [])
 unfolding json_on_literals
@@ -32,13 +36,18 @@ unfolding json_on_literals
 conflict_text f l kinds a b first last letters left right k p q d e = simp (k, p, q, d, e, append_assoc)
 
 -- the digits of a whole number
-digits : (z : ℤ) → number_text (of_integer z) ≡ signed_decimal z
+pub digits : (z : ℤ) → number_text (of_integer z) ≡ signed_decimal z
 digits (pos n) = refl
 digits (negsuc n) = refl
 
 pub external_text_is : (who : ℕ) (call : List ℕ) (straight : Straight) → external_text who call straight ≡ compact_text (object (entry_members who (External call straight)))
 unfolding json_on_literals
 external_text_is who call straight = simp (digits, append_assoc)
+
+pub plan_text : (who : ℕ) (call kind : List ℕ) (route : List (List ℕ)) (at from level : ℕ)
+    → plan_front call at from ++ (plan_route level route ++ plan_back who kind) ≡ compact_text (object (entry_members who (Plan call kind route at from level)))
+unfolding json_on_literals
+plan_text who call kind route at from level = simp append_assoc
 
 pub drop_text : (who : ℕ) (call name actor : List ℕ) → name ≡ escape call → actor ≡ decimal who
     → codes "{\"call\":\"" ++ (name ++ (codes "\",\"do\":\"drop\",\"who\":" ++ (actor ++ (codes "}" ++ [])))) ≡ compact_text (object (entry_members who (Drop call)))
@@ -53,3 +62,48 @@ tick_text who now moment actor d e = simp (d, e, append_assoc)
 pub front_text : (from : ℕ) (call name first : List ℕ) → name ≡ escape call → first ≡ decimal from
     → codes "{\"call\":\"" ++ (name ++ (codes "\",\"do\":\"external\",\"from\":" ++ (first ++ []))) ≡ external_front call from
 front_text from call name first p d = rw (p, d) (simp append-nil)
+
+pub plan_front_text : (at from : ℕ) (call moment name first : List ℕ) → moment ≡ decimal at → name ≡ escape call → first ≡ decimal from
+    → codes "{\"at\":" ++ (moment ++ (codes ",\"call\":\"" ++ (name ++ (codes "\",\"do\":\"plan\",\"from\":" ++ (first ++ []))))) ≡ plan_front call at from
+plan_front_text at from call moment name first d p e = rw (d, p, e) (simp append-nil)
+
+pub plan_back_text : (who : ℕ) (kind name actor : List ℕ) → name ≡ escape kind → actor ≡ decimal who
+    → codes ",\"type\":\"" ++ (name ++ (codes "\",\"who\":" ++ (actor ++ (codes "}" ++ [])))) ≡ plan_back who kind
+plan_back_text who kind name actor p d = rw (p, d) refl
+
+pub fix_text : (name letters : List ℕ) → letters ≡ escape name → codes "\"" ++ (letters ++ (codes "\"" ++ [])) ≡ compact_text (string name)
+unfolding json_on_literals
+fix_text name letters p = rw p refl
+
+pub tent_text : (tent : Tent) (level owner start : List ℕ) → level ≡ decimal tent.level → owner ≡ decimal tent.owner → start ≡ decimal tent.start
+    → codes "{\"level\":" ++ (level ++ (codes ",\"owner\":" ++ (owner ++ (codes ",\"start\":" ++ (start ++ (codes "}" ++ [])))))) ≡ compact_text (tent_value tent)
+unfolding json_on_literals
+tent_text tent level owner start d e f = simp (d, e, f, append_assoc)
+
+-- two texts within two others, and beside them
+beside : (a b c d rest : List ℕ) → (a ++ b) ++ ((c ++ d) ++ rest) ≡ a ++ (b ++ (c ++ (d ++ rest)))
+beside a b c d rest = append_assoc a b ((c ++ d) ++ rest) ∙ ap (λ t. a ++ (b ++ t)) (append_assoc c d rest)
+
+abbrev level_part : FlightView → List ℕ
+level_part view = codes ",\"level\":" ++ compact_text (or_null (λ level. whole (pos level)) view.level)
+
+abbrev row_part : FlightView → List ℕ
+row_part view = codes ",\"row\":" ++ compact_text (or_null row_value view.row)
+
+abbrev start_part : FlightView → List ℕ
+start_part view = codes ",\"start\":" ++ compact_text (whole (pos view.start))
+
+abbrev tent_part : FlightView → List ℕ
+tent_part view = codes ",\"tentative\":" ++ compact_text (or_null tent_value view.tentative)
+
+abbrev version_part : FlightView → List ℕ
+version_part view = codes ",\"version\":" ++ (decimal view.version ++ codes "}\n")
+
+flat_text : (view : FlightView)
+    → flight_front view ++ (level_part view ++ (row_part view ++ (start_part view ++ (tent_part view ++ version_part view)))) ≡ reply_text (reply.Flight view)
+unfolding json_on_literals
+flat_text view = simp append_assoc
+
+pub flight_text_is : (view : FlightView) → flight_text view ≡ reply_text (reply.Flight view)
+flight_text_is view =
+    ap (λ t. flight_front view ++ t) (beside (level_part view) (row_part view) (start_part view) (tent_part view) (version_part view)) ∙ flat_text view

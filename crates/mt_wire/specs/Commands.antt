@@ -1,7 +1,9 @@
 -- The commands: their words, where each may stand, and the table of their fields with kinds and bounds.
-use Rattle.std.specs.Prelude.{ℕ, pos, neg_ℤ, ◌+◌, ◌-◌, ◌^◌, ◌+ℤ◌, ◌*ℤ◌, Bool, true, false, List, [], ◌∷◌, ◌++◌, map, flat_map, codes, Option, Some, None, unwrap_or, if◌then◌else◌}
+use Rattle.std.specs.Prelude.{ℕ, pos, neg_ℤ, ◌+◌, ◌-◌, ◌^◌, ◌+ℤ◌, ◌*ℤ◌, Bool, true, false, List, [], ◌∷◌, ◌++◌, map, flat_map, codes, Option, Some, None, is_some, unwrap_or, if◌then◌else◌}
 use Rattle.std.specs.Str.{bytes_eq}
 use Rattle.serde_json.specs.Data.{Members}
+use Rattle.mt_base.specs.declared.band.Band.{Band}
+use Rattle.mt_base.specs.declared.command.Command.{Command}
 use Rattle.mt_base.specs.declared.command.Command.TheVariants as command
 use Rattle.mt_base.specs.declared.flight.Straight.{Straight}
 use Rattle.mt_base.specs.declared.row.Row.{Row}
@@ -23,7 +25,8 @@ use Rattle.mt_wire.specs.declared.word.Group.{Group}
 use Rattle.mt_wire.specs.declared.word.Group.TheVariants as group
 use Rattle.mt_wire.specs.declared.word.Word.{Word}
 use Rattle.mt_wire.specs.declared.word.Word.TheVariants as word
-use Rattle.mt_wire.specs.Field.{Field, as_call, as_role, bound, count, may, must, number, read_at}
+use Rattle.mt_wire.specs.Bands.{as_bands, as_numbers}
+use Rattle.mt_wire.specs.Field.{Field, as_call, as_fix, as_list_of, as_role, as_type, bound, count, count_if_there, may, must, number, read_at}
 use Rattle.mt_wire.specs.Key.{key_text}
 
 abbrev pub named_word : List (List ℕ × Word) → List ℕ → Option Word
@@ -34,12 +37,16 @@ named_word (w ∷ ws) text = if bytes_eq text w.0 then Some w.1 else named_word 
 abbrev pub word_of : List ℕ → Option Word
 word_of = named_word (
     (codes "begin", word.Begin) ∷
+    (codes "fix", word.Fix) ∷
+    (codes "type", word.TypeLine) ∷
     (codes "rule", word.Rule) ∷
+    (codes "plan", word.Plan) ∷
     (codes "external", word.External) ∷
     (codes "drop", word.Drop) ∷
     (codes "tick", word.Tick) ∷
     (codes "list", word.List) ∷
     (codes "check", word.Check) ∷
+    (codes "flight", word.Flight) ∷
     (codes "history", word.History) ∷
     (codes "hello", word.Hello) ∷
     (codes "bye", word.Bye) ∷ [])
@@ -47,12 +54,16 @@ word_of = named_word (
 -- setup, the feed's, or anyone's
 abbrev pub group_of : Word → Group
 group_of word.Begin = group.Setup
+group_of word.Fix = group.Setup
+group_of word.TypeLine = group.Setup
 group_of word.Rule = group.Setup
+group_of word.Plan = group.Feed
 group_of word.External = group.Feed
 group_of word.Drop = group.Feed
 group_of word.Tick = group.Feed
 group_of word.List = group.Any
 group_of word.Check = group.Any
+group_of word.Flight = group.Any
 group_of word.History = group.Any
 group_of word.Hello = group.Any
 group_of word.Bye = group.Any
@@ -81,7 +92,16 @@ rule_names = Sh ∷ Sv ∷ R0 ∷ Gh ∷ Rmax ∷ W0 ∷ Gv ∷ Wmax ∷ Tc ∷ 
 
 abbrev pub fields_of : Word → List Field
 fields_of word.Begin = []
+fields_of word.Fix = must key.Name as_fix ∷ must key.X as_whole ∷ must key.Y as_whole ∷ []
+fields_of word.TypeLine = must key.Name as_type ∷ must key.Bands (as_list_of as_numbers) ∷ []
 fields_of word.Rule = map (λ name. may (key.Rule name) as_whole) rule_names
+fields_of word.Plan =
+    must key.Call as_call ∷
+    must key.Kind as_type ∷
+    must key.Route (as_list_of as_fix) ∷
+    must key.At as_whole ∷
+    may key.From as_whole ∷
+    must key.Level as_whole ∷ []
 fields_of word.External =
     must key.Call as_call ∷
     must key.From as_whole ∷
@@ -100,6 +120,7 @@ fields_of word.Drop = must key.Call as_call ∷ []
 fields_of word.Tick = must key.Now as_whole ∷ []
 fields_of word.List = []
 fields_of word.Check = []
+fields_of word.Flight = must key.Call as_call ∷ may key.Sec as_whole ∷ []
 fields_of word.History = must key.From as_whole ∷ must key.To as_whole ∷ []
 fields_of word.Hello = must key.Role as_role ∷ []
 fields_of word.Bye = []
@@ -150,7 +171,15 @@ rule_bound ms name = bound (key.Rule name) (neg_ℤ (pos (2 ^ 63))) (pos (2 ^ 63
 
 abbrev pub bounds : Word → Members → List (Fault × Bool)
 bounds word.Begin ms = []
+bounds word.Fix ms =
+    bound key.X (neg_ℤ (pos 3686400)) (pos 3686400) (number key.X ms) ∷
+    bound key.Y (neg_ℤ (pos 3686400)) (pos 3686400) (number key.Y ms) ∷ []
+bounds word.TypeLine ms = (Range key.Bands, is_some (read_at key.Bands as_bands ms)) ∷ []
 bounds word.Rule ms = map (rule_bound ms) rule_names
+bounds word.Plan ms =
+    bound key.At (pos 0) (pos 10000000) (number key.At ms) ∷
+    bound key.From (pos 0) (pos 600) (number key.From ms) ∷
+    bound key.Level (pos 0) (pos 600) (number key.Level ms) ∷ []
 bounds word.External ms =
     bound key.From (pos 0) (pos 10000000) (number key.From ms) ∷
     bound key.To (pos (count key.From ms + 1)) (pos (count key.From ms + 14400)) (number key.To ms) ∷
@@ -169,6 +198,7 @@ bounds word.Drop ms = []
 bounds word.Tick ms = bound key.Now (pos 0) (pos 10000000) (number key.Now ms) ∷ []
 bounds word.List ms = []
 bounds word.Check ms = []
+bounds word.Flight ms = bound key.Sec (pos 0) (pos 10014400) (number key.Sec ms) ∷ []
 bounds word.History ms =
     bound key.From (pos 0) (pos 4194304) (number key.From ms) ∷
     bound key.To (pos (count key.From ms)) (pos (count key.From ms + 64)) (number key.To ms) ∷ []
@@ -232,12 +262,16 @@ rule_bounds rules = map (λ c. (Range (key.Rule c.0), c.1)) (rule_checks rules)
 -- for a line that sets rules: the rules as they would then stand
 abbrev pub standing : Word → Rules → Members → List (Fault × Bool)
 standing word.Begin rules ms = []
+standing word.Fix rules ms = []
+standing word.TypeLine rules ms = []
 standing word.Rule rules ms = rule_bounds (rules_with (set_in ms) rules)
+standing word.Plan rules ms = []
 standing word.External rules ms = []
 standing word.Drop rules ms = []
 standing word.Tick rules ms = []
 standing word.List rules ms = []
 standing word.Check rules ms = []
+standing word.Flight rules ms = []
 standing word.History rules ms = []
 standing word.Hello rules ms = []
 standing word.Bye rules ms = []
@@ -245,14 +279,38 @@ standing word.Bye rules ms = []
 abbrev pub call_in : Members → List ℕ
 call_in ms = unwrap_or (read_at key.Call as_call ms) []
 
+abbrev pub kind_in : Members → List ℕ
+kind_in ms = unwrap_or (read_at key.Kind as_type ms) []
+
+abbrev pub route_in : Members → List (List ℕ)
+route_in ms = unwrap_or (read_at key.Route (as_list_of as_fix) ms) []
+
+abbrev pub bands_in : Members → List Band
+bands_in ms = unwrap_or (read_at key.Bands as_bands ms) []
+
+-- a planned flight, whose first level is that it is cleared to where it isn't given
+abbrev pub plan_in : Members → Command
+plan_in ms =
+    command.Plan
+    (call_in ms)
+    (kind_in ms)
+    (route_in ms)
+    (count key.At ms)
+    (unwrap_or (count_if_there key.From ms) (count key.Level ms))
+    (count key.Level ms)
+
 abbrev pub asked : Word → Members → Request
 asked word.Begin ms = request.Begin
+asked word.Fix ms = request.Fix (unwrap_or (read_at key.Name as_fix ms) []) (number key.X ms) (number key.Y ms)
+asked word.TypeLine ms = request.TypeLine (unwrap_or (read_at key.Name as_type ms) []) (bands_in ms)
 asked word.Rule ms = request.Rule (set_in ms)
+asked word.Plan ms = request.Change (plan_in ms)
 asked word.External ms = request.Change (command.External (call_in ms) (straight_in ms))
 asked word.Drop ms = request.Change (command.Drop (call_in ms))
 asked word.Tick ms = request.Change (command.Tick (count key.Now ms))
 asked word.List ms = request.List
 asked word.Check ms = request.Check
+asked word.Flight ms = request.Flight (call_in ms) (count_if_there key.Sec ms)
 asked word.History ms = request.History (count key.From ms) (count key.To ms)
 asked word.Hello ms = request.Hello (unwrap_or (read_at key.Role as_role ms) role.Feed)
 asked word.Bye ms = request.Bye

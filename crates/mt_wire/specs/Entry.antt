@@ -1,18 +1,32 @@
 -- The text of an entry.
 use Rattle.std.specs.Prelude.{ℕ, ℤ, pos, List, [], ◌∷◌, ◌++◌, codes}
-use Rattle.serde_json.specs.Data.{Data, number, string, object, Members, no_members, member}
+use Rattle.serde_json.specs.Data.{Data, number, string, array, object, Items, no_items, item, Members, no_members, member}
 use Rattle.serde_json.specs.Find.{of_integer}
 use Rattle.serde_json.specs.Written.{compact_text}
 use Rattle.mt_base.specs.declared.command.Command.{Command}
-use Rattle.mt_base.specs.declared.command.Command.TheVariants.{External, Drop, Tick}
+use Rattle.mt_base.specs.declared.command.Command.TheVariants.{Plan, External, Drop, Tick}
 use Rattle.mt_base.specs.declared.command.Entry.{Entry}
 
 -- a whole number
 abbrev pub whole : ℤ → Data
 whole z = number (of_integer z)
 
+-- the values of some things, in order
+abbrev pub values : {A : Type 0} → (A → Data) → List A → Items
+values value [] = no_items
+values value (x ∷ xs) = item (value x) (values value xs)
+
 -- An entry has its command's fields, all of them, and the number of who asked for it; the keys stand in byte order.
 abbrev pub entry_members : ℕ → Command → Members
+entry_members who (Plan call kind route at from level) =
+    member (codes "at") (whole (pos at)) (
+    member (codes "call") (string call) (
+    member (codes "do") (string (codes "plan")) (
+    member (codes "from") (whole (pos from)) (
+    member (codes "level") (whole (pos level)) (
+    member (codes "route") (array (values string route)) (
+    member (codes "type") (string kind) (
+    member (codes "who") (whole (pos who)) no_members)))))))
 entry_members who (External call straight) =
     member (codes "call") (string call) (
     member (codes "do") (string (codes "external")) (

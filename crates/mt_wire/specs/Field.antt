@@ -1,14 +1,16 @@
 -- The fields of a line: what is read of one, and what is checked of one.
-use Rattle.std.specs.Prelude.{◌≡◌, ℕ, ℤ, pos, ◌&&◌, int_le, Bool, true, false, List, codes, Option, Some, None, is_some, option_and_then, unwrap_or, Result, Ok, Err, ⊤, unsigned_abs, if◌then◌else◌}
+use Rattle.std.specs.Prelude.{◌≡◌, ℕ, ℤ, pos, ◌&&◌, int_le, Bool, true, false, List, [], ◌∷◌, codes, Option, Some, None, is_some, option_and_then, option_map, unwrap_or, Result, Ok, Err, ⊤, unsigned_abs, if◌then◌else◌}
 use Rattle.std.specs.Str.{bytes_eq}
-use Rattle.serde_json.specs.Data.{Data, Members}
-use Rattle.serde_json.specs.Find.{as_str, get_member}
+use Rattle.serde_json.specs.Data.{Data, Items, no_items, item, Members}
+use Rattle.serde_json.specs.Find.{as_array, as_str, get_member}
 use Rattle.mt_base.specs.Checks.{check, next}
 use Rattle.mt_base.specs.Name.{name_of}
 use Rattle.mt_json.specs.Field.{as_whole}
 use Rattle.mt_wire.specs.declared.key.Key.{Key}
 use Rattle.mt_wire.specs.declared.key.Fault.{Fault}
 use Rattle.mt_wire.specs.declared.key.Fault.TheVariants.{Form, Range}
+use Rattle.mt_wire.specs.declared.stop.Stop.{Stop}
+use Rattle.mt_wire.specs.declared.stop.Stop.TheVariants as stop
 use Rattle.mt_wire.specs.declared.request.Role.{Role}
 use Rattle.mt_wire.specs.declared.request.Role.TheVariants.{Feed, Position}
 use Rattle.mt_wire.specs.Key.{key_text}
@@ -16,6 +18,23 @@ use Rattle.mt_wire.specs.Key.{key_text}
 -- a callsign: a text of 1 to 7 capital letters and digits
 abbrev pub as_call : Data → Option (List ℕ)
 as_call d = option_and_then (name_of 1 7) (as_str d)
+
+-- the name of a fix: of 2 to 5 of these
+abbrev pub as_fix : Data → Option (List ℕ)
+as_fix d = option_and_then (name_of 2 5) (as_str d)
+
+-- the name of a type: of 2 to 4 of these
+abbrev pub as_type : Data → Option (List ℕ)
+as_type d = option_and_then (name_of 2 4) (as_str d)
+
+-- each item of a list, by its kind; none where one is of another kind
+abbrev pub each_of : {A : Type 0} → (Data → Option A) → Items → Option (List A)
+each_of kind no_items = Some []
+each_of kind (item d ds) = option_and_then (λ x. option_map (λ xs. x ∷ xs) (each_of kind ds)) (kind d)
+
+-- a list whose items are of a kind
+abbrev pub as_list_of : {A : Type 0} → (Data → Option A) → Data → Option (List A)
+as_list_of kind d = option_and_then (each_of kind) (as_array d)
 
 abbrev pub role_of : List ℕ → Option Role
 role_of text = if bytes_eq text (codes "feed") then Some Feed else (if bytes_eq text (codes "position") then Some Position else None)
@@ -56,6 +75,10 @@ number key ms = unwrap_or (read_at key as_whole ms) (pos 0)
 abbrev pub count : Key → Members → ℕ
 count key ms = unsigned_abs (number key ms)
 
+-- the same, or none where it is absent
+abbrev pub count_if_there : Key → Members → Option ℕ
+count_if_there key ms = option_map unsigned_abs (read_at key as_whole ms)
+
 -- a number within bounds
 abbrev pub bound : Key → ℤ → ℤ → ℤ → Fault × Bool
 bound key low high z = (Range key, int_le low z && int_le z high)
@@ -71,3 +94,15 @@ count_within key low high ms = next (check (bound key (pos low) (pos high) (numb
 abbrev pub Reads : {A : Type 0} → Result A Fault → Result ⊤ Fault → A → Type 0
 Reads (Ok y) r x = (r ≡ Ok (tt {0})) × (y ≡ x)
 Reads (Err e) r x = r ≡ Err e
+
+-- the same, or memory is wanting
+abbrev pub ReadsUnlessMemory : {A : Type 0} → Result A Stop → Result ⊤ Fault → A → Type 0
+ReadsUnlessMemory (Ok y) r x = (r ≡ Ok (tt {0})) × (y ≡ x)
+ReadsUnlessMemory (Err (stop.Fault e)) r x = r ≡ Err e
+ReadsUnlessMemory (Err stop.Memory) r x = ⊤
+
+-- the answer is this one, or memory is wanting
+abbrev pub IsUnlessMemory : {A : Type 0} → Result A Stop → Result A Fault → Type 0
+IsUnlessMemory (Ok y) r = r ≡ Ok y
+IsUnlessMemory (Err (stop.Fault e)) r = r ≡ Err e
+IsUnlessMemory (Err stop.Memory) r = ⊤

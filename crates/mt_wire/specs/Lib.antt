@@ -1,7 +1,9 @@
+pub mod Bands
 pub mod Bounded
 pub mod Commands
 pub mod Entry
 pub mod Field
+pub mod Flight
 pub mod Held
 pub mod Joined
 pub mod Key

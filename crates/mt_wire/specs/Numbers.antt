@@ -1,9 +1,14 @@
--- Members with whole numbers, behind another member.
-use Rattle.std.specs.Prelude.{ℕ, ℤ, pos, List, [], ◌∷◌, ◌++◌, codes, decimal}
+-- Texts of members with whole numbers, and texts in parts.
+use Rattle.std.specs.Prelude.{ℕ, ℤ, pos, List, [], ◌∷◌, ◌++◌, codes, decimal, false}
 use Rattle.std.specs.Fmt.{signed_decimal}
 use Rattle.std.specs.Borrow.{Bor}
 use Rattle.json.specs.Print.{escape}
+use Rattle.serde_json.specs.Data.{boolean, string}
+use Rattle.serde_json.specs.Written.{compact_text, items_text}
+use Rattle.mt_base.specs.declared.flight.FlightView.{FlightView}
 use Rattle.mt_base.specs.declared.flight.Straight.{Straight}
+use Rattle.mt_wire.specs.Entry.{values, whole}
+use Rattle.mt_wire.specs.Flight.{or_null, row_value, tent_value}
 
 -- a comma, a key and its number
 abbrev pub number_text : List ℕ → ℤ → List ℕ
@@ -37,3 +42,28 @@ external_front call from = codes "{\"call\":\"" ++ (escape call ++ (codes "\",\"
 -- the whole entry of an external flight
 abbrev pub external_text : ℕ → List ℕ → Straight → List ℕ
 external_text who call straight = external_front call straight.from ++ external_numbers who straight
+
+-- what is told of a flight, in parts: up to its last second; its level and row; its first second and tentative clearance; the version
+abbrev pub flight_front : FlightView → List ℕ
+flight_front view =
+    codes "{\"call\":\"" ++ (escape view.call ++ (codes "\",\"due\":" ++ (compact_text (boolean view.due) ++ number_text (codes "end") (pos view.end))))
+
+abbrev pub flight_flown : FlightView → List ℕ
+flight_flown view =
+    (codes ",\"level\":" ++ compact_text (or_null (λ level. whole (pos level)) view.level)) ++ (codes ",\"row\":" ++ compact_text (or_null row_value view.row))
+
+abbrev pub flight_marked : FlightView → List ℕ
+flight_marked view = (codes ",\"start\":" ++ compact_text (whole (pos view.start))) ++ (codes ",\"tentative\":" ++ compact_text (or_null tent_value view.tentative))
+
+abbrev pub flight_text : FlightView → List ℕ
+flight_text view = flight_front view ++ (flight_flown view ++ (flight_marked view ++ (codes ",\"version\":" ++ (decimal view.version ++ codes "}\n"))))
+
+-- a plan up to its first level, then its level and route, then the rest
+abbrev pub plan_front : List ℕ → ℕ → ℕ → List ℕ
+plan_front call at from = codes "{\"at\":" ++ (decimal at ++ (codes ",\"call\":\"" ++ (escape call ++ (codes "\",\"do\":\"plan\",\"from\":" ++ decimal from))))
+
+abbrev pub plan_route : ℕ → List (List ℕ) → List ℕ
+plan_route level route = number_text (codes "level") (pos level) ++ (codes ",\"route\":[" ++ items_text false (values string route))
+
+abbrev pub plan_back : ℕ → List ℕ → List ℕ
+plan_back who kind = codes ",\"type\":\"" ++ (escape kind ++ (codes "\",\"who\":" ++ (decimal who ++ codes "}")))

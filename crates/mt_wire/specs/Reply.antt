@@ -1,21 +1,24 @@
 -- The text of a reply.
 use Rattle.std.specs.Prelude.{ℕ, pos, List, [], ◌∷◌, ◌++◌, codes}
-use Rattle.serde_json.specs.Data.{Data, string, array, object, Items, no_items, item, Members, no_members, member}
+use Rattle.serde_json.specs.Data.{Data, string, array, object, no_items, item, Members, no_members, member}
 use Rattle.serde_json.specs.Written.{compact_text}
 use Rattle.mt_base.specs.declared.command.Refusal.{Refusal}
-use Rattle.mt_base.specs.declared.command.Refusal.TheVariants.{HeldCall, UnknownCall, Full, HistoryFull, Backward}
+use Rattle.mt_base.specs.declared.command.Refusal.TheVariants.{HeldCall, UnknownCall, UnknownType, UnknownFix, RouteShort, RouteLong, RouteTwice, Ceiling, Full, HistoryFull, Backward}
 use Rattle.mt_base.specs.declared.conflict.Conflict.{Conflict}
 use Rattle.mt_base.specs.declared.conflict.Kind.{Kind}
 use Rattle.mt_base.specs.declared.conflict.Kind.TheVariants.{Actual, Tentative}
 use Rattle.mt_wire.specs.declared.request.Role.{Role}
 use Rattle.mt_wire.specs.declared.request.Role.TheVariants.{Feed, Position}
 use Rattle.mt_wire.specs.declared.reply.DoneWord.{DoneWord}
-use Rattle.mt_wire.specs.declared.reply.DoneWord.TheVariants.{Rule, Begin, Bye}
+use Rattle.mt_wire.specs.declared.reply.DoneWord.TheVariants.{Fix, TypeLine, Rule, Begin, Bye}
 use Rattle.mt_wire.specs.declared.reply.Reply.{Reply}
 use Rattle.mt_wire.specs.declared.reply.Reply.TheVariants as reply
-use Rattle.mt_wire.specs.Entry.{whole, entry_value}
+use Rattle.mt_wire.specs.Entry.{entry_value, values, whole}
+use Rattle.mt_wire.specs.Flight.{flight_value}
 
 abbrev pub done_text : DoneWord → List ℕ
+done_text Fix = codes "fix"
+done_text TypeLine = codes "type"
 done_text Rule = codes "rule"
 done_text Begin = codes "begin"
 done_text Bye = codes "bye"
@@ -37,14 +40,13 @@ conflict_value c = object (
     member (codes "last") (whole (pos c.last)) (
     member (codes "pair") (array (item (string c.a) (item (string c.b) no_items))) no_members))))
 
--- the values of some things, in order
-abbrev pub values : {A : Type 0} → (A → Data) → List A → Items
-values value [] = no_items
-values value (x ∷ xs) = item (value x) (values value xs)
-
 -- a refusal that has only its word
 abbrev pub word_value : List ℕ → Data
 word_value word = object (member (codes "no") (string word) no_members)
+
+-- a refusal that names what stands already
+abbrev pub taken_value : List ℕ → Data
+taken_value name = object (member (codes "name") (string name) (member (codes "no") (string (codes "taken")) no_members))
 
 -- a refusal of a line that names a field
 abbrev pub field_value : List ℕ → List ℕ → Data
@@ -54,9 +56,24 @@ field_value name word = object (member (codes "field") (string name) (member (co
 abbrev pub at_version : List ℕ → ℕ → Members
 at_version word version = member (codes "no") (string word) (member (codes "version") (whole (pos version)) no_members)
 
+-- a refusal of a name that stands nowhere
+abbrev pub unknown : List ℕ → List ℕ → ℕ → Members
+unknown word name version = member (codes "name") (string name) (at_version word version)
+
+-- a refusal of a route, and why
+abbrev pub bad_route : List ℕ → ℕ → Members
+bad_route why version =
+    member (codes "no") (string (codes "route")) (member (codes "version") (whole (pos version)) (member (codes "why") (string why) no_members))
+
 abbrev pub refusal_members : ℕ → Refusal → Members
 refusal_members version HeldCall = at_version (codes "held-call") version
-refusal_members version (UnknownCall call) = member (codes "name") (string call) (at_version (codes "unknown-call") version)
+refusal_members version (UnknownCall call) = unknown (codes "unknown-call") call version
+refusal_members version (UnknownType name) = unknown (codes "unknown-type") name version
+refusal_members version (UnknownFix name) = unknown (codes "unknown-fix") name version
+refusal_members version RouteShort = bad_route (codes "short") version
+refusal_members version RouteLong = bad_route (codes "long") version
+refusal_members version RouteTwice = bad_route (codes "twice") version
+refusal_members version Ceiling = at_version (codes "ceiling") version
 refusal_members version Full = at_version (codes "full") version
 refusal_members version HistoryFull = at_version (codes "history-full") version
 refusal_members version Backward = at_version (codes "backward") version
@@ -72,13 +89,18 @@ reply_value (reply.List conflicts version) = object (
 reply_value (reply.History entries version) = object (
     member (codes "entries") (array (values entry_value entries)) (
     member (codes "version") (whole (pos version)) no_members))
+reply_value (reply.Flight view) = flight_value view
 reply_value reply.Json = word_value (codes "json")
 reply_value reply.Long = word_value (codes "long")
 reply_value reply.Begun = word_value (codes "begun")
 reply_value reply.Unbegun = word_value (codes "unbegun")
+reply_value reply.Bands = word_value (codes "bands")
+reply_value reply.TablesFull = word_value (codes "tables-full")
 reply_value reply.Memory = word_value (codes "memory")
 reply_value (reply.Form name) = field_value name (codes "form")
 reply_value (reply.Range name) = field_value name (codes "range")
+reply_value (reply.TakenFix name) = taken_value name
+reply_value (reply.TakenType name) = taken_value name
 reply_value (reply.Refused refusal version) = object (refusal_members version refusal)
 
 -- it, compact, with 0x0A at its end

@@ -1,32 +1,17 @@
-ghost use Rattle.std.specs.Prelude.{◌≡◌};
+ghost use Rattle.std.specs.Prelude.{◌≡◌, ◌++◌};
 ghost use Rattle.mt_wire.specs.Entry.{entry_value, entry_members};
 ghost use Rattle.mt_wire.specs.Puts.{Puts};
-ghost use Rattle.mt_wire.specs.Numbers.{external_front, external_numbers, external_text, number_text, numbers_text};
-ghost use Rattle.serde_json.specs.Data.{object};
+ghost use Rattle.mt_wire.specs.Numbers.{external_front, external_numbers, external_text, numbers_text, plan_back, plan_front, plan_route};
+ghost use Rattle.serde_json.specs.Data.{object, string};
 ghost use Rattle.serde_json.specs.Written.{compact_text};
 ghost use Rattle.mt_base.specs.declared.command.Command.TheVariants.{Drop, Tick};
 
+use crate::number::put_number;
 use crate::write::{put, put_all};
-use crate::written::Written;
+use crate::written::{Written, put_items};
 use itoa::Buffer;
-use mt_base::{Callsign, Command, Entry, Straight};
+use mt_base::{Callsign, Command, Entry, FixName, Route, Straight, TypeName};
 use mt_memory::Memory;
-
-// Puts a whole number, with its key, behind another member.
-fn put_number(out: &mut Vec<u8>, key: &str, number: i64) -> Result<(), Memory>
-    ensures { Puts result out.old out.new (number_text key.now number) }
-{
-    let mut digits = Buffer::new();
-    put_all(
-        out,
-        &[
-            b",\"",
-            key.as_bytes(),
-            b"\":",
-            digits.format(number).as_bytes(),
-        ],
-    )
-}
 
 // Puts whole numbers, each with its key, behind another member, and closes the object.
 fn put_numbers(out: &mut Vec<u8>, numbers: &[(&str, i64)]) -> Result<(), Memory>
@@ -43,11 +28,104 @@ impl Written for Entry {
 
     fn put(&self, out: &mut Vec<u8>) -> Result<(), Memory> {
         match &self.command {
+            Command::Plan {
+                call,
+                kind,
+                route,
+                at,
+                from,
+                level,
+            } => {
+                let start = Start {
+                    at: *at,
+                    from: *from,
+                    level: *level,
+                };
+                put_plan(out, self.who, call, kind, route, &start)
+            }
             Command::External { call, straight } => put_external(out, self.who, call, straight),
             Command::Drop { call } => put_drop(out, self.who, call),
             Command::Tick { now } => put_tick(out, self.who, *now),
         }
     }
+}
+
+impl Written for FixName {
+    ghost value = { string };
+
+    fn put(&self, out: &mut Vec<u8>) -> Result<(), Memory> {
+        put_all(out, &[b"\"", self.bytes(), b"\""])
+    }
+}
+
+// When a plan begins, and its levels.
+#[derive(Clone, Copy)]
+struct Start {
+    at: u32,
+    from: u32,
+    level: u32,
+}
+
+// Puts the entry of a plan.
+fn put_plan(
+    out: &mut Vec<u8>,
+    who: u32,
+    call: &Callsign,
+    kind: &TypeName,
+    route: &Route,
+    start: &Start,
+) -> Result<(), Memory>
+    ensures { Puts result out.old out.new
+        (plan_front call.now start.now.at start.now.from ++ (plan_route start.now.level route.now ++ plan_back who kind.now)) }
+{
+    put_plan_front(out, call, start.at, start.from)?;
+    put_plan_route(out, start.level, route)?;
+    put_plan_back(out, who, kind)
+}
+
+// Puts the callsign, the first second and the first level of a plan.
+fn put_plan_front(out: &mut Vec<u8>, call: &Callsign, at: u32, from: u32) -> Result<(), Memory>
+    ensures { Puts result out.old out.new (plan_front call.now at from) }
+{
+    let mut moment = Buffer::new();
+    let mut first = Buffer::new();
+    put_all(
+        out,
+        &[
+            b"{\"at\":",
+            moment.format(at).as_bytes(),
+            b",\"call\":\"",
+            call.bytes(),
+            b"\",\"do\":\"plan\",\"from\":",
+            first.format(from).as_bytes(),
+        ],
+    )
+}
+
+// Puts the level and the route of a plan.
+fn put_plan_route(out: &mut Vec<u8>, level: u32, route: &Route) -> Result<(), Memory>
+    ensures { Puts result out.old out.new (plan_route level route.now) }
+{
+    put_number(out, "level", i64::from(level))?;
+    put(out, b",\"route\":[")?;
+    put_items(out, route.items())
+}
+
+// Puts the type of a plan and who asked for it.
+fn put_plan_back(out: &mut Vec<u8>, who: u32, kind: &TypeName) -> Result<(), Memory>
+    ensures { Puts result out.old out.new (plan_back who kind.now) }
+{
+    let mut actor = Buffer::new();
+    put_all(
+        out,
+        &[
+            b",\"type\":\"",
+            kind.bytes(),
+            b"\",\"who\":",
+            actor.format(who).as_bytes(),
+            b"}",
+        ],
+    )
 }
 
 // Puts the callsign and the first second of an external flight.

@@ -3,12 +3,12 @@ ghost use Rattle.std.specs.Prelude.{◌≡◌, ◌≤◌, ◌≤ℤ◌, ◌+ℤ�
 ghost use Rattle.mt_base.specs.Checks.{check};
 ghost use Rattle.mt_json.specs.Field.{as_whole};
 ghost use Rattle.mt_json.specs.Shown.{members};
-ghost use Rattle.mt_wire.specs.Field.{Reads, as_call, as_role, bound, count, count_within, kind_check, may, must, number, read_at, role_of, within};
+ghost use Rattle.mt_wire.specs.Field.{Reads, as_call, as_fix, as_role, as_type, bound, count, count_if_there, count_within, kind_check, may, must, number, read_at, role_of, within};
 ghost use Rattle.mt_wire.specs.declared.request.Role.TheVariants.{Feed};
 
 use crate::key::{Fault, Key, key_text};
 use crate::request::Role;
-use mt_base::Callsign;
+use mt_base::{Callsign, FixName, TypeName};
 use mt_json::{Bad, Fields};
 
 /// A whole number must be there.
@@ -44,6 +44,36 @@ pub(crate) fn callsign(fields: &Fields, key: Key) -> Result<Callsign, Fault>
     };
     match Callsign::of(text.as_bytes()) {
         Some(call) => Ok(call),
+        None => Err(Fault::Form(key)),
+    }
+}
+
+/// The name of a fix must be there.
+#[tactic(auto, unfolding(mt_base::specs::Checks::check))]
+pub(crate) fn fix_name(fields: &Fields, key: Key) -> Result<FixName, Fault>
+    ensures { Reads result (check (kind_check (members fields.now) (must key as_fix)))
+        (unwrap_or (read_at key as_fix (members fields.now)) []) }
+{
+    let Ok(text) = fields.word(key_text(key)) else {
+        return Err(Fault::Form(key));
+    };
+    match FixName::of(text.as_bytes()) {
+        Some(name) => Ok(name),
+        None => Err(Fault::Form(key)),
+    }
+}
+
+/// The name of a type must be there.
+#[tactic(auto, unfolding(mt_base::specs::Checks::check))]
+pub(crate) fn type_name(fields: &Fields, key: Key) -> Result<TypeName, Fault>
+    ensures { Reads result (check (kind_check (members fields.now) (must key as_type)))
+        (unwrap_or (read_at key as_type (members fields.now)) []) }
+{
+    let Ok(text) = fields.word(key_text(key)) else {
+        return Err(Fault::Form(key));
+    };
+    match TypeName::of(text.as_bytes()) {
+        Some(name) => Ok(name),
         None => Err(Fault::Form(key)),
     }
 }
@@ -99,6 +129,18 @@ pub(crate) fn count_within(fields: &Fields, key: Key, low: u32, high: u32) -> Re
 {
     let number = within(fields, key, i64::from(low), i64::from(high))?;
     Ok(number.unsigned_abs() as u32)
+}
+
+/// The number at a key, where one is there, from 0 to `high`.
+#[tactic(auto, unfolding(mt_base::specs::Checks::check))]
+pub(crate) fn count_or_none(fields: &Fields, key: Key, high: u32) -> Result<Option<u32>, Fault>
+    ensures { Reads result (check (bound key (pos 0) (pos high) (number key (members fields.now)))) (count_if_there key (members fields.now)) }
+{
+    match fields.whole(key_text(key), 0, i64::from(high)) {
+        Ok(number) => Ok(Some(number.unsigned_abs() as u32)),
+        Err(Bad::Range) => Err(Fault::Range(key)),
+        Err(Bad::Missing | Bad::Kind) => Ok(None),
+    }
 }
 
 // The value after so many seconds of its gain.

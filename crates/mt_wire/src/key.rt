@@ -23,6 +23,13 @@ pub(crate) enum Key {
     Gw,
     Now,
     Role,
+    Name,
+    Bands,
+    Kind,
+    Route,
+    At,
+    Level,
+    Sec,
     Rule(RuleName),
 }
 
@@ -48,6 +55,13 @@ pub(crate) fn key_text(key: Key) -> &'static str
         Key::Gw => "gw",
         Key::Now => "now",
         Key::Role => "role",
+        Key::Name => "name",
+        Key::Bands => "bands",
+        Key::Kind => "type",
+        Key::Route => "route",
+        Key::At => "at",
+        Key::Level => "level",
+        Key::Sec => "sec",
         Key::Rule(name) => rule_text(name),
     }
 }

@@ -4,20 +4,26 @@
 #![tactic(auto)]
 
 mod actor;
+mod bands;
 mod conflict;
 mod entry;
 mod escape;
 mod feed;
 mod field;
 mod field_name;
+mod flight_view;
 mod key;
 mod laws;
 mod line;
+mod number;
 mod plain;
+mod plan;
 mod put_reply;
 mod reply;
 mod request;
 mod setup;
+mod stop;
+mod tables;
 #[cfg(test)]
 mod tests;
 mod texts;

@@ -5,14 +5,18 @@ ghost use Rattle.serde_json.specs.View.{view};
 ghost use Rattle.mt_json.specs.Shown.{members};
 ghost use Rattle.mt_wire.specs.declared.request.LineNo.TheVariants.{Json, Form, Memory as no_memory};
 ghost use Rattle.mt_wire.specs.Bounded.{IsBounded};
+ghost use Rattle.mt_wire.specs.Field.{IsUnlessMemory};
 ghost use Rattle.mt_wire.specs.Line.{Gives, checked, decoded, line, named_fault, other_key, read_members, word_in};
 
 use crate::feed::{drop_line, external_line, tick_line};
 use crate::field_name::FieldName;
 use crate::key::{Fault, key_text};
-use crate::plain::{bye_line, check_line, hello_line, history_line, list_line};
+use crate::plain::{bye_line, check_line, flight_line, hello_line, history_line, list_line};
+use crate::plan::plan_line;
 use crate::request::{LineNo, Place, Request};
 use crate::setup::{begin_line, rule_line};
+use crate::stop::Stop;
+use crate::tables::{fix_line, type_line};
 use crate::word::{Word, is_allowed, keys_of, word_of};
 use mt_base::Rules;
 use mt_json::Fields;
@@ -96,24 +100,29 @@ fn named(alloc: Global, fault: Fault) -> LineNo
 
 // What the command's line asks for, and who asks.
 fn checked(
+    alloc: Global,
     fields: &Fields,
     place: Place,
     rules: &Rules,
     word: Word,
-) -> Result<(u32, Request), Fault>
-    ensures { result ≡ checked place rules.now word (members fields.now) }
+) -> Result<(u32, Request), Stop>
+    ensures { IsUnlessMemory result (checked place rules.now word (members fields.now)) }
 {
     match word {
-        Word::Begin => begin_line(fields, place),
-        Word::Rule => rule_line(fields, place, rules),
-        Word::External => external_line(fields, place),
-        Word::Drop => drop_line(fields, place),
-        Word::Tick => tick_line(fields, place),
-        Word::List => list_line(fields, place),
-        Word::Check => check_line(fields, place),
-        Word::History => history_line(fields, place),
-        Word::Hello => hello_line(fields, place),
-        Word::Bye => bye_line(fields, place),
+        Word::Begin => Ok(begin_line(fields, place)?),
+        Word::Fix => Ok(fix_line(fields, place)?),
+        Word::TypeLine => type_line(alloc, fields, place),
+        Word::Rule => Ok(rule_line(fields, place, rules)?),
+        Word::Plan => plan_line(alloc, fields, place),
+        Word::External => Ok(external_line(fields, place)?),
+        Word::Drop => Ok(drop_line(fields, place)?),
+        Word::Tick => Ok(tick_line(fields, place)?),
+        Word::List => Ok(list_line(fields, place)?),
+        Word::Check => Ok(check_line(fields, place)?),
+        Word::Flight => Ok(flight_line(fields, place)?),
+        Word::History => Ok(history_line(fields, place)?),
+        Word::Hello => Ok(hello_line(fields, place)?),
+        Word::Bye => Ok(bye_line(fields, place)?),
     }
 }
 
@@ -130,9 +139,10 @@ fn read_fields(
         return Err(form(alloc, b"do"));
     };
     no_other(alloc, fields, place, word)?;
-    match checked(fields, place, rules, word) {
+    match checked(alloc, fields, place, rules, word) {
         Ok(asked) => Ok(asked),
-        Err(fault) => Err(named(alloc, fault)),
+        Err(Stop::Fault(fault)) => Err(named(alloc, fault)),
+        Err(Stop::Memory) => Err(LineNo::Memory),
     }
 }
 
@@ -157,8 +167,9 @@ fn read_bytes(
 /// The refusal is the first of these, in this order. [`LineNo::Json`] where serde_json reads no value from the bytes. [`LineNo::Form`]
 /// with the empty name where the value isn't an object; with `do` where that member isn't the word of a command that the place has;
 /// with the least key, in byte order, that isn't a field of the command; with the first field that is missing or of another kind.
-/// [`LineNo::Range`] with the first field whose number is outside its bounds. In a script each line may have the field `who`, checked
-/// after the others' kinds and again after the others' bounds. For `rule`, last, the rules as they would then stand are checked.
+/// [`LineNo::Range`] with the first field whose number, or list of bands, is outside its bounds. In a script each line may have the field
+/// `who`, checked after the others' kinds and again after the others' bounds. For `rule`, last, the rules as they would then stand are
+/// checked. [`LineNo::Memory`] may come in place of any answer.
 pub fn read_line(
     alloc: Global,
     bytes: &[u8],

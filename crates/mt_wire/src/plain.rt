@@ -1,4 +1,4 @@
-//! The lines of the commands that change nothing: `list`, `check`, `history`, `hello` and `bye`.
+//! The lines of the commands that change nothing: `list`, `check`, `flight`, `history`, `hello` and `bye`.
 ghost use Rattle.std.specs.Prelude.{◌≡◌};
 ghost use Rattle.mt_base.specs.declared.rules.Rules.{Rules};
 ghost use Rattle.mt_json.specs.Shown.{members};
@@ -6,7 +6,7 @@ ghost use Rattle.mt_wire.specs.Line.{checked};
 ghost use Rattle.mt_wire.specs.declared.word.Word.TheVariants as word;
 
 use crate::actor::{actor, actor_kind};
-use crate::field::{count_within, role, whole};
+use crate::field::{callsign, count_or_none, count_within, role, whole, whole_or_none};
 use crate::key::{Fault, Key};
 use crate::request::{Place, Request};
 use mt_json::Fields;
@@ -29,6 +29,19 @@ pub(crate) fn check_line(fields: &Fields, place: Place) -> Result<(u32, Request)
     actor_kind(fields, place)?;
     let who = actor(fields, place)?;
     Ok((who, Request::Check))
+}
+
+/// `flight`.
+#[tactic(auto, unfolding(crate::specs::Line::checked))]
+pub(crate) fn flight_line(fields: &Fields, place: Place) -> Result<(u32, Request), Fault>
+    ensures { (rules : Rules) → result ≡ checked place rules word.Flight (members fields.now) }
+{
+    let call = callsign(fields, Key::Call)?;
+    whole_or_none(fields, Key::Sec)?;
+    actor_kind(fields, place)?;
+    let sec = count_or_none(fields, Key::Sec, 10_014_400)?;
+    let who = actor(fields, place)?;
+    Ok((who, Request::Flight { call, sec }))
 }
 
 /// `history`.

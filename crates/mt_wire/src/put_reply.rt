@@ -3,16 +3,18 @@ ghost use Rattle.std.specs.Prelude.{◌≡◌, ◌++◌, codes, decimal, false};
 ghost use Rattle.json.specs.Print.{escape};
 ghost use Rattle.serde_json.specs.Written.{items_text};
 ghost use Rattle.mt_wire.specs.declared.reply.Reply.TheVariants.{Done, Hello, Refused};
+ghost use Rattle.mt_wire.specs.Entry.{values};
 ghost use Rattle.mt_wire.specs.Puts.{Puts};
-ghost use Rattle.mt_wire.specs.Reply.{reply_text, values};
+ghost use Rattle.mt_wire.specs.Reply.{reply_text};
 
 use crate::escape::put_escaped;
+use crate::flight_view::put_flight;
 use crate::reply::{DoneWord, Reply};
 use crate::request::Role;
-use crate::write::{put, put_all};
+use crate::write::{put, put_all, put_versioned};
 use crate::written::{Written, put_items};
 use itoa::Buffer;
-use mt_base::{Callsign, Refusal};
+use mt_base::Refusal;
 use mt_memory::Memory;
 
 /// The text of the reply [`Reply::Memory`], which takes no memory to write.
@@ -23,6 +25,8 @@ fn put_done(out: &mut Vec<u8>, word: DoneWord) -> Result<(), Memory>
     ensures { Puts result out.old out.new (reply_text (Done word)) }
 {
     match word {
+        DoneWord::Fix => put(out, b"{\"done\":\"fix\"}\n"),
+        DoneWord::TypeLine => put(out, b"{\"done\":\"type\"}\n"),
         DoneWord::Rule => put(out, b"{\"done\":\"rule\"}\n"),
         DoneWord::Begin => put(out, b"{\"done\":\"begin\"}\n"),
         DoneWord::Bye => put(out, b"{\"done\":\"bye\"}\n"),
@@ -39,27 +43,29 @@ fn put_hello(out: &mut Vec<u8>, role: Role) -> Result<(), Memory>
     }
 }
 
-// Puts an object whose last value is a version, the front being what stands before it.
-fn put_versioned(out: &mut Vec<u8>, front: &[u8], version: u64) -> Result<(), Memory>
-    ensures { Puts result out.old out.new (front.now ++ (decimal version ++ codes "}\n")) }
+// Puts the refusal of a name that stands nowhere, the back being what stands between the name and the version.
+fn put_unknown(out: &mut Vec<u8>, name: &[u8], back: &[u8], version: u64) -> Result<(), Memory>
+    ensures { Puts result out.old out.new (codes "{\"name\":\"" ++ (escape name.now ++ (back.now ++ (decimal version ++ codes "}\n")))) }
 {
-    let mut digits = Buffer::new();
-    put_all(out, &[front, digits.format(version).as_bytes(), b"}\n"])
+    put(out, b"{\"name\":\"")?;
+    put_escaped(out, name)?;
+    put_versioned(out, back, version)
 }
 
-fn put_unknown_call(out: &mut Vec<u8>, call: &Callsign, version: u64) -> Result<(), Memory>
+// Puts the refusal of a route, and why.
+fn put_bad_route(out: &mut Vec<u8>, why: &[u8], version: u64) -> Result<(), Memory>
     ensures { Puts result out.old out.new
-        (codes "{\"name\":\"" ++ (escape call.now ++ (codes "\",\"no\":\"unknown-call\",\"version\":" ++ (decimal version ++ codes "}\n")))) }
+        (codes "{\"no\":\"route\",\"version\":" ++ (decimal version ++ (codes ",\"why\":\"" ++ (why.now ++ codes "\"}\n")))) }
 {
     let mut digits = Buffer::new();
     put_all(
         out,
         &[
-            b"{\"name\":\"",
-            call.bytes(),
-            b"\",\"no\":\"unknown-call\",\"version\":",
+            b"{\"no\":\"route\",\"version\":",
             digits.format(version).as_bytes(),
-            b"}\n",
+            b",\"why\":\"",
+            why,
+            b"\"}\n",
         ],
     )
 }
@@ -70,7 +76,28 @@ fn put_refused(out: &mut Vec<u8>, refusal: &Refusal, version: u64) -> Result<(),
 {
     match refusal {
         Refusal::HeldCall => { put_versioned(out, b"{\"no\":\"held-call\",\"version\":", version) }
-        Refusal::UnknownCall(call) => put_unknown_call(out, call, version),
+        Refusal::UnknownCall(call) => put_unknown(
+            out,
+            call.bytes(),
+            b"\",\"no\":\"unknown-call\",\"version\":",
+            version,
+        ),
+        Refusal::UnknownType(name) => put_unknown(
+            out,
+            name.bytes(),
+            b"\",\"no\":\"unknown-type\",\"version\":",
+            version,
+        ),
+        Refusal::UnknownFix(name) => put_unknown(
+            out,
+            name.bytes(),
+            b"\",\"no\":\"unknown-fix\",\"version\":",
+            version,
+        ),
+        Refusal::RouteShort => put_bad_route(out, b"short", version),
+        Refusal::RouteLong => put_bad_route(out, b"long", version),
+        Refusal::RouteTwice => put_bad_route(out, b"twice", version),
+        Refusal::Ceiling => put_versioned(out, b"{\"no\":\"ceiling\",\"version\":", version),
         Refusal::Full => put_versioned(out, b"{\"no\":\"full\",\"version\":", version),
         Refusal::HistoryFull => {
             put_versioned(out, b"{\"no\":\"history-full\",\"version\":", version)
@@ -79,13 +106,27 @@ fn put_refused(out: &mut Vec<u8>, refusal: &Refusal, version: u64) -> Result<(),
     }
 }
 
-// Puts the refusal of a line that names a field, the back being what stands behind the name.
-fn put_named(out: &mut Vec<u8>, name: &[u8], back: &[u8]) -> Result<(), Memory>
-    ensures { Puts result out.old out.new (codes "{\"field\":\"" ++ (escape name.now ++ back.now)) }
+// Puts a name between the front and the back.
+fn put_named(out: &mut Vec<u8>, front: &[u8], name: &[u8], back: &[u8]) -> Result<(), Memory>
+    ensures { Puts result out.old out.new (front.now ++ (escape name.now ++ back.now)) }
 {
-    put(out, b"{\"field\":\"")?;
+    put(out, front)?;
     put_escaped(out, name)?;
     put(out, back)
+}
+
+// Puts the refusal of a line that names a field, the back being what stands behind the name.
+fn put_field(out: &mut Vec<u8>, name: &[u8], back: &[u8]) -> Result<(), Memory>
+    ensures { Puts result out.old out.new (codes "{\"field\":\"" ++ (escape name.now ++ back.now)) }
+{
+    put_named(out, b"{\"field\":\"", name, back)
+}
+
+// Puts the refusal of a name that stands already.
+fn put_taken(out: &mut Vec<u8>, name: &[u8]) -> Result<(), Memory>
+    ensures { Puts result out.old out.new (codes "{\"name\":\"" ++ (escape name.now ++ codes "\",\"no\":\"taken\"}\n")) }
+{
+    put_named(out, b"{\"name\":\"", name, b"\",\"no\":\"taken\"}\n")
 }
 
 // Puts a list and its version, the front being what stands before the first item.
@@ -118,13 +159,18 @@ pub(crate) fn put_reply(out: &mut Vec<u8>, reply: &Reply) -> Result<(), Memory>
         Reply::History { entries, version } => {
             put_list(out, b"{\"entries\":[", entries.items(), *version)
         }
+        Reply::Flight(view) => put_flight(out, view),
         Reply::Json => put(out, b"{\"no\":\"json\"}\n"),
         Reply::Long => put(out, b"{\"no\":\"long\"}\n"),
         Reply::Begun => put(out, b"{\"no\":\"begun\"}\n"),
         Reply::Unbegun => put(out, b"{\"no\":\"unbegun\"}\n"),
+        Reply::Bands => put(out, b"{\"no\":\"bands\"}\n"),
+        Reply::TablesFull => put(out, b"{\"no\":\"tables-full\"}\n"),
         Reply::Memory => put(out, NO_MEMORY),
-        Reply::Form(name) => put_named(out, name.bytes(), b"\",\"no\":\"form\"}\n"),
-        Reply::Range(name) => put_named(out, name.bytes(), b"\",\"no\":\"range\"}\n"),
+        Reply::Form(name) => put_field(out, name.bytes(), b"\",\"no\":\"form\"}\n"),
+        Reply::Range(name) => put_field(out, name.bytes(), b"\",\"no\":\"range\"}\n"),
+        Reply::TakenFix(name) => put_taken(out, name.bytes()),
+        Reply::TakenType(name) => put_taken(out, name.bytes()),
         Reply::Refused { refusal, version } => put_refused(out, refusal, *version),
     }
 }

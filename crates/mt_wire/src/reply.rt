@@ -1,10 +1,14 @@
 use crate::field_name::FieldName;
 use crate::request::Role;
-use mt_base::{Conflicts, Entered, Entries, Refusal};
+use mt_base::{Conflicts, Entered, Entries, FixName, FlightView, Refusal, TypeName};
 
 /// What was done.
 #[derive(Clone, Copy, PartialEq, Eq)]
 pub enum DoneWord {
+    /// A fix was set.
+    Fix,
+    /// A type of aircraft was set.
+    TypeLine,
     /// Rules were set.
     Rule,
     /// The picture has begun.
@@ -29,6 +33,8 @@ pub enum Reply {
         /// The version that they are of.
         version: u64,
     },
+    /// What is told of a flight.
+    Flight(FlightView),
     /// Some entries.
     History {
         /// The entries, in order.
@@ -44,12 +50,20 @@ pub enum Reply {
     Begun,
     /// The picture hasn't begun.
     Unbegun,
+    /// The tops of the bands don't rise strictly.
+    Bands,
+    /// As many fixes or types stand as the tables hold.
+    TablesFull,
     /// There wasn't enough memory.
     Memory,
     /// The line, or the field named, isn't of the form asked for.
     Form(FieldName),
     /// The number at the field named is outside its bounds.
     Range(FieldName),
+    /// A fix of that name stands.
+    TakenFix(FixName),
+    /// A type of that name stands.
+    TakenType(TypeName),
     /// The command is refused.
     Refused {
         /// Why.

@@ -1,7 +1,7 @@
 ghost use Rattle.std.specs.Prelude.{◌≡◌, unwrap_or};
 
 use crate::field_name::FieldName;
-use mt_base::{Command, Rules};
+use mt_base::{Bands, Callsign, Command, FixName, Rules, Second, TypeName};
 
 /// What a session says that it is.
 #[derive(Clone, Copy, PartialEq, Eq)]
@@ -79,8 +79,24 @@ impl RuleSet {
 }
 
 /// What a line asks for.
-#[derive(Clone, Copy, PartialEq, Eq)]
+#[derive(Drop)]
 pub enum Request {
+    /// Set a fix, before the picture begins.
+    Fix {
+        /// Its name.
+        name: FixName,
+        /// Position east, in 1/3600 of a nautical mile.
+        x: i64,
+        /// Position north, in 1/3600 of a nautical mile.
+        y: i64,
+    },
+    /// Set a type of aircraft, before the picture begins.
+    TypeLine {
+        /// Its name.
+        name: TypeName,
+        /// Its bands, 1 to 8; their tops need not rise.
+        bands: Bands,
+    },
     /// Set rules, before the picture begins.
     Rule(RuleSet),
     /// Begin the picture.
@@ -93,6 +109,13 @@ pub enum Request {
     List,
     /// Give the published conflicts, computed from nothing.
     Check,
+    /// Tell of a flight.
+    Flight {
+        /// Its callsign.
+        call: Callsign,
+        /// The second whose row is asked for; absent, the moment.
+        sec: Option<Second>,
+    },
     /// Give the entries from number `from`, counted from 0, up to number `to`, without it.
     History {
         /// The first number.

@@ -1,4 +1,7 @@
 mod answers;
+mod changes;
 mod external;
+mod flights;
 mod lines;
+mod planned;
 mod replies;

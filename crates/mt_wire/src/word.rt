@@ -8,12 +8,16 @@ use crate::request::Place;
 #[derive(Clone, Copy)]
 pub(crate) enum Word {
     Begin,
+    Fix,
+    TypeLine,
     Rule,
+    Plan,
     External,
     Drop,
     Tick,
     List,
     Check,
+    Flight,
     History,
     Hello,
     Bye,
@@ -36,12 +40,16 @@ pub(crate) fn word_of(text: &str) -> Option<Word>
 {
     match text {
         "begin" => Some(Word::Begin),
+        "fix" => Some(Word::Fix),
+        "type" => Some(Word::TypeLine),
         "rule" => Some(Word::Rule),
+        "plan" => Some(Word::Plan),
         "external" => Some(Word::External),
         "drop" => Some(Word::Drop),
         "tick" => Some(Word::Tick),
         "list" => Some(Word::List),
         "check" => Some(Word::Check),
+        "flight" => Some(Word::Flight),
         "history" => Some(Word::History),
         "hello" => Some(Word::Hello),
         "bye" => Some(Word::Bye),
@@ -53,9 +61,11 @@ fn group_of(word: Word) -> Group
     ensures { result ≡ group_of word }
 {
     match word {
-        Word::Begin | Word::Rule => Group::Setup,
-        Word::External | Word::Drop | Word::Tick => Group::Feed,
-        Word::List | Word::Check | Word::History | Word::Hello | Word::Bye => Group::Any,
+        Word::Begin | Word::Fix | Word::TypeLine | Word::Rule => Group::Setup,
+        Word::Plan | Word::External | Word::Drop | Word::Tick => Group::Feed,
+        Word::List | Word::Check | Word::Flight | Word::History | Word::Hello | Word::Bye => {
+            Group::Any
+        }
     }
 }
 
@@ -86,10 +96,14 @@ fn script_keys(word: Word) -> &'static str
 {
     match word {
         Word::Begin | Word::List | Word::Check | Word::Bye => "do who ",
+        Word::Fix => "do name x y who ",
+        Word::TypeLine => "do name bands who ",
         Word::Rule => "do sh sv r0 gh rmax w0 gv wmax tc ta tv flights history who ",
+        Word::Plan => "do call type route at from level who ",
         Word::External => "do call from to x y z vx vy vz r gr w gw who ",
         Word::Drop => "do call who ",
         Word::Tick => "do now who ",
+        Word::Flight => "do call sec who ",
         Word::History => "do from to who ",
         Word::Hello => "do role who ",
     }
@@ -100,10 +114,14 @@ fn session_keys(word: Word) -> &'static str
 {
     match word {
         Word::Begin | Word::List | Word::Check | Word::Bye => "do ",
+        Word::Fix => "do name x y ",
+        Word::TypeLine => "do name bands ",
         Word::Rule => "do sh sv r0 gh rmax w0 gv wmax tc ta tv flights history ",
+        Word::Plan => "do call type route at from level ",
         Word::External => "do call from to x y z vx vy vz r gr w gw ",
         Word::Drop => "do call ",
         Word::Tick => "do now ",
+        Word::Flight => "do call sec ",
         Word::History => "do from to ",
         Word::Hello => "do role ",
     }

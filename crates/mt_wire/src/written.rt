@@ -3,7 +3,7 @@ ghost use Rattle.std.specs.Prelude.{false, ◌++◌};
 ghost use Rattle.serde_json.specs.Data.{Data};
 ghost use Rattle.serde_json.specs.Written.{comma_if, compact_text, items_text};
 ghost use Rattle.mt_wire.specs.Puts.{Puts};
-ghost use Rattle.mt_wire.specs.Reply.{values};
+ghost use Rattle.mt_wire.specs.Entry.{values};
 
 use crate::write::put;
 use mt_memory::Memory;

@@ -1,6 +1,6 @@
 //! What lines are read as, as texts.
 use crate::{LineNo, Place, Request, Role, RuleSet, read_line, write_entry};
-use mt_base::{Entry, Rules};
+use mt_base::{Bands, Callsign, Entry, Rules, Second, TypeName};
 use std::alloc::Global;
 use std::test::Fail;
 
@@ -31,6 +31,34 @@ fn shown_rules(alloc: Global, who: u32, set: &RuleSet) -> Result<String, Fail> {
     Ok(text)
 }
 
+// A type, each band by its four numbers.
+fn shown_type(alloc: Global, who: u32, name: &TypeName, bands: &Bands) -> Result<String, Fail> {
+    let name = std::str::from_utf8(name.bytes()).ok().ok_or("UTF-8")?;
+    let mut text = format!(in alloc; "type {who} {name}")?;
+    for band in bands.items() {
+        let one = format!(in alloc;
+            " {}/{}/{}/{}",
+            band.top, band.speed, band.climb, band.descent
+        )?;
+        text.push_str(one.as_str())?;
+    }
+    Ok(text)
+}
+
+// A flight that is asked for, with the second.
+fn shown_flight(
+    alloc: Global,
+    who: u32,
+    call: &Callsign,
+    sec: Option<Second>,
+) -> Result<String, Fail> {
+    let call = std::str::from_utf8(call.bytes()).ok().ok_or("UTF-8")?;
+    match sec {
+        Some(sec) => Ok(format!(in alloc; "flight {who} {call} {sec}")?),
+        None => Ok(format!(in alloc; "flight {who} {call} now")?),
+    }
+}
+
 // A request as a text: a change as its entry, another by its word.
 fn shown(alloc: Global, who: u32, request: &Request) -> Result<String, Fail> {
     let text = match request {
@@ -39,7 +67,7 @@ fn shown(alloc: Global, who: u32, request: &Request) -> Result<String, Fail> {
         Request::Change(command) => {
             let entry = Entry {
                 who,
-                command: *command,
+                command: command.copy(alloc)?,
             };
             let line = write_entry(alloc, &entry)?;
             let text = std::str::from_utf8(&line).ok().ok_or("UTF-8")?;
@@ -49,6 +77,12 @@ fn shown(alloc: Global, who: u32, request: &Request) -> Result<String, Fail> {
         Request::Hello(Role::Position) => format!(in alloc; "hello {who} position")?,
         Request::List => format!(in alloc; "list {who}")?,
         Request::Check => format!(in alloc; "check {who}")?,
+        Request::Fix { name, x, y } => {
+            let name = std::str::from_utf8(name.bytes()).ok().ok_or("UTF-8")?;
+            format!(in alloc; "fix {who} {name} {x} {y}")?
+        }
+        Request::TypeLine { name, bands } => shown_type(alloc, who, name, bands)?,
+        Request::Flight { call, sec } => shown_flight(alloc, who, call, *sec)?,
         Request::History { from, to } => format!(in alloc; "history {who} {from} {to}")?,
         Request::Bye => format!(in alloc; "bye {who}")?,
     };

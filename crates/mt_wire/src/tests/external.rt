@@ -1,7 +1,7 @@
 use super::answers::answer;
+use super::changes::line_with;
 use crate::Place;
 use mt_base::Rules;
-use std::alloc::Global;
 use std::test::Fail;
 
 // An external flight's fields that differ from those of a flight that stands at the origin for one second; `-` leaves the field out.
@@ -73,54 +73,30 @@ from=1 to=14401 gr=5 gw=42 => range w
 who=16 => range who
 "#;
 
-// The value of a field among the changes.
-fn changed<'a>(changes: &'a str, key: &str) -> Option<&'a str> {
-    for change in changes.split(' ') {
-        if let Some((name, value)) = change.split_once('=') {
-            if name == key {
-                return Some(value);
-            }
-        }
-    }
-    None
-}
-
-// The line of an external flight with these changes.
-fn external(alloc: Global, changes: &str) -> Result<String, Fail> {
-    let usual = [
-        ("call", "\"A\""),
-        ("from", "0"),
-        ("to", "1"),
-        ("x", "0"),
-        ("y", "0"),
-        ("z", "0"),
-        ("vx", "0"),
-        ("vy", "0"),
-        ("vz", "0"),
-        ("r", "0"),
-        ("gr", "0"),
-        ("w", "0"),
-        ("gw", "0"),
-        ("who", "-"),
-        ("level", "-"),
-    ];
-    let mut line = format!(in alloc; "{{\"do\":\"external\"")?;
-    for (key, value) in usual {
-        let value = changed(changes, key).unwrap_or(value);
-        if value != "-" {
-            let member = format!(in alloc; ",\"{key}\":{value}")?;
-            line.push_str(member.as_str())?;
-        }
-    }
-    line.push_str("}")?;
-    Ok(line)
-}
+// The fields of a flight that stands at the origin for one second.
+const USUAL: [(&str, &str); 15] = [
+    ("call", "\"A\""),
+    ("from", "0"),
+    ("to", "1"),
+    ("x", "0"),
+    ("y", "0"),
+    ("z", "0"),
+    ("vx", "0"),
+    ("vy", "0"),
+    ("vz", "0"),
+    ("r", "0"),
+    ("gr", "0"),
+    ("w", "0"),
+    ("gw", "0"),
+    ("who", "-"),
+    ("level", "-"),
+];
 
 #[test]
 fn lines_of_external_flights(rt: HostRuntime) -> Result<(), Fail> {
     for case in EXTERNAL.lines().skip(1) {
         let (changes, wanted) = case.split_once(" => ").ok_or("two columns")?;
-        let line = external(rt.alloc(), changes)?;
+        let line = line_with(rt.alloc(), "external", &USUAL, changes)?;
         let found = answer(rt.alloc(), line.as_bytes(), Place::Replay, &Rules::usual())?;
         assert_eq!(rt; found.as_str(), wanted, "{line}");
     }

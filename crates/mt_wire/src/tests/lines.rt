@@ -22,7 +22,7 @@ null => form
 {"do":""} => form do
 {"do":"List"} => form do
 {"do":"list "} => form do
-{"do":"plan"} => form do
+{"do":"plans"} => form do
 {"do":"lists","x":1} => form do
 {"do":"list"} => list 0
  { "do" : "list" }  => list 0
@@ -139,6 +139,10 @@ const SESSIONS: &str = r#"
 {"do":"rule"} | form do | form do | form do
 {"do":"begin"} | form do | form do | form do
 {"do":"begin","x":1} | form do | form do | form do
+{"do":"fix","name":"AB","x":0,"y":0} | form do | form do | form do
+{"do":"type"} | form do | form do | form do
+{"do":"plan","call":"A","type":"JA1","route":[],"at":1,"level":2} | {"at":1,"call":"A","do":"plan","from":2,"level":2,"route":[],"type":"JA1","who":0} | form do | form do
+{"do":"flight","call":"A"} | flight 0 A now | flight 0 A now | flight 0 A now
 {"do":"tick","now":1} | {"do":"tick","now":1,"who":0} | form do | form do
 {"do":"tick","now":1,"who":0} | form who | form do | form do
 {"do":"drop","call":"A"} | {"call":"A","do":"drop","who":0} | form do | form do

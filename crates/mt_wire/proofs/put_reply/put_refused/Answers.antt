@@ -1,11 +1,30 @@
-use Rattle.std.proofs.Common.{◌∙◌, sym, ap}
+use Rattle.std.proofs.Common.{ℕ, List, ◌∙◌, sym, ap}
+use Rattle.mt_base.specs.declared.command.Refusal.TheVariants.{UnknownCall, UnknownType, UnknownFix}
 use Rattle.mt_wire.specs.declared.reply.Reply.TheVariants as reply
 use Rattle.mt_wire.specs.Reply.{reply_text}
 use Rattle.mt_wire.proofs.Putting.{puts_is}
-use Rattle.mt_wire.proofs.ReplyTexts.{unknown_call_text}
+use Rattle.mt_wire.proofs.ReplyTexts.{twice_text, unknown_call_text, unknown_fix_text, unknown_type_text}
 use Rattle.mt_wire.proofs.put_reply.put_refused.Goals as goal
 
 pub returns-in-UnknownCall : goal.returns-in-UnknownCall
 returns-in-UnknownCall c =
-    puts_is c.put_unknown_call.result c.args.out.now c.put_unknown_call.new.out _ _
-    (unknown_call_text c.in-UnknownCall.call c.args.version ∙ ap (λ refusal. reply_text (reply.Refused refusal c.args.version)) (sym c.in-UnknownCall.is)) c.put_unknown_call.ensures
+    puts_is c.put_unknown.result c.args.out.now c.put_unknown.new.out _ _
+    (unknown_call_text c.bytes.result.now c.args.version ∙ ap (λ (name : List ℕ). reply_text (reply.Refused (UnknownCall name) c.args.version)) c.bytes.ensures.text
+    ∙ ap (λ refusal. reply_text (reply.Refused refusal c.args.version)) (sym c.in-UnknownCall.is)) c.put_unknown.ensures
+
+pub returns-in-UnknownType : goal.returns-in-UnknownType
+returns-in-UnknownType c =
+    puts_is c.put_unknown-in-UnknownType.result c.args.out.now c.put_unknown-in-UnknownType.new.out _ _
+    (unknown_type_text c.bytes-in-UnknownType.result.now c.args.version ∙ ap (λ (name : List ℕ). reply_text (reply.Refused (UnknownType name) c.args.version)) c.bytes-in-UnknownType.ensures.text
+    ∙ ap (λ refusal. reply_text (reply.Refused refusal c.args.version)) (sym c.in-UnknownType.is)) c.put_unknown-in-UnknownType.ensures
+
+pub returns-in-UnknownFix : goal.returns-in-UnknownFix
+returns-in-UnknownFix c =
+    puts_is c.put_unknown-in-UnknownFix.result c.args.out.now c.put_unknown-in-UnknownFix.new.out _ _
+    (unknown_fix_text c.bytes-in-UnknownFix.result.now c.args.version ∙ ap (λ (name : List ℕ). reply_text (reply.Refused (UnknownFix name) c.args.version)) c.bytes-in-UnknownFix.ensures.text
+    ∙ ap (λ refusal. reply_text (reply.Refused refusal c.args.version)) (sym c.in-UnknownFix.is)) c.put_unknown-in-UnknownFix.ensures
+
+pub returns-in-RouteTwice : goal.returns-in-RouteTwice
+returns-in-RouteTwice c =
+    puts_is c.put_bad_route-in-RouteTwice.result c.args.out.now c.put_bad_route-in-RouteTwice.new.out _ _
+    (twice_text c.args.version ∙ ap (λ refusal. reply_text (reply.Refused refusal c.args.version)) (sym c.in-RouteTwice.is)) c.put_bad_route-in-RouteTwice.ensures

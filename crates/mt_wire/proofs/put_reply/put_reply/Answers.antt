@@ -1,16 +1,32 @@
 use Rattle.std.proofs.Common.{ℕ, List, ◌∙◌, sym, ap}
 use Rattle.mt_wire.specs.declared.reply.Reply.TheVariants as reply
 use Rattle.mt_wire.specs.Reply.{reply_text}
+use Rattle.mt_wire.proofs.EntryTexts.{flight_text_is}
 use Rattle.mt_wire.proofs.Putting.{puts_is}
-use Rattle.mt_wire.proofs.ReplyTexts.{form_text, range_text}
+use Rattle.mt_wire.proofs.ReplyTexts.{form_text, range_text, taken_fix_text, taken_type_text}
 use Rattle.mt_wire.proofs.put_reply.put_reply.Goals as goal
+
+pub returns-in-Flight : goal.returns-in-Flight
+returns-in-Flight c =
+    puts_is c.put_flight.result c.args.out.now c.put_flight.new.out _ _
+    (flight_text_is c.in-Flight.view ∙ ap reply_text (sym c.in-Flight.is)) c.put_flight.ensures
 
 pub returns-in-Form : goal.returns-in-Form
 returns-in-Form c =
-    puts_is c.put_named.result c.args.out.now c.put_named.new.out _ _
-    (form_text c.bytes.result.now ∙ ap (λ (name : List ℕ). reply_text (reply.Form name)) c.bytes.ensures ∙ ap reply_text (sym c.in-Form.is)) c.put_named.ensures
+    puts_is c.put_field.result c.args.out.now c.put_field.new.out _ _
+    (form_text c.bytes.result.now ∙ ap (λ (name : List ℕ). reply_text (reply.Form name)) c.bytes.ensures ∙ ap reply_text (sym c.in-Form.is)) c.put_field.ensures
 
 pub returns-in-Range : goal.returns-in-Range
 returns-in-Range c =
-    puts_is c.put_named-in-Range.result c.args.out.now c.put_named-in-Range.new.out _ _
-    (range_text c.bytes-in-Range.result.now ∙ ap (λ (name : List ℕ). reply_text (reply.Range name)) c.bytes-in-Range.ensures ∙ ap reply_text (sym c.in-Range.is)) c.put_named-in-Range.ensures
+    puts_is c.put_field-in-Range.result c.args.out.now c.put_field-in-Range.new.out _ _
+    (range_text c.bytes-in-Range.result.now ∙ ap (λ (name : List ℕ). reply_text (reply.Range name)) c.bytes-in-Range.ensures ∙ ap reply_text (sym c.in-Range.is)) c.put_field-in-Range.ensures
+
+pub returns-in-TakenFix : goal.returns-in-TakenFix
+returns-in-TakenFix c =
+    puts_is c.put_taken.result c.args.out.now c.put_taken.new.out _ _
+    (taken_fix_text c.bytes-in-TakenFix.result.now ∙ ap (λ (name : List ℕ). reply_text (reply.TakenFix name)) c.bytes-in-TakenFix.ensures.text ∙ ap reply_text (sym c.in-TakenFix.is)) c.put_taken.ensures
+
+pub returns-in-TakenType : goal.returns-in-TakenType
+returns-in-TakenType c =
+    puts_is c.put_taken-in-TakenType.result c.args.out.now c.put_taken-in-TakenType.new.out _ _
+    (taken_type_text c.bytes-in-TakenType.result.now ∙ ap (λ (name : List ℕ). reply_text (reply.TakenType name)) c.bytes-in-TakenType.ensures.text ∙ ap reply_text (sym c.in-TakenType.is)) c.put_taken-in-TakenType.ensures

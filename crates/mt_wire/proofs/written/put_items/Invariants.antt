@@ -1,6 +1,6 @@
 use Rattle.std.proofs.Common.{◌≡◌, ◌≤◌, ◌+◌, ◌++◌, false, length, drop, vec_len, vec_capacity}
 use Rattle.serde_json.specs.Written.{items_text}
-use Rattle.mt_wire.specs.Reply.{values}
+use Rattle.mt_wire.specs.Entry.{values}
 use Rattle.mt_wire.proofs.written.put_items.Given as goal
 
 abbrev pub invariant-loop-item : goal.invariant-loop-item

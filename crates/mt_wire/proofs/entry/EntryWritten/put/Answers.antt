@@ -3,7 +3,7 @@ use Rattle.serde_json.specs.Data.{object}
 use Rattle.serde_json.specs.Written.{compact_text}
 use Rattle.mt_wire.specs.Entry.{entry_members}
 use Rattle.mt_wire.proofs.Putting.{puts_is}
-use Rattle.mt_wire.proofs.EntryTexts.{external_text_is}
+use Rattle.mt_wire.proofs.EntryTexts.{external_text_is, plan_text}
 use Rattle.mt_wire.proofs.entry.EntryWritten.put.Goals as goal
 
 pub returns-in-External : goal.returns-in-External
@@ -11,3 +11,10 @@ returns-in-External c =
     puts_is c.put_external.result c.args.out.now c.put_external.new.out _ _
     (external_text_is c.args.self.now.who c.in-External.call c.in-External.straight ∙ ap (λ command. compact_text (object (entry_members c.args.self.now.who command))) (sym c.in-External.is))
     c.put_external.ensures
+
+pub returns-in-Plan : goal.returns-in-Plan
+returns-in-Plan c =
+    let p = c.in-Plan in
+    puts_is c.put_plan.result c.args.out.now c.put_plan.new.out _ _
+    (plan_text c.args.self.now.who p.call p.kind p.route p.at p.from p.level ∙ ap (λ command. compact_text (object (entry_members c.args.self.now.who command))) (sym p.is))
+    c.put_plan.ensures
