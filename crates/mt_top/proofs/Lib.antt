@@ -1,7 +1,5 @@
 pub mod OneReply
-pub mod PlainLemmas
 pub mod Replying
-pub mod RosterLemmas
 pub mod Turning
 pub mod WordLemmas
 pub mod WorldLemmas

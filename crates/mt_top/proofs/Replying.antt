@@ -1,9 +1,14 @@
-use Rattle.std.proofs.Common.{◌≡◌, ◌<◌, ◌≤◌, inl, inr, ⊎_elim, ℕ, Bool, true, false, List, [], ◌∷◌, ◌++◌, length, Result, Ok, Err, refl, sym, ◌∙◌, ap, subst, append_assoc, append-nil, true≢false}
+use Rattle.std.proofs.Common.{◌≡◌, ◌<◌, ◌≤◌, inl, inr, ⊎_elim, ℕ, Bool, true, false, List, [], ◌∷◌, ◌++◌, length, Option, Some, None, Result, Ok, Err, refl, sym, ◌∙◌, ap, subst, append_assoc, append-nil, true≢false}
 use Rattle.std.proofs.lemmas.Bool.{lt-ltb}
-use Rattle.std.specs.Prelude.{MatchBool}
+use Rattle.std.specs.Prelude.{MatchBool, ⊤}
 use Rattle.mt_base.specs.declared.command.Entry.{Entry}
 use Rattle.mt_base.specs.declared.command.Refusal.{Refusal}
-use Rattle.mt_base.specs.History.{decide, state_of}
+use Rattle.mt_base.specs.declared.flight.Record.{Record}
+use Rattle.mt_base.specs.History.{decide}
+use Rattle.mt_base.specs.Picture.{flight_of}
+use Rattle.mt_base.specs.Tables.{Tables}
+use Rattle.mt_tables.specs.declared.add_no.AddNo.{AddNo}
+use Rattle.mt_wire.specs.declared.reply.DoneWord.{DoneWord}
 use Rattle.mt_wire.specs.declared.request.Request.{Request}
 use Rattle.mt_wire.specs.declared.request.Request.TheVariants as requests
 use Rattle.mt_wire.specs.declared.reply.Reply.{Reply}
@@ -11,7 +16,7 @@ use Rattle.mt_wire.specs.declared.reply.Reply.TheVariants as replies
 use Rattle.mt_wire.specs.Reply.{reply_text}
 use Rattle.mt_top.specs.Given.{IsGivenFor, is_brief, is_farewell}
 use Rattle.mt_top.specs.Script.{AreReplied, IsReplied}
-use Rattle.mt_top.specs.World.{IsAnswered, IsDecided, IsServed, World, asked}
+use Rattle.mt_top.specs.World.{IsAdded, IsAnswered, IsDecided, IsServed, IsTold, World, asked, picture_of, setup_of}
 
 -- one line more
 pub replied_push : (w : World) (lines : List (List ℕ)) (bytes : List ℕ) (middle : World) (line : List ℕ) (reply : Reply) (next : World)
@@ -37,17 +42,31 @@ by_begun : (b : Bool) (P Q R : Type 0) → (P → R) → (Q → R) → MatchBool
 by_begun true P Q R p q m = p m
 by_begun false P Q R p q m = q m
 
+-- so nothing was added where the reply is not brief
+added : (w next : World) (checked : Result ⊤ AddNo) (word : DoneWord) (taken : Reply) (tables : Tables) (reply : Reply) → is_brief reply ≡ false
+    → IsAdded w checked word taken tables reply next → next ≡ w
+added w next (Ok _) word taken tables reply b g = not_given _ reply _ g.reply_is refl b
+added w next (Err refusal) word taken tables reply b r = r.same
+
 -- a reply that is not brief follows no change
 unchanged_by : (w next : World) (who : ℕ) (request : Request) (reply : Reply) → IsServed w who request reply next → is_brief reply ≡ false → next ≡ w
+unchanged_by w next who (requests.Fix name x y) reply served b =
+    by_begun w.begun _ _ _ (λ r. r.same) (added w next _ _ _ _ reply b) served
+unchanged_by w next who (requests.TypeLine name bands) reply served b =
+    by_begun w.begun _ _ _ (λ r. r.same) (added w next _ _ _ _ reply b) served
 unchanged_by w next who (requests.Rule set) reply served b = by_begun w.begun _ _ _ (λ r. r.same) (λ g. not_given _ reply _ g.reply_is refl b) served
 unchanged_by w next who requests.Begin reply served b = by_begun w.begun _ _ _ (λ r. r.same) (λ g. not_given _ reply _ g.reply_is refl b) served
 unchanged_by w next who (requests.Hello role) reply served b = served.next_is
 unchanged_by w next who requests.Bye reply served b = served.next_is
 unchanged_by w next who requests.List reply served b = by_begun w.begun _ _ _ (λ l. l.same) (λ r. r.same) served
 unchanged_by w next who requests.Check reply served b = by_begun w.begun _ _ _ (λ l. l.same) (λ r. r.same) served
+unchanged_by w next who (requests.Flight call sec) reply served b = by_begun w.begun _ _ _ (told (flight_of (picture_of w).records call)) (λ r. r.same) served where
+  told : (found : Option Record) → IsTold w call sec found reply next → next ≡ w
+  told (Some flight) g = g.next_is
+  told None r = r.same
 unchanged_by w next who (requests.History from to) reply served b = by_begun w.begun _ _ _ (λ g. g.next_is) (λ r. r.same) served
 unchanged_by w next who (requests.Change command) reply served b =
-    by_begun w.begun _ _ _ (decided (decide w.rules (state_of w.history) who command)) (λ r. r.same) served where
+    by_begun w.begun _ _ _ (decided (decide (setup_of w) (picture_of w) who command)) (λ r. r.same) served where
       decided : (d : Result Entry Refusal) → IsDecided w d reply next → next ≡ w
       decided (Ok e) g = not_given _ reply _ g.reply_is refl b
       decided (Err refusal) r = r.same

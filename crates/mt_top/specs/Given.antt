@@ -19,16 +19,23 @@ is_brief replies.Json = true
 is_brief replies.Long = true
 is_brief replies.Begun = true
 is_brief replies.Unbegun = true
+is_brief replies.Bands = true
+is_brief replies.TablesFull = true
 is_brief replies.Memory = true
 is_brief (replies.List conflicts version) = false
+is_brief (replies.Flight view) = false
 is_brief (replies.History entries version) = false
 is_brief (replies.Form name) = false
 is_brief (replies.Range name) = false
+is_brief (replies.TakenFix name) = false
+is_brief (replies.TakenType name) = false
 is_brief (replies.Refused refusal version) = false
 
 -- the reply after which a script ends
 abbrev pub is_farewell : Reply → Bool
 is_farewell (replies.Done done.Bye) = true
+is_farewell (replies.Done done.Fix) = false
+is_farewell (replies.Done done.TypeLine) = false
 is_farewell (replies.Done done.Begin) = false
 is_farewell (replies.Done done.Rule) = false
 is_farewell (replies.Hello role) = false
@@ -37,11 +44,16 @@ is_farewell replies.Json = false
 is_farewell replies.Long = false
 is_farewell replies.Begun = false
 is_farewell replies.Unbegun = false
+is_farewell replies.Bands = false
+is_farewell replies.TablesFull = false
 is_farewell replies.Memory = false
 is_farewell (replies.List conflicts version) = false
+is_farewell (replies.Flight view) = false
 is_farewell (replies.History entries version) = false
 is_farewell (replies.Form name) = false
 is_farewell (replies.Range name) = false
+is_farewell (replies.TakenFix name) = false
+is_farewell (replies.TakenType name) = false
 is_farewell (replies.Refused refusal version) = false
 
 -- the reply that is given: this one, or `memory` in place of one that is not brief

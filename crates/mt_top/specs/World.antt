@@ -1,13 +1,23 @@
-use Rattle.std.specs.Prelude.{◌≡◌, ℕ, ◌+◌, ◌-◌, Bool, true, false, List, [], ◌∷◌, ◌++◌, length, take, drop, nat_lt, Result, Ok, Err, MatchBool, if◌then◌else◌}
+use Rattle.std.specs.Prelude.{◌≡◌, ℕ, ◌+◌, ◌-◌, Bool, true, false, List, [], ◌∷◌, ◌++◌, length, take, drop, nat_lt, Option, Some, None, Result, Ok, Err, MatchBool, ⊤, if◌then◌else◌}
 use Rattle.mt_base.specs.declared.command.Entry.{Entry}
 use Rattle.mt_base.specs.declared.command.Refusal.{Refusal}
 use Rattle.mt_base.specs.declared.conflict.Conflict.{Conflict}
 use Rattle.mt_base.specs.declared.rules.Rules.{Rules}
+use Rattle.mt_base.specs.declared.band.Band.{Band}
+use Rattle.mt_base.specs.declared.command.Refusal.TheVariants.{UnknownCall}
+use Rattle.mt_base.specs.declared.flight.Record.{Record}
+use Rattle.mt_base.specs.Checks.{judged}
 use Rattle.mt_base.specs.History.{decide, state_of}
-use Rattle.mt_base.specs.Picture.{IsPublished}
+use Rattle.mt_base.specs.Picture.{IsPublished, State, flight_of}
 use Rattle.mt_base.specs.Rules.{usual_rules}
+use Rattle.mt_base.specs.Tables.{Setup, Tables, no_tables}
+use Rattle.mt_base.specs.View.{view_of}
+use Rattle.mt_tables.specs.declared.add_no.AddNo.{AddNo}
+use Rattle.mt_tables.specs.declared.add_no.AddNo.TheVariants as add
+use Rattle.mt_tables.specs.Adding.{fix_adding, type_adding, with_fix, with_type}
 use Rattle.mt_wire.specs.declared.request.Request.{Request}
 use Rattle.mt_wire.specs.declared.request.Request.TheVariants as requests
+use Rattle.mt_wire.specs.declared.reply.DoneWord.{DoneWord}
 use Rattle.mt_wire.specs.declared.reply.DoneWord.TheVariants as done
 use Rattle.mt_wire.specs.declared.reply.Reply.{Reply}
 use Rattle.mt_wire.specs.declared.reply.Reply.TheVariants as replies
@@ -17,15 +27,23 @@ use Rattle.mt_wire.specs.Line.{line as read_as}
 use Rattle.mt_wire.specs.declared.request.LineNo.{LineNo}
 use Rattle.mt_wire.specs.declared.request.LineNo.TheVariants as nos
 
--- The world of a script: the rules, whether the picture has begun, and its history.
+-- The world of a script: the rules and the tables, whether the picture has begun, and its history.
 pub record World : Type 0 where
   pub rules : Rules
+  pub tables : Tables
   pub begun : Bool
   pub history : List Entry
 
 -- as it is before the first line
 abbrev pub opening_world : World
-opening_world = record { rules = usual_rules; begun = false; history = [] }
+opening_world = record { rules = usual_rules; tables = no_tables; begun = false; history = [] }
+
+-- what its lines before `begin` fix, and the state of its history
+abbrev pub setup_of : World → Setup
+setup_of w = record { rules = w.rules; tables = w.tables }
+
+abbrev pub picture_of : World → State
+picture_of w = state_of (setup_of w) w.history
 
 -- the refusal is the reply, and nothing has changed
 pub record IsRefused (w : World) (refusal reply : Reply) (next : World) : Type 0 where
@@ -40,9 +58,26 @@ pub record IsGiven (given : Reply) (after : World) (reply : Reply) (next : World
 -- the reply is what is published of the history, and nothing has changed
 pub record IsListed (w : World) (reply : Reply) (next : World) : Type 0 where
   pub conflicts : List Conflict
-  pub published : IsPublished w.rules (state_of w.history) conflicts
+  pub published : IsPublished (setup_of w) (picture_of w) conflicts
   pub reply_is : reply ≡ replies.List conflicts (length w.history)
   pub same : next ≡ w
+
+-- the refusal of a line that adds a fix or a type
+abbrev pub not_added : Reply → AddNo → Reply
+not_added taken add.Taken = taken
+not_added taken add.Bands = replies.Bands
+not_added taken add.Full = replies.TablesFull
+not_added taken add.Memory = replies.Memory
+
+-- what such a line is answered: the tables with one name more, or its refusal
+abbrev pub IsAdded : World → Result ⊤ AddNo → DoneWord → Reply → Tables → Reply → World → Type 0
+IsAdded w (Ok _) word taken tables reply next = IsGiven (replies.Done word) (record w { tables = tables }) reply next
+IsAdded w (Err refusal) word taken tables reply next = IsRefused w (not_added taken refusal) reply next
+
+-- what is told of the flight of a callsign, where there is one
+abbrev pub IsTold : World → List ℕ → Option ℕ → Option Record → Reply → World → Type 0
+IsTold w call sec (Some flight) reply next = IsGiven (replies.Flight (view_of (setup_of w) (picture_of w) sec flight)) w reply next
+IsTold w call sec None reply next = IsRefused w (replies.Refused (UnknownCall call) (length w.history)) reply next
 
 -- what a decision on the state of the history answers: an entry is put behind the history, a refusal changes nothing
 abbrev pub IsDecided : World → Result Entry Refusal → Reply → World → Type 0
@@ -50,9 +85,15 @@ IsDecided w (Ok entry) reply next =
     IsGiven (replies.Entered (record { version = length w.history + 1 })) (record w { history = w.history ++ entry ∷ [] }) reply next
 IsDecided w (Err refusal) reply next = IsRefused w (replies.Refused refusal (length w.history)) reply next
 
--- What an actor's request is answered, and the world after it. Rules are set and the picture is begun once, at first; `hello` and `bye`
--- are answered always, and the other requests once the picture has begun.
+-- What an actor's request is answered, and the world after it. Fixes, types and rules are set and the picture is begun once, at first;
+-- `hello` and `bye` are answered always, and the other requests once the picture has begun.
 abbrev pub IsServed : World → ℕ → Request → Reply → World → Type 0
+IsServed w who (requests.Fix name x y) reply next = MatchBool w.begun (IsRefused w replies.Begun reply next)
+    (IsAdded w (judged (fix_adding w.tables name) (tt {0})) done.Fix (replies.TakenFix name)
+    (with_fix w.tables name (record { x = x; y = y })) reply next)
+IsServed w who (requests.TypeLine name bands) reply next = MatchBool w.begun (IsRefused w replies.Begun reply next)
+    (IsAdded w (judged (type_adding w.tables name bands) (tt {0})) done.TypeLine (replies.TakenType name)
+    (with_type w.tables name bands) reply next)
 IsServed w who (requests.Rule set) reply next = MatchBool w.begun
     (IsRefused w replies.Begun reply next) (IsGiven (replies.Done done.Rule) (record w { rules = rules_with set w.rules }) reply next)
 IsServed w who requests.Begin reply next = MatchBool w.begun
@@ -61,10 +102,12 @@ IsServed w who (requests.Hello role) reply next = IsGiven (replies.Hello role) w
 IsServed w who requests.Bye reply next = IsGiven (replies.Done done.Bye) w reply next
 IsServed w who requests.List reply next = MatchBool w.begun (IsListed w reply next) (IsRefused w replies.Unbegun reply next)
 IsServed w who requests.Check reply next = MatchBool w.begun (IsListed w reply next) (IsRefused w replies.Unbegun reply next)
+IsServed w who (requests.Flight call sec) reply next = MatchBool w.begun
+    (IsTold w call sec (flight_of (picture_of w).records call) reply next) (IsRefused w replies.Unbegun reply next)
 IsServed w who (requests.History from to) reply next = MatchBool w.begun
     (IsGiven (replies.History (take (to - from) (drop from w.history)) (length w.history)) w reply next) (IsRefused w replies.Unbegun reply next)
 IsServed w who (requests.Change command) reply next = MatchBool w.begun
-    (IsDecided w (decide w.rules (state_of w.history) who command) reply next) (IsRefused w replies.Unbegun reply next)
+    (IsDecided w (decide (setup_of w) (picture_of w) who command) reply next) (IsRefused w replies.Unbegun reply next)
 
 -- the refusal of a line as a reply
 abbrev pub or_reply : Result (ℕ × Request) LineNo → Result (ℕ × Request) Reply

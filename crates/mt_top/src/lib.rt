@@ -2,7 +2,6 @@
 #![tactic(auto)]
 
 mod laws;
-mod plain;
 mod replay;
 mod reply_out;
 mod status;

@@ -50,9 +50,11 @@ fn is_brief(reply: &Reply) -> bool
             let _version = entered.version;
             true
         }
-        Reply::Json | Reply::Long | Reply::Begun | Reply::Unbegun | Reply::Memory => true,
-        Reply::List { .. } | Reply::History { .. } => false,
-        Reply::Form(_) | Reply::Range(_) | Reply::Refused { .. } => false,
+        Reply::Json | Reply::Long | Reply::Begun | Reply::Unbegun => true,
+        Reply::Bands | Reply::TablesFull | Reply::Memory => true,
+        Reply::List { .. } | Reply::Flight(_) | Reply::History { .. } => false,
+        Reply::Form(_) | Reply::Range(_) | Reply::TakenFix(_) | Reply::TakenType(_) => false,
+        Reply::Refused { .. } => false,
     }
 }
 

@@ -1,25 +1,34 @@
 //! The world of a script: what each line is answered, and what it leaves.
 ghost use Rattle.std.specs.Prelude.{◌≡◌, ◌⊎◌, ◌≤◌, ◌-◌, take, drop, length, IfOk, OnOk, OnErr, Ok, MatchBool, true, false, [], ◌++◌, ◌∷◌, ◌+◌};
-ghost use Rattle.mt_base.specs.Bounds.{AreWithinBounds, IsBoundedCommand};
-ghost use Rattle.mt_base.specs.History.{decide, state_of};
+ghost use Rattle.mt_base.specs.Bounds.{AreBoundedBands, AreWithinBounds, IsBoundedCommand, IsInPlane};
+ghost use Rattle.mt_base.specs.Checks.{judged};
+ghost use Rattle.mt_base.specs.History.{decide};
+ghost use Rattle.mt_base.specs.Picture.{IsPublished, flight_of};
+ghost use Rattle.mt_tables.specs.Adding.{fix_adding, type_adding, with_fix, with_type};
 ghost use Rattle.mt_wire.specs.declared.reply.DoneWord.TheVariants as done;
 ghost use Rattle.mt_wire.specs.declared.reply.Reply.TheVariants as replies;
 ghost use Rattle.mt_wire.specs.Bounded.{IsBoundedRequest};
 ghost use Rattle.mt_top.specs.Script.{IsReplied};
 ghost use Rattle.mt_wire.specs.Commands.{rules_with};
-ghost use Rattle.mt_top.specs.World.{IsDecided, IsGiven, IsListed, IsRefused, IsServed, opening_world};
+ghost use Rattle.mt_top.specs.World.{IsAdded, IsDecided, IsGiven, IsListed, IsRefused, IsServed, IsTold, not_added, opening_world, picture_of, setup_of};
 
-use crate::plain::Plain;
-use mt_base::{Command, Entered, Entries, Entry, Memory, Rules, Tally};
+use mt_base::{
+    Bands, Callsign, Command, Conflicts, Entered, Entries, Entry, FixName, Memory, Refusal, Rules,
+    Second, Tally, TypeName,
+};
+use mt_machine::{Plain, decide};
+use mt_plain::all_pairs;
+use mt_tables::{AddNo, Tables};
 use mt_wire::{DoneWord, LineNo, Place, Reply, Request, RuleSet, read_line};
 use std::alloc::Global;
 use std::marker::Model;
 use std::thread::Threads;
 
-/// The world of a script: the rules, whether the picture has begun, its history, and the picture that the history leaves.
+/// The world of a script: the rules and the tables, whether the picture has begun, its history, and the picture that the history leaves.
 #[derive(Drop)]
 pub struct World {
     rules: Rules,
+    tables: Tables,
     begun: bool,
     history: Entries,
     picture: Plain,
@@ -32,9 +41,9 @@ impl Model for World {
 
     ghost Value = { World };
 
-    ghost view = { λ w. record { rules = w.rules; begun = w.begun; history = w.history } };
+    ghost view = { λ w. record { rules = w.rules; tables = w.tables; begun = w.begun; history = w.history } };
 
-    ghost invariant = { λ w. IsSoundWorld w.rules w.begun w.history w.picture };
+    ghost invariant = { λ w. IsSoundWorld (record { rules = w.rules; tables = w.tables }) w.begun w.history w.picture };
 }
 
 impl World {
@@ -44,9 +53,10 @@ impl World {
     {
         Ok(World {
             rules: Rules::usual(),
+            tables: Tables::make(alloc)?,
             begun: false,
             history: Entries::make(alloc)?,
-            picture: Plain::make(alloc),
+            picture: Plain::make(alloc)?,
             tests: Tally::new(rt),
         })
     }
@@ -71,15 +81,50 @@ impl World {
         ensures { IsServed self.old who request.now result self.new ⊎ IsRefused self.old replies.Memory result self.new }
     {
         match request {
+            Request::Fix { name, x, y } => self.add_fix(*name, *x, *y),
+            Request::TypeLine { name, bands } => self.add_type(*name, bands),
             Request::Rule(set) => self.set_rules(set),
             Request::Begin => self.begin(),
             Request::Hello(role) => Reply::Hello(*role),
             Request::Bye => Reply::Done(DoneWord::Bye),
             Request::List => self.list(alloc),
             Request::Check => self.list(alloc),
+            Request::Flight { call, sec } => self.flight(alloc, *call, *sec),
             Request::History { from, to } => self.entries(alloc, *from, *to),
-            Request::Change(command) => self.change(who, command),
+            Request::Change(command) => self.change(alloc, who, command),
         }
+    }
+
+    // Adds a fix, before the picture has begun.
+    fn add_fix(&mut self, name: FixName, x: i64, y: i64) -> Reply
+        requires { IsInPlane x y }
+        ensures { MatchBool self.old.begun (IsRefused self.old replies.Begun result self.new)
+            (IsAdded self.old (judged (fix_adding self.old.tables name) (tt {0})) done.Fix (replies.TakenFix name)
+            (with_fix self.old.tables name (record { x = x; y = y })) result self.new) ⊎ IsRefused self.old replies.Memory result self.new }
+    {
+        if self.begun {
+            return Reply::Begun;
+        }
+        if let Err(refusal) = self.tables.add_fix(name, x, y) {
+            return not_added(Reply::TakenFix(name), refusal);
+        }
+        Reply::Done(DoneWord::Fix)
+    }
+
+    // Adds a type of aircraft, before the picture has begun.
+    fn add_type(&mut self, name: TypeName, bands: &Bands) -> Reply
+        requires { AreBoundedBands bands.now }
+        ensures { MatchBool self.old.begun (IsRefused self.old replies.Begun result self.new)
+            (IsAdded self.old (judged (type_adding self.old.tables name bands.now) (tt {0})) done.TypeLine (replies.TakenType name)
+            (with_type self.old.tables name bands.now) result self.new) ⊎ IsRefused self.old replies.Memory result self.new }
+    {
+        if self.begun {
+            return Reply::Begun;
+        }
+        if let Err(refusal) = self.tables.add_type(name, bands.items()) {
+            return not_added(Reply::TakenType(name), refusal);
+        }
+        Reply::Done(DoneWord::TypeLine)
     }
 
     // Sets rules, before the picture has begun.
@@ -115,9 +160,40 @@ impl World {
         if !self.begun {
             return Reply::Unbegun;
         }
-        match self.picture.published(alloc, &self.rules, &mut self.tests) {
+        match self.published(alloc) {
             Ok(conflicts) => Reply::List {
                 conflicts,
+                version: self.version(),
+            },
+            Err(Memory) => Reply::Memory,
+        }
+    }
+
+    // The conflicts of all trajectories in the window, each pair of them tested anew.
+    fn published(&mut self, alloc: Global) -> Result<Conflicts, Memory>
+        ensures published { IfOk result (IsPublished (setup_of self.old) (picture_of self.old)) }
+        ensures same { self.new ≡ self.old }
+    {
+        let strands = self.picture.strands(alloc, &self.tables, &self.rules)?;
+        let now = self.picture.now();
+        all_pairs(alloc, &strands, now, &self.rules, &mut self.tests)
+    }
+
+    // What is told of a flight.
+    fn flight(&self, alloc: Global, call: Callsign, sec: Option<Second>) -> Reply
+        ensures { MatchBool self.now.begun (IsTold self.now call sec (flight_of (picture_of self.now).records call) result self.now)
+            (IsRefused self.now replies.Unbegun result self.now) ⊎ IsRefused self.now replies.Memory result self.now }
+    {
+        if !self.begun {
+            return Reply::Unbegun;
+        }
+        match self
+            .picture
+            .view(alloc, &self.tables, &self.rules, call, sec)
+        {
+            Ok(Some(view)) => Reply::Flight(view),
+            Ok(None) => Reply::Refused {
+                refusal: Refusal::UnknownCall(call),
                 version: self.version(),
             },
             Err(Memory) => Reply::Memory,
@@ -143,47 +219,49 @@ impl World {
     }
 
     // Decides a command, and enters it unless it is refused.
-    fn change(&mut self, who: u32, command: &Command) -> Reply
+    fn change(&mut self, alloc: Global, who: u32, command: &Command) -> Reply
         requires { IsBoundedCommand command.now }
-        ensures { MatchBool self.old.begun (IsDecided self.old (decide self.old.rules (state_of self.old.history) who command.now) result self.new)
+        ensures { MatchBool self.old.begun (IsDecided self.old (decide (setup_of self.old) (picture_of self.old) who command.now) result self.new)
             (IsRefused self.old replies.Unbegun result self.new) ⊎ IsRefused self.old replies.Memory result self.new }
     {
         if !self.begun {
             return Reply::Unbegun;
         }
-        match self.picture.decide(&self.rules, who, command) {
-            Ok(_) => match self.enter(who, command) {
-                Ok(()) => Reply::Entered(Entered {
-                    version: self.version(),
-                }),
-                Err(Memory) => Reply::Memory,
-            },
-            Err(refusal) => Reply::Refused {
+        match decide(
+            alloc,
+            &self.tables,
+            &self.rules,
+            &self.picture,
+            who,
+            command,
+        ) {
+            Ok(Ok(entry)) => self.enter(entry),
+            Ok(Err(refusal)) => Reply::Refused {
                 refusal,
                 version: self.version(),
             },
+            Err(Memory) => Reply::Memory,
         }
     }
 
     // Puts what was decided into the history and the picture. Where memory is wanted, nothing changes.
-    fn enter(&mut self, who: u32, command: &Command) -> Result<(), Memory>
-        requires decided { decide self.old.rules (state_of self.old.history) who command.now ≡ Ok (record { who = who; command = command.now }) }
-        requires bounded { IsBoundedCommand command.now }
+    fn enter(&mut self, entry: Entry) -> Reply
+        requires decided { decide (setup_of self.old) (picture_of self.old) entry.who entry.command ≡ Ok entry }
+        requires bounded { IsBoundedCommand entry.command }
         requires begun { self.old.begun ≡ true }
-        ensures ok { OnOk result
-            (self.new ≡ record self.old { history = self.old.history ++ (record { who = who; command = command.now }) ∷ [] }) }
-        ensures err { OnErr result (self.new ≡ self.old) }
+        ensures { IsDecided self.old (Ok entry) result self.new ⊎ IsRefused self.old replies.Memory result self.new }
     {
-        let entry = Entry {
-            who,
-            command: *command,
-        };
-        self.history.push(entry)?;
-        match self.picture.apply(&self.rules, &entry) {
-            Ok(()) => Ok(()),
+        if let Err(Memory) = self.history.push(entry) {
+            return Reply::Memory;
+        }
+        let entry = self.history.last();
+        match self.picture.apply(&self.tables, &self.rules, entry) {
+            Ok(()) => Reply::Entered(Entered {
+                version: self.version(),
+            }),
             Err(Memory) => {
                 self.history.drop_last();
-                Err(Memory)
+                Reply::Memory
             }
         }
     }
@@ -196,6 +274,18 @@ impl World {
     }
 }
 
+// The refusal of a line that adds a fix or a type, `taken` where one of that name stands.
+fn not_added(taken: Reply, refusal: AddNo) -> Reply
+    ensures { result ≡ not_added taken refusal }
+{
+    match refusal {
+        AddNo::Taken => taken,
+        AddNo::Bands => Reply::Bands,
+        AddNo::Full => Reply::TablesFull,
+        AddNo::Memory => Reply::Memory,
+    }
+}
+
 // The entries from number `from` up to number `to`, without it.
 fn part(alloc: Global, entries: &[Entry], from: u64, to: u64) -> Result<Entries, Memory>
     ensures { IfOk result (λ part. part ≡ take (to - from) (drop from entries.now)) }
@@ -205,7 +295,7 @@ fn part(alloc: Global, entries: &[Entry], from: u64, to: u64) -> Result<Entries,
     let end = to.min(count).max(first);
     let mut part = Entries::make(alloc)?;
     for entry in &entries[first as usize..end as usize] {
-        part.push(*entry)?;
+        part.push(entry.copy(alloc)?)?;
     }
     Ok(part)
 }

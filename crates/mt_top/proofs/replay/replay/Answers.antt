@@ -38,3 +38,9 @@ loop-status-preserved g c =
       reads = g.met.S.Source.reads_on _ _ _ so_far.reads c.turn.ensures.reads;
       writes = g.met.K.Sink.writes_on _ _ _ so_far.writes c.turn.ensures.writes;
     }
+
+pub returns-in-Some-clause-reads : goal.returns-in-Some-clause-reads
+returns-in-Some-clause-reads g c = g.met.S.Source.reads_on _ _ _ c.loop-status.invariant.reads c.turn.ensures.reads
+
+pub returns-in-Some-clause-writes : goal.returns-in-Some-clause-writes
+returns-in-Some-clause-writes g c = g.met.K.Sink.writes_on _ _ _ c.loop-status.invariant.writes c.turn.ensures.writes

@@ -1,7 +1,0 @@
-use Rattle.std.proofs.Common.{◌≡◌, take}
-use Rattle.std.specs.List.{flat_map}
-use Rattle.mt_base.specs.Picture.{trajectories_of}
-use Rattle.mt_top.proofs.plain.roster_of.Given as goal
-
-abbrev pub invariant-loop-flight : goal.invariant-loop-flight
-invariant-loop-flight l = l.roster ≡ flat_map trajectories_of (take l.flight-index l.flights)
