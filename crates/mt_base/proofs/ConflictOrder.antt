@@ -44,17 +44,17 @@ abbrev behind_first : Conflict → Conflict → Ordering
 behind_first x y = ordering_then (slice_cmp nat_cmp x.a y.a) (behind_lesser x y)
 
 -- where two orders one after the other answer that nothing is before, each does
-then_first : (o p : Ordering) → ordering_then o p ≡ Equal → o ≡ Equal
+pub then_first : (o p : Ordering) → ordering_then o p ≡ Equal → o ≡ Equal
 then_first Less p e = cc
 then_first Equal p e = refl
 then_first Greater p e = cc
 
-then_second : (o p : Ordering) → ordering_then o p ≡ Equal → p ≡ Equal
+pub then_second : (o p : Ordering) → ordering_then o p ≡ Equal → p ≡ Equal
 then_second Less p e = cc
 then_second Equal p e = e
 then_second Greater p e = cc
 
-one_text : (s t : List ℕ) → slice_cmp nat_cmp s t ≡ Equal → s ≡ t
+pub one_text : (s t : List ℕ) → slice_cmp nat_cmp s t ≡ Equal → s ≡ t
 one_text = slice_cmp-IsAntisymmetric nat_cmp-IsAntisymmetric
 
 one_kind : (x y : Kind) → kind_cmp x y ≡ Equal → x ≡ y

@@ -1,6 +1,7 @@
 pub mod CheckLemmas
 pub mod ConflictOrder
 pub mod HistoryLemmas
+pub mod HitOrder
 pub mod NameLemmas
 pub mod OneOrder
 pub mod RuleLemmas

@@ -1,13 +1,17 @@
-use Rattle.std.specs.Prelude.{◌≡◌, ℕ, ℤ, pos, neg_ℤ, ◌+ℤ◌, ◌*ℤ◌, ◌<◌, ◌≤◌, ◌+◌, ◌-◌, ◌≤ℤ◌, true, List, length, All, IfSome, is_some, Ok}
+use Rattle.std.specs.Prelude.{◌≡◌, ℕ, ℤ, pos, neg_ℤ, ◌+ℤ◌, ◌*ℤ◌, ◌<◌, ◌≤◌, ◌+◌, ◌-◌, ◌≤ℤ◌, true, List, length, All, IfSome, is_some, Ok, ⊤}
 use Rattle.mt_base.specs.declared.command.Command.{Command}
-use Rattle.mt_base.specs.declared.command.Command.TheVariants.{Plan, External, Drop, Tick}
+use Rattle.mt_base.specs.declared.command.Command.TheVariants.{Plan, External, Drop, Tick, Clear, Accept}
 use Rattle.mt_base.specs.declared.band.Band.{Band}
+use Rattle.mt_base.specs.declared.clearance.Aim.{Aim}
+use Rattle.mt_base.specs.declared.clearance.Clearance.{Clearance}
+use Rattle.mt_base.specs.declared.clearance.Clearance.TheVariants.{Level, Direct}
 use Rattle.mt_base.specs.declared.flight.Base.{Base}
 use Rattle.mt_base.specs.declared.flight.Course.{Course}
 use Rattle.mt_base.specs.declared.flight.Mark.{Mark}
 use Rattle.mt_base.specs.declared.flight.Path.{Path}
 use Rattle.mt_base.specs.declared.flight.Path.TheVariants.{Planned, Outer}
 use Rattle.mt_base.specs.declared.flight.Record.{Record}
+use Rattle.mt_base.specs.declared.flight.Report.{Report}
 use Rattle.mt_base.specs.declared.flight.Straight.{Straight}
 use Rattle.mt_base.specs.declared.place.Point.{Point}
 use Rattle.mt_base.specs.declared.row.Row.{Row}
@@ -87,14 +91,27 @@ pub record IsRightMark (rules : Rules) (names : ℕ) (mark : Mark) : Type 0 wher
   pub base : IsRightBase rules names mark.base
   pub level : mark.level ≤ 600
 
+-- a report in the plane, up to second 10,000,000
+pub record IsBoundedReport (report : Report) : Type 0 where
+  pub early : report.at ≤ 10000000
+  pub plane : IsInPlane report.x report.y
+  pub height : IsHeight report.z
+
+-- what a clearance leaves is right
+pub record IsRightAim (rules : Rules) (names : ℕ) (aim : Aim) : Type 0 where
+  pub base : IsRightBase rules names aim.base
+  pub level : aim.level ≤ 600
+
 -- A course is sound for rules and tables: its type and its fixes are known, it has 2 to 64 of them, no two neighbours equal, its level and
--- its base are right, and so is its tentative clearance.
+-- its base are right, and so is its tentative clearance; it is due only with a report.
 pub record IsSoundCourse (setup : Setup) (course : Course) : Type 0 where
   pub kind : is_some (bands_of setup.tables course.kind) ≡ true
   pub route : judged (route_checks setup.tables course.route) (tt {0}) ≡ Ok (tt {0})
   pub level : course.level ≤ 600
   pub base : IsRightBase setup.rules (length course.route) course.base
   pub mark : IfSome course.mark (IsRightMark setup.rules (length course.route))
+  pub last : IfSome course.last IsBoundedReport
+  pub due : course.due ≡ true → is_some course.last ≡ true
 
 -- a path and a flight are sound for rules and tables
 abbrev pub IsSoundPath : Setup → Path → Type 0
@@ -104,12 +121,28 @@ IsSoundPath setup (Outer stretch) = IsBoundedStretch stretch
 abbrev pub IsSoundFlight : Setup → Record → Type 0
 IsSoundFlight setup flight = IsSoundPath setup flight.path
 
+-- a level up to flight level 600
+abbrev pub IsBoundedClearance : Clearance → Type 0
+IsBoundedClearance (Level level) = level ≤ 600
+IsBoundedClearance (Direct fix) = ⊤
+
 -- the numbers of a command are within their bounds
 abbrev pub IsBoundedCommand : Command → Type 0
 IsBoundedCommand (Plan call kind route at from level) = (at ≤ 10000000) × (from ≤ 600) × (level ≤ 600)
 IsBoundedCommand (External call straight) = IsBoundedStretch straight
 IsBoundedCommand (Drop call) = Unit {0}
 IsBoundedCommand (Tick now) = now ≤ 10000000
+IsBoundedCommand (Clear call clearance eff) = IsBoundedClearance clearance × IfSome eff (λ second. second ≤ 10000000)
+IsBoundedCommand (Accept call clearance eff probed) = IsBoundedClearance clearance × (eff ≤ 10000000) × (probed ≤ 4194304)
+
+-- a command that is asked for by itself; a probe is accepted by its number
+abbrev pub IsAskedFor : Command → Type 0
+IsAskedFor (Plan call kind route at from level) = ⊤
+IsAskedFor (External call straight) = ⊤
+IsAskedFor (Drop call) = ⊤
+IsAskedFor (Tick now) = ⊤
+IsAskedFor (Clear call clearance eff) = ⊤
+IsAskedFor (Accept call clearance eff probed) = ⊥
 
 -- Each rule within its bounds.
 pub record AreWithinBounds (rules : Rules) : Type 0 where

@@ -1,5 +1,6 @@
 pub mod Bounds
 pub mod Checks
+pub mod Cleared
 pub mod Conflict
 pub mod History
 pub mod Instant
@@ -8,8 +9,10 @@ pub mod Name
 pub mod Padded
 pub mod Picture
 pub mod Predictor
+pub mod Renewed
 pub mod Rules
 pub mod Tables
 pub mod Tally
 pub mod Trajectory
 pub mod View
+pub mod WhatIf

@@ -1,9 +1,11 @@
 ghost use Rattle.std.specs.Prelude.{◌≡◌, IfOk};
-ghost use Rattle.mt_base.specs.History.{call_of};
+ghost use Rattle.mt_base.specs.History.{call_of, filled};
 
 use crate::callsign::Callsign;
+use crate::clearance::Clearance;
 use crate::fix_name::FixName;
 use crate::flight::Straight;
+use crate::hit::Hit;
 use crate::list::Listed;
 use crate::route::{Route, RouteNo};
 use crate::row::Second;
@@ -46,6 +48,26 @@ pub enum Command {
         /// The new moment.
         now: Second,
     },
+    /// Clear a planned flight.
+    Clear {
+        /// Its callsign.
+        call: Callsign,
+        /// The clearance.
+        clearance: Clearance,
+        /// From which second it holds; absent, from the moment at which the command is decided.
+        eff: Option<Second>,
+    },
+    /// Clear a planned flight as it was probed, if that is free of conflicts still.
+    Accept {
+        /// Its callsign.
+        call: Callsign,
+        /// The clearance.
+        clearance: Clearance,
+        /// From which second it holds.
+        eff: Second,
+        /// The version of the probe.
+        probed: u64,
+    },
 }
 
 impl Command {
@@ -54,9 +76,30 @@ impl Command {
         ensures { result ≡ call_of self.now }
     {
         match self {
-            Command::Plan { call, .. } | Command::External { call, .. } | Command::Drop { call } =>
-                Some(*call),
+            Command::Plan { call, .. }
+            | Command::External { call, .. }
+            | Command::Drop { call }
+            | Command::Clear { call, .. }
+            | Command::Accept { call, .. } => Some(*call),
             Command::Tick { .. } => None,
+        }
+    }
+
+    /// The same command, holding from the moment where that was left open.
+    pub fn filled(&self, alloc: Global, now: Second) -> Result<Command, Memory>
+        ensures { IfOk result (λ command. command ≡ filled now self.now) }
+    {
+        match self {
+            Command::Clear {
+                call,
+                clearance,
+                eff,
+            } => Ok(Command::Clear {
+                call: *call,
+                clearance: *clearance,
+                eff: Some(eff.unwrap_or(now)),
+            }),
+            _ => self.copy(alloc),
         }
     }
 
@@ -86,6 +129,26 @@ impl Command {
             }),
             Command::Drop { call } => Ok(Command::Drop { call: *call }),
             Command::Tick { now } => Ok(Command::Tick { now: *now }),
+            Command::Clear {
+                call,
+                clearance,
+                eff,
+            } => Ok(Command::Clear {
+                call: *call,
+                clearance: *clearance,
+                eff: *eff,
+            }),
+            Command::Accept {
+                call,
+                clearance,
+                eff,
+                probed,
+            } => Ok(Command::Accept {
+                call: *call,
+                clearance: *clearance,
+                eff: *eff,
+                probed: *probed,
+            }),
         }
     }
 }
@@ -146,6 +209,23 @@ pub enum Refusal {
     HistoryFull,
     /// The new moment is not above the moment now.
     Backward,
+    /// The second from which a clearance holds is above the moment.
+    Future,
+    /// The second from which a clearance holds is at or past both ends of the trajectory.
+    Ended,
+    /// The fix to fly direct to does not stand ahead on the route.
+    NotAhead,
+    /// The book has no probe of that number.
+    NoProbe,
+    /// The probe had conflicts.
+    NotFree,
+    /// What was probed is no longer free of conflicts.
+    Stale {
+        /// The first of its hits now.
+        first: Hit,
+    },
+    /// The flight is an external one, which can't be cleared.
+    Fixed,
 }
 
 impl From<RouteNo> for Refusal {

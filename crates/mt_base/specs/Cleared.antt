@@ -1,0 +1,61 @@
+-- What a clearance makes of a planned flight.
+use Rattle.std.specs.Prelude.{ℕ, ◌+◌, suc, Bool, List, [], ◌∷◌, drop, position, nat_le, nat_lt, Option, Some, is_some, unwrap_or, option_and_then, option_map, Result, if◌then◌else◌}
+use Rattle.std.specs.Str.{bytes_eq}
+use Rattle.mt_base.specs.declared.clearance.Aim.{Aim}
+use Rattle.mt_base.specs.declared.clearance.Clearance.{Clearance}
+use Rattle.mt_base.specs.declared.clearance.Clearance.TheVariants.{Level, Direct}
+use Rattle.mt_base.specs.declared.command.Refusal.{Refusal}
+use Rattle.mt_base.specs.declared.command.Refusal.TheVariants.{UnknownFix, Ended, NotAhead, Ceiling, Future}
+use Rattle.mt_base.specs.declared.flight.Base.{Base}
+use Rattle.mt_base.specs.declared.flight.Course.{Course}
+use Rattle.mt_base.specs.declared.row.Row.{Row}
+use Rattle.mt_base.specs.Checks.{judged}
+use Rattle.mt_base.specs.Tables.{Setup, Tables, bands_of, ceiling_of, fix_of}
+use Rattle.mt_base.specs.Trajectory.{Trajectory, row_at}
+
+-- a base at a second of a trajectory, by its row
+abbrev pub base_by : ℕ → Row → Base
+base_by at row = record { at = at; x = row.x; y = row.y; z = row.z; r = row.r; w = row.w; next = row.leg }
+
+-- The base from which a clearance holds from a second on: the flight's own before its trajectory begins, the row of that second within it,
+-- and none at or past its end.
+abbrev pub base_from : Base → Trajectory → ℕ → Option Base
+base_from base t eff = if nat_lt eff t.start then Some base else option_map (base_by eff) (row_at t eff)
+
+-- the first place of a route behind a place at which a fix stands
+abbrev pub place_behind : List (List ℕ) → ℕ → List ℕ → Option ℕ
+place_behind route place fix = option_map (λ i. suc place + i) (position (bytes_eq fix) (drop (suc place) route))
+
+-- a level is not above the ceiling of a type
+abbrev pub is_below_ceiling : Tables → List ℕ → ℕ → Bool
+is_below_ceiling tables kind level = nat_le level (ceiling_of (unwrap_or (bands_of tables kind) []))
+
+-- whether the fix stands ahead of the base from which a clearance holds
+abbrev pub is_ahead : Course → Trajectory → ℕ → List ℕ → Bool
+is_ahead course t eff fix = is_some (option_and_then (λ (base : Base). place_behind course.route base.next fix) (base_from course.base t eff))
+
+-- What is checked of a clearance that holds from second `eff` on, at the moment `now`, in order.
+abbrev pub clearance_checks : Tables → Course → Trajectory → Clearance → ℕ → ℕ → List (Refusal × Bool)
+clearance_checks tables course t (Level level) eff now =
+    (Ended, is_some (base_from course.base t eff)) ∷
+    (Ceiling, is_below_ceiling tables course.kind level) ∷
+    (Future, nat_le eff now) ∷ []
+clearance_checks tables course t (Direct fix) eff now =
+    (UnknownFix fix, is_some (fix_of tables fix)) ∷
+    (Ended, is_some (base_from course.base t eff)) ∷
+    (NotAhead, is_ahead course t eff fix) ∷
+    (Future, nat_le eff now) ∷ []
+
+-- a base that flies to that fix next
+abbrev pub direct_to : List (List ℕ) → List ℕ → Base → Base
+direct_to route fix base = record base { next = unwrap_or (place_behind route base.next fix) base.next }
+
+-- What a clearance leaves: the base from which it holds, and the level; a level replaces the level, a fix is flown to next.
+abbrev pub aim_of : Course → Trajectory → Clearance → ℕ → Aim
+aim_of course t (Level level) eff = record { base = unwrap_or (base_from course.base t eff) course.base; level = level }
+aim_of course t (Direct fix) eff =
+    record { base = direct_to course.route fix (unwrap_or (base_from course.base t eff) course.base); level = course.level }
+
+-- what a clearance leaves of a course with that trajectory, or the first of its refusals
+abbrev pub cleared : Tables → Course → Trajectory → Clearance → ℕ → ℕ → Result Aim Refusal
+cleared tables course t clearance eff now = judged (clearance_checks tables course t clearance eff now) (aim_of course t clearance eff)
