@@ -1,5 +1,5 @@
 -- A line that is read has its numbers within their bounds.
-use Rattle.std.proofs.Common.{◌≡◌, ℕ, ℤ, pos, negsuc, ◌+◌, ◌≤◌, Bool, true, false, cond, List, [], ◌∷◌, Result, Ok, Err, IsOk, refl, sym, ap, subst, arith, unsigned_abs}
+use Rattle.std.proofs.Common.{◌≡◌, ℕ, ℤ, pos, negsuc, ◌+◌, ◌-◌, ◌<◌, ◌≤◌, ◌^◌, Bool, true, false, cond, List, [], ◌∷◌, Result, Ok, Err, IsOk, refl, sym, ap, subst, arith, unsigned_abs}
 use Rattle.std.specs.Bool.{⊤}
 use Rattle.std.specs.Prelude.{◌&&◌, int_le, Option, Some, None, is_some, option_and_then, option_map, unwrap_or, IfOk, IfSome, All}
 use Rattle.std.specs.List.{AllByRecursion}
@@ -11,7 +11,7 @@ use Rattle.serde_json.specs.Find.{as_array, as_object, get_member}
 use Rattle.mt_base.specs.declared.rules.RuleName.{RuleName}
 use Rattle.mt_base.specs.declared.rules.Rules.{Rules}
 use Rattle.mt_base.specs.declared.band.Band.{Band}
-use Rattle.mt_base.specs.Bounds.{AreBoundedBands, AreWithinBounds, IsBoundedBand, IsBoundedCommand, IsBoundedStretch, IsInPlane, IsWithin}
+use Rattle.mt_base.specs.Bounds.{AreBoundedBands, AreWithinBounds, IsBoundedBand, IsBoundedClearance, IsBoundedCommand, IsBoundedStretch, IsInPlane, IsWithin}
 use Rattle.mt_base.specs.Checks.{check, judged, next}
 use Rattle.mt_base.proofs.CheckLemmas.{all_passed}
 use Rattle.mt_base.proofs.RuleLemmas.{bounded, inside}
@@ -26,8 +26,8 @@ use Rattle.mt_wire.specs.declared.word.Word.{Word}
 use Rattle.mt_wire.specs.declared.word.Word.TheVariants as word
 use Rattle.mt_wire.specs.Bands.{Four, are_few, as_band, as_bands, as_four, band, band_of}
 use Rattle.mt_wire.specs.Bounded.{IsBounded, IsBoundedRequest, IsSpan}
-use Rattle.mt_wire.specs.Commands.{asked, bands_in, bounds, plan_in, fields_of, who_fields, rule_bounds, rules_with, set_in, standing, straight_in, who_bounds, who_in}
-use Rattle.mt_wire.specs.Field.{as_list_of, count, count_if_there, each_of, number, read_at}
+use Rattle.mt_wire.specs.Commands.{asked, bands_in, bounds, clearance_bounds, clearance_in, clearance_to, plan_in, fields_of, who_fields, rule_bounds, rules_with, set_in, standing, straight_in, who_bounds, who_in}
+use Rattle.mt_wire.specs.Field.{as_fix, as_list_of, count, count_if_there, each_of, number, read_at}
 use Rattle.mt_wire.specs.Key.{key_text}
 use Rattle.mt_wire.specs.Line.{◌>>=◌, Gives, checked, decoded, kinds, line, named, of_word, other_key, read_object, read_value, unless_other, word_in}
 use Rattle.mt_wire.proofs.StepLemmas.{judged_rules, ruled}
@@ -156,6 +156,19 @@ plan_bounded ms passed =
     let level = counted 0 600 (number key.Level ms) passed.1.1.0 in
     (at.1, either_bounded 600 (count key.Level ms) (read_at key.From as_whole ms) passed.1.0 level.1, level.1)
 
+clearance_bounded : (fix : Option (List ℕ)) (level : ℕ) → level ≤ 600 → IsBoundedClearance (clearance_to fix level)
+clearance_bounded (Some fix) level h = tt
+clearance_bounded None level h = h
+
+clear_bounded : (ms : Members) → AllByRecursion (λ c. c.1 ≡ true) (clearance_bounds ms)
+    → IsBoundedClearance (clearance_in ms) × IfSome (count_if_there key.Eff ms) (λ second. second ≤ 10000000)
+clear_bounded ms passed =
+    let level = counted 0 600 (number key.Level ms) passed.0 in
+    (clearance_bounded (read_at key.Direct as_fix ms) (count key.Level ms) level.1, some_bounded 10000000 (read_at key.Eff as_whole ms) passed.1.0)
+
+accept_bounded : (ms : Members) → AllByRecursion (λ c. c.1 ≡ true) (bounds word.Accept ms) → (1 ≤ count key.Probe ms) × (count key.Probe ms < 2 ^ 63)
+accept_bounded ms passed = let probe = counted 1 (2 ^ 63 - 1) (number key.Probe ms) passed.0 in (probe.0, omega (arith, probe.1))
+
 flight_bounded : (ms : Members) → AllByRecursion (λ c. c.1 ≡ true) (bounds word.Flight ms) → IfSome (count_if_there key.Sec ms) (λ s. s ≤ 10014400)
 flight_bounded ms passed = some_bounded 10014400 (read_at key.Sec as_whole ms) passed.0
 
@@ -171,17 +184,21 @@ request_bounded : (rules : Rules) (w : Word) (ms : Members) → IsOk (judged (bo
 request_bounded rules word.Begin ms passed stands = tt
 request_bounded rules word.Fix ms passed stands = fix_bounded ms (all_passed (bounds word.Fix ms) (tt {0}) passed)
 request_bounded rules word.TypeLine ms passed stands = type_bounded ms (all_passed (bounds word.TypeLine ms) (tt {0}) passed)
-request_bounded rules word.Plan ms passed stands = plan_bounded ms (all_passed (bounds word.Plan ms) (tt {0}) passed)
+request_bounded rules word.Plan ms passed stands = (plan_bounded ms (all_passed (bounds word.Plan ms) (tt {0}) passed), tt)
 request_bounded rules word.Flight ms passed stands = flight_bounded ms (all_passed (bounds word.Flight ms) (tt {0}) passed)
 request_bounded rules word.Rule ms passed stands = rules_bounded (rules_with (set_in ms) rules) stands
-request_bounded rules word.External ms passed stands = external_bounded ms (all_passed (bounds word.External ms) (tt {0}) passed)
-request_bounded rules word.Drop ms passed stands = tt
-request_bounded rules word.Tick ms passed stands = (counted 0 10000000 (number key.Now ms) (all_passed (bounds word.Tick ms) (tt {0}) passed).0).1
+request_bounded rules word.External ms passed stands = (external_bounded ms (all_passed (bounds word.External ms) (tt {0}) passed), tt)
+request_bounded rules word.Drop ms passed stands = (tt, tt)
+request_bounded rules word.Tick ms passed stands = ((counted 0 10000000 (number key.Now ms) (all_passed (bounds word.Tick ms) (tt {0}) passed).0).1, tt)
 request_bounded rules word.List ms passed stands = tt
 request_bounded rules word.Check ms passed stands = tt
 request_bounded rules word.History ms passed stands = history_bounded ms (all_passed (bounds word.History ms) (tt {0}) passed)
 request_bounded rules word.Hello ms passed stands = tt
 request_bounded rules word.Bye ms passed stands = tt
+request_bounded rules word.Take ms passed stands = tt
+request_bounded rules word.Probe ms passed stands = clear_bounded ms (all_passed (clearance_bounds ms) (tt {0}) passed)
+request_bounded rules word.Clear ms passed stands = (clear_bounded ms (all_passed (clearance_bounds ms) (tt {0}) passed), tt)
+request_bounded rules word.Accept ms passed stands = accept_bounded ms (all_passed (bounds word.Accept ms) (tt {0}) passed)
 
 -- ---- through the steps of a line
 

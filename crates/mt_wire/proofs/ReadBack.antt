@@ -1,6 +1,6 @@
 -- What is written of replies and entries is read back.
 use Rattle.std.proofs.Common.{◌≡◌, ℕ, ℤ, pos, negsuc, ◌≤◌, List, [], ◌∷◌, Option, Some, None, refl, sym, ap, ◌∙◌, arith, append-nil}
-use Rattle.std.specs.Prelude.{option_and_then}
+use Rattle.std.specs.Prelude.{option_and_then, unwrap_or}
 use Rattle.json.specs.Tree as tree
 use Rattle.json.specs.Json as json
 use Rattle.json.specs.Lex.{tokens}
@@ -15,20 +15,22 @@ use Rattle.serde_json.specs.Read.{number_of, of_json, of_items, max_depth, read}
 use Rattle.serde_json.specs.Written.{compact_text, number_text, outline, items_outline, members_outline}
 use Rattle.serde_json.proofs.Numbers.{number_of-decimal, number_of-negative}
 use Rattle.serde_json.proofs.Texts.{print-outline}
+use Rattle.mt_base.specs.declared.clearance.Clearance.TheVariants.{Level, Direct}
 use Rattle.mt_base.specs.declared.command.Command.{Command}
-use Rattle.mt_base.specs.declared.command.Command.TheVariants.{Plan, External, Drop, Tick}
+use Rattle.mt_base.specs.declared.command.Command.TheVariants.{Plan, External, Drop, Tick, Clear, Accept}
 use Rattle.mt_base.specs.declared.command.Entry.{Entry}
-use Rattle.mt_base.specs.declared.command.Refusal.TheVariants.{HeldCall, UnknownCall, UnknownType, UnknownFix, RouteShort, RouteLong, RouteTwice, Ceiling, Full, HistoryFull, Backward}
+use Rattle.mt_base.specs.declared.command.Refusal.TheVariants.{HeldCall, UnknownCall, UnknownType, UnknownFix, RouteShort, RouteLong, RouteTwice, Ceiling, Full, HistoryFull, Backward, Future, Ended, NotAhead, NoProbe, NotFree, Stale, Fixed}
 use Rattle.mt_base.specs.declared.conflict.Conflict.{Conflict}
 use Rattle.mt_base.specs.declared.flight.FlightView.{FlightView}
 use Rattle.mt_base.specs.declared.flight.Tent.{Tent}
+use Rattle.mt_base.specs.declared.hit.Hit.{Hit}
 use Rattle.mt_base.specs.declared.row.Row.{Row}
 use Rattle.mt_wire.specs.declared.reply.Reply.{Reply}
 use Rattle.mt_wire.specs.declared.reply.Reply.TheVariants as reply
 use Rattle.mt_wire.specs.Entry.{entry_members, entry_value, values, whole}
 use Rattle.mt_wire.specs.Flight.{flight_value, or_null, row_value, tent_value}
 use Rattle.mt_wire.specs.Held.{IsHeld, HoldsWhole, ItemsHoldWhole, MembersHoldWhole}
-use Rattle.mt_wire.specs.Reply.{conflict_value, reply_value}
+use Rattle.mt_wire.specs.Reply.{conflict_value, hit_value, reply_value}
 
 -- ---- a number's text is a number, and is read as that number
 
@@ -112,6 +114,13 @@ entry_read who (External call s) h =
     ) refl
 entry_read who (Drop call) h = rw (numbered (pos who) h.1.1.0) refl
 entry_read who (Tick now) h = rw (numbered (pos now) h.1.0, numbered (pos who) h.1.1.0) refl
+entry_read who (Clear call (Level level) eff) h =
+    rw (numbered (pos (unwrap_or eff 0)) h.1.1.0, numbered (pos level) h.1.1.1.0, numbered (pos who) h.1.1.1.1.0) refl
+entry_read who (Clear call (Direct fix) eff) h = rw (numbered (pos (unwrap_or eff 0)) h.1.1.1.0, numbered (pos who) h.1.1.1.1.0) refl
+entry_read who (Accept call (Level level) eff probed) h =
+    rw (numbered (pos eff) h.1.1.0, numbered (pos level) h.1.1.1.0, numbered (pos probed) h.1.1.1.1.0, numbered (pos who) h.1.1.1.1.1.0) refl
+entry_read who (Accept call (Direct fix) eff probed) h =
+    rw (numbered (pos eff) h.1.1.1.0, numbered (pos probed) h.1.1.1.1.0, numbered (pos who) h.1.1.1.1.1.0) refl
 
 names_depth : (names : List (List ℕ)) → tree.items_depth (items_outline (values string names)) ≤ 0
 names_depth [] = omega arith
@@ -122,6 +131,10 @@ entry_depth who (Plan call kind route at from level) = omega (arith, names_depth
 entry_depth who (External call s) = omega arith
 entry_depth who (Drop call) = omega arith
 entry_depth who (Tick now) = omega arith
+entry_depth who (Clear call (Level level) eff) = omega arith
+entry_depth who (Clear call (Direct fix) eff) = omega arith
+entry_depth who (Accept call (Level level) eff probed) = omega arith
+entry_depth who (Accept call (Direct fix) eff probed) = omega arith
 
 -- an entry is read back
 pub entry_back : (e : Entry) → HoldsWhole (entry_value e) → read (compact_text (entry_value e)) ≡ Some (entry_value e)
@@ -129,6 +142,9 @@ entry_back e h = read_back (entry_value e) h (omega (arith, entry_depth e.who e.
 
 conflict_read : (c : Conflict) → HoldsWhole (conflict_value c) → of_json (outline (conflict_value c)) ≡ Some (conflict_value c)
 conflict_read c h = rw (numbered (pos c.first) h.0, numbered (pos c.last) h.1.1.0) refl
+
+hit_read : (hit : Hit) → HoldsWhole (hit_value hit) → of_json (outline (hit_value hit)) ≡ Some (hit_value hit)
+hit_read hit h = rw (numbered (pos hit.first) h.0, numbered (pos hit.last) h.1.0) refl
 
 -- ---- what is told of a flight
 
@@ -176,6 +192,14 @@ reply_read (reply.Entered entered) h = rw (numbered (pos entered.version) h.0) r
 reply_read (reply.List conflicts version) h = rw (items_read conflict_value conflict_read conflicts h.0, numbered (pos version) h.1.0) refl
 reply_read (reply.History entries version) h = rw (items_read entry_value (λ e. entry_read e.who e.command) entries h.0, numbered (pos version) h.1.0) refl
 reply_read (reply.Flight view) h = flight_read view h
+reply_read (reply.Taken version) h = rw (numbered (pos version) h.0) refl
+reply_read (reply.Probe conflicts eff probe version) h =
+    rw (
+      items_read hit_value hit_read conflicts h.0,
+      numbered (pos eff) h.1.0,
+      numbered (pos probe) h.1.1.0,
+      numbered (pos version) h.1.1.1.0,
+    ) refl
 reply_read reply.Json h = refl
 reply_read reply.Long h = refl
 reply_read reply.Begun h = refl
@@ -198,6 +222,13 @@ reply_read (reply.Refused Ceiling version) h = rw (numbered (pos version) h.1.0)
 reply_read (reply.Refused Full version) h = rw (numbered (pos version) h.1.0) refl
 reply_read (reply.Refused HistoryFull version) h = rw (numbered (pos version) h.1.0) refl
 reply_read (reply.Refused Backward version) h = rw (numbered (pos version) h.1.0) refl
+reply_read (reply.Refused Future version) h = rw (numbered (pos version) h.1.0) refl
+reply_read (reply.Refused Ended version) h = rw (numbered (pos version) h.1.0) refl
+reply_read (reply.Refused NotAhead version) h = rw (numbered (pos version) h.1.0) refl
+reply_read (reply.Refused NoProbe version) h = rw (numbered (pos version) h.1.0) refl
+reply_read (reply.Refused NotFree version) h = rw (numbered (pos version) h.1.0) refl
+reply_read (reply.Refused (Stale first) version) h = rw (hit_read first h.0, numbered (pos version) h.1.1.0) refl
+reply_read (reply.Refused Fixed version) h = rw (numbered (pos version) h.1.0) refl
 
 reply_depth : (r : Reply) → tree.depth (outline (reply_value r)) ≤ 4
 reply_depth (reply.Done word) = omega arith
@@ -206,6 +237,8 @@ reply_depth (reply.Entered entered) = omega arith
 reply_depth (reply.List conflicts version) = omega (arith, items_depth conflict_value (λ c. omega arith) conflicts)
 reply_depth (reply.History entries version) = omega (arith, items_depth entry_value (λ e. omega (arith, entry_depth e.who e.command)) entries)
 reply_depth (reply.Flight view) = flight_depth view
+reply_depth (reply.Taken version) = omega arith
+reply_depth (reply.Probe conflicts eff probe version) = omega (arith, items_depth hit_value (λ hit. omega arith) conflicts)
 reply_depth reply.Json = omega arith
 reply_depth reply.Long = omega arith
 reply_depth reply.Begun = omega arith
@@ -228,6 +261,13 @@ reply_depth (reply.Refused Ceiling version) = omega arith
 reply_depth (reply.Refused Full version) = omega arith
 reply_depth (reply.Refused HistoryFull version) = omega arith
 reply_depth (reply.Refused Backward version) = omega arith
+reply_depth (reply.Refused Future version) = omega arith
+reply_depth (reply.Refused Ended version) = omega arith
+reply_depth (reply.Refused NotAhead version) = omega arith
+reply_depth (reply.Refused NoProbe version) = omega arith
+reply_depth (reply.Refused NotFree version) = omega arith
+reply_depth (reply.Refused (Stale first) version) = omega arith
+reply_depth (reply.Refused Fixed version) = omega arith
 
 -- a reply is read back
 pub reply_back : (r : Reply) → HoldsWhole (reply_value r) → read (compact_text (reply_value r)) ≡ Some (reply_value r)

@@ -17,8 +17,7 @@ pub record Four : Type 0 where
 
 -- a list of exactly four
 abbrev pub four_of : Items → Option Four
-four_of (item top (item speed (item climb (item descent no_items)))) =
-    Some (record { top = top; speed = speed; climb = climb; descent = descent })
+four_of (item top (item speed (item climb (item descent no_items)))) = Some (record { top = top; speed = speed; climb = climb; descent = descent })
 four_of ds = None
 
 abbrev pub as_four : Data → Option Four
@@ -38,18 +37,12 @@ as_bounded low high d = option_and_then (λ z. if int_le low z && int_le z high 
 
 -- a band, where each of its numbers is there
 abbrev pub band : Option ℤ → Option ℤ → Option ℤ → Option ℤ → Option Band
-band (Some top) (Some speed) (Some climb) (Some descent) =
-    Some (record { top = unsigned_abs top; speed = speed; climb = climb; descent = descent })
+band (Some top) (Some speed) (Some climb) (Some descent) = Some (record { top = unsigned_abs top; speed = speed; climb = climb; descent = descent })
 band top speed climb descent = None
 
 -- its top is a flight level of 1 to 600, its speed 1 to 1,000 knots, and each rate 1 to 10,000 feet a minute
 abbrev pub band_of : Four → Option Band
-band_of n =
-    band
-    (as_bounded (pos 1) (pos 600) n.top)
-    (as_bounded (pos 1) (pos 1000) n.speed)
-    (as_bounded (pos 1) (pos 10000) n.climb)
-    (as_bounded (pos 1) (pos 10000) n.descent)
+band_of n = band (as_bounded (pos 1) (pos 600) n.top) (as_bounded (pos 1) (pos 1000) n.speed) (as_bounded (pos 1) (pos 10000) n.climb) (as_bounded (pos 1) (pos 10000) n.descent)
 
 -- a list of exactly four numbers within these bounds
 abbrev pub as_band : Data → Option Band

@@ -3,6 +3,8 @@ use Rattle.std.specs.Prelude.{ℕ, pos, neg_ℤ, ◌+◌, ◌-◌, ◌^◌, ◌+
 use Rattle.std.specs.Str.{bytes_eq}
 use Rattle.serde_json.specs.Data.{Members}
 use Rattle.mt_base.specs.declared.band.Band.{Band}
+use Rattle.mt_base.specs.declared.clearance.Clearance.{Clearance}
+use Rattle.mt_base.specs.declared.clearance.Clearance.TheVariants.{Level, Direct}
 use Rattle.mt_base.specs.declared.command.Command.{Command}
 use Rattle.mt_base.specs.declared.command.Command.TheVariants as command
 use Rattle.mt_base.specs.declared.flight.Straight.{Straight}
@@ -26,7 +28,7 @@ use Rattle.mt_wire.specs.declared.word.Group.TheVariants as group
 use Rattle.mt_wire.specs.declared.word.Word.{Word}
 use Rattle.mt_wire.specs.declared.word.Word.TheVariants as word
 use Rattle.mt_wire.specs.Bands.{as_bands, as_numbers}
-use Rattle.mt_wire.specs.Field.{Field, as_call, as_fix, as_list_of, as_role, as_type, bound, count, count_if_there, may, must, number, read_at}
+use Rattle.mt_wire.specs.Field.{Field, as_call, as_fix, as_list_of, as_role, as_type, bound, count, count_if_there, first_of_two, may, must, number, read_at, second_of_two}
 use Rattle.mt_wire.specs.Key.{key_text}
 
 abbrev pub named_word : List (List ℕ × Word) → List ℕ → Option Word
@@ -34,7 +36,7 @@ named_word [] text = None
 named_word (w ∷ ws) text = if bytes_eq text w.0 then Some w.1 else named_word ws text
 
 -- the command that a text is the word of
-abbrev pub word_of : List ℕ → Option Word
+unfoldable pub word_of : List ℕ → Option Word
 word_of = named_word (
     (codes "begin", word.Begin) ∷
     (codes "fix", word.Fix) ∷
@@ -49,14 +51,18 @@ word_of = named_word (
     (codes "flight", word.Flight) ∷
     (codes "history", word.History) ∷
     (codes "hello", word.Hello) ∷
-    (codes "bye", word.Bye) ∷ [])
+    (codes "bye", word.Bye) ∷
+    (codes "take", word.Take) ∷
+    (codes "probe", word.Probe) ∷
+    (codes "clear", word.Clear) ∷
+    (codes "accept", word.Accept) ∷ [])
 
--- setup, the feed's, or anyone's
+-- a script's alone, the feed's, a position's, or anyone's
 abbrev pub group_of : Word → Group
-group_of word.Begin = group.Setup
-group_of word.Fix = group.Setup
-group_of word.TypeLine = group.Setup
-group_of word.Rule = group.Setup
+group_of word.Begin = group.Script
+group_of word.Fix = group.Script
+group_of word.TypeLine = group.Script
+group_of word.Rule = group.Script
 group_of word.Plan = group.Feed
 group_of word.External = group.Feed
 group_of word.Drop = group.Feed
@@ -67,28 +73,48 @@ group_of word.Flight = group.Any
 group_of word.History = group.Any
 group_of word.Hello = group.Any
 group_of word.Bye = group.Any
+group_of word.Take = group.Script
+group_of word.Probe = group.Position
+group_of word.Clear = group.Position
+group_of word.Accept = group.Position
 
 abbrev pub is_of_feed : Group → Bool
-is_of_feed group.Setup = false
+is_of_feed group.Script = false
 is_of_feed group.Feed = true
+is_of_feed group.Position = false
 is_of_feed group.Any = true
 
+abbrev pub is_of_position : Group → Bool
+is_of_position group.Script = false
+is_of_position group.Feed = false
+is_of_position group.Position = true
+is_of_position group.Any = true
+
 abbrev pub is_of_any : Group → Bool
-is_of_any group.Setup = false
+is_of_any group.Script = false
 is_of_any group.Feed = false
+is_of_any group.Position = false
 is_of_any group.Any = true
 
--- A script has every command, a session none of setup, and the feed's only in the role of the feed.
+-- A script has every command, a session none that is a script's alone, and the feed's and a position's only in that role.
 abbrev pub is_allowed : Place → Word → Bool
 is_allowed place.Replay w = true
 is_allowed place.Feed w = is_of_feed (group_of w)
-is_allowed place.Position w = is_of_any (group_of w)
+is_allowed place.Position w = is_of_position (group_of w)
 is_allowed place.Plain w = is_of_any (group_of w)
 
 -- ---- the fields of each command, in order
 
 abbrev pub rule_names : List RuleName
 rule_names = Sh ∷ Sv ∷ R0 ∷ Gh ∷ Rmax ∷ W0 ∷ Gv ∷ Wmax ∷ Tc ∷ Ta ∷ Tv ∷ Flights ∷ History ∷ []
+
+-- a flight, the clearance, a level or a fix to fly direct to, and from when it holds
+abbrev pub clearance_fields : List Field
+clearance_fields =
+    must key.Call as_call ∷
+    first_of_two key.Level as_whole key.Direct ∷
+    second_of_two key.Direct as_fix key.Level ∷
+    may key.Eff as_whole ∷ []
 
 abbrev pub fields_of : Word → List Field
 fields_of word.Begin = []
@@ -124,6 +150,10 @@ fields_of word.Flight = must key.Call as_call ∷ may key.Sec as_whole ∷ []
 fields_of word.History = must key.From as_whole ∷ must key.To as_whole ∷ []
 fields_of word.Hello = must key.Role as_role ∷ []
 fields_of word.Bye = []
+fields_of word.Take = []
+fields_of word.Probe = clearance_fields
+fields_of word.Clear = clearance_fields
+fields_of word.Accept = must key.Probe as_whole ∷ []
 
 -- the actor, in a script
 abbrev pub who_fields : Place → List Field
@@ -169,6 +199,11 @@ straight_in ms = record { from = count key.From ms; to = count key.To ms; first 
 abbrev pub rule_bound : Members → RuleName → Fault × Bool
 rule_bound ms name = bound (key.Rule name) (neg_ℤ (pos (2 ^ 63))) (pos (2 ^ 63 - 1)) (number (key.Rule name) ms)
 
+abbrev pub clearance_bounds : Members → List (Fault × Bool)
+clearance_bounds ms =
+    bound key.Level (pos 0) (pos 600) (number key.Level ms) ∷
+    bound key.Eff (pos 0) (pos 10000000) (number key.Eff ms) ∷ []
+
 abbrev pub bounds : Word → Members → List (Fault × Bool)
 bounds word.Begin ms = []
 bounds word.Fix ms =
@@ -204,6 +239,10 @@ bounds word.History ms =
     bound key.To (pos (count key.From ms)) (pos (count key.From ms + 64)) (number key.To ms) ∷ []
 bounds word.Hello ms = []
 bounds word.Bye ms = []
+bounds word.Take ms = []
+bounds word.Probe ms = clearance_bounds ms
+bounds word.Clear ms = clearance_bounds ms
+bounds word.Accept ms = bound key.Probe (pos 1) (pos (2 ^ 63 - 1)) (number key.Probe ms) ∷ []
 
 abbrev pub who_bounds : Place → Members → List (Fault × Bool)
 who_bounds place.Replay ms = bound key.Who (pos 0) (pos 15) (number key.Who ms) ∷ []
@@ -275,6 +314,10 @@ standing word.Flight rules ms = []
 standing word.History rules ms = []
 standing word.Hello rules ms = []
 standing word.Bye rules ms = []
+standing word.Take rules ms = []
+standing word.Probe rules ms = []
+standing word.Clear rules ms = []
+standing word.Accept rules ms = []
 
 abbrev pub call_in : Members → List ℕ
 call_in ms = unwrap_or (read_at key.Call as_call ms) []
@@ -290,14 +333,15 @@ bands_in ms = unwrap_or (read_at key.Bands as_bands ms) []
 
 -- a planned flight, whose first level is that it is cleared to where it isn't given
 abbrev pub plan_in : Members → Command
-plan_in ms =
-    command.Plan
-    (call_in ms)
-    (kind_in ms)
-    (route_in ms)
-    (count key.At ms)
-    (unwrap_or (count_if_there key.From ms) (count key.Level ms))
-    (count key.Level ms)
+plan_in ms = command.Plan (call_in ms) (kind_in ms) (route_in ms) (count key.At ms) (unwrap_or (count_if_there key.From ms) (count key.Level ms)) (count key.Level ms)
+
+-- to the fix where one is given, else to the level
+abbrev pub clearance_to : Option (List ℕ) → ℕ → Clearance
+clearance_to (Some fix) level = Direct fix
+clearance_to None level = Level level
+
+abbrev pub clearance_in : Members → Clearance
+clearance_in ms = clearance_to (read_at key.Direct as_fix ms) (count key.Level ms)
 
 abbrev pub asked : Word → Members → Request
 asked word.Begin ms = request.Begin
@@ -314,3 +358,7 @@ asked word.Flight ms = request.Flight (call_in ms) (count_if_there key.Sec ms)
 asked word.History ms = request.History (count key.From ms) (count key.To ms)
 asked word.Hello ms = request.Hello (unwrap_or (read_at key.Role as_role ms) role.Feed)
 asked word.Bye ms = request.Bye
+asked word.Take ms = request.Take
+asked word.Probe ms = request.Probe (call_in ms) (clearance_in ms) (count_if_there key.Eff ms)
+asked word.Clear ms = request.Change (command.Clear (call_in ms) (clearance_in ms) (count_if_there key.Eff ms))
+asked word.Accept ms = request.Accept (count key.Probe ms)

@@ -1,10 +1,12 @@
 -- The text of an entry.
-use Rattle.std.specs.Prelude.{ℕ, ℤ, pos, List, [], ◌∷◌, ◌++◌, codes}
+use Rattle.std.specs.Prelude.{ℕ, ℤ, pos, List, [], ◌∷◌, ◌++◌, codes, unwrap_or}
 use Rattle.serde_json.specs.Data.{Data, number, string, array, object, Items, no_items, item, Members, no_members, member}
 use Rattle.serde_json.specs.Find.{of_integer}
 use Rattle.serde_json.specs.Written.{compact_text}
+use Rattle.mt_base.specs.declared.clearance.Clearance.{Clearance}
+use Rattle.mt_base.specs.declared.clearance.Clearance.TheVariants.{Level, Direct}
 use Rattle.mt_base.specs.declared.command.Command.{Command}
-use Rattle.mt_base.specs.declared.command.Command.TheVariants.{Plan, External, Drop, Tick}
+use Rattle.mt_base.specs.declared.command.Command.TheVariants.{Plan, External, Drop, Tick, Clear, Accept}
 use Rattle.mt_base.specs.declared.command.Entry.{Entry}
 
 -- a whole number
@@ -16,7 +18,21 @@ abbrev pub values : {A : Type 0} → (A → Data) → List A → Items
 values value [] = no_items
 values value (x ∷ xs) = item (value x) (values value xs)
 
--- An entry has its command's fields, all of them, and the number of who asked for it; the keys stand in byte order.
+-- The fields of a clearance of a flight, before others, with the command's word: a fix to fly direct to stands before it, a level behind it.
+abbrev pub clearance_members : List ℕ → List ℕ → Clearance → ℕ → Members → Members
+clearance_members word call (Level level) eff others =
+    member (codes "call") (string call) (
+    member (codes "do") (string word) (
+    member (codes "eff") (whole (pos eff)) (
+    member (codes "level") (whole (pos level)) others)))
+clearance_members word call (Direct fix) eff others =
+    member (codes "call") (string call) (
+    member (codes "direct") (string fix) (
+    member (codes "do") (string word) (
+    member (codes "eff") (whole (pos eff)) others)))
+
+-- An entry has its command's fields, all of them, and the number of who asked for it; the keys stand in byte order. (A clearance
+-- that is entered says from when it holds; 0 stands for one that doesn't.)
 abbrev pub entry_members : ℕ → Command → Members
 entry_members who (Plan call kind route at from level) =
     member (codes "at") (whole (pos at)) (
@@ -50,6 +66,13 @@ entry_members who (Drop call) =
 entry_members who (Tick now) =
     member (codes "do") (string (codes "tick")) (
     member (codes "now") (whole (pos now)) (
+    member (codes "who") (whole (pos who)) no_members))
+entry_members who (Clear call clearance eff) =
+    clearance_members (codes "clear") call clearance (unwrap_or eff 0) (
+    member (codes "who") (whole (pos who)) no_members)
+entry_members who (Accept call clearance eff probed) =
+    clearance_members (codes "accept") call clearance eff (
+    member (codes "v") (whole (pos probed)) (
     member (codes "who") (whole (pos who)) no_members))
 
 abbrev pub entry_value : Entry → Data

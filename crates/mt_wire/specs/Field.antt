@@ -1,5 +1,5 @@
 -- The fields of a line: what is read of one, and what is checked of one.
-use Rattle.std.specs.Prelude.{◌≡◌, ℕ, ℤ, pos, ◌&&◌, int_le, Bool, true, false, List, [], ◌∷◌, codes, Option, Some, None, is_some, option_and_then, option_map, unwrap_or, Result, Ok, Err, ⊤, unsigned_abs, if◌then◌else◌}
+use Rattle.std.specs.Prelude.{◌≡◌, ℕ, ℤ, pos, ◌&&◌, not, int_le, Bool, true, false, List, [], ◌∷◌, codes, Option, Some, None, is_some, option_and_then, option_map, unwrap_or, Result, Ok, Err, ⊤, unsigned_abs, if◌then◌else◌}
 use Rattle.std.specs.Str.{bytes_eq}
 use Rattle.serde_json.specs.Data.{Data, Items, no_items, item, Members}
 use Rattle.serde_json.specs.Find.{as_array, as_str, get_member}
@@ -43,25 +43,36 @@ role_of text = if bytes_eq text (codes "feed") then Some Feed else (if bytes_eq 
 abbrev pub as_role : Data → Option Role
 as_role d = option_and_then role_of (as_str d)
 
--- A field of a command: its key, whether it may be absent, and the values that are of its kind.
+-- A field of a command: its key, whether it may be absent from a line, whether it may stand in it, and the values that are of its kind.
 pub record Field : Type 0 where
   pub key : Key
-  pub optional : Bool
+  pub may_lack : Members → Bool
+  pub may_stand : Members → Bool
   pub kind : Data → Bool
 
+abbrev pub stands : Key → Members → Bool
+stands key ms = is_some (get_member (key_text key) ms)
+
 abbrev pub must : {A : Type 0} → Key → (Data → Option A) → Field
-must key kind = record { key = key; optional = false; kind = λ d. is_some (kind d) }
+must key kind = record { key = key; may_lack = λ ms. false; may_stand = λ ms. true; kind = λ d. is_some (kind d) }
 
 abbrev pub may : {A : Type 0} → Key → (Data → Option A) → Field
-may key kind = record { key = key; optional = true; kind = λ d. is_some (kind d) }
+may key kind = record { key = key; may_lack = λ ms. true; may_stand = λ ms. true; kind = λ d. is_some (kind d) }
 
-abbrev pub fits : Field → Option Data → Bool
-fits field None = field.optional
-fits field (Some d) = field.kind d
+-- Two fields of which exactly one stands. Where neither does, the first is missing; where both do, the second is one too many.
+abbrev pub first_of_two : {A : Type 0} → Key → (Data → Option A) → Key → Field
+first_of_two key kind other = record { key = key; may_lack = stands other; may_stand = λ ms. true; kind = λ d. is_some (kind d) }
 
--- a field is there and of its kind, or absent where it may be
+abbrev pub second_of_two : {A : Type 0} → Key → (Data → Option A) → Key → Field
+second_of_two key kind other = record { key = key; may_lack = λ ms. true; may_stand = λ ms. not (stands other ms); kind = λ d. is_some (kind d) }
+
+abbrev pub fits : Members → Field → Option Data → Bool
+fits ms field None = field.may_lack ms
+fits ms field (Some d) = field.may_stand ms && field.kind d
+
+-- a field is there, where it may be, and of its kind, or absent where it may be
 abbrev pub kind_check : Members → Field → Fault × Bool
-kind_check ms field = (Form field.key, fits field (get_member (key_text field.key) ms))
+kind_check ms field = (Form field.key, fits ms field (get_member (key_text field.key) ms))
 
 -- what is read of a field by its kind; none where it is absent or of another kind
 abbrev pub read_at : {A : Type 0} → Key → (Data → Option A) → Members → Option A

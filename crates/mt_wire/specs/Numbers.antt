@@ -5,6 +5,8 @@ use Rattle.std.specs.Borrow.{Bor}
 use Rattle.json.specs.Print.{escape}
 use Rattle.serde_json.specs.Data.{boolean, string}
 use Rattle.serde_json.specs.Written.{compact_text, items_text}
+use Rattle.mt_base.specs.declared.clearance.Clearance.{Clearance}
+use Rattle.mt_base.specs.declared.clearance.Clearance.TheVariants.{Level, Direct}
 use Rattle.mt_base.specs.declared.flight.FlightView.{FlightView}
 use Rattle.mt_base.specs.declared.flight.Straight.{Straight}
 use Rattle.mt_wire.specs.Entry.{values, whole}
@@ -67,3 +69,39 @@ plan_route level route = number_text (codes "level") (pos level) ++ (codes ",\"r
 
 abbrev pub plan_back : ℕ → List ℕ → List ℕ
 plan_back who kind = codes ",\"type\":\"" ++ (escape kind ++ (codes "\",\"who\":" ++ (decimal who ++ codes "}")))
+
+-- a clearance in parts: the callsign, the fix to fly direct to, the second from which it holds, behind the command's
+-- word, and the level
+abbrev pub call_text : List ℕ → List ℕ
+call_text call = codes "{\"call\":\"" ++ escape call
+
+abbrev pub fix_text : List ℕ → List ℕ
+fix_text fix = codes "\",\"direct\":\"" ++ escape fix
+
+abbrev pub eff_text : List ℕ → ℕ → List ℕ
+eff_text front eff = front ++ decimal eff
+
+abbrev pub level_text : ℕ → List ℕ
+level_text level = number_text (codes "level") (pos level)
+
+-- all of it, then the rest of its entry
+abbrev pub clearance_text : List ℕ → List ℕ → Clearance → ℕ → List ℕ
+clearance_text front call (Level level) eff = call_text call ++ (eff_text front eff ++ level_text level)
+clearance_text front call (Direct fix) eff = call_text call ++ (fix_text fix ++ eff_text front eff)
+
+abbrev pub clear_front : List ℕ
+clear_front = codes "\",\"do\":\"clear\",\"eff\":"
+
+abbrev pub accept_front : List ℕ
+accept_front = codes "\",\"do\":\"accept\",\"eff\":"
+
+abbrev pub who_text : ℕ → List ℕ
+who_text who = codes ",\"who\":" ++ (decimal who ++ codes "}")
+
+abbrev pub probed_text : ℕ → ℕ → List ℕ
+probed_text probed who = codes ",\"v\":" ++ (decimal probed ++ (codes ",\"who\":" ++ (decimal who ++ codes "}")))
+
+-- the numbers of a probe behind its conflicts
+abbrev pub tried_text : ℕ → ℕ → ℕ → List ℕ
+tried_text eff probe version =
+    codes ",\"eff\":" ++ (decimal eff ++ (codes ",\"probe\":" ++ (decimal probe ++ (codes ",\"version\":" ++ (decimal version ++ codes "}\n")))))

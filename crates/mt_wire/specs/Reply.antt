@@ -3,10 +3,11 @@ use Rattle.std.specs.Prelude.{ℕ, pos, List, [], ◌∷◌, ◌++◌, codes}
 use Rattle.serde_json.specs.Data.{Data, string, array, object, no_items, item, Members, no_members, member}
 use Rattle.serde_json.specs.Written.{compact_text}
 use Rattle.mt_base.specs.declared.command.Refusal.{Refusal}
-use Rattle.mt_base.specs.declared.command.Refusal.TheVariants.{HeldCall, UnknownCall, UnknownType, UnknownFix, RouteShort, RouteLong, RouteTwice, Ceiling, Full, HistoryFull, Backward}
+use Rattle.mt_base.specs.declared.command.Refusal.TheVariants.{HeldCall, UnknownCall, UnknownType, UnknownFix, RouteShort, RouteLong, RouteTwice, Ceiling, Full, HistoryFull, Backward, Future, Ended, NotAhead, NoProbe, NotFree, Stale, Fixed}
 use Rattle.mt_base.specs.declared.conflict.Conflict.{Conflict}
 use Rattle.mt_base.specs.declared.conflict.Kind.{Kind}
 use Rattle.mt_base.specs.declared.conflict.Kind.TheVariants.{Actual, Tentative}
+use Rattle.mt_base.specs.declared.hit.Hit.{Hit}
 use Rattle.mt_wire.specs.declared.request.Role.{Role}
 use Rattle.mt_wire.specs.declared.request.Role.TheVariants.{Feed, Position}
 use Rattle.mt_wire.specs.declared.reply.DoneWord.{DoneWord}
@@ -39,6 +40,13 @@ conflict_value c = object (
     member (codes "kinds") (string (kind_letter c.ka ∷ kind_letter c.kb ∷ [])) (
     member (codes "last") (whole (pos c.last)) (
     member (codes "pair") (array (item (string c.a) (item (string c.b) no_items))) no_members))))
+
+-- a conflict of a trajectory that is tried
+abbrev pub hit_value : Hit → Data
+hit_value hit = object (
+    member (codes "first") (whole (pos hit.first)) (
+    member (codes "last") (whole (pos hit.last)) (
+    member (codes "with") (string hit.with) no_members)))
 
 -- a refusal that has only its word
 abbrev pub word_value : List ℕ → Data
@@ -77,6 +85,13 @@ refusal_members version Ceiling = at_version (codes "ceiling") version
 refusal_members version Full = at_version (codes "full") version
 refusal_members version HistoryFull = at_version (codes "history-full") version
 refusal_members version Backward = at_version (codes "backward") version
+refusal_members version Future = at_version (codes "future") version
+refusal_members version Ended = at_version (codes "ended") version
+refusal_members version NotAhead = at_version (codes "not-ahead") version
+refusal_members version NoProbe = at_version (codes "no-probe") version
+refusal_members version NotFree = at_version (codes "not-free") version
+refusal_members version (Stale first) = member (codes "conflict") (hit_value first) (at_version (codes "stale") version)
+refusal_members version Fixed = at_version (codes "fixed") version
 
 -- What a reply says, as an object with its keys in byte order.
 abbrev pub reply_value : Reply → Data
@@ -90,6 +105,12 @@ reply_value (reply.History entries version) = object (
     member (codes "entries") (array (values entry_value entries)) (
     member (codes "version") (whole (pos version)) no_members))
 reply_value (reply.Flight view) = flight_value view
+reply_value (reply.Taken version) = object (member (codes "taken") (whole (pos version)) no_members)
+reply_value (reply.Probe conflicts eff probe version) = object (
+    member (codes "conflicts") (array (values hit_value conflicts)) (
+    member (codes "eff") (whole (pos eff)) (
+    member (codes "probe") (whole (pos probe)) (
+    member (codes "version") (whole (pos version)) no_members))))
 reply_value reply.Json = word_value (codes "json")
 reply_value reply.Long = word_value (codes "long")
 reply_value reply.Begun = word_value (codes "begun")

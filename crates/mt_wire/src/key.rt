@@ -29,6 +29,9 @@ pub(crate) enum Key {
     Route,
     At,
     Level,
+    Direct,
+    Eff,
+    Probe,
     Sec,
     Rule(RuleName),
 }
@@ -61,6 +64,9 @@ pub(crate) fn key_text(key: Key) -> &'static str
         Key::Route => "route",
         Key::At => "at",
         Key::Level => "level",
+        Key::Direct => "direct",
+        Key::Eff => "eff",
+        Key::Probe => "probe",
         Key::Sec => "sec",
         Key::Rule(name) => rule_text(name),
     }

@@ -5,6 +5,7 @@
 
 mod actor;
 mod bands;
+mod clearance;
 mod conflict;
 mod entry;
 mod escape;
@@ -12,6 +13,7 @@ mod feed;
 mod field;
 mod field_name;
 mod flight_view;
+mod hit;
 mod key;
 mod laws;
 mod line;

@@ -8,10 +8,13 @@ ghost use Rattle.mt_wire.specs.Bounded.{IsBounded};
 ghost use Rattle.mt_wire.specs.Field.{IsUnlessMemory};
 ghost use Rattle.mt_wire.specs.Line.{Gives, checked, decoded, line, named_fault, other_key, read_members, word_in};
 
+use crate::clearance::{accept_line, clear_line, probe_line};
 use crate::feed::{drop_line, external_line, tick_line};
 use crate::field_name::FieldName;
 use crate::key::{Fault, key_text};
-use crate::plain::{bye_line, check_line, flight_line, hello_line, history_line, list_line};
+use crate::plain::{
+    bye_line, check_line, flight_line, hello_line, history_line, list_line, take_line,
+};
 use crate::plan::plan_line;
 use crate::request::{LineNo, Place, Request};
 use crate::setup::{begin_line, rule_line};
@@ -123,6 +126,10 @@ fn checked(
         Word::History => Ok(history_line(fields, place)?),
         Word::Hello => Ok(hello_line(fields, place)?),
         Word::Bye => Ok(bye_line(fields, place)?),
+        Word::Take => Ok(take_line(fields, place)?),
+        Word::Probe => Ok(probe_line(fields, place)?),
+        Word::Clear => Ok(clear_line(fields, place)?),
+        Word::Accept => Ok(accept_line(fields, place)?),
     }
 }
 

@@ -1,4 +1,4 @@
-//! The lines of the commands that change nothing: `list`, `check`, `flight`, `history`, `hello` and `bye`.
+//! The lines of the commands that change nothing: `list`, `check`, `flight`, `history`, `hello`, `bye` and `take`.
 ghost use Rattle.std.specs.Prelude.{◌≡◌};
 ghost use Rattle.mt_base.specs.declared.rules.Rules.{Rules};
 ghost use Rattle.mt_json.specs.Shown.{members};
@@ -83,4 +83,14 @@ pub(crate) fn bye_line(fields: &Fields, place: Place) -> Result<(u32, Request), 
     actor_kind(fields, place)?;
     let who = actor(fields, place)?;
     Ok((who, Request::Bye))
+}
+
+/// `take`.
+#[tactic(auto, unfolding(crate::specs::Line::checked))]
+pub(crate) fn take_line(fields: &Fields, place: Place) -> Result<(u32, Request), Fault>
+    ensures { (rules : Rules) → result ≡ checked place rules word.Take (members fields.now) }
+{
+    actor_kind(fields, place)?;
+    let who = actor(fields, place)?;
+    Ok((who, Request::Take))
 }

@@ -1,9 +1,10 @@
 //! A reply put into a room.
 ghost use Rattle.std.specs.Prelude.{◌≡◌, ◌++◌, codes, decimal, false};
 ghost use Rattle.json.specs.Print.{escape};
-ghost use Rattle.serde_json.specs.Written.{items_text};
+ghost use Rattle.serde_json.specs.Written.{compact_text, items_text};
 ghost use Rattle.mt_wire.specs.declared.reply.Reply.TheVariants.{Done, Hello, Refused};
 ghost use Rattle.mt_wire.specs.Entry.{values};
+ghost use Rattle.mt_wire.specs.Numbers.{tried_text};
 ghost use Rattle.mt_wire.specs.Puts.{Puts};
 ghost use Rattle.mt_wire.specs.Reply.{reply_text};
 
@@ -70,6 +71,16 @@ fn put_bad_route(out: &mut Vec<u8>, why: &[u8], version: u64) -> Result<(), Memo
     )
 }
 
+// Puts the refusal of what is no longer free of conflicts, with the first of them.
+fn put_stale<T: Written>(out: &mut Vec<u8>, first: &T, version: u64) -> Result<(), Memory>
+    ensures { Puts result out.old out.new
+        (codes "{\"conflict\":" ++ (compact_text (T.value first.now) ++ (codes ",\"no\":\"stale\",\"version\":" ++ (decimal version ++ codes "}\n")))) }
+{
+    put(out, b"{\"conflict\":")?;
+    first.put(out)?;
+    put_versioned(out, b",\"no\":\"stale\",\"version\":", version)
+}
+
 #[tactic(auto, unfolding(json::proofs::OnLiterals::json_on_literals))]
 fn put_refused(out: &mut Vec<u8>, refusal: &Refusal, version: u64) -> Result<(), Memory>
     ensures { Puts result out.old out.new (reply_text (Refused refusal.now version)) }
@@ -103,6 +114,13 @@ fn put_refused(out: &mut Vec<u8>, refusal: &Refusal, version: u64) -> Result<(),
             put_versioned(out, b"{\"no\":\"history-full\",\"version\":", version)
         }
         Refusal::Backward => put_versioned(out, b"{\"no\":\"backward\",\"version\":", version),
+        Refusal::Future => put_versioned(out, b"{\"no\":\"future\",\"version\":", version),
+        Refusal::Ended => put_versioned(out, b"{\"no\":\"ended\",\"version\":", version),
+        Refusal::NotAhead => put_versioned(out, b"{\"no\":\"not-ahead\",\"version\":", version),
+        Refusal::NoProbe => put_versioned(out, b"{\"no\":\"no-probe\",\"version\":", version),
+        Refusal::NotFree => put_versioned(out, b"{\"no\":\"not-free\",\"version\":", version),
+        Refusal::Stale { first } => put_stale(out, first, version),
+        Refusal::Fixed => put_versioned(out, b"{\"no\":\"fixed\",\"version\":", version),
     }
 }
 
@@ -144,6 +162,44 @@ fn put_list<T: Written>(
     put_versioned(out, b",\"version\":", version)
 }
 
+// Puts the numbers of a probe behind its conflicts.
+fn put_tried(out: &mut Vec<u8>, eff: u32, probe: u64, version: u64) -> Result<(), Memory>
+    ensures { Puts result out.old out.new
+        (tried_text eff probe version) }
+{
+    let mut second = Buffer::new();
+    let mut number = Buffer::new();
+    let mut digits = Buffer::new();
+    put_all(
+        out,
+        &[
+            b",\"eff\":",
+            second.format(eff).as_bytes(),
+            b",\"probe\":",
+            number.format(probe).as_bytes(),
+            b",\"version\":",
+            digits.format(version).as_bytes(),
+            b"}\n",
+        ],
+    )
+}
+
+// Puts what would follow from a clearance.
+fn put_probe<T: Written>(
+    out: &mut Vec<u8>,
+    conflicts: &[T],
+    eff: u32,
+    probe: u64,
+    version: u64,
+) -> Result<(), Memory>
+    ensures { Puts result out.old out.new
+        (codes "{\"conflicts\":[" ++ (items_text false (values T.value conflicts.now) ++ tried_text eff probe version)) }
+{
+    put(out, b"{\"conflicts\":[")?;
+    put_items(out, conflicts)?;
+    put_tried(out, eff, probe, version)
+}
+
 /// Puts the text of a reply behind what stands in the room.
 #[tactic(auto, unfolding(json::proofs::OnLiterals::json_on_literals))]
 pub(crate) fn put_reply(out: &mut Vec<u8>, reply: &Reply) -> Result<(), Memory>
@@ -160,6 +216,13 @@ pub(crate) fn put_reply(out: &mut Vec<u8>, reply: &Reply) -> Result<(), Memory>
             put_list(out, b"{\"entries\":[", entries.items(), *version)
         }
         Reply::Flight(view) => put_flight(out, view),
+        Reply::Taken { version } => put_versioned(out, b"{\"taken\":", *version),
+        Reply::Probe {
+            conflicts,
+            eff,
+            probe,
+            version,
+        } => put_probe(out, conflicts.items(), *eff, *probe, *version),
         Reply::Json => put(out, b"{\"no\":\"json\"}\n"),
         Reply::Long => put(out, b"{\"no\":\"long\"}\n"),
         Reply::Begun => put(out, b"{\"no\":\"begun\"}\n"),

@@ -1,6 +1,6 @@
 use crate::field_name::FieldName;
 use crate::request::Role;
-use mt_base::{Conflicts, Entered, Entries, FixName, FlightView, Refusal, TypeName};
+use mt_base::{Conflicts, Entered, Entries, FixName, FlightView, Hits, Refusal, Second, TypeName};
 
 /// What was done.
 #[derive(Clone, Copy, PartialEq, Eq)]
@@ -40,6 +40,22 @@ pub enum Reply {
         /// The entries, in order.
         entries: Entries,
         /// The version now.
+        version: u64,
+    },
+    /// The version now is taken.
+    Taken {
+        /// That version.
+        version: u64,
+    },
+    /// What would follow from a clearance.
+    Probe {
+        /// The conflicts that it would have, in order.
+        conflicts: Hits,
+        /// From which second it would hold.
+        eff: Second,
+        /// The number of the probe.
+        probe: u64,
+        /// The version that it was tried on.
         version: u64,
     },
     /// No JSON value is read from the line.

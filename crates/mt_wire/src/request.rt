@@ -1,7 +1,7 @@
 ghost use Rattle.std.specs.Prelude.{◌≡◌, unwrap_or};
 
 use crate::field_name::FieldName;
-use mt_base::{Bands, Callsign, Command, FixName, Rules, Second, TypeName};
+use mt_base::{Bands, Callsign, Clearance, Command, FixName, Rules, Second, TypeName};
 
 /// What a session says that it is.
 #[derive(Clone, Copy, PartialEq, Eq)]
@@ -125,6 +125,22 @@ pub enum Request {
     },
     /// End.
     Bye,
+    /// Take the version now, so that clearances are tried on it.
+    Take,
+    /// Try a clearance, without a change of the picture.
+    Probe {
+        /// The planned flight.
+        call: Callsign,
+        /// The clearance.
+        clearance: Clearance,
+        /// From which second it would hold; absent, from the moment.
+        eff: Option<Second>,
+    },
+    /// Clear a flight as it was probed.
+    Accept {
+        /// The number of the probe, from 1 to 9,223,372,036,854,775,807.
+        probe: u64,
+    },
 }
 
 /// Where a line comes from: each place has commands of its own.

@@ -1,7 +1,9 @@
 mod answers;
 mod changes;
+mod clearances;
 mod external;
 mod flights;
 mod lines;
 mod planned;
+mod probes;
 mod replies;

@@ -21,20 +21,27 @@ pub(crate) enum Word {
     History,
     Hello,
     Bye,
+    Take,
+    Probe,
+    Clear,
+    Accept,
 }
 
 /// Which lines may give a command.
 #[derive(Clone, Copy)]
 pub(crate) enum Group {
-    /// Those before the picture begins, and only of a script.
-    Setup,
+    /// Those of a script alone.
+    Script,
     /// Those of a script and of the feed.
     Feed,
+    /// Those of a script and of a position.
+    Position,
     /// All.
     Any,
 }
 
 /// The command that a text is the word of.
+#[tactic(auto, unfolding(crate::specs::Commands::word_of))]
 pub(crate) fn word_of(text: &str) -> Option<Word>
     ensures { result ≡ word_of text.now }
 {
@@ -53,6 +60,10 @@ pub(crate) fn word_of(text: &str) -> Option<Word>
         "history" => Some(Word::History),
         "hello" => Some(Word::Hello),
         "bye" => Some(Word::Bye),
+        "take" => Some(Word::Take),
+        "probe" => Some(Word::Probe),
+        "clear" => Some(Word::Clear),
+        "accept" => Some(Word::Accept),
         _ => None,
     }
 }
@@ -61,8 +72,9 @@ fn group_of(word: Word) -> Group
     ensures { result ≡ group_of word }
 {
     match word {
-        Word::Begin | Word::Fix | Word::TypeLine | Word::Rule => Group::Setup,
+        Word::Begin | Word::Fix | Word::TypeLine | Word::Rule | Word::Take => Group::Script,
         Word::Plan | Word::External | Word::Drop | Word::Tick => Group::Feed,
+        Word::Probe | Word::Clear | Word::Accept => Group::Position,
         Word::List | Word::Check | Word::Flight | Word::History | Word::Hello | Word::Bye => {
             Group::Any
         }
@@ -76,7 +88,8 @@ pub(crate) fn is_allowed(place: Place, word: Word) -> bool
     match (place, group_of(word)) {
         (Place::Replay, _) => true,
         (Place::Feed, Group::Feed | Group::Any) => true,
-        (Place::Position | Place::Plain, Group::Any) => true,
+        (Place::Position, Group::Position | Group::Any) => true,
+        (Place::Plain, Group::Any) => true,
         _ => false,
     }
 }
@@ -95,7 +108,7 @@ fn script_keys(word: Word) -> &'static str
     ensures { result.now ≡ keys_of Replay word }
 {
     match word {
-        Word::Begin | Word::List | Word::Check | Word::Bye => "do who ",
+        Word::Begin | Word::List | Word::Check | Word::Bye | Word::Take => "do who ",
         Word::Fix => "do name x y who ",
         Word::TypeLine => "do name bands who ",
         Word::Rule => "do sh sv r0 gh rmax w0 gv wmax tc ta tv flights history who ",
@@ -106,6 +119,8 @@ fn script_keys(word: Word) -> &'static str
         Word::Flight => "do call sec who ",
         Word::History => "do from to who ",
         Word::Hello => "do role who ",
+        Word::Probe | Word::Clear => "do call level direct eff who ",
+        Word::Accept => "do probe who ",
     }
 }
 
@@ -113,7 +128,7 @@ fn session_keys(word: Word) -> &'static str
     ensures { result.now ≡ keys_of Plain word }
 {
     match word {
-        Word::Begin | Word::List | Word::Check | Word::Bye => "do ",
+        Word::Begin | Word::List | Word::Check | Word::Bye | Word::Take => "do ",
         Word::Fix => "do name x y ",
         Word::TypeLine => "do name bands ",
         Word::Rule => "do sh sv r0 gh rmax w0 gv wmax tc ta tv flights history ",
@@ -124,5 +139,7 @@ fn session_keys(word: Word) -> &'static str
         Word::Flight => "do call sec ",
         Word::History => "do from to ",
         Word::Hello => "do role ",
+        Word::Probe | Word::Clear => "do call level direct eff ",
+        Word::Accept => "do probe ",
     }
 }

@@ -1,6 +1,6 @@
 //! What lines are read as, as texts.
 use crate::{LineNo, Place, Request, Role, RuleSet, read_line, write_entry};
-use mt_base::{Bands, Callsign, Entry, Rules, Second, TypeName};
+use mt_base::{Bands, Callsign, Clearance, Command, Entry, Rules, Second, TypeName};
 use std::alloc::Global;
 use std::test::Fail;
 
@@ -59,11 +59,50 @@ fn shown_flight(
     }
 }
 
-// A request as a text: a change as its entry, another by its word.
+// A clearance that is probed or asked for, and from when.
+fn shown_clearance(
+    alloc: Global,
+    word: &str,
+    who: u32,
+    call: &Callsign,
+    clearance: &Clearance,
+    eff: Option<Second>,
+) -> Result<String, Fail> {
+    let call = std::str::from_utf8(call.bytes()).ok().ok_or("UTF-8")?;
+    let mut text = format!(in alloc; "{word} {who} {call} ")?;
+    let to = match clearance {
+        Clearance::Level(level) => format!(in alloc; "level {level} ")?,
+        Clearance::Direct(fix) => {
+            let fix = std::str::from_utf8(fix.bytes()).ok().ok_or("UTF-8")?;
+            format!(in alloc; "direct {fix} ")?
+        }
+    };
+    text.push_str(to.as_str())?;
+    let second = match eff {
+        Some(second) => format!(in alloc; "{second}")?,
+        None => format!(in alloc; "now")?,
+    };
+    text.push_str(second.as_str())?;
+    Ok(text)
+}
+
+// A request as a text: a clearance by its fields, another change as its entry, the rest by their words.
 fn shown(alloc: Global, who: u32, request: &Request) -> Result<String, Fail> {
     let text = match request {
         Request::Rule(set) => shown_rules(alloc, who, set)?,
         Request::Begin => format!(in alloc; "begin {who}")?,
+        Request::Probe {
+            call,
+            clearance,
+            eff,
+        } => shown_clearance(alloc, "probe", who, call, clearance, *eff)?,
+        Request::Change(
+            Command::Clear {
+                call,
+                clearance,
+                eff,
+            },
+        ) => shown_clearance(alloc, "clear", who, call, clearance, *eff)?,
         Request::Change(command) => {
             let entry = Entry {
                 who,
@@ -85,6 +124,8 @@ fn shown(alloc: Global, who: u32, request: &Request) -> Result<String, Fail> {
         Request::Flight { call, sec } => shown_flight(alloc, who, call, *sec)?,
         Request::History { from, to } => format!(in alloc; "history {who} {from} {to}")?,
         Request::Bye => format!(in alloc; "bye {who}")?,
+        Request::Take => format!(in alloc; "take {who}")?,
+        Request::Accept { probe } => format!(in alloc; "accept {who} {probe}")?,
     };
     Ok(text)
 }

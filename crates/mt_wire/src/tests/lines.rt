@@ -153,6 +153,16 @@ const SESSIONS: &str = r#"
 {"do":"history","from":1,"to":2} | history 0 1 2 | history 0 1 2 | history 0 1 2
 {"do":"hello","role":"feed"} | hello 0 feed | hello 0 feed | hello 0 feed
 {"do":"bye"} | bye 0 | bye 0 | bye 0
+{"do":"take"} | form do | form do | form do
+{"do":"take","x":1} | form do | form do | form do
+{"do":"probe","call":"A","level":1} | form do | probe 0 A level 1 now | form do
+{"do":"probe","call":"A","level":1,"who":0} | form do | form who | form do
+{"do":"probe"} | form do | form call | form do
+{"do":"clear","call":"A","direct":"Q0","eff":3} | form do | clear 0 A direct Q0 3 | form do
+{"do":"clear","x":1} | form do | form x | form do
+{"do":"accept","probe":3} | form do | accept 0 3 | form do
+{"do":"accept","probe":0} | form do | range probe | form do
+{"do":"accept","probe":0,"who":0} | form do | form who | form do
 "#;
 
 #[test]

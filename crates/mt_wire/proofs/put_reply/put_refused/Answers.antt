@@ -3,7 +3,7 @@ use Rattle.mt_base.specs.declared.command.Refusal.TheVariants.{UnknownCall, Unkn
 use Rattle.mt_wire.specs.declared.reply.Reply.TheVariants as reply
 use Rattle.mt_wire.specs.Reply.{reply_text}
 use Rattle.mt_wire.proofs.Putting.{puts_is}
-use Rattle.mt_wire.proofs.ReplyTexts.{twice_text, unknown_call_text, unknown_fix_text, unknown_type_text}
+use Rattle.mt_wire.proofs.ReplyTexts.{stale_text, twice_text, unknown_call_text, unknown_fix_text, unknown_type_text}
 use Rattle.mt_wire.proofs.put_reply.put_refused.Goals as goal
 
 pub returns-in-UnknownCall : goal.returns-in-UnknownCall
@@ -28,3 +28,8 @@ pub returns-in-RouteTwice : goal.returns-in-RouteTwice
 returns-in-RouteTwice c =
     puts_is c.put_bad_route-in-RouteTwice.result c.args.out.now c.put_bad_route-in-RouteTwice.new.out _ _
     (twice_text c.args.version ∙ ap (λ refusal. reply_text (reply.Refused refusal c.args.version)) (sym c.in-RouteTwice.is)) c.put_bad_route-in-RouteTwice.ensures
+
+pub returns-in-Stale : goal.returns-in-Stale
+returns-in-Stale c =
+    puts_is c.put_stale.result c.args.out.now c.put_stale.new.out _ _
+    (stale_text c.in-Stale.first c.args.version ∙ ap (λ refusal. reply_text (reply.Refused refusal c.args.version)) (sym c.in-Stale.is)) c.put_stale.ensures

@@ -1,9 +1,10 @@
 use Rattle.std.proofs.Common.{ℕ, List, ◌∙◌, sym, ap}
+use Rattle.mt_base.specs.declared.hit.Hit.{Hit}
 use Rattle.mt_wire.specs.declared.reply.Reply.TheVariants as reply
 use Rattle.mt_wire.specs.Reply.{reply_text}
 use Rattle.mt_wire.proofs.EntryTexts.{flight_text_is}
 use Rattle.mt_wire.proofs.Putting.{puts_is}
-use Rattle.mt_wire.proofs.ReplyTexts.{form_text, range_text, taken_fix_text, taken_type_text}
+use Rattle.mt_wire.proofs.ReplyTexts.{form_text, probe_text, range_text, taken_fix_text, taken_type_text}
 use Rattle.mt_wire.proofs.put_reply.put_reply.Goals as goal
 
 pub returns-in-Flight : goal.returns-in-Flight
@@ -30,3 +31,10 @@ pub returns-in-TakenType : goal.returns-in-TakenType
 returns-in-TakenType c =
     puts_is c.put_taken-in-TakenType.result c.args.out.now c.put_taken-in-TakenType.new.out _ _
     (taken_type_text c.bytes-in-TakenType.result.now ∙ ap (λ (name : List ℕ). reply_text (reply.TakenType name)) c.bytes-in-TakenType.ensures.text ∙ ap reply_text (sym c.in-TakenType.is)) c.put_taken-in-TakenType.ensures
+
+pub returns-in-Probe : goal.returns-in-Probe
+returns-in-Probe c =
+    let p = c.in-Probe in
+    puts_is c.put_probe.result c.args.out.now c.put_probe.new.out _ _
+    (probe_text c.items-in-Probe.result.now p.eff p.probe p.version ∙ ap (λ (hits : List Hit). reply_text (reply.Probe hits p.eff p.probe p.version)) c.items-in-Probe.ensures
+    ∙ ap reply_text (sym p.is)) c.put_probe.ensures
