@@ -89,7 +89,7 @@ climbing rules w kept within =
       g.1,
     )
 
-margin_kept : (rules : Rules) (climb w : ℤ) → AreWithinBounds rules → IsWithin (pos 0) rules.wmax w
+pub margin_kept : (rules : Rules) (climb w : ℤ) → AreWithinBounds rules → IsWithin (pos 0) rules.wmax w
     → IsKeptOver (pos 0) (pos 600000) (pos 0) (pos 10000) (margin_at rules climb w) (margin_gain rules climb w) 1
     × IsWithin (pos 0) rules.wmax (margin_at rules climb w +ℤ margin_gain rules climb w)
 margin_kept rules (pos zero) w kept within = (
@@ -103,7 +103,7 @@ margin_kept rules (pos zero) w kept within = (
 margin_kept rules (pos (suc n)) w kept within = climbing rules w kept within
 margin_kept rules (negsuc n) w kept within = climbing rules w kept within
 
-across_kept : (rules : Rules) (r : ℤ) → AreWithinBounds rules → IsWithin (pos 0) rules.rmax r
+pub across_kept : (rules : Rules) (r : ℤ) → AreWithinBounds rules → IsWithin (pos 0) rules.rmax r
     → IsKeptOver (pos 0) (pos 72000) (pos 0) (pos 1000) r (int_min rules.gh (rules.rmax -ℤ r)) 1
     × IsWithin (pos 0) rules.rmax (r +ℤ int_min rules.gh (rules.rmax -ℤ r))
 across_kept rules r kept within =

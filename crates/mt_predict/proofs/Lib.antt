@@ -1,11 +1,15 @@
 pub mod Aboard
+pub mod Ahead
+pub mod Aims
 pub mod Bounds
 pub mod Casts
 pub mod Durations
 pub mod Gains
 pub mod Legs
+pub mod Looks
 pub mod Margins
 pub mod Reading
+pub mod Refusing
 pub mod Remains
 pub mod Routes
 pub mod Rows

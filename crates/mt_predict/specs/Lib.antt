@@ -1,3 +1,4 @@
+pub mod Clearing
 pub mod Flying
 pub mod Looking
 pub mod Manners

@@ -1,7 +1,33 @@
+use Rattle.std.specs.Prelude.{◌≡◌, ◌≤◌, length, Some, IfSome, ⊤}
 use Rattle.std.specs.Option.{option_copied}
+use Rattle.mt_base.specs.declared.command.Command.{Command}
+use Rattle.mt_base.specs.declared.command.Command.TheVariants.{Plan, External, Drop, Tick, Clear, Accept}
+use Rattle.mt_base.specs.declared.flight.Course.{Course}
+use Rattle.mt_base.specs.declared.flight.Path.TheVariants.{Planned}
 use Rattle.mt_base.specs.History.{Look}
+use Rattle.mt_base.specs.Picture.{trajectory_of}
+use Rattle.mt_base.specs.Tables.{Setup}
+use Rattle.mt_base.specs.WhatIf.{course_in}
 use Rattle.mt_predict.specs.declared.judging.Looked.{Looked}
 
 -- what a decision looks at, as its definition has it
 abbrev pub look_of : Looked → Look
 look_of looked = record { now = looked.now; held = looked.held; entries = looked.entries; flight = option_copied looked.flight }
+
+-- The trajectory that a course flies is at hand, along a route of at most 64 names.
+pub record HasStrandOf (setup : Setup) (looked : Looked) (course : Course) : Type 0 where
+  pub strand : option_copied looked.strand ≡ Some (trajectory_of setup (Planned course))
+  pub short : length course.route ≤ 64
+
+-- the trajectory of the flight that the command names is at hand, where that flight is there and planned
+abbrev pub HasStrandOfPlanned : Setup → Looked → Type 0
+HasStrandOfPlanned setup looked = IfSome (course_in (option_copied looked.flight)) (HasStrandOf setup looked)
+
+-- What a decision has at hand beside: for a clearance, the trajectory of the planned flight that is cleared.
+abbrev pub HasStrand : Setup → Looked → Command → Type 0
+HasStrand setup looked (Plan call kind route at from level) = ⊤
+HasStrand setup looked (External call straight) = ⊤
+HasStrand setup looked (Drop call) = ⊤
+HasStrand setup looked (Tick now) = ⊤
+HasStrand setup looked (Clear call clearance eff) = HasStrandOfPlanned setup looked
+HasStrand setup looked (Accept call clearance eff probed) = HasStrandOfPlanned setup looked

@@ -1,11 +1,17 @@
 ghost use Rattle.std.specs.Prelude.{◌≡◌, pos, int_lt, is_some, [], ◌∷◌};
 ghost use Rattle.mt_base.specs.Checks.{judged};
-ghost use Rattle.mt_base.specs.History.{checks, has_history, has_room, is_below_ceiling, route_checks};
+ghost use Rattle.mt_base.specs.Cleared.{is_below_ceiling};
+ghost use Rattle.mt_base.specs.History.{checks, has_history, has_room, route_checks};
 ghost use Rattle.mt_base.specs.Tables.{bands_of};
-ghost use Rattle.mt_predict.specs.Looking.{look_of};
+ghost use Rattle.mt_base.specs.WhatIf.{what_if_checks};
+ghost use Rattle.mt_predict.specs.Looking.{HasStrand, HasStrandOfPlanned, look_of};
 
-use mt_base::{Command, Record, Refusal, Route, Rules, Second, TypeName, must};
+use crate::clearing::cleared;
+use mt_base::{
+    Callsign, Clearance, Command, Path, Record, Refusal, Route, Rules, Second, TypeName, must,
+};
 use mt_tables::Tables;
+use mt_track::Strand;
 
 /// What a decision looks at.
 #[derive(Clone, Copy)]
@@ -18,11 +24,13 @@ pub struct Looked<'a> {
     pub entries: u64,
     /// The flight that the command names, where it is in the picture.
     pub flight: Option<&'a Record>,
+    /// The trajectory that it flies, where the command is a clearance of a planned flight.
+    pub strand: Option<&'a Strand>,
 }
 
 /// The first refusal of an actor's command, in the order in which its checks are made, or none. It takes no memory.
 ///
-/// It is the same for each actor `who`.
+/// No command yet looks at the actor `who`. For a clearance of a planned flight that is there it asks that its trajectory is at hand.
 pub fn judge(
     tables: &Tables,
     rules: &Rules,
@@ -30,6 +38,7 @@ pub fn judge(
     who: u32,
     command: &Command,
 ) -> Result<(), Refusal>
+    requires strand { HasStrand (record { rules = rules.now; tables = tables.now }) looked.now command.now }
     ensures { result ≡ judged (checks (record { rules = rules.now; tables = tables.now }) (look_of looked.entry.now) command.now) (tt {0}) }
 {
     match command {
@@ -55,6 +64,24 @@ pub fn judge(
         }
         Command::Tick { now } => {
             must(looked.now < *now, Refusal::Backward)?;
+            must(has_history(rules, looked), Refusal::HistoryFull)
+        }
+        Command::Clear {
+            call,
+            clearance,
+            eff,
+        } => {
+            let eff = eff.unwrap_or(looked.now);
+            check_clearance(tables, rules, looked, *call, *clearance, eff)?;
+            must(has_history(rules, looked), Refusal::HistoryFull)
+        }
+        Command::Accept {
+            call,
+            clearance,
+            eff,
+            ..
+        } => {
+            check_clearance(tables, rules, looked, *call, *clearance, *eff)?;
             must(has_history(rules, looked), Refusal::HistoryFull)
         }
     }
@@ -99,6 +126,31 @@ fn check_rest(
     check_room(rules, looked)
 }
 
+// What is checked of a clearance: that the flight is there and planned, and the clearance itself.
+fn check_clearance(
+    tables: &Tables,
+    rules: &Rules,
+    looked: &Looked,
+    call: Callsign,
+    clearance: Clearance,
+    eff: Second,
+) -> Result<(), Refusal>
+    requires { HasStrandOfPlanned (record { rules = rules.now; tables = tables.now }) looked.now }
+    ensures { result ≡ judged (what_if_checks (record { rules = rules.now; tables = tables.now }) looked.entry.now.now (look_of looked.entry.now).flight call clearance eff) (tt {0}) }
+{
+    let Some(flight) = looked.flight else {
+        return Err(Refusal::UnknownCall(call));
+    };
+    let Path::Planned(course) = &flight.path else {
+        return Err(Refusal::Fixed);
+    };
+    let Some(strand) = looked.strand else {
+        unreachable!()
+    };
+    cleared(tables, course, strand, clearance, eff, looked.now)?;
+    Ok(())
+}
+
 // Whether there is room for one more flight, and for one more entry.
 fn check_room(rules: &Rules, looked: &Looked) -> Result<(), Refusal>
     ensures { result ≡ judged ((Refusal.Full, has_room rules.now (look_of looked.entry.now)) ∷ (Refusal.HistoryFull, has_history rules.now (look_of looked.entry.now)) ∷ []) (tt {0}) }
@@ -127,7 +179,7 @@ fn is_fewer(number: u64, most: &i64) -> bool
 }
 
 // Whether the level is not above the ceiling of the type.
-fn is_below_ceiling(tables: &Tables, kind: TypeName, level: u32) -> bool
+pub(crate) fn is_below_ceiling(tables: &Tables, kind: TypeName, level: u32) -> bool
     ensures { result ≡ is_below_ceiling tables.now kind level }
 {
     level <= tables.ceiling(kind).unwrap_or(0)

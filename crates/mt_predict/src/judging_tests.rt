@@ -1,6 +1,9 @@
 //! Commands with two faults, and which of them is told.
-ghost use Rattle.std.specs.Prelude.{◌≤◌};
+ghost use Rattle.std.specs.Prelude.{◌≤◌, IsTrue};
 ghost use Rattle.mt_base.specs.Bounds.{AreBoundedBands, IsBoundedBand};
+ghost use Rattle.mt_base.specs.Tables.{Setup};
+ghost use Rattle.mt_predict.specs.declared.judging.Looked.{Looked};
+ghost use Rattle.mt_predict.specs.Looking.{HasStrand};
 
 use crate::{Looked, judge};
 use mt_base::{
@@ -83,6 +86,18 @@ fn flight() -> Result<Record, Fail> {
     })
 }
 
+fn is_no_clearance(command: &Command) -> bool
+    ensures { IsTrue result → (setup : Setup) (looked : Looked) → HasStrand setup looked command.now }
+{
+    match command {
+        Command::Plan { .. }
+        | Command::External { .. }
+        | Command::Drop { .. }
+        | Command::Tick { .. } => true,
+        Command::Clear { .. } | Command::Accept { .. } => false,
+    }
+}
+
 /// What is told of a command where so many flights and entries are held, at second 9.
 fn told(
     alloc: Global,
@@ -92,11 +107,15 @@ fn told(
 ) -> Result<Result<(), Refusal>, Fail> {
     let record = flight()?;
     let (held, entries) = counts;
+    if !is_no_clearance(command) {
+        return Err("a clearance".into());
+    }
     let looked = Looked {
         now: 9,
         held,
         entries,
         flight: if is_held { Some(&record) } else { None },
+        strand: None,
     };
     let tables = small_tables(alloc)?;
     Ok(judge(&tables, &small_rules(), &looked, 1, command))

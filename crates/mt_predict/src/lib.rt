@@ -1,6 +1,8 @@
-//! Planned trajectories, the rows of a flight along its route second by second, as a strand; and the refusals of a command.
+//! Planned trajectories, the rows of a flight along its route second by second, as a strand; what a clearance
+//! leaves of a flight, and where one that is due begins anew; and the refusals of a command.
 #![tactic(auto)]
 
+mod clearing;
 mod climb;
 mod fly;
 mod gain;
@@ -9,11 +11,14 @@ mod judging;
 mod judging_tests;
 mod leg;
 mod predictor;
+mod renewing;
 mod second;
 mod steady;
 #[cfg(test)]
 mod tests;
 
+pub use clearing::cleared;
 pub use fly::fly_route;
 pub use judging::{Looked, judge};
 pub use predictor::predict;
+pub use renewing::renewed;

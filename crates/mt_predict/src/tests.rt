@@ -6,12 +6,15 @@ ghost use Rattle.mt_predict.specs.Manners.{IsHeld};
 
 mod bands_down;
 mod bands_up;
+mod clearances;
 mod climbs;
 mod courses;
+mod judged_clearances;
 mod legs;
 mod long_route;
 mod longest;
 mod margins;
+mod renewals;
 
 use crate::fly_route;
 use mt_base::{Band, Place, Point, Row, Rules};

@@ -1,11 +1,11 @@
 //! The trajectory of a course, and that of its tentative clearance.
 
-ghost use Rattle.std.specs.Prelude.{IfSome, IsTrue};
-ghost use Rattle.mt_base.specs.Bounds.{IsRightBase, IsRightMark, IsSoundCourse};
+ghost use Rattle.std.specs.Prelude.{◌≡◌, IfSome, IsTrue, is_some, true};
+ghost use Rattle.mt_base.specs.Bounds.{IsBoundedReport, IsRightBase, IsRightMark, IsSoundCourse};
 
 use super::{Values, are_bands, check, is_in_plane, is_up_to, is_within, two_bands};
 use crate::predict;
-use mt_base::{Base, Course, FixName, Kind, Mark, Route, Rules, TypeName};
+use mt_base::{Base, Course, FixName, Kind, Mark, Report, Route, Rules, TypeName};
 use mt_tables::Tables;
 use std::alloc::Global;
 use std::process::Abort;
@@ -83,7 +83,7 @@ const TENTATIVE: [(u32, Values); 15] = [
     (125, [479848, 29546, 1794000, 9000, 0, 152, 454, 0, 0, 0, 2]),
 ];
 
-fn fix_name(text: &[u8]) -> Result<FixName, Fail> {
+pub(super) fn fix_name(text: &[u8]) -> Result<FixName, Fail> {
     Ok(FixName::of(text).ok_or("no fix name")?)
 }
 
@@ -108,7 +108,20 @@ fn is_mark(rules: &Rules, names: usize, mark: &Option<Mark>) -> bool
     }
 }
 
-fn is_sound(tables: &Tables, rules: &Rules, course: &Course) -> bool
+fn is_reported(last: &Option<Report>, due: bool) -> bool
+    ensures last { IsTrue result → IfSome last.now IsBoundedReport }
+    ensures due { IsTrue result → due ≡ true → is_some last.now ≡ true }
+{
+    let Some(report) = last else {
+        return !due;
+    };
+    if report.at > 10_000_000 || !is_in_plane(&report.x, &report.y) {
+        return false;
+    }
+    is_within(0, 3_600_000, &report.z)
+}
+
+pub(super) fn is_sound(tables: &Tables, rules: &Rules, course: &Course) -> bool
     ensures { IsTrue result → IsSoundCourse (record { rules = rules.now; tables = tables.now }) course.now }
 {
     let Some(_) = tables.bands(course.kind) else {
@@ -119,6 +132,9 @@ fn is_sound(tables: &Tables, rules: &Rules, course: &Course) -> bool
     };
     let names = course.route.items().len();
     if course.level > 600 || !is_base(rules, names, &course.base) {
+        return false;
+    }
+    if !is_reported(&course.last, course.due) {
         return false;
     }
     is_mark(rules, names, &course.mark)

@@ -1,7 +1,6 @@
-use Rattle.std.proofs.Common.{◌≡◌, ◌≤◌, ◌<◌, All, List, arith, length, pos, subst, sym, take, ◌∙◌}
+use Rattle.std.proofs.Common.{All, pos, subst}
 use Rattle.std.proofs.lemmas.List.{take_all}
 use Rattle.std.proofs.lemmas.List.Elements.{All-more}
-use Rattle.mt_base.specs.declared.band.Band.{Band}
 use Rattle.mt_base.specs.Bounds.{IsBoundedBand}
 use Rattle.mt_predict.proofs.tests.are_bands.Goals as goal
 

@@ -1,4 +1,4 @@
-use Rattle.std.proofs.Common.{◌≡◌, List, Option, is_some, ap, sym}
+use Rattle.std.proofs.Common.{List, Option, is_some, ap, sym}
 use Rattle.mt_base.specs.declared.band.Band.{Band}
 use Rattle.mt_predict.proofs.Sound.{route_passes}
 use Rattle.mt_predict.proofs.tests.courses.is_sound.Goals as goal
@@ -10,4 +10,6 @@ returns c = λ right. record {
   level = c.if-course-gt600.false;
   base = rw (← c.items-names.ensures) (c.is_base.ensures c.if-not-is_base.false);
   mark = rw (← c.items-names.ensures) (c.is_mark.ensures right);
+  last = c.is_reported.ensures.last c.if-not-is_reported.false;
+  due = c.is_reported.ensures.due c.if-not-is_reported.false;
 }
