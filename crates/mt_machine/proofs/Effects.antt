@@ -1,4 +1,4 @@
-use Rattle.std.proofs.Common.{◌≡◌, ◌≢◌, ℕ, ℤ, ◌+◌, ◌<◌, ◌≤◌, pos, ◌≤ℤ◌, ◌<ℤ◌, Bool, true, not, List, [], ◌∷◌, ◌++◌, length, map, Result, Ok, Err, IsOk, refl, arith, length-append}
+use Rattle.std.proofs.Common.{◌≡◌, ◌≢◌, ℕ, ℤ, ◌+◌, ◌<◌, ◌≤◌, pos, ◌≤ℤ◌, ◌<ℤ◌, Bool, true, not, List, [], ◌∷◌, ◌++◌, length, map, Option, Some, None, Result, Ok, Err, IsOk, refl, sym, ap, arith, length-append}
 use Rattle.std.proofs.lemmas.Int.{ints}
 use Rattle.std.proofs.lemmas.Bool.Decides.{nat_tests}
 use Rattle.std.proofs.lemmas.List.{map-append}
@@ -7,23 +7,26 @@ use Rattle.std.proofs.lemmas.List.Filters.{length-filter_both}
 use Rattle.std.proofs.lemmas.List.Kept.{AllPairs-filter}
 use Rattle.std.proofs.lemmas.List.Quantifiers.{all_pairs_push}
 use Rattle.std.specs.List.{AllByRecursion, filter}
-use Rattle.std.specs.Prelude.{int_lt, nat_le, is_some, ⊤}
+use Rattle.std.specs.Prelude.{int_lt, nat_le, is_some, unwrap_or, ⊤}
 use Rattle.std.specs.Str.{bytes_eq}
+use Rattle.mt_base.specs.declared.clearance.Clearance.{Clearance}
 use Rattle.mt_base.specs.declared.command.Command.{Command}
-use Rattle.mt_base.specs.declared.command.Command.TheVariants.{Plan, External, Drop, Tick}
+use Rattle.mt_base.specs.declared.command.Command.TheVariants.{Plan, External, Drop, Tick, Clear, Accept}
 use Rattle.mt_base.specs.declared.command.Entry.{Entry}
 use Rattle.mt_base.specs.declared.command.Refusal.{Refusal}
+use Rattle.mt_base.specs.declared.flight.Course.{Course}
 use Rattle.mt_base.specs.declared.flight.Path.{Path}
 use Rattle.mt_base.specs.declared.flight.Path.TheVariants.{Planned, Outer}
 use Rattle.mt_base.specs.declared.flight.Straight.{Straight}
 use Rattle.mt_base.specs.declared.route.RouteNo.{RouteNo}
 use Rattle.mt_base.specs.Bounds.{AreWithinBounds, IsBoundedCommand, IsInPlane, IsSoundCourse, IsSoundFlight, IsSoundPath}
 use Rattle.mt_base.specs.Checks.{judged}
-use Rattle.mt_base.specs.History.{checks, course_of, decide, first_of, look_at, refusal_of, route_checks}
+use Rattle.mt_base.specs.History.{IsDecided, checks, course_of, filled, first_of, look_at, refusal_of, route_checks}
 use Rattle.mt_base.specs.Picture.{State, flight_of, opening}
 use Rattle.mt_base.specs.Predictor.{points_of}
 use Rattle.mt_base.specs.Tables.{Setup, Tables, bands_of, fix_checks, length_checks}
-use Rattle.mt_base.proofs.CheckLemmas.{all_pass, all_passed}
+use Rattle.mt_base.specs.WhatIf.{what_if_checks}
+use Rattle.mt_base.proofs.CheckLemmas.{all_pass, all_passed, answer_is}
 use Rattle.mt_machine.specs.Sound.{IsSoundState, Passes}
 use Rattle.mt_machine.proofs.Found.{none_found}
 
@@ -37,27 +40,49 @@ opening_sound setup = record {
   counted = omega arith;
 }
 
-pub passed : (setup : Setup) (s : State) (e : Entry) → decide setup s e.who e.command ≡ Ok e → Passes setup s e.command
-passed setup s e decided = all_passed (checks setup (look_at s e.command) e.command) e (rw decided refl)
+-- an entry that was decided passed its checks
+pub passed : (setup : Setup) (s : State) (e : Entry) → IsDecided setup s e.who e.command (Ok e) → Passes setup s e.command
+passed setup s e decided =
+    let entry : Entry = record { who = e.who; command = filled s.now e.command } in
+    all_passed (checks setup (look_at s e.command) e.command) entry (rw decided.0 refl)
+
+-- and it says from when it holds
+pub filled_is : (setup : Setup) (s : State) (e : Entry) → IsDecided setup s e.who e.command (Ok e) → e.command ≡ filled s.now e.command
+filled_is setup s e decided =
+    let entry : Entry = record { who = e.who; command = filled s.now e.command } in
+    sym (ap (λ (x : Entry). x.command) (answer_is (checks setup (look_at s e.command) e.command) entry e decided.0))
+
+pub second_is : (call : List ℕ) (clearance : Clearance) (eff : Option ℕ) (now : ℕ) → Clear call clearance eff ≡ filled now (Clear call clearance eff)
+    → unwrap_or eff now ≡ unwrap_or eff 0
+second_is call clearance None now is = cc
+second_is call clearance (Some second) now is = refl
 
 -- both halves of a list of which all holds
-halves : {X : Type 0} (P : X → Type 0) (xs ys : List X) → AllByRecursion P (xs ++ ys) → AllByRecursion P xs × AllByRecursion P ys
+pub halves : {X : Type 0} (P : X → Type 0) (xs ys : List X) → AllByRecursion P (xs ++ ys) → AllByRecursion P xs × AllByRecursion P ys
 halves P [] ys all = (tt, all)
 halves P (x ∷ xs) ys all = let h = halves P xs ys all.1 in ((all.0, h.0), h.1)
 
 -- a check that passes answers the one thing that it can
-ok_is : {F : Type 0} (r : Result ⊤ F) → IsOk r → r ≡ Ok (tt {0})
+pub ok_is : {F : Type 0} (r : Result ⊤ F) → IsOk r → r ≡ Ok (tt {0})
 ok_is (Ok _) ok = refl
 ok_is (Err f) ok = cc
 
--- a route whose checks are passed has at least two names
-two_names : (tables : Tables) (route : List (List ℕ)) → AllByRecursion (λ c. c.1 ≡ true) (route_checks tables route) → 2 ≤ length route
-two_names tables route tests =
+-- a route whose checks are passed has 2 to 64 names
+names_of_route : (tables : Tables) (route : List (List ℕ)) → AllByRecursion (λ c. c.1 ≡ true) (route_checks tables route)
+    → (2 ≤ length route) × (length route ≤ 64)
+names_of_route tables route tests =
     let split : AllByRecursion (λ (c : Refusal × Bool). c.1 ≡ true) (map (λ (c : RouteNo × Bool). (refusal_of c.0, c.1)) (fix_checks tables route)
     ++ map (λ (c : RouteNo × Bool). (refusal_of c.0, c.1)) (length_checks route))
     = rw (← map-append {B = Refusal × Bool} (λ c. (refusal_of c.0, c.1)) (fix_checks tables route) (length_checks route)) tests in
     let lengths = (halves (λ (c : Refusal × Bool). c.1 ≡ true) (map (λ (c : RouteNo × Bool). (refusal_of c.0, c.1)) (fix_checks tables route)) _ split).1 in
-    let enough : nat_le 2 (length route) ≡ true = lengths.0 in grind (arith, nat_tests)
+    let enough : nat_le 2 (length route) ≡ true = lengths.0 in
+    let few : nat_le (length route) 64 ≡ true = lengths.1.0 in
+    (grind (arith, nat_tests), grind (arith, nat_tests))
+
+-- a sound course has at most 64 names
+pub few_names : (setup : Setup) (course : Course) → IsSoundCourse setup course → length course.route ≤ 64
+few_names setup course sound =
+    (names_of_route setup.tables course.route (all_passed (route_checks setup.tables course.route) (tt {0}) (rw sound.route refl))).1
 
 -- a flight of a new callsign behind the others
 filed : (setup : Setup) (s : State) (call : List ℕ) (path : Path) → IsSoundState setup s → IsSoundPath setup path
@@ -93,9 +118,11 @@ planned setup kind route at from level rules at_early from_low level_low plane k
     height = record { least = omega (arith, ints); most = omega (arith, ints) };
     r = rules.r0;
     w = rules.w0;
-    next = let enough = two_names setup.tables route tests in omega arith;
+    next = let enough = (names_of_route setup.tables route tests).0 in omega arith;
   };
   mark = tt;
+  last = tt;
+  due = λ due. cc;
 }
 
 pub sound_plan : (setup : Setup) (s : State) (call kind : List ℕ) (route : List (List ℕ)) (at from level : ℕ) → AreWithinBounds setup.rules
@@ -128,9 +155,13 @@ room_by setup s (Plan call kind route at from level) tests = (halves (λ c. c.1 
 room_by setup s (External call stretch) tests = tests.1.1.0
 room_by setup s (Drop call) tests = tests.1.0
 room_by setup s (Tick now) tests = tests.1.0
+room_by setup s (Clear call clearance eff) tests =
+    (halves (λ c. c.1 ≡ true) (what_if_checks setup s.now (flight_of s.records call) call clearance (unwrap_or eff s.now)) _ tests).1.0
+room_by setup s (Accept call clearance eff probed) tests =
+    (halves (λ c. c.1 ≡ true) (what_if_checks setup s.now (flight_of s.records call) call clearance eff) _ tests).1.0
 
 -- with one entry more it is sound
-pub sound_counted : (setup : Setup) (s after : State) (e : Entry) → decide setup s e.who e.command ≡ Ok e → AreWithinBounds setup.rules
+pub sound_counted : (setup : Setup) (s after : State) (e : Entry) → IsDecided setup s e.who e.command (Ok e) → AreWithinBounds setup.rules
     → IsSoundState setup after → after.version ≡ s.version → IsSoundState setup (record after { version = after.version + 1 })
 sound_counted setup s after e decided rules sound same = record {
   sound = sound.sound;

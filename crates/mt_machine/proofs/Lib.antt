@@ -1,3 +1,8 @@
+pub mod Changed
+pub mod Clearances
+pub mod Decisions
 pub mod Effects
+pub mod Filled
 pub mod Found
 pub mod Others
+pub mod Struck

@@ -1,1 +1,5 @@
+pub mod Aimed
+pub mod Book
+pub mod Deciding
+pub mod Hits
 pub mod Sound

@@ -1,8 +1,10 @@
-use Rattle.std.specs.Prelude.{◌≡◌, ◌≢◌, ◌<◌, ◌≤◌, ◌^◌, ℕ, true, List, length, All}
+use Rattle.std.specs.Prelude.{◌≡◌, ◌≢◌, ◌≤◌, ℕ, true, List, length, All}
 use Rattle.std.specs.List.{AllByRecursion}
 use Rattle.mt_base.specs.declared.command.Command.{Command}
+use Rattle.mt_base.specs.declared.hit.Hit.{Hit}
 use Rattle.mt_base.specs.Bounds.{IsSoundFlight}
 use Rattle.mt_base.specs.History.{checks, look_at}
+use Rattle.mt_base.specs.Name.{is_name}
 use Rattle.mt_base.specs.Picture.{HaveOwnCalls, NamedTrajectory, State}
 use Rattle.mt_base.specs.Tables.{Setup}
 
@@ -13,7 +15,7 @@ pub record IsSoundState (setup : Setup) (s : State) : Type 0 where
   pub own_calls : HaveOwnCalls s.records
   pub few : length s.records ≤ 1024
   pub early : s.now ≤ 10000000
-  pub counted : s.version < 2 ^ 63
+  pub counted : s.version ≤ 4194304
 
 -- each check of a command is passed in a state
 abbrev pub Passes : Setup → State → Command → Type 0
@@ -22,3 +24,8 @@ Passes setup s command = AllByRecursion (λ c. c.1 ≡ true) (checks setup (look
 -- trajectories of other flights
 abbrev pub AreOfOthers : List ℕ → List NamedTrajectory → Type 0
 AreOfOthers call all = All (λ t. t.call ≢ call) all
+
+-- hits that a reply carries in the room that was taken for it: at most 1,023, of callsigns
+pub record AreShortHits (hits : List Hit) : Type 0 where
+  pub few : length hits ≤ 1023
+  pub named : All (λ (hit : Hit). is_name 1 7 hit.with ≡ true) hits

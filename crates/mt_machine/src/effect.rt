@@ -1,7 +1,7 @@
 //! What an entry leaves.
 ghost use Rattle.std.specs.Prelude.{◌≡◌, ◌≤◌, ◌∷◌, ◌++◌, [], OnOk, OnErr, Ok};
 ghost use Rattle.mt_base.specs.Bounds.{AreWithinBounds, IsBoundedCommand, IsInPlane};
-ghost use Rattle.mt_base.specs.History.{base_of, course_of, decide, effect, first_of, now_after, records_after};
+ghost use Rattle.mt_base.specs.History.{IsDecided, base_of, course_of, effect, filled, first_of, now_after, records_after};
 ghost use Rattle.mt_base.specs.Predictor.{points_of};
 ghost use Rattle.mt_machine.specs.Sound.{IsSoundState, Passes};
 
@@ -50,7 +50,7 @@ impl Plain {
         requires rules { AreWithinBounds rules.now }
         requires sound { IsSoundState (record { rules = rules.now; tables = tables.now }) self.old }
         requires bounded { IsBoundedCommand entry.now.command }
-        requires decided { decide (record { rules = rules.now; tables = tables.now }) self.old entry.now.who entry.now.command ≡ Ok entry.now }
+        requires decided { IsDecided (record { rules = rules.now; tables = tables.now }) self.old entry.now.who entry.now.command (Ok entry.now) }
         ensures ok { OnOk result (self.new ≡ effect (record { rules = rules.now; tables = tables.now }) self.old entry.now) }
         ensures sound { OnOk result (IsSoundState (record { rules = rules.now; tables = tables.now }) self.new) }
         ensures err { OnErr result (self.new ≡ self.old) }
@@ -66,6 +66,7 @@ impl Plain {
         requires sound { IsSoundState (record { rules = rules.now; tables = tables.now }) self.old }
         requires bounded { IsBoundedCommand command.now }
         requires passed { Passes (record { rules = rules.now; tables = tables.now }) self.old command.now }
+        requires filled { command.now ≡ filled self.old.now command.now }
         ensures ok { OnOk result (self.new ≡ record self.old {
           now = now_after command.now self.old.now;
           records = records_after (record { rules = rules.now; tables = tables.now }) command.now self.old.records;
@@ -109,6 +110,17 @@ impl Plain {
                 self.moment = *now;
                 Ok(())
             }
+            Command::Clear {
+                call,
+                clearance,
+                eff,
+            } => self.clear(tables, rules, *call, *clearance, eff.unwrap_or(0)),
+            Command::Accept {
+                call,
+                clearance,
+                eff,
+                ..
+            } => self.clear(tables, rules, *call, *clearance, *eff),
         }
     }
 

@@ -2,13 +2,21 @@
 //! nothing but the state, so that a kept picture can be compared with it.
 #![tactic(auto)]
 
+mod aiming;
+mod book;
 mod decision;
 mod effect;
+mod finding;
+mod laws;
 mod plain;
 mod strands;
 #[cfg(test)]
 mod tests;
 mod view;
+mod what_if;
 
+pub use book::Book;
 pub use decision::decide;
+pub use laws::one_hits_law;
 pub use plain::Plain;
+pub use what_if::hits;

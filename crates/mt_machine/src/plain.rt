@@ -39,6 +39,18 @@ impl Plain {
         })
     }
 
+    /// The same state once more.
+    pub fn copy(&self) -> Result<Plain, Memory>
+        ensures { IfOk result (λ plain. plain ≡ self.now) }
+    {
+        Ok(Plain {
+            alloc: self.alloc,
+            moment: self.moment,
+            flights: copies(self.alloc, &self.flights)?,
+            version: self.version,
+        })
+    }
+
     /// The moment.
     pub fn now(&self) -> Second
         ensures { result ≡ self.now.now }
@@ -59,4 +71,15 @@ impl Plain {
     {
         self.flights.iter().find(|flight| flight.call == call)
     }
+}
+
+// The same flights once more.
+fn copies(alloc: Global, flights: &[Record]) -> Result<Vec<Record>, Memory>
+    ensures { IfOk result (λ copies. copies.items ≡ flights.now) }
+{
+    let mut copies = Vec::new(alloc);
+    for flight in flights {
+        copies.push(flight.copy(alloc)?)?;
+    }
+    Ok(copies)
 }

@@ -3,6 +3,10 @@ ghost use Rattle.std.specs.Prelude.{◌≤◌, IfOk, OnOk};
 ghost use Rattle.mt_base.specs.Bounds.{AreBoundedBands, AreWithinBounds, IsBoundedCommand};
 ghost use Rattle.mt_machine.specs.Sound.{IsSoundState};
 
+mod book;
+mod clearances;
+mod hits;
+
 use crate::{Plain, decide};
 use mt_base::{
     Band, Callsign, Command, FixName, FlightView, Kind, Refusal, Route, Row, Rules, Straight,
@@ -12,6 +16,7 @@ use mt_tables::Tables;
 use std::alloc::Global;
 use std::process::Abort;
 use std::test::Fail;
+use std::thread::Threads;
 
 fn bands() -> [Band; 1]
     ensures { AreBoundedBands result }
@@ -90,7 +95,8 @@ fn values(row: &Row) -> ([i64; 5], [i64; 5], u32) {
 }
 
 /// Enters a command, which isn't refused.
-fn enter(
+fn enter<R: Threads + Sync>(
+    rt: &R,
     alloc: Global,
     tables: &Tables,
     rules: &Rules,
@@ -102,7 +108,7 @@ fn enter(
     requires bounded { IsBoundedCommand command.now }
     ensures { OnOk result (IsSoundState (record { rules = rules.now; tables = tables.now }) plain.new) }
 {
-    match decide(alloc, tables, rules, plain, 3, command)? {
+    match decide(rt, alloc, tables, rules, plain, 3, command)? {
         Ok(entry) => {
             plain.apply(tables, rules, &entry)?;
             Ok(())
@@ -126,20 +132,20 @@ fn check_view(rt: &impl Abort, view: &FlightView) {
 }
 
 /// A picture of the planned flight DDD1 and the external flight EEE1.
-fn two_flights(alloc: Global, tables: &Tables, rules: &Rules) -> Result<Plain, Fail>
+fn two_flights<R: Threads + Sync>(
+    rt: &R,
+    alloc: Global,
+    tables: &Tables,
+    rules: &Rules,
+) -> Result<Plain, Fail>
     requires { AreWithinBounds rules.now }
     ensures { IfOk result (IsSoundState (record { rules = rules.now; tables = tables.now })) }
 {
     let mut plain = Plain::make(alloc)?;
-    enter(
-        alloc,
-        tables,
-        rules,
-        &mut plain,
-        &plan(alloc, b"DDD1", 360)?,
-    )?;
+    let planned = plan(alloc, b"DDD1", 360)?;
+    enter(rt, alloc, tables, rules, &mut plain, &planned)?;
     let other = Callsign::of(b"EEE1").ok_or("no callsign")?;
-    enter(alloc, tables, rules, &mut plain, &external(other))?;
+    enter(rt, alloc, tables, rules, &mut plain, &external(other))?;
     Ok(plain)
 }
 
@@ -148,7 +154,7 @@ fn a_flight_is_told_at_a_second(rt: HostRuntime) -> Result<(), Fail> {
     let alloc = rt.alloc();
     let rules = Rules::usual();
     let tables = small_tables(alloc)?;
-    let plain = two_flights(alloc, &tables, &rules)?;
+    let plain = two_flights(&rt, alloc, &tables, &rules)?;
     let call = Callsign::of(b"DDD1").ok_or("no callsign")?;
     let view = plain
         .view(alloc, &tables, &rules, call, Some(28))?
@@ -164,7 +170,7 @@ fn each_flight_has_its_trajectory(rt: HostRuntime) -> Result<(), Fail> {
     let alloc = rt.alloc();
     let rules = Rules::usual();
     let tables = small_tables(alloc)?;
-    let plain = two_flights(alloc, &tables, &rules)?;
+    let plain = two_flights(&rt, alloc, &tables, &rules)?;
     let roster = plain.strands(alloc, &tables, &rules)?;
     let mut ends = Vec::new(alloc);
     for item in roster.items() {
@@ -180,8 +186,9 @@ fn a_flight_that_is_held_is_refused(rt: HostRuntime) -> Result<(), Fail> {
     let alloc = rt.alloc();
     let rules = Rules::usual();
     let tables = small_tables(alloc)?;
-    let plain = two_flights(alloc, &tables, &rules)?;
+    let plain = two_flights(&rt, alloc, &tables, &rules)?;
     let again = decide(
+        &rt,
         alloc,
         &tables,
         &rules,
@@ -198,16 +205,12 @@ fn a_dropped_flight_is_gone(rt: HostRuntime) -> Result<(), Fail> {
     let alloc = rt.alloc();
     let rules = Rules::usual();
     let tables = small_tables(alloc)?;
-    let mut plain = two_flights(alloc, &tables, &rules)?;
+    let mut plain = two_flights(&rt, alloc, &tables, &rules)?;
     let call = Callsign::of(b"DDD1").ok_or("no callsign")?;
-    enter(alloc, &tables, &rules, &mut plain, &Command::Drop { call })?;
-    enter(
-        alloc,
-        &tables,
-        &rules,
-        &mut plain,
-        &Command::Tick { now: 7 },
-    )?;
+    let dropped = Command::Drop { call };
+    enter(&rt, alloc, &tables, &rules, &mut plain, &dropped)?;
+    let later = Command::Tick { now: 7 };
+    enter(&rt, alloc, &tables, &rules, &mut plain, &later)?;
     let other = Callsign::of(b"EEE1").ok_or("no callsign")?;
     assert!(rt; plain.flight(call).is_none() && plain.flight(other).is_some());
     assert_eq!(rt; (plain.now(), plain.version()), (7, 4));

@@ -1,27 +1,32 @@
-use Rattle.std.proofs.Common.{◌≡◌, ◌∙◌, sym, ap, Ok, Err, Result}
-use Rattle.std.specs.Prelude.{⊤}
-use Rattle.mt_base.specs.declared.command.Entry.{Entry}
-use Rattle.mt_base.specs.declared.command.Refusal.{Refusal}
-use Rattle.mt_base.specs.Checks.{judged, next}
+use Rattle.std.proofs.Common.{refl, sym}
 use Rattle.mt_base.specs.History.{checks, look_at}
 use Rattle.mt_base.specs.Tables.{Setup}
-use Rattle.mt_base.proofs.CheckLemmas.{judged-answer}
+use Rattle.mt_base.proofs.CheckLemmas.{all_passed}
+use Rattle.mt_machine.proofs.Decisions.{entered, refused, stale}
 use Rattle.mt_machine.proofs.decision.decide.Goals as goal
 
-pub returns-in_ok-copy-in-Ok-clause-exact : goal.returns-in_ok-copy-in-Ok-clause-exact
-returns-in_ok-copy-in-Ok-clause-exact c =
+pub returns-in-Err : goal.returns-in-Err
+returns-in-Err g c =
     let setup : Setup = record { rules = c.args.rules.now; tables = c.args.tables.now } in
-    let entry : Entry = record { who = c.args.who; command = c.args.command.now } in
-    let passed : judged (checks setup (look_at c.args.plain.now c.args.command.now) c.args.command.now) (tt {0}) ≡ Ok (tt {0}) =
-    rw (← c.look.ensures) (sym c.in-Ok.ensures) in
-    rw c.in_ok-copy-in-Ok.ensures (sym (judged-answer (checks setup (look_at c.args.plain.now c.args.command.now) c.args.command.now) entry
-    ∙ ap (λ (r : Result ⊤ Refusal). next r (Ok entry)) passed))
+    let is = rw (c.look-looked.ensures.look, c.in-Err.is) at c.judge.ensures in
+    refused setup c.args.plain.now c.args.who c.args.command.now c.in-Err.refusal (sym is)
 
-pub returns-in-Err-clause-exact : goal.returns-in-Err-clause-exact
-returns-in-Err-clause-exact c =
+pub first_hit-requires-clause-passed : goal.first_hit-requires-clause-passed
+first_hit-requires-clause-passed g c = λ κs sub.
     let setup : Setup = record { rules = c.args.rules.now; tables = c.args.tables.now } in
-    let entry : Entry = record { who = c.args.who; command = c.args.command.now } in
-    let refused : judged (checks setup (look_at c.args.plain.now c.args.command.now) c.args.command.now) (tt {0}) ≡ Err c.in-Err.refusal =
-    rw (← c.look.ensures) (sym c.in-Err.ensures) in
-    sym (judged-answer (checks setup (look_at c.args.plain.now c.args.command.now) c.args.command.now) entry
-    ∙ ap (λ (r : Result ⊤ Refusal). next r (Ok entry)) refused)
+    let is = rw (c.look-looked.ensures.look, c.in_default.is) at c.judge.ensures in
+    all_passed (checks setup (look_at c.args.plain.now c.args.command.now) c.args.command.now) (tt {0}) (rw (← is) refl)
+
+pub returns-in-Some : goal.returns-in-Some
+returns-in-Some g c =
+    let setup : Setup = record { rules = c.args.rules.now; tables = c.args.tables.now } in
+    let is = rw (c.look-looked.ensures.look, c.in_default.is) at c.judge.ensures in
+    let hit = rw c.in-Some.is at c.in_ok-first.ensures in
+    stale setup c.args.plain.now c.args.who c.args.command.now c.in-Some.first (sym is) hit.0 hit.1
+
+pub returns : goal.returns
+returns g c =
+    let setup : Setup = record { rules = c.args.rules.now; tables = c.args.tables.now } in
+    let is = rw (c.look-looked.ensures.look, c.in_default.is) at c.judge.ensures in
+    rw (c.in_ok-filled.ensures, c.now.ensures)
+    (entered setup c.args.plain.now c.args.who c.args.command.now (sym is) (rw c.in_default-2.is at c.in_ok-first.ensures))

@@ -1,12 +1,16 @@
 use Rattle.std.proofs.Common.{◌∙◌, ap}
 use Rattle.mt_base.specs.Picture.{State}
 use Rattle.mt_machine.specs.contracts.plain.Plain.{the_view}
-use Rattle.mt_machine.proofs.Effects.{passed, sound_counted}
+use Rattle.mt_machine.proofs.Effects.{filled_is, passed, sound_counted}
 use Rattle.mt_machine.proofs.plain.Plain.apply.Goals as goal
 
 pub change-requires-clause-passed : goal.change-requires-clause-passed
 change-requires-clause-passed c =
     passed (record { rules = c.args.rules.now; tables = c.args.tables.now }) c.args.self.now c.args.entry.now c.requires.decided
+
+pub change-requires-clause-filled : goal.change-requires-clause-filled
+change-requires-clause-filled c =
+    filled_is (record { rules = c.args.rules.now; tables = c.args.tables.now }) c.args.self.now c.args.entry.now c.requires.decided
 
 pub returns-clause-sound : goal.returns-clause-sound
 returns-clause-sound c = sound_counted (record { rules = c.args.rules.now; tables = c.args.tables.now }) c.args.self.now (the_view c.self.inside)

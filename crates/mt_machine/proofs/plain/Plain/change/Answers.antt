@@ -1,8 +1,14 @@
-use Rattle.std.proofs.Common.{rules, not, List, ap}
+use Rattle.std.proofs.Common.{rules, ◌≡◌, ℕ, Ok, not, List, ap, subst, sym, ◌∙◌}
 use Rattle.std.proofs.lemmas.Fn.{filter_same}
 use Rattle.std.specs.Str.{bytes_eq}
+use Rattle.std.specs.Prelude.{unwrap_or}
 use Rattle.mt_base.specs.declared.flight.Record.{Record}
-use Rattle.mt_machine.proofs.Effects.{sound_drop, sound_external, sound_plan}
+use Rattle.mt_base.specs.Picture.{flight_of}
+use Rattle.mt_base.specs.Checks.{judged}
+use Rattle.mt_base.specs.Tables.{Setup}
+use Rattle.mt_base.specs.WhatIf.{what_if_checks}
+use Rattle.mt_machine.proofs.Clearances.{passed_what_if}
+use Rattle.mt_machine.proofs.Effects.{second_is, sound_drop, sound_external, sound_plan}
 use Rattle.mt_machine.proofs.plain.Plain.change.Goals as goal
 
 pub returns-in_ok-file-in-Plan-clause-sound : goal.returns-in_ok-file-in-Plan-clause-sound
@@ -30,3 +36,20 @@ returns-in-Drop-clause-ok c = rw (c.in-Drop.is, ← c.self-in-Drop.view_is)
 pub returns-in-Drop-clause-sound : goal.returns-in-Drop-clause-sound
 returns-in-Drop-clause-sound c = rw (returns-in-Drop-clause-ok c, c.in-Drop.is)
     (sound_drop (record { rules = c.args.rules.now; tables = c.args.tables.now }) c.args.self.now c.in-Drop.call c.requires.sound)
+
+pub clear-requires-clause-passed : goal.clear-requires-clause-passed
+clear-requires-clause-passed c =
+    let setup : Setup = record { rules = c.args.rules.now; tables = c.args.tables.now } in
+    let tests = rw c.in-Clear.is at c.requires.passed in
+    let now_is = second_is c.in-Clear.call c.in-Clear.clearance c.in-Clear.eff c.args.self.now.now (rw c.in-Clear.is at c.requires.filled) in
+    let P : ℕ → Type 0 = λ second. judged (what_if_checks setup c.args.self.now.now (flight_of c.args.self.now.records c.in-Clear.call) c.in-Clear.call
+    c.in-Clear.clearance second) (tt {0}) ≡ Ok (tt {0}) in
+    subst P (now_is ∙ sym c.unwrap_or.ensures)
+    (passed_what_if setup c.args.self.now.now (flight_of c.args.self.now.records c.in-Clear.call) c.in-Clear.call c.in-Clear.clearance
+    (unwrap_or c.in-Clear.eff c.args.self.now.now) _ tests)
+
+pub clear-requires-in-Accept-clause-passed : goal.clear-requires-in-Accept-clause-passed
+clear-requires-in-Accept-clause-passed c =
+    let setup : Setup = record { rules = c.args.rules.now; tables = c.args.tables.now } in
+    passed_what_if setup c.args.self.now.now (flight_of c.args.self.now.records c.in-Accept.call) c.in-Accept.call c.in-Accept.clearance
+    c.in-Accept.eff _ (rw c.in-Accept.is at c.requires.passed)

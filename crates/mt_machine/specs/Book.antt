@@ -1,0 +1,25 @@
+-- The book of what was probed: the last 64 values, under numbers from 1 up.
+use Rattle.std.specs.Prelude.{ℕ, ◌+◌, ◌-◌, List, [], ◌∷◌, ◌++◌, length, Option, None, slice_get, if◌then◌else◌, nat_lt, refl}
+use Rattle.std.specs.Coded.{Coded, code_by, coded×, coded_list, coded_ℕ}
+use Rattle.mt_base.specs.Tally.{raised}
+use Rattle.circular_buffer.specs.Buffer.{keep_last}
+
+-- how many values were ever put in, and those of them that are kept, the newest last
+pub record Book (P : Type 0) : Type 0 where
+  pub count : ℕ
+  pub last : List P
+
+module _ {P : Type 0} where
+  abbrev pub book_code : Coded P → Coded (Book P)
+  book_code c = code_by (ℕ × List P) (coded× coded_ℕ (coded_list c)) (λ b. (b.count, b.last)) (λ p. record { count = p.0; last = p.1 }) (λ _. refl)
+
+  abbrev pub empty_book : Book P
+  empty_book = record { count = 0; last = [] }
+
+  -- with one value more (the count stays at its type's end)
+  abbrev pub with_probe : Book P → P → Book P
+  with_probe book p = record { count = raised book.count; last = keep_last 64 (book.last ++ p ∷ []) }
+
+  -- the value that was put in under that number, where it is kept
+  abbrev pub probe_at : Book P → ℕ → Option P
+  probe_at book n = if nat_lt book.count (n + length book.last) then slice_get book.last (n + length book.last - (book.count + 1)) else None
