@@ -1,4 +1,6 @@
+pub mod BriefHits
 pub mod OneReply
+pub mod OneSolution
 pub mod Replying
 pub mod Turning
 pub mod WordLemmas

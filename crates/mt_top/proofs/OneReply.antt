@@ -1,11 +1,13 @@
 -- A line of a world has one reply.
-use Rattle.std.proofs.Common.{◌≡◌, ℕ, Bool, true, false, List, length, Option, Some, None, Result, Ok, Err, sym, ◌∙◌, ap}
-use Rattle.std.specs.Prelude.{MatchBool, ⊤}
+use Rattle.std.proofs.Common.{◌≡◌, ℕ, Bool, true, false, List, length, Option, Some, None, Result, Ok, Err, sym, subst, ◌∙◌, ap}
+use Rattle.std.specs.Prelude.{MatchBool, unwrap_or, ⊤}
+use Rattle.mt_base.specs.declared.command.Command.{Command}
 use Rattle.mt_base.specs.declared.command.Entry.{Entry}
 use Rattle.mt_base.specs.declared.command.Refusal.{Refusal}
 use Rattle.mt_base.specs.declared.conflict.Conflict.{Conflict}
+use Rattle.mt_base.specs.declared.clearance.Clearance.{Clearance}
 use Rattle.mt_base.specs.declared.flight.Record.{Record}
-use Rattle.mt_base.specs.History.{decide}
+use Rattle.mt_base.specs.declared.hit.Hit.{Hit}
 use Rattle.mt_base.specs.Picture.{flight_of}
 use Rattle.mt_base.specs.Tables.{Tables}
 use Rattle.mt_base.proofs.ConflictOrder.{total}
@@ -13,10 +15,13 @@ use Rattle.mt_base.proofs.OneOrder.{one_order}
 use Rattle.mt_wire.specs.declared.request.Request.{Request}
 use Rattle.mt_wire.specs.declared.request.Request.TheVariants as requests
 use Rattle.mt_tables.specs.declared.add_no.AddNo.{AddNo}
+use Rattle.mt_machine.specs.Book.{probe_at}
 use Rattle.mt_wire.specs.declared.reply.DoneWord.{DoneWord}
 use Rattle.mt_wire.specs.declared.reply.Reply.{Reply}
 use Rattle.mt_wire.specs.declared.reply.Reply.TheVariants.{List as listed}
-use Rattle.mt_top.specs.World.{IsAdded, IsAnswered, IsDecided, IsGiven, IsListed, IsRefused, IsServed, IsTold, World, picture_of, setup_of}
+use Rattle.mt_top.specs.declared.actor.Probe.{Probe}
+use Rattle.mt_top.specs.World.{IsAcceptedOf, IsAdded, IsAnswered, IsChanged, IsGiven, IsListed, IsOutcome, IsProbed, IsRefused, IsServed, IsTold, IsTried, World, actor_of, is_empty, picture_of, picture_taken, setup_of}
+use Rattle.mt_top.proofs.OneSolution.{one_decision, one_what_if}
 
 -- the same reply, and the same world after it
 abbrev AreOne : Reply → Reply → World → World → Type 0
@@ -43,6 +48,37 @@ by_begun : (b : Bool) (P Q P' Q' R : Type 0) → (P → P' → R) → (Q → Q' 
 by_begun true P Q P' Q' R p q x y = p x y
 by_begun false P Q P' Q' R p q x y = q x y
 
+one_outcome : (w : World) (d : Result Entry Refusal) (r s : Reply) (next other : World) → IsOutcome w d r next → IsOutcome w d s other
+    → AreOne r s next other
+one_outcome w (Ok entry) r s next other x y = one_given _ _ r s next other x y
+one_outcome w (Err refusal) r s next other x y = one_refused w _ r s next other x y
+
+one_changed : (w : World) (who : ℕ) (command : Command) (r s : Reply) (next other : World) → IsChanged w who command r next
+    → IsChanged w who command s other → AreOne r s next other
+one_changed w who command r s next other x y =
+    let same : y.decision ≡ x.decision = one_decision (setup_of w) (picture_of w) who command y.decision x.decision y.decided x.decided in
+    one_outcome w x.decision r s next other x.outcome (subst (λ (d : Result Entry Refusal). IsOutcome w d s other) same y.outcome)
+
+one_tried : (w : World) (who : ℕ) (call : List ℕ) (clearance : Clearance) (eff : ℕ) (found : Result (List Hit) Refusal) (r s : Reply) (next other : World)
+    → IsTried w who call clearance eff found r next → IsTried w who call clearance eff found s other → AreOne r s next other
+one_tried w who call clearance eff (Ok hits) r s next other x y = one_given _ _ r s next other x y
+one_tried w who call clearance eff (Err refusal) r s next other x y = one_refused w _ r s next other x y
+
+one_probed : (w : World) (who : ℕ) (call : List ℕ) (clearance : Clearance) (eff : Option ℕ) (r s : Reply) (next other : World)
+    → IsProbed w who call clearance eff r next → IsProbed w who call clearance eff s other → AreOne r s next other
+one_probed w who call clearance eff r s next other x y =
+    let at : ℕ = unwrap_or eff (picture_taken w who).now in
+    let same : y.result ≡ x.result =
+    one_what_if (setup_of w) (picture_taken w who) call clearance eff y.result x.result y.follows x.follows in
+    one_tried w who call clearance at x.result r s next other x.tried
+    (subst (λ (found : Result (List Hit) Refusal). IsTried w who call clearance at found s other) same y.tried)
+
+one_accepted : (w : World) (who : ℕ) (found : Option Probe) (r s : Reply) (next other : World) → IsAcceptedOf w who found r next
+    → IsAcceptedOf w who found s other → AreOne r s next other
+one_accepted w who None r s next other x y = one_refused w _ r s next other x y
+one_accepted w who (Some probe) r s next other x y =
+    by_begun (is_empty probe.hits) _ _ _ _ _ (one_changed w who _ r s next other) (one_refused w _ r s next other) x y
+
 one_served : (w : World) (who : ℕ) (request : Request) (r s : Reply) (next other : World) → IsServed w who request r next
     → IsServed w who request s other → AreOne r s next other
 one_served w who (requests.Fix name a b) r s next other x y =
@@ -63,10 +99,12 @@ one_served w who (requests.Flight call sec) r s next other x y =
 one_served w who (requests.History from to) r s next other x y =
     by_begun w.begun _ _ _ _ _ (one_given _ _ r s next other) (one_refused w _ r s next other) x y
 one_served w who (requests.Change command) r s next other x y =
-    by_begun w.begun _ _ _ _ _ (one_decided (decide (setup_of w) (picture_of w) who command)) (one_refused w _ r s next other) x y where
-      one_decided : (d : Result Entry Refusal) → IsDecided w d r next → IsDecided w d s other → AreOne r s next other
-      one_decided (Ok e) a b = one_given _ _ r s next other a b
-      one_decided (Err refusal) a b = one_refused w _ r s next other a b
+    by_begun w.begun _ _ _ _ _ (one_changed w who command r s next other) (one_refused w _ r s next other) x y
+one_served w who requests.Take r s next other x y = by_begun w.begun _ _ _ _ _ (one_given _ _ r s next other) (one_refused w _ r s next other) x y
+one_served w who (requests.Probe call clearance eff) r s next other x y =
+    by_begun w.begun _ _ _ _ _ (one_probed w who call clearance eff r s next other) (one_refused w _ r s next other) x y
+one_served w who (requests.Accept number) r s next other x y =
+    by_begun w.begun _ _ _ _ _ (one_accepted w who (probe_at (actor_of w who).book number) r s next other) (one_refused w _ r s next other) x y
 
 pub one_reply : (w : World) (a : Result (ℕ × Request) Reply) (r s : Reply) (next other : World) → IsAnswered w a r next → IsAnswered w a s other
     → AreOne r s next other

@@ -3,8 +3,9 @@ use Rattle.std.proofs.lemmas.Bool.{lt-ltb}
 use Rattle.std.specs.Prelude.{MatchBool, ⊤}
 use Rattle.mt_base.specs.declared.command.Entry.{Entry}
 use Rattle.mt_base.specs.declared.command.Refusal.{Refusal}
+use Rattle.mt_base.specs.declared.clearance.Clearance.{Clearance}
 use Rattle.mt_base.specs.declared.flight.Record.{Record}
-use Rattle.mt_base.specs.History.{decide}
+use Rattle.mt_base.specs.declared.hit.Hit.{Hit}
 use Rattle.mt_base.specs.Picture.{flight_of}
 use Rattle.mt_base.specs.Tables.{Tables}
 use Rattle.mt_tables.specs.declared.add_no.AddNo.{AddNo}
@@ -16,7 +17,9 @@ use Rattle.mt_wire.specs.declared.reply.Reply.TheVariants as replies
 use Rattle.mt_wire.specs.Reply.{reply_text}
 use Rattle.mt_top.specs.Given.{IsGivenFor, is_brief, is_farewell}
 use Rattle.mt_top.specs.Script.{AreReplied, IsReplied}
-use Rattle.mt_top.specs.World.{IsAdded, IsAnswered, IsDecided, IsServed, IsTold, World, asked, picture_of, setup_of}
+use Rattle.mt_machine.specs.Book.{probe_at}
+use Rattle.mt_top.specs.declared.actor.Probe.{Probe}
+use Rattle.mt_top.specs.World.{IsAcceptedOf, IsAdded, IsAnswered, IsOutcome, IsServed, IsTold, IsTried, World, actor_of, asked, is_empty, picture_of}
 
 -- one line more
 pub replied_push : (w : World) (lines : List (List ℕ)) (bytes : List ℕ) (middle : World) (line : List ℕ) (reply : Reply) (next : World)
@@ -48,6 +51,22 @@ added : (w next : World) (checked : Result ⊤ AddNo) (word : DoneWord) (taken :
 added w next (Ok _) word taken tables reply b g = not_given _ reply _ g.reply_is refl b
 added w next (Err refusal) word taken tables reply b r = r.same
 
+-- and nothing was entered
+outcome : (w next : World) (decision : Result Entry Refusal) (reply : Reply) → is_brief reply ≡ false → IsOutcome w decision reply next → next ≡ w
+outcome w next (Ok entry) reply b g = not_given _ reply _ g.reply_is refl b
+outcome w next (Err refusal) reply b r = r.same
+
+-- nor kept
+tried : (w next : World) (who : ℕ) (call : List ℕ) (clearance : Clearance) (eff : ℕ) (result : Result (List Hit) Refusal) (reply : Reply)
+    → is_brief reply ≡ false → IsTried w who call clearance eff result reply next → next ≡ w
+tried w next who call clearance eff (Ok hits) reply b g = not_given _ reply _ g.reply_is refl b
+tried w next who call clearance eff (Err refusal) reply b r = r.same
+
+accepted : (w next : World) (who : ℕ) (found : Option Probe) (reply : Reply) → is_brief reply ≡ false → IsAcceptedOf w who found reply next → next ≡ w
+accepted w next who None reply b r = r.same
+accepted w next who (Some probe) reply b a =
+    by_begun (is_empty probe.hits) _ _ _ (λ changed. outcome w next changed.decision reply b changed.outcome) (λ r. r.same) a
+
 -- a reply that is not brief follows no change
 unchanged_by : (w next : World) (who : ℕ) (request : Request) (reply : Reply) → IsServed w who request reply next → is_brief reply ≡ false → next ≡ w
 unchanged_by w next who (requests.Fix name x y) reply served b =
@@ -66,10 +85,13 @@ unchanged_by w next who (requests.Flight call sec) reply served b = by_begun w.b
   told None r = r.same
 unchanged_by w next who (requests.History from to) reply served b = by_begun w.begun _ _ _ (λ g. g.next_is) (λ r. r.same) served
 unchanged_by w next who (requests.Change command) reply served b =
-    by_begun w.begun _ _ _ (decided (decide (setup_of w) (picture_of w) who command)) (λ r. r.same) served where
-      decided : (d : Result Entry Refusal) → IsDecided w d reply next → next ≡ w
-      decided (Ok e) g = not_given _ reply _ g.reply_is refl b
-      decided (Err refusal) r = r.same
+    by_begun w.begun _ _ _ (λ changed. outcome w next changed.decision reply b changed.outcome) (λ r. r.same) served
+unchanged_by w next who requests.Take reply served b =
+    by_begun w.begun _ _ _ (λ g. not_given _ reply _ g.reply_is refl b) (λ r. r.same) served
+unchanged_by w next who (requests.Probe call clearance eff) reply served b =
+    by_begun w.begun _ _ _ (λ probed. tried w next who call clearance _ probed.result reply b probed.tried) (λ r. r.same) served
+unchanged_by w next who (requests.Accept number) reply served b =
+    by_begun w.begun _ _ _ (accepted w next who (probe_at (actor_of w who).book number) reply b) (λ r. r.same) served
 
 unchanged_of : (w next : World) (a : Result (ℕ × Request) Reply) (reply : Reply) → IsAnswered w a reply next → is_brief reply ≡ false → next ≡ w
 unchanged_of w next (Ok a) reply served b = unchanged_by w next a.0 a.1 reply served b

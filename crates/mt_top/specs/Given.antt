@@ -15,6 +15,8 @@ abbrev pub is_brief : Reply → Bool
 is_brief (replies.Done word) = true
 is_brief (replies.Hello role) = true
 is_brief (replies.Entered entered) = true
+is_brief (replies.Taken version) = true
+is_brief (replies.Probe conflicts eff probe version) = true
 is_brief replies.Json = true
 is_brief replies.Long = true
 is_brief replies.Begun = true
@@ -40,6 +42,8 @@ is_farewell (replies.Done done.Begin) = false
 is_farewell (replies.Done done.Rule) = false
 is_farewell (replies.Hello role) = false
 is_farewell (replies.Entered entered) = false
+is_farewell (replies.Taken version) = false
+is_farewell (replies.Probe conflicts eff probe version) = false
 is_farewell replies.Json = false
 is_farewell replies.Long = false
 is_farewell replies.Begun = false

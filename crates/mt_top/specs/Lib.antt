@@ -1,3 +1,4 @@
+pub mod Fit
 pub mod Given
 pub mod Run
 pub mod Script

@@ -1,17 +1,23 @@
-use Rattle.std.specs.Prelude.{◌≡◌, ℕ, ◌+◌, ◌-◌, Bool, true, false, List, [], ◌∷◌, ◌++◌, length, take, drop, nat_lt, Option, Some, None, Result, Ok, Err, MatchBool, ⊤, if◌then◌else◌}
+use Rattle.std.specs.Prelude.{◌≡◌, ℕ, ◌+◌, ◌-◌, Bool, true, false, List, [], ◌∷◌, ◌++◌, length, replicate, take, drop, get_or, slice_set, nat_lt, unwrap_or, Option, Some, None, Result, Ok, Err, MatchBool, ⊤, if◌then◌else◌}
 use Rattle.mt_base.specs.declared.command.Entry.{Entry}
 use Rattle.mt_base.specs.declared.command.Refusal.{Refusal}
 use Rattle.mt_base.specs.declared.conflict.Conflict.{Conflict}
 use Rattle.mt_base.specs.declared.rules.Rules.{Rules}
-use Rattle.mt_base.specs.declared.band.Band.{Band}
-use Rattle.mt_base.specs.declared.command.Refusal.TheVariants.{UnknownCall}
+use Rattle.mt_base.specs.declared.clearance.Clearance.{Clearance}
+use Rattle.mt_base.specs.declared.command.Command.{Command}
+use Rattle.mt_base.specs.declared.command.Command.TheVariants.{Accept}
+use Rattle.mt_base.specs.declared.command.Refusal.TheVariants.{UnknownCall, NoProbe, NotFree}
+use Rattle.mt_base.specs.declared.hit.Hit.{Hit}
 use Rattle.mt_base.specs.declared.flight.Record.{Record}
 use Rattle.mt_base.specs.Checks.{judged}
-use Rattle.mt_base.specs.History.{decide, state_of}
+use Rattle.mt_base.specs.History.{IsDecided, state_of}
 use Rattle.mt_base.specs.Picture.{IsPublished, State, flight_of}
 use Rattle.mt_base.specs.Rules.{usual_rules}
+use Rattle.mt_base.specs.Tally.{raised}
 use Rattle.mt_base.specs.Tables.{Setup, Tables, no_tables}
 use Rattle.mt_base.specs.View.{view_of}
+use Rattle.mt_base.specs.WhatIf.{IsWhatIf}
+use Rattle.mt_machine.specs.Book.{Book, empty_book, probe_at, with_probe}
 use Rattle.mt_tables.specs.declared.add_no.AddNo.{AddNo}
 use Rattle.mt_tables.specs.declared.add_no.AddNo.TheVariants as add
 use Rattle.mt_tables.specs.Adding.{fix_adding, type_adding, with_fix, with_type}
@@ -26,17 +32,33 @@ use Rattle.mt_wire.specs.Commands.{rules_with}
 use Rattle.mt_wire.specs.Line.{line as read_as}
 use Rattle.mt_wire.specs.declared.request.LineNo.{LineNo}
 use Rattle.mt_wire.specs.declared.request.LineNo.TheVariants as nos
+use Rattle.mt_top.specs.declared.actor.Probe.{Probe}
 
--- The world of a script: the rules and the tables, whether the picture has begun, and its history.
+-- whether there are none
+abbrev pub is_empty : {A : Type 0} → List A → Bool
+is_empty [] = true
+is_empty (x ∷ xs) = false
+
+-- An actor of a script: how many entries of the history it has taken, and its book of probes.
+pub record Actor : Type 0 where
+  pub taken : ℕ
+  pub book : Book Probe
+
+-- as it is at first
+abbrev pub new_actor : Actor
+new_actor = record { taken = 0; book = empty_book }
+
+-- The world of a script: the rules and the tables, whether the picture has begun, its history, and its sixteen actors.
 pub record World : Type 0 where
   pub rules : Rules
   pub tables : Tables
   pub begun : Bool
   pub history : List Entry
+  pub actors : List Actor
 
 -- as it is before the first line
 abbrev pub opening_world : World
-opening_world = record { rules = usual_rules; tables = no_tables; begun = false; history = [] }
+opening_world = record { rules = usual_rules; tables = no_tables; begun = false; history = []; actors = replicate 16 new_actor }
 
 -- what its lines before `begin` fix, and the state of its history
 abbrev pub setup_of : World → Setup
@@ -44,6 +66,20 @@ setup_of w = record { rules = w.rules; tables = w.tables }
 
 abbrev pub picture_of : World → State
 picture_of w = state_of (setup_of w) w.history
+
+-- an actor by its number; the state of the entries that it has taken
+abbrev pub actor_of : World → ℕ → Actor
+actor_of w who = get_or w.actors who new_actor
+
+abbrev pub picture_taken : World → ℕ → State
+picture_taken w who = state_of (setup_of w) (take (actor_of w who).taken w.history)
+
+-- a world with another book of an actor, and with all entries taken by it
+abbrev pub with_book : World → ℕ → Book Probe → World
+with_book w who book = record w { actors = slice_set w.actors who (record (actor_of w who) { book = book }) }
+
+abbrev pub with_all_taken : World → ℕ → World
+with_all_taken w who = record w { actors = slice_set w.actors who (record (actor_of w who) { taken = length w.history }) }
 
 -- the refusal is the reply, and nothing has changed
 pub record IsRefused (w : World) (refusal reply : Reply) (next : World) : Type 0 where
@@ -79,11 +115,41 @@ abbrev pub IsTold : World → List ℕ → Option ℕ → Option Record → Repl
 IsTold w call sec (Some flight) reply next = IsGiven (replies.Flight (view_of (setup_of w) (picture_of w) sec flight)) w reply next
 IsTold w call sec None reply next = IsRefused w (replies.Refused (UnknownCall call) (length w.history)) reply next
 
--- what a decision on the state of the history answers: an entry is put behind the history, a refusal changes nothing
-abbrev pub IsDecided : World → Result Entry Refusal → Reply → World → Type 0
-IsDecided w (Ok entry) reply next =
+-- what a decision answers: an entry is put behind the history, a refusal changes nothing
+abbrev pub IsOutcome : World → Result Entry Refusal → Reply → World → Type 0
+IsOutcome w (Ok entry) reply next =
     IsGiven (replies.Entered (record { version = length w.history + 1 })) (record w { history = w.history ++ entry ∷ [] }) reply next
-IsDecided w (Err refusal) reply next = IsRefused w (replies.Refused refusal (length w.history)) reply next
+IsOutcome w (Err refusal) reply next = IsRefused w (replies.Refused refusal (length w.history)) reply next
+
+-- what an actor's command is answered: what is decided of it on the state of the history
+pub record IsChanged (w : World) (who : ℕ) (command : Command) (reply : Reply) (next : World) : Type 0 where
+  pub decision : Result Entry Refusal
+  pub decided : IsDecided (setup_of w) (picture_of w) who command decision
+  pub outcome : IsOutcome w decision reply next
+
+-- the reply carries what would follow from a clearance, or its refusal; a probe that isn't refused is put in the actor's book
+abbrev pub IsTried : World → ℕ → List ℕ → Clearance → ℕ → Result (List Hit) Refusal → Reply → World → Type 0
+IsTried w who call clearance eff (Ok hits) reply next =
+    IsGiven (replies.Probe hits eff (raised (actor_of w who).book.count) (actor_of w who).taken)
+    (with_book w who (with_probe (actor_of w who).book
+    (record { call = call; clearance = clearance; eff = eff; version = (actor_of w who).taken; hits = hits }))) reply next
+IsTried w who call clearance eff (Err refusal) reply next = IsRefused w (replies.Refused refusal (actor_of w who).taken) reply next
+
+-- what a probe is answered: what would follow on the state that its actor has taken
+pub record IsProbed (w : World) (who : ℕ) (call : List ℕ) (clearance : Clearance) (eff : Option ℕ) (reply : Reply) (next : World) : Type 0 where
+  pub result : Result (List Hit) Refusal
+  pub follows : IsWhatIf (setup_of w) (picture_taken w who) call clearance eff result
+  pub tried : IsTried w who call clearance (unwrap_or eff (picture_taken w who).now) result reply next
+
+-- what the acceptance of a probe is answered: that the book has none of that number, that it had hits, or what is decided of it now
+abbrev pub IsAcceptedOf : World → ℕ → Option Probe → Reply → World → Type 0
+IsAcceptedOf w who None reply next = IsRefused w (replies.Refused NoProbe (length w.history)) reply next
+IsAcceptedOf w who (Some probe) reply next = MatchBool (is_empty probe.hits)
+    (IsChanged w who (Accept probe.call probe.clearance probe.eff probe.version) reply next)
+    (IsRefused w (replies.Refused NotFree (length w.history)) reply next)
+
+abbrev pub IsAccepted : World → ℕ → ℕ → Reply → World → Type 0
+IsAccepted w who number reply next = IsAcceptedOf w who (probe_at (actor_of w who).book number) reply next
 
 -- What an actor's request is answered, and the world after it. Fixes, types and rules are set and the picture is begun once, at first;
 -- `hello` and `bye` are answered always, and the other requests once the picture has begun.
@@ -97,7 +163,7 @@ IsServed w who (requests.TypeLine name bands) reply next = MatchBool w.begun (Is
 IsServed w who (requests.Rule set) reply next = MatchBool w.begun
     (IsRefused w replies.Begun reply next) (IsGiven (replies.Done done.Rule) (record w { rules = rules_with set w.rules }) reply next)
 IsServed w who requests.Begin reply next = MatchBool w.begun
-    (IsRefused w replies.Begun reply next) (IsGiven (replies.Done done.Begin) (record w { begun = true; history = [] }) reply next)
+    (IsRefused w replies.Begun reply next) (IsGiven (replies.Done done.Begin) (record w { begun = true; history = []; actors = replicate 16 new_actor }) reply next)
 IsServed w who (requests.Hello role) reply next = IsGiven (replies.Hello role) w reply next
 IsServed w who requests.Bye reply next = IsGiven (replies.Done done.Bye) w reply next
 IsServed w who requests.List reply next = MatchBool w.begun (IsListed w reply next) (IsRefused w replies.Unbegun reply next)
@@ -107,7 +173,13 @@ IsServed w who (requests.Flight call sec) reply next = MatchBool w.begun
 IsServed w who (requests.History from to) reply next = MatchBool w.begun
     (IsGiven (replies.History (take (to - from) (drop from w.history)) (length w.history)) w reply next) (IsRefused w replies.Unbegun reply next)
 IsServed w who (requests.Change command) reply next = MatchBool w.begun
-    (IsDecided w (decide (setup_of w) (picture_of w) who command) reply next) (IsRefused w replies.Unbegun reply next)
+    (IsChanged w who command reply next) (IsRefused w replies.Unbegun reply next)
+IsServed w who requests.Take reply next = MatchBool w.begun
+    (IsGiven (replies.Taken (length w.history)) (with_all_taken w who) reply next) (IsRefused w replies.Unbegun reply next)
+IsServed w who (requests.Probe call clearance eff) reply next = MatchBool w.begun
+    (IsProbed w who call clearance eff reply next) (IsRefused w replies.Unbegun reply next)
+IsServed w who (requests.Accept number) reply next = MatchBool w.begun
+    (IsAccepted w who number reply next) (IsRefused w replies.Unbegun reply next)
 
 -- the refusal of a line as a reply
 abbrev pub or_reply : Result (ℕ × Request) LineNo → Result (ℕ × Request) Reply

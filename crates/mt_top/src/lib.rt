@@ -1,9 +1,14 @@
 //! The top call: a script of lines in, their replies out.
 #![tactic(auto)]
 
+mod actor;
+mod entering;
 mod laws;
+mod probing;
+mod reading;
 mod replay;
 mod reply_out;
+mod setting;
 mod status;
 #[cfg(test)]
 mod tests;

@@ -2,7 +2,7 @@
 ghost use Rattle.std.specs.Prelude.{◌≡◌, ◌≤◌, ◌^◌, ◌+◌, ℕ, List, None, Some, IfNone, vec_capacity};
 ghost use Rattle.std.specs.declared.option.Option.{Option};
 ghost use Rattle.mt_io.specs.Causes.{Rose};
-ghost use Rattle.mt_top.specs.Run.{Explains, IsNoFault, ReplayMeans};
+ghost use Rattle.mt_top.specs.Run.{Explains, ReplayMeans};
 ghost use Rattle.mt_top.specs.SoFar.{SoFar, Turned};
 ghost use Rattle.mt_top.specs.declared.status.Status.TheVariants.{ReadFault, WriteFault};
 
@@ -40,14 +40,15 @@ pub fn replay<R: Threads + Sync, S: Source, K: Sink>(
         return Status::Memory;
     };
     loop {
-        if let Some(status) = turn(alloc, &mut reader, &mut world, &mut room, input, output) {
+        if let Some(status) = turn(rt, alloc, &mut reader, &mut world, &mut room, input, output) {
             return status;
         }
     }
 }
 
 // Reads one line and answers it; a status where the replay ends with it.
-fn turn<S: Source, K: Sink>(
+fn turn<R: Threads + Sync, S: Source, K: Sink>(
+    rt: &R,
     alloc: Global,
     reader: &mut LineReader,
     world: &mut World,
@@ -70,7 +71,7 @@ fn turn<S: Source, K: Sink>(
 {
     match reader.next(input) {
         Ok(Line::Text(line)) => {
-            let reply = world.answer(alloc, line);
+            let reply = world.answer(rt, alloc, line);
             give(alloc, &reply, room, output)
         }
         Ok(Line::Long) => give(alloc, &Reply::Long, room, output),

@@ -1,11 +1,13 @@
 //! Replies on their way out.
-ghost use Rattle.std.specs.Prelude.{◌≡◌, ◌≤◌, [], length, vec_capacity, true};
+ghost use Rattle.std.specs.Prelude.{◌≡◌, ◌≤◌, vec_capacity, true};
 ghost use Rattle.mt_io.specs.Causes.{Rose};
-ghost use Rattle.mt_wire.specs.Short.{IsShort};
+ghost use Rattle.mt_wire.specs.Short.{IsShort, IsShortProbe};
+ghost use Rattle.mt_top.specs.Fit.{AreBrief, IsFit};
 ghost use Rattle.mt_top.specs.Given.{Gives, Sends, is_brief, is_farewell};
 ghost use Rattle.mt_top.specs.declared.status.Status.TheVariants.{WriteFault};
 
 use crate::status::Status;
+use mt_base::{Hit, Second};
 use mt_io::{Sink, put_all};
 use mt_wire::{DoneWord, Reply, write_reply, write_short};
 use std::alloc::Global;
@@ -18,7 +20,8 @@ pub fn give<K: Sink>(
     room: &mut Vec<u8>,
     output: &mut K,
 ) -> Option<Status>
-    requires { 65536 ≤ vec_capacity room.old }
+    requires room { 65536 ≤ vec_capacity room.old }
+    requires fit { IsFit reply.now }
     ensures given { Gives reply.now result (K.held output.old) (K.held output.new) }
     ensures room { 65536 ≤ vec_capacity room.new }
     ensures later { K.faults output.old ≤ K.faults output.new }
@@ -40,6 +43,7 @@ pub fn give<K: Sink>(
 }
 
 fn is_brief(reply: &Reply) -> bool
+    requires { IsFit reply.now }
     ensures brief { result ≡ is_brief reply.now }
     ensures short { result ≡ true → IsShort reply.now }
 {
@@ -50,12 +54,31 @@ fn is_brief(reply: &Reply) -> bool
             let _version = entered.version;
             true
         }
+        Reply::Taken { version } => {
+            let _version = *version;
+            true
+        }
+        Reply::Probe {
+            conflicts,
+            eff,
+            probe,
+            version,
+        } => is_short(conflicts.items(), *eff, *probe, *version),
         Reply::Json | Reply::Long | Reply::Begun | Reply::Unbegun => true,
         Reply::Bands | Reply::TablesFull | Reply::Memory => true,
         Reply::List { .. } | Reply::Flight(_) | Reply::History { .. } => false,
         Reply::Form(_) | Reply::Range(_) | Reply::TakenFix(_) | Reply::TakenType(_) => false,
         Reply::Refused { .. } => false,
     }
+}
+
+// Whether the reply of a probe is brief: it is.
+fn is_short(conflicts: &[Hit], eff: Second, probe: u64, version: u64) -> bool
+    requires { AreBrief conflicts.now }
+    ensures short { IsShortProbe conflicts.now eff probe version }
+    ensures brief { result ≡ true }
+{
+    true
 }
 
 fn is_farewell(reply: &Reply) -> bool

@@ -1,9 +1,11 @@
 //! Whole scripts from bytes to bytes. What each is answered was worked out by hand, by the rules of the readme.
-ghost use Rattle.std.specs.Prelude.{◌≡◌, ◌<◌, ◌≤◌, None, vec_len};
+ghost use Rattle.std.specs.Prelude.{◌<◌, ◌≤◌, None, vec_len};
 
+mod clearances;
 mod scripts;
 
 use super::*;
+use clearances::CLEARANCES;
 use mt_base::Words;
 use mt_io::{Failed, MemSink, MemSource, Source};
 use scripts::SCRIPTS;
@@ -30,6 +32,23 @@ const OUTPUT: &str = r#"{"done":"begin"}
 {"entered":1}
 {"entered":2}
 {"conflicts":[{"first":131,"kinds":"aa","last":168,"pair":["AAA1","BBB1"]}],"version":2}
+"#;
+
+/// A planned flight whose actor has taken it: the script, and its answers.
+const PLANNED: &str = r#"{"do":"fix","name":"Q0","x":0,"y":0}
+{"do":"fix","name":"Q1","x":480000,"y":0}
+{"bands":[[410,480,2100,2100]],"do":"type","name":"JA1"}
+{"do":"begin"}
+{"at":0,"call":"DDD1","do":"plan","level":350,"route":["Q0","Q1"],"type":"JA1"}
+{"do":"take"}
+"#;
+
+const PLANNED_ANSWERS: &str = r#"{"done":"fix"}
+{"done":"fix"}
+{"done":"type"}
+{"done":"begin"}
+{"entered":1}
+{"taken":1}
 "#;
 
 /// Gives its bytes, at most 7 a call, and then fails in place of its end.
@@ -108,12 +127,13 @@ fn first_lines(text: &str, count: usize) -> &str {
     text.strip_suffix(rest).unwrap_or(text)
 }
 
-#[test]
-fn scripts_are_answered_and_memory_that_is_ample_is_never_wanted(
-    rt: HostRuntime,
+// Each of some scripts is answered as it says.
+fn all_answered(
+    rt: &(impl Abort + Threads + Sync),
+    alloc: Global,
+    scripts: &str,
 ) -> Result<(), Fail> {
-    let alloc = rt.alloc();
-    for script in SCRIPTS.split("# ").skip(1) {
+    for script in scripts.split("# ").skip(1) {
         let mut input = String::new(alloc);
         let mut output = String::new(alloc);
         for line in script.lines().skip(1) {
@@ -123,7 +143,7 @@ fn scripts_are_answered_and_memory_that_is_ample_is_never_wanted(
             bytes.push_str("\n")?;
         }
         answers(
-            &rt,
+            rt,
             alloc,
             "replay",
             input.as_str(),
@@ -132,6 +152,42 @@ fn scripts_are_answered_and_memory_that_is_ample_is_never_wanted(
         )?;
     }
     Ok(())
+}
+
+#[test]
+fn scripts_are_answered_and_memory_that_is_ample_is_never_wanted(
+    rt: HostRuntime,
+) -> Result<(), Fail> {
+    all_answered(&rt, rt.alloc(), SCRIPTS)
+}
+
+#[test]
+fn clearances_and_probes_are_answered(rt: HostRuntime) -> Result<(), Fail> {
+    all_answered(&rt, rt.alloc(), CLEARANCES)
+}
+
+#[test]
+fn a_book_keeps_the_last_sixty_four_probes(rt: HostRuntime) -> Result<(), Fail> {
+    let alloc = rt.alloc();
+    let mut input = String::from_str(alloc, PLANNED)?;
+    let mut output = String::from_str(alloc, PLANNED_ANSWERS)?;
+    for number in 1..66 {
+        input.push_str("{\"call\":\"DDD1\",\"do\":\"probe\",\"level\":360}\n")?;
+        let answer = format!(in alloc;
+            "{{\"conflicts\":[],\"eff\":0,\"probe\":{number},\"version\":1}}\n"
+        )?;
+        output.push_str(answer.as_str())?;
+    }
+    input.push_str("{\"do\":\"accept\",\"probe\":1}\n{\"do\":\"accept\",\"probe\":2}\n")?;
+    output.push_str("{\"no\":\"no-probe\",\"version\":1}\n{\"entered\":2}\n")?;
+    answers(
+        &rt,
+        alloc,
+        "replay",
+        input.as_str(),
+        output.as_str(),
+        Status::Done,
+    )
 }
 
 #[test]

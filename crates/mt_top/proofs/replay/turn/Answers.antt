@@ -8,7 +8,7 @@ pub returns-in-Ok-Text-clause-turned : goal.returns-in-Ok-Text-clause-turned
 returns-in-Ok-Text-clause-turned g c =
     let line = rw (c.in-Ok-Text.is, c.in-Ok-Text.field-0-is) at c.next.follows.holds-at-none in
     λ before held so_far. turned before _ _ held _ _ _ _ _ _ c.in-Ok-Text.line.now c.answer-reply.result c.give.result so_far line.1
-    c.answer-reply.ensures (λ _. line.0) c.give.ensures.given
+    c.answer-reply.ensures.replied (λ _. line.0) c.give.ensures.given
 
 pub returns-in-Ok-Long-clause-turned : goal.returns-in-Ok-Long-clause-turned
 returns-in-Ok-Long-clause-turned g c =

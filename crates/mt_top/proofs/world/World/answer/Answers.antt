@@ -1,4 +1,4 @@
 use Rattle.mt_top.proofs.world.World.answer.Goals as goal
 
-pub serve-requires : goal.serve-requires
-serve-requires c = rw (← c.self.view_is) c.in-Ok.ensures.bounded.request
+pub serve-requires-clause-bounded : goal.serve-requires-clause-bounded
+serve-requires-clause-bounded g c = λ κs outlives. rw (← c.self.view_is) c.in-Ok.ensures.bounded.request

@@ -1,20 +1,36 @@
-use Rattle.std.proofs.Common.{◌≡◌, ◌∙◌, sym, subst, ap, Ok}
+use Rattle.std.proofs.Common.{subst, Result}
 use Rattle.mt_base.specs.declared.command.Entry.{Entry}
-use Rattle.mt_base.specs.Bounds.{IsBoundedCommand}
-use Rattle.mt_base.specs.History.{decide}
-use Rattle.mt_top.specs.World.{picture_of, setup_of}
-use Rattle.mt_top.proofs.WorldLemmas.{decided_is, entry_is}
+use Rattle.mt_base.specs.declared.command.Refusal.{Refusal}
+use Rattle.mt_base.specs.History.{IsDecided}
+use Rattle.mt_base.specs.Tables.{Setup}
+use Rattle.mt_machine.proofs.Filled.{decided_is, entry_bounded, entry_free, entry_in_time}
 use Rattle.mt_top.proofs.world.World.change.Goals as goal
 
 pub enter-requires-clause-decided : goal.enter-requires-clause-decided
-enter-requires-clause-decided c =
-    let decided : decide (setup_of c.args.self.now) (picture_of c.args.self.now) c.args.who c.args.command.now ≡ Ok c.in-Ok-Ok.entry =
-    rw (← c.self.view_is, ← c.self.invariant.picture_is) (sym c.in-Ok-Ok.ensures.exact ∙ c.in-Ok-Ok.field-0-is) in
-    decided_is (setup_of c.args.self.now) (picture_of c.args.self.now) c.args.who c.args.command.now c.in-Ok-Ok.entry decided
+enter-requires-clause-decided g c =
+    let setup : Setup = record { rules = c.self.inside.rules; tables = c.self.inside.tables } in
+    let decided = subst (λ (d : Result Entry Refusal). IsDecided setup c.self.inside.picture c.args.who c.args.command.now d) c.in-Ok-Ok.field-0-is
+    c.in-Ok-Ok.ensures in
+    rw (← c.self.view_is, ← c.self.invariant.picture_is)
+    (decided_is setup c.self.inside.picture c.args.who c.args.command.now c.in-Ok-Ok.entry decided)
 
 pub enter-requires-clause-bounded : goal.enter-requires-clause-bounded
-enter-requires-clause-bounded c =
-    let decided : decide (setup_of c.args.self.now) (picture_of c.args.self.now) c.args.who c.args.command.now ≡ Ok c.in-Ok-Ok.entry =
-    rw (← c.self.view_is, ← c.self.invariant.picture_is) (sym c.in-Ok-Ok.ensures.exact ∙ c.in-Ok-Ok.field-0-is) in
-    subst (λ (e : Entry). IsBoundedCommand e.command)
-    (entry_is (setup_of c.args.self.now) (picture_of c.args.self.now) c.args.who c.args.command.now c.in-Ok-Ok.entry decided) c.requires
+enter-requires-clause-bounded g c =
+    let setup : Setup = record { rules = c.self.inside.rules; tables = c.self.inside.tables } in
+    let decided = subst (λ (d : Result Entry Refusal). IsDecided setup c.self.inside.picture c.args.who c.args.command.now d) c.in-Ok-Ok.field-0-is
+    c.in-Ok-Ok.ensures in
+    entry_bounded setup c.self.inside.picture c.args.who c.args.command.now c.in-Ok-Ok.entry decided c.self.invariant.sound.early c.requires.bounded
+
+pub enter-requires-clause-in_time : goal.enter-requires-clause-in_time
+enter-requires-clause-in_time g c =
+    let setup : Setup = record { rules = c.self.inside.rules; tables = c.self.inside.tables } in
+    let decided = subst (λ (d : Result Entry Refusal). IsDecided setup c.self.inside.picture c.args.who c.args.command.now d) c.in-Ok-Ok.field-0-is
+    c.in-Ok-Ok.ensures in
+    entry_in_time setup c.self.inside.picture c.args.who _ c.args.command.now c.in-Ok-Ok.entry decided c.requires.in_time
+
+pub enter-requires-clause-was_free : goal.enter-requires-clause-was_free
+enter-requires-clause-was_free g c =
+    let setup : Setup = record { rules = c.self.inside.rules; tables = c.self.inside.tables } in
+    let decided = subst (λ (d : Result Entry Refusal). IsDecided setup c.self.inside.picture c.args.who c.args.command.now d) c.in-Ok-Ok.field-0-is
+    c.in-Ok-Ok.ensures in
+    entry_free _ c.self.inside.picture _ c.args.who c.args.command.now c.in-Ok-Ok.entry (rw (← c.self.view_is) decided) c.requires.was_free

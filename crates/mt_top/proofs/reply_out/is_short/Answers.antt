@@ -1,0 +1,10 @@
+use Rattle.mt_top.proofs.reply_out.is_short.Goals as goal
+
+pub returns-clause-short : goal.returns-clause-short
+returns-clause-short c = record {
+  few = c.requires.few;
+  each = c.requires.each;
+  second = c.ranges.eff.fits;
+  number = c.ranges.probe.fits;
+  at_version = c.ranges.version.fits;
+}
