@@ -2,11 +2,10 @@ use crate::{
     Base, Callsign, Command, Conflict, Conflicts, Course, Entry, FixName, Kind, Path, Record,
     Route, RuleName, Rules, TypeName, Words, history_laws, one_published_list_law,
 };
-use std::alloc::Global;
-use std::test::Fail;
+use std::process::Abort;
 
 #[test]
-fn callsigns_are_one_to_seven_capitals_and_digits(rt: HostRuntime) -> Result<(), Fail> {
+fn callsigns_are_one_to_seven_capitals_and_digits(rt: HostRuntime) {
     let cases: [(&[u8], bool); 9] = [
         (b"", false),
         (b"A", true),
@@ -25,11 +24,10 @@ fn callsigns_are_one_to_seven_capitals_and_digits(rt: HostRuntime) -> Result<(),
             assert!(rt; call.bytes() == text);
         }
     }
-    Ok(())
 }
 
 #[test]
-fn fixes_and_types_have_short_names(rt: HostRuntime) -> Result<(), Fail> {
+fn fixes_and_types_have_short_names(rt: HostRuntime) {
     let cases: [(&[u8], bool, bool); 7] = [
         (b"Q", false, false),
         (b"Q0", true, true),
@@ -46,44 +44,45 @@ fn fixes_and_types_have_short_names(rt: HostRuntime) -> Result<(), Fail> {
         assert!(rt; fix.is_none_or(|name| name.bytes() == text));
         assert!(rt; kind.is_none_or(|name| name.bytes() == text));
     }
-    Ok(())
 }
 
 /// A route of two fixes.
-fn route(alloc: Global) -> Result<Route, Fail> {
-    let mut route = Route::make(alloc)?;
-    route.push(FixName::of(b"Q0").ok_or("no fix name")?)?;
-    route.push(FixName::of(b"Q1").ok_or("no fix name")?)?;
-    Ok(route)
+fn route(rt: &(impl AllocGlobal + Abort)) -> Route {
+    let mut route = Route::make(rt.alloc()).expect(rt, "memory");
+    for name in [b"Q0", b"Q1"] {
+        let fix = FixName::of(name).expect(rt, "a fix name");
+        route.push(fix).expect(rt, "memory");
+    }
+    route
 }
 
 #[test]
-fn copies_have_the_same_route(rt: HostRuntime) -> Result<(), Fail> {
+fn copies_have_the_same_route(rt: HostRuntime) {
     let alloc = rt.alloc();
-    let call = Callsign::of(b"DDD1").ok_or("no callsign")?;
-    let kind = TypeName::of(b"JA1").ok_or("no type name")?;
+    let call = Callsign::of(b"DDD1").expect(&rt, "a callsign");
+    let kind = TypeName::of(b"JA1").expect(&rt, "a type name");
     let entry = Entry {
         who: 2,
         command: Command::Plan {
             call,
             kind,
-            route: route(alloc)?,
+            route: route(&rt),
             at: 7,
             from: 350,
             level: 360,
         },
     };
-    let copy = entry.copy(alloc)?;
+    let copy = entry.copy(alloc).expect(&rt, "memory");
     assert!(rt; copy.who == 2 && copy.command.call() == Some(call));
     let Command::Plan { route: names, .. } = &copy.command else {
-        return Err(Fail::from("another command"));
+        panic!(rt; "another command");
     };
-    assert!(rt; names.items() == route(alloc)?.items());
+    assert!(rt; names.items() == route(&rt).items());
     let record = Record {
         call,
         path: Path::Planned(Course {
             kind,
-            route: route(alloc)?,
+            route: route(&rt),
             base: Base {
                 at: 7,
                 x: 0,
@@ -99,25 +98,23 @@ fn copies_have_the_same_route(rt: HostRuntime) -> Result<(), Fail> {
             mark: None,
         }),
     };
-    let copy = record.copy(alloc)?;
+    let copy = record.copy(alloc).expect(&rt, "memory");
     let Path::Planned(course) = &copy.path else {
-        return Err(Fail::from("another path"));
+        panic!(rt; "another path");
     };
     assert!(rt; copy.call == call && course.kind == kind && course.base.at == 7);
-    assert!(rt; course.route.items() == route(alloc)?.items());
-    Ok(())
+    assert!(rt; course.route.items() == route(&rt).items());
 }
 
 #[test]
-fn words_are_kept_in_order(rt: HostRuntime) -> Result<(), Fail> {
-    let mut words = Words::make(rt.alloc()).ok().ok_or("memory")?;
+fn words_are_kept_in_order(rt: HostRuntime) {
+    let mut words = Words::make(rt.alloc()).expect(&rt, "memory");
     assert_eq!(rt; words.count(), 0);
-    words.add(rt.alloc(), "replay").ok().ok_or("memory")?;
-    words.add(rt.alloc(), "").ok().ok_or("memory")?;
+    words.add(rt.alloc(), "replay").expect(&rt, "memory");
+    words.add(rt.alloc(), "").expect(&rt, "memory");
     assert_eq!(rt; words.count(), 2);
     assert!(rt; words.word(0) == "replay");
     assert!(rt; words.word(1) == "");
-    Ok(())
 }
 
 fn conflict(first: u32, a: &[u8], b: &[u8], kinds: (Kind, Kind)) -> Option<Conflict> {
@@ -133,7 +130,7 @@ fn conflict(first: u32, a: &[u8], b: &[u8], kinds: (Kind, Kind)) -> Option<Confl
 }
 
 #[test]
-fn conflicts_are_put_in_order_each_once(rt: HostRuntime) -> Result<(), Fail> {
+fn conflicts_are_put_in_order_each_once(rt: HostRuntime) {
     one_published_list_law();
     let ordered = [
         conflict(1, b"B", b"C", (Kind::Actual, Kind::Actual)),
@@ -142,17 +139,16 @@ fn conflicts_are_put_in_order_each_once(rt: HostRuntime) -> Result<(), Fail> {
         conflict(2, b"A", b"BA", (Kind::Actual, Kind::Actual)),
         conflict(2, b"AA", b"B", (Kind::Actual, Kind::Actual)),
     ];
-    let mut conflicts = Conflicts::make(rt.alloc()).ok().ok_or("memory")?;
+    let mut conflicts = Conflicts::make(rt.alloc()).expect(&rt, "memory");
     for place in [4, 2, 0, 3, 1, 2] {
-        let conflict = ordered[place].ok_or("no callsign")?;
-        conflicts.push(conflict).ok().ok_or("memory")?;
+        let conflict = ordered[place].expect(&rt, "a callsign");
+        conflicts.push(conflict).expect(&rt, "memory");
     }
     conflicts.order();
     assert_eq!(rt; conflicts.items().len(), 5);
     for (place, conflict) in conflicts.items().iter().enumerate() {
         assert!(rt; ordered.get(place) == Some(&Some(*conflict)));
     }
-    Ok(())
 }
 
 /// The usual rules with one of them set.
