@@ -1,4 +1,4 @@
-use Rattle.std.proofs.Common.{◌≡◌, ℕ, sym, ◌∙◌, subst, refl, true, List}
+use Rattle.std.proofs.Common.{◌≡◌, sym, ◌∙◌, subst, refl, true, List}
 use Rattle.std.specs.List.Sorted.{IsSorted}
 use Rattle.std.specs.Cmp.{IsTotalOrder, IsEquivalence, Equal-is}
 use Rattle.std.specs.Ordering.{ordering_then, nat_cmp, eq_by_cmp}

@@ -10,7 +10,7 @@ use Rattle.mt_base.specs.declared.flight.Base.{Base}
 use Rattle.mt_base.specs.declared.flight.Course.{Course}
 use Rattle.mt_base.specs.declared.row.Row.{Row}
 use Rattle.mt_base.specs.Checks.{judged}
-use Rattle.mt_base.specs.Tables.{Setup, Tables, bands_of, ceiling_of, fix_of}
+use Rattle.mt_base.specs.Tables.{Tables, bands_of, ceiling_of, fix_of}
 use Rattle.mt_base.specs.Trajectory.{Trajectory, row_at}
 
 -- a base at a second of a trajectory, by its row

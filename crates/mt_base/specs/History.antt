@@ -1,4 +1,4 @@
-use Rattle.std.specs.Prelude.{◌≡◌, ℕ, ◌+◌, ◌*◌, pos, List, [], ◌∷◌, ◌++◌, length, map, take, fold, filter, slice_get, Bool, not, nat_le, nat_lt, int_lt, Option, Some, None, option_and_then, false, is_some, unwrap_or, Result, Ok, Err, ◌⊎◌, ◌≤◌, ⊤, if◌then◌else◌}
+use Rattle.std.specs.Prelude.{◌≡◌, ℕ, ◌+◌, ◌*◌, pos, List, [], ◌∷◌, ◌++◌, length, map, take, fold, filter, slice_get, Bool, not, nat_lt, int_lt, Option, Some, None, option_and_then, false, is_some, unwrap_or, Result, Ok, Err, ◌⊎◌, ◌≤◌, ⊤, if◌then◌else◌}
 use Rattle.std.specs.Str.{bytes_eq}
 use Rattle.mt_base.specs.declared.command.Command.{Command}
 use Rattle.mt_base.specs.declared.command.Command.TheVariants.{Plan, External, Drop, Tick, Clear, Accept}
@@ -22,7 +22,7 @@ use Rattle.mt_base.specs.Cleared.{aim_of, is_below_ceiling}
 use Rattle.mt_base.specs.Picture.{State, flight_of, opening, trajectory_of}
 use Rattle.mt_base.specs.Predictor.{points_of}
 use Rattle.mt_base.specs.WhatIf.{AreHits, IsWhatIf, what_if_checks}
-use Rattle.mt_base.specs.Tables.{Setup, Tables, bands_of, ceiling_of, fix_checks, length_checks}
+use Rattle.mt_base.specs.Tables.{Setup, Tables, bands_of, fix_checks, length_checks}
 
 -- What a decision looks at: the moment, how many flights are held, how many entries, and the flight that the command names.
 pub record Look : Type 0 where

@@ -1,5 +1,5 @@
 -- Where the trajectory of a flight begins anew after a report that left it.
-use Rattle.std.specs.Prelude.{ℕ, ◌-◌, length, List, slice_get, nat_lt, Option, Some, None, unwrap_or, option_map, if◌then◌else◌}
+use Rattle.std.specs.Prelude.{ℕ, ◌-◌, length, slice_get, nat_lt, Option, None, unwrap_or, option_map, if◌then◌else◌}
 use Rattle.mt_base.specs.declared.flight.Base.{Base}
 use Rattle.mt_base.specs.declared.flight.Course.{Course}
 use Rattle.mt_base.specs.declared.flight.Report.{Report}

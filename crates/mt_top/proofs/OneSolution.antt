@@ -15,14 +15,8 @@ use Rattle.mt_base.specs.Picture.{State, flight_of}
 use Rattle.mt_base.specs.Tables.{Setup}
 use Rattle.mt_base.specs.WhatIf.{AreHits, AreHitsOf, IsWhatIf, course_in, trajectory_cleared, what_if_checks}
 use Rattle.mt_base.proofs.CheckLemmas.{all_passed}
-use Rattle.mt_base.proofs.HitOrder.{total}
-use Rattle.mt_base.proofs.OneOrder.{one_order}
+use Rattle.mt_base.proofs.OneHits.{one_hits}
 use Rattle.mt_base.specs.Trajectory.{Trajectory}
-
-one_hits : (setup : Setup) (s : State) (call : List ℕ) (t : Trajectory) (hits others : List Hit) → AreHitsOf setup s call t hits
-    → AreHitsOf setup s call t others → hits ≡ others
-one_hits setup s call t hits others is also = one_order total hits others is.sorted also.sorted
-    (λ z h. (also.exact z).1 ((is.exact z).0 h)) (λ z h. (is.exact z).1 ((also.exact z).0 h))
 
 -- the hits of a clearance of a planned flight are one list
 one_list : (setup : Setup) (s : State) (call : List ℕ) (clearance : Clearance) (eff : ℕ) (hits others : List Hit)
