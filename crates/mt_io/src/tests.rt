@@ -3,7 +3,6 @@ ghost use Rattle.std.specs.Prelude.{◌≡◌, ◌<◌, ◌≤◌, ◌+◌, None
 use super::*;
 use std::alloc::Global;
 use std::process::Abort;
-use std::test::Fail;
 
 /// Gives at most `most` bytes a call. The call with the number `failing`, from 1, fails.
 #[derive(Drop)]
@@ -94,13 +93,8 @@ fn source_of(bytes: Vec<u8>, most: usize, failing: u64) -> Dripping
 }
 
 // The reader gives these lines and then the end, twice.
-fn gives<S: Source>(
-    rt: &impl Abort,
-    alloc: Global,
-    source: &mut S,
-    want: &[&[u8]],
-) -> Result<(), Memory> {
-    let mut reader = LineReader::make(alloc)?;
+fn gives<S: Source>(rt: &(impl AllocGlobal + Abort), source: &mut S, want: &[&[u8]]) {
+    let mut reader = LineReader::make(rt.alloc()).expect(rt, "memory");
     for line in want {
         let is_next = matches!(reader.next(source), Ok(Line::Text(text)) if text == *line);
         assert!(rt; is_next, "{line:?}");
@@ -108,11 +102,10 @@ fn gives<S: Source>(
     assert!(rt; matches!(reader.next(source), Ok(Line::End)));
     assert!(rt; matches!(reader.next(source), Ok(Line::End)));
     assert_eq!(rt; reader.lines(), want.len() as u64);
-    Ok(())
 }
 
 #[test]
-fn lines_of_small_inputs(rt: HostRuntime) -> Result<(), Fail> {
+fn lines_of_small_inputs(rt: HostRuntime) {
     let alloc = rt.alloc();
     let rows: [(&[u8], &[&[u8]]); 8] = [
         (b"", &[]),
@@ -129,17 +122,17 @@ fn lines_of_small_inputs(rt: HostRuntime) -> Result<(), Fail> {
     ];
     for (input, want) in rows {
         for most in [1, 2, 3, 100] {
-            let mut source = source_of(input.to_vec(alloc)?, most, 0);
-            gives(&rt, alloc, &mut source, want)?;
+            let mut source = source_of(input.to_vec(alloc).expect(&rt, "memory"), most, 0);
+            gives(&rt, &mut source, want);
         }
-        gives(&rt, alloc, &mut MemSource::of(input.to_vec(alloc)?), want)?;
+        let mut whole = MemSource::of(input.to_vec(alloc).expect(&rt, "memory"));
+        gives(&rt, &mut whole, want);
     }
     laws_of_lines();
-    Ok(())
 }
 
 #[test]
-fn the_longest_line(rt: HostRuntime) -> Result<(), Fail> {
+fn the_longest_line(rt: HostRuntime) {
     let alloc = rt.alloc();
     // how many bytes, whether a 0x0A and a further line follow, whether the line is given
     let rows = [
@@ -151,12 +144,12 @@ fn the_longest_line(rt: HostRuntime) -> Result<(), Fail> {
     ];
     for (count, more, given) in rows {
         for most in [40_000, 65_536] {
-            let mut bytes = vec![in alloc; b'x'; count]?;
+            let mut bytes = vec![in alloc; b'x'; count].expect(&rt, "memory");
             if more {
-                bytes.extend_from_slice(b"\nyz")?;
+                bytes.extend_from_slice(b"\nyz").expect(&rt, "memory");
             }
             let mut source = source_of(bytes, most, 0);
-            let mut reader = LineReader::make(alloc)?;
+            let mut reader = LineReader::make(alloc).expect(&rt, "memory");
             match reader.next(&mut source) {
                 Ok(Line::Text(text)) => assert!(rt; given && text.len() == count, "{count}"),
                 Ok(Line::Long) => assert!(rt; !given, "{count}"),
@@ -173,15 +166,14 @@ fn the_longest_line(rt: HostRuntime) -> Result<(), Fail> {
             );
         }
     }
-    Ok(())
 }
 
 #[test]
-fn a_fault_in_mid_stream(rt: HostRuntime) -> Result<(), Fail> {
+fn a_fault_in_mid_stream(rt: HostRuntime) {
     let alloc = rt.alloc();
     // the third read fails, when "ab", 0x0A and "c" were given
-    let mut source = source_of(b"ab\ncd\n".to_vec(alloc)?, 2, 3);
-    let mut reader = LineReader::make(alloc)?;
+    let mut source = source_of(b"ab\ncd\n".to_vec(alloc).expect(&rt, "memory"), 2, 3);
+    let mut reader = LineReader::make(alloc).expect(&rt, "memory");
     let is_first =
         matches!(reader.next(&mut source), Ok(Line::Text(text)) if text == b"ab".as_slice());
     assert!(rt; is_first);
@@ -191,11 +183,10 @@ fn a_fault_in_mid_stream(rt: HostRuntime) -> Result<(), Fail> {
         assert_eq!(rt; source.calls, 3);
         assert_eq!(rt; reader.lines(), 1);
     }
-    Ok(())
 }
 
 #[test]
-fn a_whole_write(rt: HostRuntime) -> Result<(), Fail> {
+fn a_whole_write(rt: HostRuntime) {
     let alloc = rt.alloc();
     // the call that fails, what is held then, and how many faults were counted
     let rows: [(u64, &[u8], u64); 4] = [(0, b"abc", 0), (1, b"", 1), (3, b"ab", 1), (4, b"abc", 0)];
@@ -222,7 +213,7 @@ fn a_whole_write(rt: HostRuntime) -> Result<(), Fail> {
         (5, b"abcde", 0),
     ];
     for (room, held, faults) in rooms {
-        let mut sink = MemSink::make(alloc, room)?;
+        let mut sink = MemSink::make(alloc, room).expect(&rt, "memory");
         let first = put_all(&mut sink, b"abc");
         let second = put_all(&mut sink, b"de");
         assert_eq!(rt;
@@ -233,11 +224,10 @@ fn a_whole_write(rt: HostRuntime) -> Result<(), Fail> {
         assert_eq!(rt; sink.held(), held, "{room}");
         assert_eq!(rt; sink.write_faults(), faults, "{room}");
     }
-    Ok(())
 }
 
 #[test]
-fn the_standard_streams(rt: HostRuntime) -> Result<(), Fail> {
+fn the_standard_streams(rt: HostRuntime) {
     let mut input = StdIn::of(rt.stdin());
     let mut buf = [0; 8];
     assert_eq!(rt; input.read_some(&mut buf), Ok(0));
@@ -245,5 +235,4 @@ fn the_standard_streams(rt: HostRuntime) -> Result<(), Fail> {
     let mut output = StdOut::of(rt.stdout());
     assert_eq!(rt; put_all(&mut output, b"a line\n"), Ok(()));
     assert_eq!(rt; output.write_faults(), 0);
-    Ok(())
 }

@@ -1,6 +1,5 @@
 use crate::{Builder, Fields};
 use serde_json::Value;
-use std::test::Fail;
 
 // An object, and what its key "k" is as a text, a truth value, a whole number from -5 to 5, one of any size, and a list, by its length.
 const FIELDS: &str = r#"
@@ -39,20 +38,23 @@ const FIELDS: &str = r#"
 "#;
 
 #[test]
-fn a_field_is_by_its_value(rt: HostRuntime) -> Result<(), Fail> {
+fn a_field_is_by_its_value(rt: HostRuntime) {
     for case in FIELDS.lines().skip(1) {
-        let (text, wanted) = case.split_once(" | ").ok_or("two columns")?;
-        let value = Value::from_str(rt.alloc(), text)?;
-        let fields = Fields::of(&value).ok_or("an object")?;
+        let (text, wanted) = case.split_once(" | ").expect(&rt, "two columns");
+        let value = Value::from_str(rt.alloc(), text)
+            .ok()
+            .expect(&rt, "a value");
+        let fields = Fields::of(&value).expect(&rt, "an object");
         let word = fields.word("k");
         let flag = fields.flag("k");
         let small = fields.whole("k", -5, 5);
         let whole = fields.whole("k", i64::MIN, i64::MAX);
         let length = fields.list("k").map(|items| items.len());
-        let found = format!(in rt.alloc(); "{word:?} {flag:?} {small:?} {whole:?} {length:?}")?;
+        let found = format!(in rt.alloc();
+            "{word:?} {flag:?} {small:?} {whole:?} {length:?}"
+        ).expect(&rt, "memory");
         assert_eq!(rt; found.as_str(), wanted, "{text}");
     }
-    Ok(())
 }
 
 // An object, the keys that are allowed, and the least other key with its place. In the order of a language the letters of the fourth last
@@ -76,47 +78,49 @@ const KEYS: &str = r#"
 "#;
 
 #[test]
-fn the_least_key_that_is_not_allowed(rt: HostRuntime) -> Result<(), Fail> {
+fn the_least_key_that_is_not_allowed(rt: HostRuntime) {
     for case in KEYS.lines().skip(1) {
-        let (text, rest) = case.split_once(" | ").ok_or("three columns")?;
-        let (allowed, wanted) = rest.split_once(" | ").ok_or("three columns")?;
-        let value = Value::from_str(rt.alloc(), text)?;
-        let fields = Fields::of(&value).ok_or("an object")?;
+        let (text, rest) = case.split_once(" | ").expect(&rt, "three columns");
+        let (allowed, wanted) = rest.split_once(" | ").expect(&rt, "three columns");
+        let value = Value::from_str(rt.alloc(), text)
+            .ok()
+            .expect(&rt, "a value");
+        let fields = Fields::of(&value).expect(&rt, "an object");
         let outcome = fields.only(allowed);
         let key = outcome.err().and_then(|extra| fields.key(extra.place));
-        let found = format!(in rt.alloc(); "{outcome:?} {key:?}")?;
+        let found = format!(in rt.alloc(); "{outcome:?} {key:?}").expect(&rt, "memory");
         assert_eq!(rt; found.as_str(), wanted, "{text}");
     }
-    Ok(())
 }
 
 #[test]
-fn what_is_no_object_has_no_fields(rt: HostRuntime) -> Result<(), Fail> {
+fn what_is_no_object_has_no_fields(rt: HostRuntime) {
     for text in ["null", "true", "1", "\"a\"", "[{}]"] {
-        let value = Value::from_str(rt.alloc(), text)?;
+        let value = Value::from_str(rt.alloc(), text)
+            .ok()
+            .expect(&rt, "a value");
         assert!(rt; Fields::of(&value).is_none(), "{text}");
     }
-    let value = Value::from_str(rt.alloc(), r#"{"b":1,"a":2}"#)?;
-    let fields = Fields::of(&value).ok_or("an object")?;
+    let value = Value::from_str(rt.alloc(), r#"{"b":1,"a":2}"#)
+        .ok()
+        .expect(&rt, "a value");
+    let fields = Fields::of(&value).expect(&rt, "an object");
     assert_eq!(rt; (fields.key(1), fields.key(2)), (Some("b"), None));
-    Ok(())
 }
 
 #[test]
-fn a_line_has_its_pairs_in_byte_order(rt: HostRuntime) -> Result<(), Fail> {
-    let mut builder = Builder::make(rt.alloc())?;
-    builder.text("é", "x\n\"\\\u{1}é/")?;
-    builder.number("b", 1)?;
-    builder.number("a\t", i64::MIN)?;
-    builder.number("a", i64::MAX)?;
-    builder.value(
-        "B",
-        Value::from_str(rt.alloc(), r#"{"y": [null, true, -3, 1.5], "x": {}}"#)?,
-    )?;
-    builder.number("b", -7)?;
-    let bytes = builder.line()?;
+fn a_line_has_its_pairs_in_byte_order(rt: HostRuntime) {
+    let nested = Value::from_str(rt.alloc(), r#"{"y": [null, true, -3, 1.5], "x": {}}"#);
+    let nested = nested.ok().expect(&rt, "a value");
+    let mut builder = Builder::make(rt.alloc()).expect(&rt, "memory");
+    builder.text("é", "x\n\"\\\u{1}é/").expect(&rt, "memory");
+    builder.number("b", 1).expect(&rt, "memory");
+    builder.number("a\t", i64::MIN).expect(&rt, "memory");
+    builder.number("a", i64::MAX).expect(&rt, "memory");
+    builder.value("B", nested).expect(&rt, "memory");
+    builder.number("b", -7).expect(&rt, "memory");
+    let bytes = builder.line().expect(&rt, "memory");
     let wanted =
         "{\"B\":{\"x\":{},\"y\":[null,true,-3,1.5]},\"a\":9223372036854775807,\"a\\t\":-9223372036854775808,\"b\":-7,\"é\":\"x\\n\\\"\\\\\\u0001é/\"}\n";
     assert_eq!(rt; bytes.as_slice(), wanted.as_bytes());
-    Ok(())
 }

@@ -7,9 +7,7 @@ mod seconds;
 use crate::lose;
 use mt_base::{Row, Rules, Second, Straight, Tally};
 use mt_track::Strand;
-use std::alloc::Global;
 use std::process::Abort;
-use std::test::Fail;
 use std::thread::Threads;
 
 /// It flies east along y = 0 at 480 knots and flight level 350, without margins.
@@ -103,89 +101,55 @@ const FAR: Row = Row {
     ..WEST
 };
 
+/// The stretch that flies from that row, from second 0 up to `to`.
+fn flown(rt: &(impl AllocGlobal + Abort), to: Second, first: Row) -> Strand
+    requires { IsBoundedStretch (record { from = 0; to = to; first = first }) }
+{
+    let stretch = Straight { from: 0, to, first };
+    Strand::straight(rt.alloc(), &stretch).expect(rt, "memory")
+}
+
 /// The conflict in a range of the stretches that fly from these rows, from second 0 up to `to`, is as wanted, and is one test.
 fn check(
-    rt: &(impl Abort + Threads + Sync),
-    alloc: Global,
+    rt: &(impl AllocGlobal + Abort + Threads + Sync),
     a: Row,
     b: Row,
     to: Second,
     range: (Second, Second),
     wanted: Option<(Second, Second)>,
-) -> Result<(), Fail>
+)
     requires a_kept { IsBoundedStretch (record { from = 0; to = to; first = a }) }
     requires b_kept { IsBoundedStretch (record { from = 0; to = to; first = b }) }
 {
-    let left = Strand::straight(
-        alloc,
-        &Straight {
-            from: 0,
-            to,
-            first: a,
-        },
-    )?;
-    let right = Strand::straight(
-        alloc,
-        &Straight {
-            from: 0,
-            to,
-            first: b,
-        },
-    )?;
+    let left = flown(rt, to, a);
+    let right = flown(rt, to, b);
     let mut tests = Tally::new(rt);
     let rules = Rules::usual();
     assert!(rt; lose(&left, &right, &rules, range.0, range.1, &mut tests) == wanted);
     assert!(rt; lose(&right, &left, &rules, range.0, range.1, &mut tests) == wanted);
     assert_eq!(rt; tests.get(), 2);
-    Ok(())
 }
 
 #[test]
-fn conflicts_across_are_exact(rt: HostRuntime) -> Result<(), Fail> {
-    let alloc = rt.alloc();
+fn conflicts_across_are_exact(rt: HostRuntime) {
     let all = (0, 1200);
-    check(&rt, alloc, EAST, WEST, 1200, all, Some((131, 168)))?;
-    check(&rt, alloc, EAST, AT_MINIMUM, 1200, all, None)?;
-    check(&rt, alloc, EAST, NEARER, 1200, all, Some((149, 150)))?;
-    check(
-        &rt,
-        alloc,
-        EAST,
-        BETWEEN_SECONDS,
-        1200,
-        all,
-        Some((149, 149)),
-    )?;
-    check(
-        &rt,
-        alloc,
-        SLOW_EAST,
-        SLOW_WEST,
-        1200,
-        all,
-        Some((100, 139)),
-    )?;
-    check(
-        &rt,
-        alloc,
-        GROWING,
-        GROWING_AHEAD,
-        1200,
-        all,
-        Some((66, 1199)),
-    )?;
-    check(&rt, alloc, EAST, FAR, 1300, all, None)?;
-    check(&rt, alloc, EAST, FAR, 1300, (1, 1201), Some((1200, 1200)))?;
-    check(&rt, alloc, EAST, WEST, 1200, (140, 150), Some((140, 149)))
+    check(&rt, EAST, WEST, 1200, all, Some((131, 168)));
+    check(&rt, EAST, AT_MINIMUM, 1200, all, None);
+    check(&rt, EAST, NEARER, 1200, all, Some((149, 150)));
+    check(&rt, EAST, BETWEEN_SECONDS, 1200, all, Some((149, 149)));
+    check(&rt, SLOW_EAST, SLOW_WEST, 1200, all, Some((100, 139)));
+    check(&rt, GROWING, GROWING_AHEAD, 1200, all, Some((66, 1199)));
+    check(&rt, EAST, FAR, 1300, all, None);
+    check(&rt, EAST, FAR, 1300, (1, 1201), Some((1200, 1200)));
+    check(&rt, EAST, WEST, 1200, (140, 150), Some((140, 149)));
 }
 
 #[test]
-fn conflicts_above_are_exact(rt: HostRuntime) -> Result<(), Fail> {
-    let alloc = rt.alloc();
+fn conflicts_above_are_exact(rt: HostRuntime) {
     let all = (0, 1200);
-    check(&rt, alloc, EAST, CLIMBING, 1200, all, None)?;
-    check(&rt, alloc, EAST, ABOVE, 1200, all, None)?;
-    check(&rt, alloc, EAST, BELOW, 1200, all, None)?;
-    check(&rt, alloc, EAST, FOOT_LESS, 1200, all, Some((131, 168)))?;
-    check(&rt, alloc, WIDENING, HIGH, 1200, all, Some((150, 168)))
+    check(&rt, EAST, CLIMBING, 1200, all, None);
+    check(&rt, EAST, ABOVE, 1200, all, None);
+    check(&rt, EAST, BELOW, 1200, all, None);
+    check(&rt, EAST, FOOT_LESS, 1200, all, Some((131, 168)));
+    check(&rt, WIDENING, HIGH, 1200, all, Some((150, 168)));
 }

@@ -5,9 +5,8 @@ ghost use Rattle.mt_base.specs.Bounds.{IsBoundedStretch};
 use crate::all_pairs;
 use mt_base::{Callsign, Conflict, Kind, Row, Rules, Straight, Tally};
 use mt_track::{Roster, Strand};
-use std::alloc::Global;
+use std::process::Abort;
 use std::sync::Arc;
-use std::test::Fail;
 
 /// It flies east along y = 0 at 480 knots and flight level 350, without margins.
 const EAST: Row = Row {
@@ -43,7 +42,7 @@ const NORTH: Row = Row {
 };
 
 /// The strand of an hour that begins with that row.
-fn strand(alloc: Global, first: Row) -> Result<Arc<Strand>, Fail>
+fn strand(rt: &(impl AllocGlobal + Abort), first: Row) -> Arc<Strand>
     requires { IsBoundedStretch (record { from = 0; to = 3600; first = first }) }
 {
     let hour = Straight {
@@ -51,24 +50,27 @@ fn strand(alloc: Global, first: Row) -> Result<Arc<Strand>, Fail>
         to: 3600,
         first,
     };
-    Ok(Arc::new(alloc, Strand::straight(alloc, &hour)?)?)
+    let strand = Strand::straight(rt.alloc(), &hour).expect(rt, "memory");
+    Arc::new(rt.alloc(), strand).ok().expect(rt, "memory")
 }
 
 #[test]
-fn conflicts_come_in_order_and_each_pair_is_tested_once(rt: HostRuntime) -> Result<(), Fail> {
+fn conflicts_come_in_order_and_each_pair_is_tested_once(rt: HostRuntime) {
     let alloc = rt.alloc();
-    let a = Callsign::of(b"AAA1").ok_or("no callsign")?;
-    let b = Callsign::of(b"BBB1").ok_or("no callsign")?;
-    let c = Callsign::of(b"CCC1").ok_or("no callsign")?;
-    let east = strand(alloc, EAST)?;
-    let west = strand(alloc, WEST)?;
-    let beside = strand(alloc, BESIDE)?;
-    let north = strand(alloc, NORTH)?;
-    let mut roster = Roster::make(alloc)?;
-    roster.add(c, Kind::Tentative, &beside)?;
-    roster.add(b, Kind::Actual, &west)?;
-    roster.add(c, Kind::Actual, &north)?;
-    roster.add(a, Kind::Actual, &east)?;
+    let a = Callsign::of(b"AAA1").expect(&rt, "a callsign");
+    let b = Callsign::of(b"BBB1").expect(&rt, "a callsign");
+    let c = Callsign::of(b"CCC1").expect(&rt, "a callsign");
+    let east = strand(&rt, EAST);
+    let west = strand(&rt, WEST);
+    let beside = strand(&rt, BESIDE);
+    let north = strand(&rt, NORTH);
+    let mut roster = Roster::make(alloc).expect(&rt, "memory");
+    roster
+        .add(c, Kind::Tentative, &beside)
+        .expect(&rt, "memory");
+    roster.add(b, Kind::Actual, &west).expect(&rt, "memory");
+    roster.add(c, Kind::Actual, &north).expect(&rt, "memory");
+    roster.add(a, Kind::Actual, &east).expect(&rt, "memory");
     let conflict = |first, a, b, kb, last| Conflict {
         first,
         a,
@@ -79,7 +81,7 @@ fn conflicts_come_in_order_and_each_pair_is_tested_once(rt: HostRuntime) -> Resu
     };
     let mut tests = Tally::new(&rt);
     let rules = Rules::usual();
-    let early = all_pairs(alloc, &roster, 0, &rules, &mut tests)?;
+    let early = all_pairs(alloc, &roster, 0, &rules, &mut tests).expect(&rt, "memory");
     let wanted = [
         conflict(0, a, c, Kind::Tentative, 1199),
         conflict(131, a, b, Kind::Actual, 168),
@@ -88,12 +90,11 @@ fn conflicts_come_in_order_and_each_pair_is_tested_once(rt: HostRuntime) -> Resu
     assert!(rt; early.items() == wanted.as_slice());
     // of six pairs one is of one flight
     assert_eq!(rt; tests.get(), 5);
-    let late = all_pairs(alloc, &roster, 160, &rules, &mut tests)?;
+    let late = all_pairs(alloc, &roster, 160, &rules, &mut tests).expect(&rt, "memory");
     let wanted = [
         conflict(160, a, b, Kind::Actual, 168),
         conflict(160, a, c, Kind::Tentative, 1359),
     ];
     assert!(rt; late.items() == wanted.as_slice());
     assert_eq!(rt; tests.get(), 10);
-    Ok(())
 }

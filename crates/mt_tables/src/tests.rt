@@ -3,16 +3,14 @@ ghost use Rattle.mt_base.specs.Bounds.{AreBoundedBands, IsBoundedBand};
 
 use crate::{AddNo, Tables};
 use mt_base::{Band, FixName, Point, Route, RouteNo, TypeName};
-use std::alloc::Global;
 use std::process::Abort;
-use std::test::Fail;
 
-fn fix_name(text: &[u8]) -> Result<FixName, Fail> {
-    Ok(FixName::of(text).ok_or("no fix name")?)
+fn fix_name(rt: &impl Abort, text: &[u8]) -> FixName {
+    FixName::of(text).expect(rt, "a fix name")
 }
 
-fn type_name(text: &[u8]) -> Result<TypeName, Fail> {
-    Ok(TypeName::of(text).ok_or("no type name")?)
+fn type_name(rt: &impl Abort, text: &[u8]) -> TypeName {
+    TypeName::of(text).expect(rt, "a type name")
 }
 
 /// A band up to that level, at that speed.
@@ -51,9 +49,13 @@ fn three_bands(tops: (u32, u32, u32)) -> [Band; 3]
 }
 
 #[test]
-fn fixes_are_found_by_their_names(rt: HostRuntime) -> Result<(), Fail> {
-    let mut tables = Tables::make(rt.alloc())?;
-    let (a, b, c) = (fix_name(b"AA")?, fix_name(b"AAA")?, fix_name(b"ZZ9ZZ")?);
+fn fixes_are_found_by_their_names(rt: HostRuntime) {
+    let mut tables = Tables::make(rt.alloc()).expect(&rt, "memory");
+    let (a, b, c) = (
+        fix_name(&rt, b"AA"),
+        fix_name(&rt, b"AAA"),
+        fix_name(&rt, b"ZZ9ZZ"),
+    );
     assert!(rt; tables.fix(a).is_none());
     assert!(rt; tables.add_fix(a, 3_686_400, -3_686_400) == Ok(()));
     assert!(rt; tables.add_fix(b, -1, 0) == Ok(()));
@@ -67,7 +69,6 @@ fn fixes_are_found_by_their_names(rt: HostRuntime) -> Result<(), Fail> {
     );
     assert!(rt; tables.fix(b) == Some(Point { x: -1, y: 0 }));
     assert!(rt; tables.fix(c).is_none());
-    Ok(())
 }
 
 /// The five digits of a number below 100,000.
@@ -83,38 +84,36 @@ fn digits(n: u32) -> [u8; 5] {
 }
 
 #[test]
-fn the_tables_take_20_000_fixes(rt: HostRuntime) -> Result<(), Fail> {
-    let mut tables = Tables::make(rt.alloc())?;
+fn the_tables_take_20_000_fixes(rt: HostRuntime) {
+    let mut tables = Tables::make(rt.alloc()).expect(&rt, "memory");
     for n in 0..20_000 {
-        let name = fix_name(&digits(n))?;
+        let name = fix_name(&rt, &digits(n));
         assert!(rt; tables.add_fix(name, i64::from(n), 0) == Ok(()), "fix {n}");
     }
-    assert!(rt; tables.add_fix(fix_name(b"AA")?, 0, 0) == Err(AddNo::Full));
-    assert!(rt; tables.add_fix(fix_name(b"19999")?, 0, 0) == Err(AddNo::Taken));
-    assert!(rt; tables.fix(fix_name(b"12345")?) == Some(Point { x: 12_345, y: 0 }));
-    assert!(rt; tables.fix(fix_name(b"20000")?).is_none());
-    Ok(())
+    assert!(rt; tables.add_fix(fix_name(&rt, b"AA"), 0, 0) == Err(AddNo::Full));
+    assert!(rt; tables.add_fix(fix_name(&rt, b"19999"), 0, 0) == Err(AddNo::Taken));
+    assert!(rt; tables.fix(fix_name(&rt, b"12345")) == Some(Point { x: 12_345, y: 0 }));
+    assert!(rt; tables.fix(fix_name(&rt, b"20000")).is_none());
 }
 
 #[test]
-fn the_tables_take_1_000_types(rt: HostRuntime) -> Result<(), Fail> {
-    let mut tables = Tables::make(rt.alloc())?;
+fn the_tables_take_1_000_types(rt: HostRuntime) {
+    let mut tables = Tables::make(rt.alloc()).expect(&rt, "memory");
     let bands = one_band(600);
     for n in 0..1_000 {
-        let name = type_name(&digits(n)[1..])?;
+        let name = type_name(&rt, &digits(n)[1..]);
         assert!(rt; tables.add_type(name, &bands) == Ok(()), "type {n}");
     }
-    assert!(rt; tables.add_type(type_name(b"AA")?, &bands) == Err(AddNo::Full));
-    assert!(rt; tables.add_type(type_name(b"0999")?, &bands) == Err(AddNo::Taken));
-    assert!(rt; tables.ceiling(type_name(b"0500")?) == Some(600));
-    assert!(rt; tables.ceiling(type_name(b"1000")?).is_none());
-    Ok(())
+    assert!(rt; tables.add_type(type_name(&rt, b"AA"), &bands) == Err(AddNo::Full));
+    assert!(rt; tables.add_type(type_name(&rt, b"0999"), &bands) == Err(AddNo::Taken));
+    assert!(rt; tables.ceiling(type_name(&rt, b"0500")) == Some(600));
+    assert!(rt; tables.ceiling(type_name(&rt, b"1000")).is_none());
 }
 
 #[test]
-fn bands_of_a_type_rise(rt: HostRuntime) -> Result<(), Fail> {
-    let mut tables = Tables::make(rt.alloc())?;
-    let name = type_name(b"B7")?;
+fn bands_of_a_type_rise(rt: HostRuntime) {
+    let mut tables = Tables::make(rt.alloc()).expect(&rt, "memory");
+    let name = type_name(&rt, b"B7");
     let equal = three_bands((100, 240, 240));
     let falling = three_bands((240, 100, 410));
     let rising = three_bands((100, 240, 410));
@@ -124,13 +123,16 @@ fn bands_of_a_type_rise(rt: HostRuntime) -> Result<(), Fail> {
     assert!(rt; tables.add_type(name, &rising) == Ok(()));
     assert!(rt; tables.add_type(name, &equal) == Err(AddNo::Taken));
     assert!(rt; tables.bands(name) == Some(rising.as_slice()));
-    Ok(())
 }
 
 #[test]
-fn each_height_has_its_band(rt: HostRuntime) -> Result<(), Fail> {
-    let mut tables = Tables::make(rt.alloc())?;
-    let (slow, fast, other) = (type_name(b"C172")?, type_name(b"B7")?, type_name(b"B77")?);
+fn each_height_has_its_band(rt: HostRuntime) {
+    let mut tables = Tables::make(rt.alloc()).expect(&rt, "memory");
+    let (slow, fast, other) = (
+        type_name(&rt, b"C172"),
+        type_name(&rt, b"B7"),
+        type_name(&rt, b"B77"),
+    );
     assert!(rt; tables.add_type(slow, &one_band(100)) == Ok(()));
     assert!(rt; tables.add_type(fast, &three_bands((100, 240, 410))) == Ok(()));
     assert!(rt; tables.ceiling(slow) == Some(100));
@@ -152,7 +154,6 @@ fn each_height_has_its_band(rt: HostRuntime) -> Result<(), Fail> {
         check_speed(&rt, &tables, (fast, height), Some(fastly));
         check_speed(&rt, &tables, (other, height), None);
     }
-    Ok(())
 }
 
 /// Compares the speed of the type's band at a height.
@@ -163,31 +164,32 @@ fn check_speed(rt: &impl Abort, tables: &Tables, place: (TypeName, u32), wanted:
 }
 
 /// The route of those names, of two letters each.
-fn route(alloc: Global, names: &[u8]) -> Result<Route, Fail> {
-    let mut route = Route::make(alloc)?;
+fn route(rt: &(impl AllocGlobal + Abort), names: &[u8]) -> Route {
+    let mut route = Route::make(rt.alloc()).expect(rt, "memory");
     for name in names.chunks(2) {
-        route.push(fix_name(name)?)?;
+        route.push(fix_name(rt, name)).expect(rt, "memory");
     }
-    Ok(route)
+    route
 }
 
 /// The tables of three fixes, AA, BB and CC.
-fn three_fixes(alloc: Global) -> Result<Tables, Fail> {
-    let mut tables = Tables::make(alloc)?;
+fn three_fixes(rt: &(impl AllocGlobal + Abort)) -> Tables {
+    let mut tables = Tables::make(rt.alloc()).expect(rt, "memory");
     for name in b"AABBCC".chunks(2) {
-        let _added = tables.add_fix(fix_name(name)?, 0, 0);
+        let added = tables.add_fix(fix_name(rt, name), 0, 0);
+        assert!(rt; added == Ok(()));
     }
-    Ok(tables)
+    tables
 }
 
 /// A route that goes to and fro between two fixes, of so many names.
-fn shuttle(alloc: Global, names: u32) -> Result<Route, Fail> {
-    let mut route = Route::make(alloc)?;
+fn shuttle(rt: &(impl AllocGlobal + Abort), names: u32) -> Route {
+    let mut route = Route::make(rt.alloc()).expect(rt, "memory");
     for n in 0..names {
         let name: &[u8] = if n % 2 == 0 { b"AA" } else { b"BB" };
-        route.push(fix_name(name)?)?;
+        route.push(fix_name(rt, name)).expect(rt, "memory");
     }
-    Ok(route)
+    route
 }
 
 /// Names of two letters each, and what is told of them as a route: the unknown name, or a word.
@@ -215,30 +217,28 @@ fn word(answer: &Result<(), RouteNo>) -> &[u8] {
 }
 
 /// Compares what is told of each route of the table.
-fn check_routes(rt: &impl Abort, alloc: Global, table: &[(&[u8], &[u8])]) -> Result<(), Fail> {
-    let tables = three_fixes(alloc)?;
+fn check_routes(rt: &(impl AllocGlobal + Abort), table: &[(&[u8], &[u8])]) {
+    let tables = three_fixes(rt);
     for (names, wanted) in table {
-        let route = route(alloc, names)?;
+        let route = route(rt, names);
         let answer = tables.route_check(&route);
         assert!(rt; word(&answer) == *wanted);
     }
-    Ok(())
 }
 
 #[test]
-fn the_first_fault_of_a_route_is_named(rt: HostRuntime) -> Result<(), Fail> {
-    check_routes(&rt, rt.alloc(), ROUTES.as_slice())
+fn the_first_fault_of_a_route_is_named(rt: HostRuntime) {
+    check_routes(&rt, ROUTES.as_slice());
 }
 
 #[test]
-fn a_route_has_at_most_64_names(rt: HostRuntime) -> Result<(), Fail> {
-    let tables = three_fixes(rt.alloc())?;
-    let mut route = shuttle(rt.alloc(), 64)?;
+fn a_route_has_at_most_64_names(rt: HostRuntime) {
+    let tables = three_fixes(&rt);
+    let mut route = shuttle(&rt, 64);
     assert!(rt; tables.route_check(&route) == Ok(()));
-    route.push(fix_name(b"BB")?)?;
+    route.push(fix_name(&rt, b"BB")).expect(&rt, "memory");
     assert!(rt; tables.route_check(&route) == Err(RouteNo::Long));
-    let unknown = fix_name(b"YY")?;
-    route.push(unknown)?;
+    let unknown = fix_name(&rt, b"YY");
+    route.push(unknown).expect(&rt, "memory");
     assert!(rt; tables.route_check(&route) == Err(RouteNo::UnknownFix(unknown)));
-    Ok(())
 }

@@ -2,7 +2,6 @@ use crate::{Roster, Segment, Strand};
 use mt_base::{Callsign, Kind, Row, Straight};
 use std::process::Abort;
 use std::sync::Arc;
-use std::test::Fail;
 
 /// The values of a row at its start, and its leg.
 type Values = (i64, i64, i64, i64, i64, u32);
@@ -75,12 +74,12 @@ const DESCENT: Segment = Segment {
 };
 
 #[test]
-fn rows_stand_at_and_around_each_border(rt: HostRuntime) -> Result<(), Fail> {
+fn rows_stand_at_and_around_each_border(rt: HostRuntime) {
     let mut strand = Strand::empty(rt.alloc(), 10);
     check(&rt, &strand, (10, 10), &[(9, None), (10, None), (11, None)]);
-    strand.push(CLIMB)?;
-    strand.push(LEVEL)?;
-    strand.push(DESCENT)?;
+    strand.push(CLIMB).expect(&rt, "memory");
+    strand.push(LEVEL).expect(&rt, "memory");
+    strand.push(DESCENT).expect(&rt, "memory");
     let table = [
         (0, None),
         (9, None),
@@ -96,14 +95,13 @@ fn rows_stand_at_and_around_each_border(rt: HostRuntime) -> Result<(), Fail> {
     ];
     check(&rt, &strand, (10, 18), &table);
     assert!(rt; strand.segments() == [CLIMB, LEVEL, DESCENT].as_slice());
-    let copy = strand.copy()?;
+    let copy = strand.copy().expect(&rt, "memory");
     check(&rt, &copy, (10, 18), &table);
     assert!(rt; copy.segments() == strand.segments());
-    Ok(())
 }
 
 #[test]
-fn a_straight_stretch_has_growing_margins(rt: HostRuntime) -> Result<(), Fail> {
+fn a_straight_stretch_has_growing_margins(rt: HostRuntime) {
     let stretch = Straight {
         from: 5,
         to: 9,
@@ -121,7 +119,7 @@ fn a_straight_stretch_has_growing_margins(rt: HostRuntime) -> Result<(), Fail> {
             leg: 0,
         },
     };
-    let strand = Strand::straight(rt.alloc(), &stretch)?;
+    let strand = Strand::straight(rt.alloc(), &stretch).expect(&rt, "memory");
     let table = [
         (4, None),
         (5, Some((-480, 0, 2_400_000, 0, 0, 0))),
@@ -131,20 +129,27 @@ fn a_straight_stretch_has_growing_margins(rt: HostRuntime) -> Result<(), Fail> {
         (9, None),
     ];
     check(&rt, &strand, (5, 9), &table);
-    Ok(())
 }
 
 #[test]
-fn a_roster_keeps_its_order(rt: HostRuntime) -> Result<(), Fail> {
-    let second = Callsign::of(b"BAW1").ok_or("no callsign")?;
-    let first = Callsign::of(b"AAA1").ok_or("no callsign")?;
-    let early = Arc::new(rt.alloc(), Strand::empty(rt.alloc(), 20))?;
-    let late = Arc::new(rt.alloc(), Strand::empty(rt.alloc(), 30))?;
-    let mut roster = Roster::make(rt.alloc())?;
+fn a_roster_keeps_its_order(rt: HostRuntime) {
+    let second = Callsign::of(b"BAW1").expect(&rt, "a callsign");
+    let first = Callsign::of(b"AAA1").expect(&rt, "a callsign");
+    let early = Arc::new(rt.alloc(), Strand::empty(rt.alloc(), 20))
+        .ok()
+        .expect(&rt, "memory");
+    let late = Arc::new(rt.alloc(), Strand::empty(rt.alloc(), 30))
+        .ok()
+        .expect(&rt, "memory");
+    let mut roster = Roster::make(rt.alloc()).expect(&rt, "memory");
     assert!(rt; roster.items().is_empty());
-    roster.add(second, Kind::Tentative, &late)?;
-    roster.add(first, Kind::Actual, &late)?;
-    roster.add(second, Kind::Actual, &early)?;
+    roster
+        .add(second, Kind::Tentative, &late)
+        .expect(&rt, "memory");
+    roster.add(first, Kind::Actual, &late).expect(&rt, "memory");
+    roster
+        .add(second, Kind::Actual, &early)
+        .expect(&rt, "memory");
     let items = roster.items();
     let wanted = [
         (second, Kind::Tentative, 30),
@@ -155,5 +160,4 @@ fn a_roster_keeps_its_order(rt: HostRuntime) -> Result<(), Fail> {
     for (item, (call, kind, start)) in items.iter().zip(wanted) {
         assert!(rt; item.call == call && item.kind == kind && item.strand.start() == start);
     }
-    Ok(())
 }
