@@ -21,7 +21,6 @@ use mt_base::{Band, Place, Point, Row, Rules};
 use mt_track::Strand;
 use std::alloc::Global;
 use std::process::Abort;
-use std::test::Fail;
 
 /// The values of a row, in the order of its fields.
 type Values = [i64; 11];
@@ -117,7 +116,7 @@ fn fly(
     next: u32,
     at: u32,
     from: Place,
-) -> Result<Strand, Fail> {
+) -> Strand {
     let rules = Rules::usual();
     assert!(rt; are_bands(bands));
     assert!(rt; level <= 600);
@@ -126,13 +125,13 @@ fn fly(
     assert!(rt; (next as usize) < fixes.len());
     assert!(rt; at <= 10_000_000);
     assert!(rt; is_held(&rules, &from));
-    Ok(fly_route(alloc, &rules, bands, level, fixes, next, at, from)?)
+    fly_route(alloc, &rules, bands, level, fixes, next, at, from).expect(rt, "memory")
 }
 
 /// What the strand says of each second of the table, its first second and the one after its last, and how many segments it has.
 fn check(
     rt: &impl Abort,
-    strand: &Strand,
+    strand: Strand,
     ends: (u32, u32),
     segments: usize,
     table: &[(u32, Values)],
@@ -191,13 +190,7 @@ fn eight_bands() -> [Band; 8] {
 }
 
 /// In level flight over fixes, from the first of them, at so many knots.
-fn level(
-    rt: &impl Abort,
-    alloc: Global,
-    speed: i64,
-    begin: u32,
-    fixes: &[Point],
-) -> Result<Strand, Fail> {
+fn level(rt: &impl Abort, alloc: Global, speed: i64, begin: u32, fixes: &[Point]) -> Strand {
     let bands = [band(410, speed, 2100, 2100)];
     assert!(rt; !fixes.is_empty());
     let from = over(fixes[0].x, fixes[0].y, 2_100_000);
@@ -212,7 +205,7 @@ fn climb(
     from: u32,
     to: u32,
     fixes: &[Point],
-) -> Result<Strand, Fail> {
+) -> Strand {
     let place = over(0, 0, 6_000 * i64::from(from));
     fly(rt, alloc, bands, to, fixes, 1, 0, place)
 }

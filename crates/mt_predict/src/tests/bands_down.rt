@@ -1,7 +1,6 @@
 //! A descent through eight bands.
 
 use super::{Values, at, check, climb, eight_bands};
-use std::test::Fail;
 
 const DOWN_AT_THE_SPEED_WHERE_EACH_LEG_BEGINS: [(u32, Values); 45] = [
     (0, [0, 0, 3600000, 0, 0, 437, 0, -3500, 15, 100, 1]),
@@ -180,7 +179,7 @@ const DOWN_AT_THE_SPEED_WHERE_EACH_LEG_BEGINS: [(u32, Values); 45] = [
 ];
 
 #[test]
-fn a_descent_through_eight_bands(rt: HostRuntime) -> Result<(), Fail> {
+fn a_descent_through_eight_bands(rt: HostRuntime) {
     let alloc = rt.alloc();
     // down at the speed where each leg begins
     let strand = climb(
@@ -195,13 +194,12 @@ fn a_descent_through_eight_bands(rt: HostRuntime) -> Result<(), Fail> {
             at(60_000, 90_000),
             at(480_000, 90_000),
         ],
-    )?;
+    );
     check(
         &rt,
-        &strand,
+        strand,
         (0, 1236),
         15,
         &DOWN_AT_THE_SPEED_WHERE_EACH_LEG_BEGINS,
     );
-    Ok(())
 }

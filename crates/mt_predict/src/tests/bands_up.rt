@@ -1,7 +1,6 @@
 //! A climb through eight bands.
 
 use super::{Values, at, check, climb, eight_bands};
-use std::test::Fail;
 
 const UP_AT_THE_SPEED_WHERE_EACH_LEG_BEGINS: [(u32, Values); 38] = [
     (0, [0, 0, 0, 0, 0, 199, 0, 3000, 15, 100, 1]),
@@ -153,7 +152,7 @@ const UP_AT_THE_SPEED_WHERE_EACH_LEG_BEGINS: [(u32, Values); 38] = [
 ];
 
 #[test]
-fn a_climb_through_eight_bands(rt: HostRuntime) -> Result<(), Fail> {
+fn a_climb_through_eight_bands(rt: HostRuntime) {
     let alloc = rt.alloc();
     // up at the speed where each leg begins
     let strand = climb(
@@ -168,13 +167,12 @@ fn a_climb_through_eight_bands(rt: HostRuntime) -> Result<(), Fail> {
             at(60_000, 90_000),
             at(480_000, 90_000),
         ],
-    )?;
+    );
     check(
         &rt,
-        &strand,
+        strand,
         (0, 1601),
         15,
         &UP_AT_THE_SPEED_WHERE_EACH_LEG_BEGINS,
     );
-    Ok(())
 }

@@ -1,28 +1,23 @@
 //! Clearances along the route AA, BB, CC, BB, DD, CC: four legs of 100 seconds, but 200 from BB to DD. From second 100 the flight climbs from
 //! flight level 290 to 310, by 2,000 feet a minute up to flight level 300 and its second, then by 1,000.
 
-use super::courses::{fix_name, is_sound};
-use super::{are_bands, two_bands};
+use super::courses::{add_fix, add_ja5, fix_name, is_sound, route_along, type_name};
 use crate::{cleared, predict};
-use mt_base::{Aim, Base, Clearance, Course, FixName, Kind, Refusal, Route, Rules, TypeName};
+use mt_base::{Aim, Base, Clearance, Course, FixName, Kind, Refusal, Rules};
 use mt_tables::Tables;
 use mt_track::Strand;
 use std::alloc::Global;
 use std::process::Abort;
-use std::test::Fail;
 
 /// The fixes, and the type JA5 up to flight level 410.
-pub(super) fn tables(rt: &impl Abort, alloc: Global) -> Result<Tables, Fail> {
-    let mut tables = Tables::make(alloc)?;
-    tables.add_fix(fix_name(b"AA")?, 0, 0).or(Err("AA"))?;
-    tables.add_fix(fix_name(b"BB")?, 48_000, 0).or(Err("BB"))?;
-    tables.add_fix(fix_name(b"CC")?, 96_000, 0).or(Err("CC"))?;
-    tables.add_fix(fix_name(b"DD")?, 144_000, 0).or(Err("DD"))?;
-    let bands = two_bands();
-    assert!(rt; are_bands(&bands));
-    let kind = TypeName::of(b"JA5").ok_or("no type name")?;
-    tables.add_type(kind, &bands).or(Err("JA5"))?;
-    Ok(tables)
+pub(super) fn tables(rt: &impl Abort, alloc: Global) -> Tables {
+    let mut tables = Tables::make(alloc).expect(rt, "memory");
+    add_fix(rt, &mut tables, b"AA", 0, 0);
+    add_fix(rt, &mut tables, b"BB", 48_000, 0);
+    add_fix(rt, &mut tables, b"CC", 96_000, 0);
+    add_fix(rt, &mut tables, b"DD", 144_000, 0);
+    add_ja5(rt, &mut tables);
+    tables
 }
 
 const BASE: Base = Base {
@@ -35,20 +30,16 @@ const BASE: Base = Base {
     next: 1,
 };
 
-pub(super) fn course(alloc: Global) -> Result<Course, Fail> {
-    let mut route = Route::make(alloc)?;
-    for name in [b"AA", b"BB", b"CC", b"BB", b"DD", b"CC"] {
-        route.push(fix_name(name)?)?;
-    }
-    Ok(Course {
-        kind: TypeName::of(b"JA5").ok_or("no type name")?,
-        route,
+pub(super) fn course(rt: &impl Abort, alloc: Global) -> Course {
+    Course {
+        kind: type_name(rt, b"JA5"),
+        route: route_along(rt, alloc, &[b"AA", b"BB", b"CC", b"BB", b"DD", b"CC"]),
         base: BASE,
         level: 310,
         last: None,
         due: false,
         mark: None,
-    })
+    }
 }
 
 /// A base on the line of the fixes.
@@ -76,20 +67,19 @@ fn check(rt: &impl Abort, tables: &Tables, course: &Course, strand: &Strand, tab
 }
 
 /// The tables, the course and its trajectory.
-pub(super) fn flown(rt: &impl Abort, alloc: Global) -> Result<(Tables, Course, Strand), Fail> {
+pub(super) fn flown(rt: &impl Abort, alloc: Global) -> (Tables, Course, Strand) {
     let rules = Rules::usual();
-    let tables = tables(rt, alloc)?;
-    let course = course(alloc)?;
+    let tables = tables(rt, alloc);
+    let course = course(rt, alloc);
     assert!(rt; is_sound(&tables, &rules, &course));
-    let strand = predict(alloc, &tables, &rules, &course, Kind::Actual)?;
+    let strand = predict(alloc, &tables, &rules, &course, Kind::Actual).expect(rt, "memory");
     assert_eq!(rt; (strand.start(), strand.end()), (100, 700));
-    Ok((tables, course, strand))
+    (tables, course, strand)
 }
 
-fn check_flown(rt: &impl Abort, alloc: Global, table: &[Case]) -> Result<(), Fail> {
-    let (tables, course, strand) = flown(rt, alloc)?;
+fn check_flown(rt: &impl Abort, alloc: Global, table: &[Case]) {
+    let (tables, course, strand) = flown(rt, alloc);
     check(rt, &tables, &course, &strand, table);
-    Ok(())
 }
 
 fn to(level: u32, base: Base) -> Result<Aim, Refusal> {
@@ -189,35 +179,42 @@ fn refused_directs(a: FixName, c: FixName, none: FixName) -> [Case; 8] {
 }
 
 #[test]
-fn a_level_replaces_the_level_from_a_second_on(rt: HostRuntime) -> Result<(), Fail> {
-    check_flown(&rt, rt.alloc(), &levels())
+fn a_level_replaces_the_level_from_a_second_on(rt: HostRuntime) {
+    check_flown(&rt, rt.alloc(), &levels());
 }
 
 #[test]
-fn a_direct_clearance_flies_to_the_next_place_of_the_fix(rt: HostRuntime) -> Result<(), Fail> {
-    let (b, c, d) = (fix_name(b"BB")?, fix_name(b"CC")?, fix_name(b"DD")?);
-    check_flown(&rt, rt.alloc(), &directs(b, c, d))
+fn a_direct_clearance_flies_to_the_next_place_of_the_fix(rt: HostRuntime) {
+    let (b, c, d) = (
+        fix_name(&rt, b"BB"),
+        fix_name(&rt, b"CC"),
+        fix_name(&rt, b"DD"),
+    );
+    check_flown(&rt, rt.alloc(), &directs(b, c, d));
 }
 
 #[test]
-fn the_first_of_two_refusals_of_a_level_is_told(rt: HostRuntime) -> Result<(), Fail> {
-    check_flown(&rt, rt.alloc(), &refused_levels())
+fn the_first_of_two_refusals_of_a_level_is_told(rt: HostRuntime) {
+    check_flown(&rt, rt.alloc(), &refused_levels());
 }
 
 #[test]
-fn the_first_of_two_refusals_of_a_direct_clearance_is_told(rt: HostRuntime) -> Result<(), Fail> {
-    let (a, c, none) = (fix_name(b"AA")?, fix_name(b"CC")?, fix_name(b"XX")?);
-    check_flown(&rt, rt.alloc(), &refused_directs(a, c, none))
+fn the_first_of_two_refusals_of_a_direct_clearance_is_told(rt: HostRuntime) {
+    let (a, c, none) = (
+        fix_name(&rt, b"AA"),
+        fix_name(&rt, b"CC"),
+        fix_name(&rt, b"XX"),
+    );
+    check_flown(&rt, rt.alloc(), &refused_directs(a, c, none));
 }
 
 #[test]
-fn a_trajectory_without_rows_ends_as_it_begins(rt: HostRuntime) -> Result<(), Fail> {
-    let (tables, course, _) = flown(&rt, rt.alloc())?;
+fn a_trajectory_without_rows_ends_as_it_begins(rt: HostRuntime) {
+    let (tables, course, _) = flown(&rt, rt.alloc());
     let strand = Strand::empty(rt.alloc(), 100);
     let table = [
         (Clearance::Level(350), 99, 1_000, to(350, BASE)),
         (Clearance::Level(350), 100, 1_000, Err(Refusal::Ended)),
     ];
     check(&rt, &tables, &course, &strand, &table);
-    Ok(())
 }

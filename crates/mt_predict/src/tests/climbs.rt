@@ -1,7 +1,10 @@
 //! Climbs and descents through one and two bands.
 
 use super::{Values, at, band, check, climb, one_band, two_bands};
-use std::test::Fail;
+use mt_base::Band;
+use mt_track::Strand;
+use std::alloc::Global;
+use std::process::Abort;
 
 const UP_BY_WHAT_IS_LEFT_AT_LAST: [(u32, Values); 10] = [
     (0, [0, 0, 2100000, 0, 0, 480, 0, 2100, 15, 100, 1]),
@@ -131,52 +134,29 @@ const FROM_ABOVE_THE_FIRST_TOP_DOWN: [(u32, Values); 9] = [
     (19, [9120, 0, 1794000, 285, 0, 480, 0, 0, 15, 0, 1]),
 ];
 
+/// From one flight level to another, over 480,000 units to the east.
+fn climb_far(rt: &impl Abort, alloc: Global, bands: &[Band], from: u32, to: u32) -> Strand {
+    climb(rt, alloc, bands, from, to, &[at(0, 0), at(480_000, 0)])
+}
+
 #[test]
-fn climbs_and_descents_in_one_band(rt: HostRuntime) -> Result<(), Fail> {
+fn climbs_and_descents_in_one_band(rt: HostRuntime) {
     let alloc = rt.alloc();
     // up by what is left at last
-    let strand = climb(
-        &rt,
-        alloc,
-        &one_band(),
-        350,
-        360,
-        &[at(0, 0), at(480_000, 0)],
-    )?;
-    check(&rt, &strand, (0, 1000), 4, &UP_BY_WHAT_IS_LEFT_AT_LAST);
+    let strand = climb_far(&rt, alloc, &one_band(), 350, 360);
+    check(&rt, strand, (0, 1000), 4, &UP_BY_WHAT_IS_LEFT_AT_LAST);
     // down
-    let strand = climb(
-        &rt,
-        alloc,
-        &one_band(),
-        350,
-        340,
-        &[at(0, 0), at(480_000, 0)],
-    )?;
-    check(&rt, &strand, (0, 1000), 4, &DOWN);
+    let strand = climb_far(&rt, alloc, &one_band(), 350, 340);
+    check(&rt, strand, (0, 1000), 4, &DOWN);
     // a rate that divides the height
-    let strand = climb(
-        &rt,
-        alloc,
-        &[band(410, 480, 2000, 1500)],
-        350,
-        360,
-        &[at(0, 0), at(480_000, 0)],
-    )?;
-    check(&rt, &strand, (0, 1000), 3, &A_RATE_THAT_DIVIDES_THE_HEIGHT);
+    let strand = climb_far(&rt, alloc, &[band(410, 480, 2000, 1500)], 350, 360);
+    check(&rt, strand, (0, 1000), 3, &A_RATE_THAT_DIVIDES_THE_HEIGHT);
     // a rate that does not
-    let strand = climb(
-        &rt,
-        alloc,
-        &[band(410, 480, 1999, 1701)],
-        350,
-        341,
-        &[at(0, 0), at(480_000, 0)],
-    )?;
-    check(&rt, &strand, (0, 1000), 4, &A_RATE_THAT_DOES_NOT);
+    let strand = climb_far(&rt, alloc, &[band(410, 480, 1999, 1701)], 350, 341);
+    check(&rt, strand, (0, 1000), 4, &A_RATE_THAT_DOES_NOT);
     // the same level
-    let strand = climb(&rt, alloc, &one_band(), 350, 350, &[at(0, 0), at(4801, 1)])?;
-    check(&rt, &strand, (0, 11), 3, &THE_SAME_LEVEL);
+    let strand = climb(&rt, alloc, &one_band(), 350, 350, &[at(0, 0), at(4801, 1)]);
+    check(&rt, strand, (0, 11), 3, &THE_SAME_LEVEL);
     // above the last top
     let strand = climb(
         &rt,
@@ -185,32 +165,23 @@ fn climbs_and_descents_in_one_band(rt: HostRuntime) -> Result<(), Fail> {
         409,
         412,
         &[at(0, 0), at(24_000, 0)],
-    )?;
-    check(&rt, &strand, (0, 50), 3, &ABOVE_THE_LAST_TOP);
-    Ok(())
+    );
+    check(&rt, strand, (0, 50), 3, &ABOVE_THE_LAST_TOP);
 }
 
 #[test]
-fn climbs_and_descents_through_two_bands(rt: HostRuntime) -> Result<(), Fail> {
+fn climbs_and_descents_through_two_bands(rt: HostRuntime) {
     let alloc = rt.alloc();
     // through the first top
-    let strand = climb(
-        &rt,
-        alloc,
-        &two_bands(),
-        299,
-        301,
-        &[at(0, 0), at(480_000, 0)],
-    )?;
-    check(&rt, &strand, (0, 1000), 4, &THROUGH_THE_FIRST_TOP);
+    let strand = climb_far(&rt, alloc, &two_bands(), 299, 301);
+    check(&rt, strand, (0, 1000), 4, &THROUGH_THE_FIRST_TOP);
     // to the first top
-    let strand = climb(&rt, alloc, &two_bands(), 299, 300, &[at(0, 0), at(9600, 0)])?;
-    check(&rt, &strand, (0, 20), 2, &TO_THE_FIRST_TOP);
+    let strand = climb(&rt, alloc, &two_bands(), 299, 300, &[at(0, 0), at(9600, 0)]);
+    check(&rt, strand, (0, 20), 2, &TO_THE_FIRST_TOP);
     // from the first top down
-    let strand = climb(&rt, alloc, &two_bands(), 300, 299, &[at(0, 0), at(9600, 0)])?;
-    check(&rt, &strand, (0, 20), 2, &FROM_THE_FIRST_TOP_DOWN);
+    let strand = climb(&rt, alloc, &two_bands(), 300, 299, &[at(0, 0), at(9600, 0)]);
+    check(&rt, strand, (0, 20), 2, &FROM_THE_FIRST_TOP_DOWN);
     // from above the first top down
-    let strand = climb(&rt, alloc, &two_bands(), 301, 299, &[at(0, 0), at(9600, 0)])?;
-    check(&rt, &strand, (0, 20), 3, &FROM_ABOVE_THE_FIRST_TOP_DOWN);
-    Ok(())
+    let strand = climb(&rt, alloc, &two_bands(), 301, 299, &[at(0, 0), at(9600, 0)]);
+    check(&rt, strand, (0, 20), 3, &FROM_ABOVE_THE_FIRST_TOP_DOWN);
 }

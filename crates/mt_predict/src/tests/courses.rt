@@ -1,7 +1,7 @@
 //! The trajectory of a course, and that of its tentative clearance.
 
 ghost use Rattle.std.specs.Prelude.{◌≡◌, IfSome, IsTrue, is_some, true};
-ghost use Rattle.mt_base.specs.Bounds.{IsBoundedReport, IsRightBase, IsRightMark, IsSoundCourse};
+ghost use Rattle.mt_base.specs.Bounds.{IsBoundedReport, IsInPlane, IsRightBase, IsRightMark, IsSoundCourse};
 
 use super::{Values, are_bands, check, is_in_plane, is_up_to, is_within, two_bands};
 use crate::predict;
@@ -9,7 +9,6 @@ use mt_base::{Base, Course, FixName, Kind, Mark, Report, Route, Rules, TypeName}
 use mt_tables::Tables;
 use std::alloc::Global;
 use std::process::Abort;
-use std::test::Fail;
 
 const ACTUAL: [(u32, Values); 18] = [
     (0, [0, 0, 1794000, 0, 0, 480, 0, 2000, 15, 100, 1]),
@@ -83,8 +82,12 @@ const TENTATIVE: [(u32, Values); 15] = [
     (125, [479848, 29546, 1794000, 9000, 0, 152, 454, 0, 0, 0, 2]),
 ];
 
-pub(super) fn fix_name(text: &[u8]) -> Result<FixName, Fail> {
-    Ok(FixName::of(text).ok_or("no fix name")?)
+pub(super) fn fix_name(rt: &impl Abort, text: &[u8]) -> FixName {
+    FixName::of(text).expect(rt, "a fix name")
+}
+
+pub(super) fn type_name(rt: &impl Abort, text: &[u8]) -> TypeName {
+    TypeName::of(text).expect(rt, "a type name")
 }
 
 fn is_base(rules: &Rules, names: usize, base: &Base) -> bool
@@ -140,25 +143,45 @@ pub(super) fn is_sound(tables: &Tables, rules: &Rules, course: &Course) -> bool
     is_mark(rules, names, &course.mark)
 }
 
-fn tables(rt: &impl Abort, alloc: Global) -> Result<Tables, Fail> {
-    let mut tables = Tables::make(alloc)?;
-    let kind = TypeName::of(b"JA5").ok_or("no type name")?;
-    tables.add_fix(fix_name(b"Q0")?, 0, 0).or(Err("Q0"))?;
-    tables.add_fix(fix_name(b"Q1")?, 480_000, 0).or(Err("Q1"))?;
+/// Adds a fix of that name.
+pub(super) fn add_fix(rt: &impl Abort, tables: &mut Tables, name: &[u8], x: i64, y: i64)
+    requires { IsInPlane x y }
+{
     tables
-        .add_fix(fix_name(b"Q2")?, 480_000, 30_000)
-        .or(Err("Q2"))?;
-    let bands = two_bands();
-    assert!(rt; are_bands(&bands));
-    tables.add_type(kind, &bands).or(Err("JA5"))?;
-    Ok(tables)
+        .add_fix(fix_name(rt, name), x, y)
+        .ok()
+        .expect(rt, "a new fix");
 }
 
-fn course(alloc: Global) -> Result<Course, Fail> {
-    let mut route = Route::make(alloc)?;
-    route.push(fix_name(b"Q0")?)?;
-    route.push(fix_name(b"Q1")?)?;
-    route.push(fix_name(b"Q2")?)?;
+/// Adds the type JA5, of two bands.
+pub(super) fn add_ja5(rt: &impl Abort, tables: &mut Tables) {
+    let bands = two_bands();
+    assert!(rt; are_bands(&bands));
+    tables
+        .add_type(type_name(rt, b"JA5"), &bands)
+        .ok()
+        .expect(rt, "a new type");
+}
+
+/// The route along fixes of two letters each.
+pub(super) fn route_along(rt: &impl Abort, alloc: Global, names: &[&[u8; 2]]) -> Route {
+    let mut route = Route::make(alloc).expect(rt, "memory");
+    for name in names {
+        route.push(fix_name(rt, *name)).expect(rt, "memory");
+    }
+    route
+}
+
+fn tables(rt: &impl Abort, alloc: Global) -> Tables {
+    let mut tables = Tables::make(alloc).expect(rt, "memory");
+    add_fix(rt, &mut tables, b"Q0", 0, 0);
+    add_fix(rt, &mut tables, b"Q1", 480_000, 0);
+    add_fix(rt, &mut tables, b"Q2", 480_000, 30_000);
+    add_ja5(rt, &mut tables);
+    tables
+}
+
+fn course(rt: &impl Abort, alloc: Global) -> Course {
     let base = Base {
         at: 0,
         x: 0,
@@ -177,9 +200,9 @@ fn course(alloc: Global) -> Result<Course, Fail> {
         w: 1300,
         next: 2,
     };
-    Ok(Course {
-        kind: TypeName::of(b"JA5").ok_or("no type name")?,
-        route,
+    Course {
+        kind: type_name(rt, b"JA5"),
+        route: route_along(rt, alloc, &[b"Q0", b"Q1", b"Q2"]),
         base,
         level: 301,
         last: None,
@@ -189,20 +212,19 @@ fn course(alloc: Global) -> Result<Course, Fail> {
             base: tentative,
             level: 299,
         }),
-    })
+    }
 }
 
 #[test]
-fn a_course_and_its_tentative_clearance(rt: HostRuntime) -> Result<(), Fail> {
+fn a_course_and_its_tentative_clearance(rt: HostRuntime) {
     let alloc = rt.alloc();
     let rules = Rules::usual();
-    let tables = tables(&rt, alloc)?;
-    let course = course(alloc)?;
+    let tables = tables(&rt, alloc);
+    let course = course(&rt, alloc);
     assert!(rt; is_sound(&tables, &rules, &course));
-    let strand = predict(alloc, &tables, &rules, &course, Kind::Actual)?;
-    check(&rt, &strand, (0, 1063), 6, &ACTUAL);
+    let strand = predict(alloc, &tables, &rules, &course, Kind::Actual).expect(&rt, "memory");
+    check(&rt, strand, (0, 1063), 6, &ACTUAL);
     assert!(rt; course.mark.is_some());
-    let strand = predict(alloc, &tables, &rules, &course, Kind::Tentative)?;
-    check(&rt, &strand, (60, 126), 7, &TENTATIVE);
-    Ok(())
+    let strand = predict(alloc, &tables, &rules, &course, Kind::Tentative).expect(&rt, "memory");
+    check(&rt, strand, (60, 126), 7, &TENTATIVE);
 }

@@ -10,7 +10,6 @@ use mt_base::{
 };
 use mt_tables::Tables;
 use std::process::Abort;
-use std::test::Fail;
 
 /// As many entries as the usual rules have room for.
 const FULL: u64 = 4_194_304;
@@ -32,6 +31,11 @@ const STRETCH: Straight = Straight {
         leg: 0,
     },
 };
+
+/// The callsign of the flight.
+fn callsign(rt: &impl Abort) -> Callsign {
+    Callsign::of(b"AAA1").expect(rt, "a callsign")
+}
 
 fn clear(call: Callsign, level: u32, eff: Option<Second>) -> Command {
     Command::Clear {
@@ -84,10 +88,10 @@ fn unknown(call: Callsign) -> Result<(), Refusal> {
 }
 
 #[test]
-fn a_clearance_wants_a_flight(rt: HostRuntime) -> Result<(), Fail> {
-    let call = Callsign::of(b"AAA1").ok_or("no callsign")?;
+fn a_clearance_wants_a_flight(rt: HostRuntime) {
+    let call = callsign(&rt);
     let rules = Rules::usual();
-    let tables = tables(&rt, rt.alloc())?;
+    let tables = tables(&rt, rt.alloc());
     let looked = Looked {
         now: 140,
         held: 1,
@@ -100,14 +104,13 @@ fn a_clearance_wants_a_flight(rt: HostRuntime) -> Result<(), Fail> {
         (140, FULL, 411, Some(141), unknown(call)),
     ];
     check(&rt, &tables, &rules, &looked, call, &table);
-    Ok(())
 }
 
 #[test]
-fn a_clearance_wants_a_planned_flight(rt: HostRuntime) -> Result<(), Fail> {
-    let call = Callsign::of(b"AAA1").ok_or("no callsign")?;
+fn a_clearance_wants_a_planned_flight(rt: HostRuntime) {
+    let call = callsign(&rt);
     let rules = Rules::usual();
-    let tables = tables(&rt, rt.alloc())?;
+    let tables = tables(&rt, rt.alloc());
     let path = Path::Outer(STRETCH);
     let external = Record { call, path };
     let looked = Looked {
@@ -122,7 +125,6 @@ fn a_clearance_wants_a_planned_flight(rt: HostRuntime) -> Result<(), Fail> {
         (140, FULL, 411, Some(141), Err(Refusal::Fixed)),
     ];
     check(&rt, &tables, &rules, &looked, call, &table);
-    Ok(())
 }
 
 fn first_faults() -> [Case; 11] {
@@ -142,14 +144,14 @@ fn first_faults() -> [Case; 11] {
 }
 
 #[test]
-fn a_clearance_is_checked_before_the_room(rt: HostRuntime) -> Result<(), Fail> {
-    let call = Callsign::of(b"AAA1").ok_or("no callsign")?;
+fn a_clearance_is_checked_before_the_room(rt: HostRuntime) {
+    let call = callsign(&rt);
     let rules = Rules::usual();
-    let tables = tables(&rt, rt.alloc())?;
-    let course = course(rt.alloc())?;
+    let tables = tables(&rt, rt.alloc());
+    let course = course(&rt, rt.alloc());
     assert!(rt; is_sound(&tables, &rules, &course));
     assert!(rt; course.route.items().len() <= 64);
-    let strand = predict(rt.alloc(), &tables, &rules, &course, Kind::Actual)?;
+    let strand = predict(rt.alloc(), &tables, &rules, &course, Kind::Actual).expect(&rt, "memory");
     let path = Path::Planned(course);
     let flight = Record { call, path };
     let looked = Looked {
@@ -160,5 +162,4 @@ fn a_clearance_is_checked_before_the_room(rt: HostRuntime) -> Result<(), Fail> {
         strand: Some(&strand),
     };
     check(&rt, &tables, &rules, &looked, call, &first_faults());
-    Ok(())
 }

@@ -1,7 +1,6 @@
 //! Legs in level flight, in each direction and along an axis.
 
 use super::{Values, at, check, level};
-use std::test::Fail;
 
 const ONE_MORE_NORTH_IN_THE_LAST_THREE: [(u32, Values); 4] = [
     (0, [0, 0, 2100000, 0, 0, 250, 1, 0, 15, 0, 1]),
@@ -96,20 +95,20 @@ const NO_DISPLACEMENT_AND_THEN_EAST: [(u32, Values); 2] = [
 ];
 
 #[test]
-fn level_legs_of_each_direction(rt: HostRuntime) -> Result<(), Fail> {
+fn level_legs_of_each_direction(rt: HostRuntime) {
     let alloc = rt.alloc();
     // one more north in the last three
-    let strand = level(&rt, alloc, 300, 0, &[at(0, 0), at(1000, 7)])?;
-    check(&rt, &strand, (0, 4), 2, &ONE_MORE_NORTH_IN_THE_LAST_THREE);
+    let strand = level(&rt, alloc, 300, 0, &[at(0, 0), at(1000, 7)]);
+    check(&rt, strand, (0, 4), 2, &ONE_MORE_NORTH_IN_THE_LAST_THREE);
     // exactly ten seconds
-    let strand = level(&rt, alloc, 500, 0, &[at(0, 0), at(3000, 4000)])?;
-    check(&rt, &strand, (0, 10), 1, &EXACTLY_TEN_SECONDS);
+    let strand = level(&rt, alloc, 500, 0, &[at(0, 0), at(3000, 4000)]);
+    check(&rt, strand, (0, 10), 1, &EXACTLY_TEN_SECONDS);
     // north west
-    let strand = level(&rt, alloc, 411, 0, &[at(0, 0), at(-7001, 3333)])?;
-    check(&rt, &strand, (0, 19), 3, &NORTH_WEST);
+    let strand = level(&rt, alloc, 411, 0, &[at(0, 0), at(-7001, 3333)]);
+    check(&rt, strand, (0, 19), 3, &NORTH_WEST);
     // south west
-    let strand = level(&rt, alloc, 499, 0, &[at(0, 0), at(-3000, -4000)])?;
-    check(&rt, &strand, (0, 11), 3, &SOUTH_WEST);
+    let strand = level(&rt, alloc, 499, 0, &[at(0, 0), at(-3000, -4000)]);
+    check(&rt, strand, (0, 11), 3, &SOUTH_WEST);
     // south east
     let strand = level(
         &rt,
@@ -117,28 +116,26 @@ fn level_legs_of_each_direction(rt: HostRuntime) -> Result<(), Fail> {
         411,
         0,
         &[at(100_000, -250_000), at(107_001, -253_333)],
-    )?;
-    check(&rt, &strand, (0, 19), 3, &SOUTH_EAST);
-    Ok(())
+    );
+    check(&rt, strand, (0, 19), 3, &SOUTH_EAST);
 }
 
 #[test]
-fn level_legs_along_an_axis(rt: HostRuntime) -> Result<(), Fail> {
+fn level_legs_along_an_axis(rt: HostRuntime) {
     let alloc = rt.alloc();
     // east
-    let strand = level(&rt, alloc, 480, 0, &[at(0, 0), at(48_000, 0)])?;
-    check(&rt, &strand, (0, 100), 1, &EAST);
+    let strand = level(&rt, alloc, 480, 0, &[at(0, 0), at(48_000, 0)]);
+    check(&rt, strand, (0, 100), 1, &EAST);
     // west
-    let strand = level(&rt, alloc, 480, 0, &[at(0, 0), at(-48_001, 0)])?;
-    check(&rt, &strand, (0, 101), 2, &WEST);
+    let strand = level(&rt, alloc, 480, 0, &[at(0, 0), at(-48_001, 0)]);
+    check(&rt, strand, (0, 101), 2, &WEST);
     // south
-    let strand = level(&rt, alloc, 777, 0, &[at(5, 5), at(5, -12_340)])?;
-    check(&rt, &strand, (0, 16), 2, &SOUTH);
+    let strand = level(&rt, alloc, 777, 0, &[at(5, 5), at(5, -12_340)]);
+    check(&rt, strand, (0, 16), 2, &SOUTH);
     // no displacement and then east
-    let strand = level(&rt, alloc, 300, 0, &[at(0, 0), at(0, 0), at(600, 0)])?;
-    check(&rt, &strand, (0, 2), 1, &NO_DISPLACEMENT_AND_THEN_EAST);
+    let strand = level(&rt, alloc, 300, 0, &[at(0, 0), at(0, 0), at(600, 0)]);
+    check(&rt, strand, (0, 2), 1, &NO_DISPLACEMENT_AND_THEN_EAST);
     // no displacement alone
-    let strand = level(&rt, alloc, 300, 0, &[at(12, 34), at(12, 34)])?;
-    check(&rt, &strand, (0, 0), 0, &[]);
-    Ok(())
+    let strand = level(&rt, alloc, 300, 0, &[at(12, 34), at(12, 34)]);
+    check(&rt, strand, (0, 0), 0, &[]);
 }

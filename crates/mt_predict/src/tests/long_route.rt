@@ -2,7 +2,6 @@
 
 use super::{Values, at, check, fly, one_band, over};
 use mt_base::Point;
-use std::test::Fail;
 
 const FIXES: [Point; 64] = [
     Point { x: 0, y: 0 },
@@ -339,14 +338,13 @@ const FROM_ELSEWHERE_TO_THE_LAST_TWO: [(u32, Values); 17] = [
 ];
 
 #[test]
-fn a_route_of_64_fixes(rt: HostRuntime) -> Result<(), Fail> {
+fn a_route_of_64_fixes(rt: HostRuntime) {
     let alloc = rt.alloc();
     let bands = one_band();
     let from = over(0, 0, 2_100_000);
-    let strand = fly(&rt, alloc, &bands, 350, &FIXES, 1, 0, from)?;
-    check(&rt, &strand, (0, 1026), 178, &FROM_THE_FIRST_FIX);
+    let strand = fly(&rt, alloc, &bands, 350, &FIXES, 1, 0, from);
+    check(&rt, strand, (0, 1026), 178, &FROM_THE_FIRST_FIX);
     let from = over(1000, 2000, 2_100_000);
-    let strand = fly(&rt, alloc, &bands, 350, &FIXES, 62, 500, from)?;
-    check(&rt, &strand, (500, 725), 6, &FROM_ELSEWHERE_TO_THE_LAST_TWO);
-    Ok(())
+    let strand = fly(&rt, alloc, &bands, 350, &FIXES, 62, 500, from);
+    check(&rt, strand, (500, 725), 6, &FROM_ELSEWHERE_TO_THE_LAST_TWO);
 }

@@ -1,7 +1,6 @@
 //! Legs at the bounds of the plane, of the speed and of the number of seconds.
 
 use super::{Values, at, check, level};
-use std::test::Fail;
 
 const ONE_KNOT: [(u32, Values); 7] = [
     (0, [0, 0, 2100000, 0, 0, 0, 0, 0, 15, 0, 1]),
@@ -144,14 +143,14 @@ const THE_SECOND_LEG_IS_CUT: [(u32, Values); 12] = [
 ];
 
 #[test]
-fn level_legs_at_the_bounds(rt: HostRuntime) -> Result<(), Fail> {
+fn level_legs_at_the_bounds(rt: HostRuntime) {
     let alloc = rt.alloc();
     // one knot
-    let strand = level(&rt, alloc, 1, 0, &[at(0, 0), at(7, 5)])?;
-    check(&rt, &strand, (0, 9), 3, &ONE_KNOT);
+    let strand = level(&rt, alloc, 1, 0, &[at(0, 0), at(7, 5)]);
+    check(&rt, strand, (0, 9), 3, &ONE_KNOT);
     // a thousand knots
-    let strand = level(&rt, alloc, 1000, 0, &[at(0, 0), at(3600, 1)])?;
-    check(&rt, &strand, (0, 4), 2, &A_THOUSAND_KNOTS);
+    let strand = level(&rt, alloc, 1000, 0, &[at(0, 0), at(3600, 1)]);
+    check(&rt, strand, (0, 4), 2, &A_THOUSAND_KNOTS);
     // across the plane
     let strand = level(
         &rt,
@@ -159,8 +158,8 @@ fn level_legs_at_the_bounds(rt: HostRuntime) -> Result<(), Fail> {
         1000,
         0,
         &[at(-3_686_400, -3_686_400), at(3_686_400, 3_686_400)],
-    )?;
-    check(&rt, &strand, (0, 10_427), 3, &ACROSS_THE_PLANE);
+    );
+    check(&rt, strand, (0, 10_427), 3, &ACROSS_THE_PLANE);
     // back across the plane
     let strand = level(
         &rt,
@@ -168,31 +167,30 @@ fn level_legs_at_the_bounds(rt: HostRuntime) -> Result<(), Fail> {
         901,
         0,
         &[at(3_686_400, 3_686_400), at(-3_686_400, -3_686_400)],
-    )?;
-    check(&rt, &strand, (0, 11_573), 3, &BACK_ACROSS_THE_PLANE);
+    );
+    check(&rt, strand, (0, 11_573), 3, &BACK_ACROSS_THE_PLANE);
     // the latest begin
-    let strand = level(&rt, alloc, 300, 10_000_000, &[at(0, 0), at(9000, 50)])?;
-    check(&rt, &strand, (10_000_000, 10_000_031), 3, &THE_LATEST_BEGIN);
-    Ok(())
+    let strand = level(&rt, alloc, 300, 10_000_000, &[at(0, 0), at(9000, 50)]);
+    check(&rt, strand, (10_000_000, 10_000_031), 3, &THE_LATEST_BEGIN);
 }
 
 #[test]
-fn trajectories_of_the_greatest_length(rt: HostRuntime) -> Result<(), Fail> {
+fn trajectories_of_the_greatest_length(rt: HostRuntime) {
     let alloc = rt.alloc();
     // a leg of all seconds and one behind it
-    let strand = level(&rt, alloc, 1, 0, &[at(0, 0), at(14_400, 0), at(14_400, 10)])?;
+    let strand = level(&rt, alloc, 1, 0, &[at(0, 0), at(14_400, 0), at(14_400, 10)]);
     check(
         &rt,
-        &strand,
+        strand,
         (0, 14_400),
         2,
         &A_LEG_OF_ALL_SECONDS_AND_ONE_BEHIND_IT,
     );
     // a leg that is cut by one second
-    let strand = level(&rt, alloc, 1, 0, &[at(0, 0), at(14_401, 0)])?;
+    let strand = level(&rt, alloc, 1, 0, &[at(0, 0), at(14_401, 0)]);
     check(
         &rt,
-        &strand,
+        strand,
         (0, 14_400),
         2,
         &A_LEG_THAT_IS_CUT_BY_ONE_SECOND,
@@ -204,7 +202,6 @@ fn trajectories_of_the_greatest_length(rt: HostRuntime) -> Result<(), Fail> {
         1000,
         77,
         &[at(-3_686_400, 0), at(3_686_400, 3), at(-3_686_400, 0)],
-    )?;
-    check(&rt, &strand, (77, 14_477), 6, &THE_SECOND_LEG_IS_CUT);
-    Ok(())
+    );
+    check(&rt, strand, (77, 14_477), 6, &THE_SECOND_LEG_IS_CUT);
 }

@@ -1,8 +1,10 @@
 //! Margins that go on from a base, and how many segments they make.
 
 use super::{Values, at, check, fly, one_band, over};
-use mt_base::Place;
-use std::test::Fail;
+use mt_base::{Place, Point};
+use mt_track::Strand;
+use std::alloc::Global;
+use std::process::Abort;
 
 const A_LEVEL_BASE_IS_RESET_AT_ONCE: [(u32, Values); 2] = [
     (100, [0, 0, 2100000, 120, 0, 480, 0, 0, 15, 0, 1]),
@@ -36,114 +38,75 @@ const A_CLIMB_OF_ONE_UNIT: [(u32, Values); 2] = [
     (1, [480, 0, 2160000, 15, 0, 480, 0, 0, 15, 0, 1]),
 ];
 
-#[test]
-fn margins_go_on_from_a_base(rt: HostRuntime) -> Result<(), Fail> {
-    let alloc = rt.alloc();
-    // a level base is reset at once
-    let from = Place {
-        r: 120,
-        w: 1234,
-        ..over(0, 0, 2_100_000)
-    };
-    let strand = fly(
-        &rt,
+/// Over the origin, with margins.
+fn held(z: i64, r: i64, w: i64) -> Place {
+    Place {
+        r,
+        w,
+        ..over(0, 0, z)
+    }
+}
+
+/// From the origin to a fix, in one band.
+fn fly_to(
+    rt: &impl Abort,
+    alloc: Global,
+    level: u32,
+    to: Point,
+    begin: u32,
+    from: Place,
+) -> Strand {
+    fly(
+        rt,
         alloc,
         &one_band(),
-        350,
-        &[at(0, 0), at(960, 0)],
+        level,
+        &[at(0, 0), to],
         1,
-        100,
+        begin,
         from,
-    )?;
-    check(&rt, &strand, (100, 102), 1, &A_LEVEL_BASE_IS_RESET_AT_ONCE);
-    // a climb goes on
-    let from = Place {
-        r: 8985,
-        w: 1234,
-        ..over(0, 0, 2_130_000)
-    };
-    let strand = fly(
-        &rt,
-        alloc,
-        &one_band(),
-        360,
-        &[at(0, 0), at(9600, 0)],
-        1,
-        100,
-        from,
-    )?;
-    check(&rt, &strand, (100, 120), 4, &A_CLIMB_GOES_ON);
-    Ok(())
+    )
 }
 
 #[test]
-fn margins_end_at_the_greatest_and_in_level_flight(rt: HostRuntime) -> Result<(), Fail> {
+fn margins_go_on_from_a_base(rt: HostRuntime) {
+    let alloc = rt.alloc();
+    // a level base is reset at once
+    let from = held(2_100_000, 120, 1234);
+    let strand = fly_to(&rt, alloc, 350, at(960, 0), 100, from);
+    check(&rt, strand, (100, 102), 1, &A_LEVEL_BASE_IS_RESET_AT_ONCE);
+    // a climb goes on
+    let from = held(2_130_000, 8985, 1234);
+    let strand = fly_to(&rt, alloc, 360, at(9600, 0), 100, from);
+    check(&rt, strand, (100, 120), 4, &A_CLIMB_GOES_ON);
+}
+
+#[test]
+fn margins_end_at_the_greatest_and_in_level_flight(rt: HostRuntime) {
     let alloc = rt.alloc();
     // the greatest margin
-    let from = Place {
-        r: 0,
-        w: 29_950,
-        ..over(0, 0, 2_130_000)
-    };
-    let strand = fly(
-        &rt,
-        alloc,
-        &one_band(),
-        360,
-        &[at(0, 0), at(9600, 0)],
-        1,
-        100,
-        from,
-    )?;
-    check(&rt, &strand, (100, 120), 4, &THE_GREATEST_MARGIN);
+    let from = held(2_130_000, 0, 29_950);
+    let strand = fly_to(&rt, alloc, 360, at(9600, 0), 100, from);
+    check(&rt, strand, (100, 120), 4, &THE_GREATEST_MARGIN);
     // a climb of one unit
-    let from = Place {
-        r: 0,
-        w: 7,
-        ..over(0, 0, 2_159_999)
-    };
-    let strand = fly(
-        &rt,
-        alloc,
-        &one_band(),
-        360,
-        &[at(0, 0), at(960, 0)],
-        1,
-        0,
-        from,
-    )?;
-    check(&rt, &strand, (0, 2), 2, &A_CLIMB_OF_ONE_UNIT);
-    Ok(())
+    let from = held(2_159_999, 0, 7);
+    let strand = fly_to(&rt, alloc, 360, at(960, 0), 0, from);
+    check(&rt, strand, (0, 2), 2, &A_CLIMB_OF_ONE_UNIT);
 }
 
 /// The gains of x and y change once each in a leg, and that of the horizontal margin twice, at the greatest margin.
 #[test]
-fn a_level_leg_has_at_most_five_segments(rt: HostRuntime) -> Result<(), Fail> {
-    let from = Place {
-        r: 5,
-        ..over(0, 0, 2_100_000)
-    };
-    let fixes = [at(0, 0), at(-123_457, 654_321)];
-    let strand = fly(&rt, rt.alloc(), &one_band(), 350, &fixes, 1, 0, from)?;
-    assert_eq!(rt; strand.end(), 1388);
-    assert_eq!(rt; strand.segments().len(), 5);
+fn a_level_leg_has_at_most_five_segments(rt: HostRuntime) {
+    let from = held(2_100_000, 5, 0);
+    let strand = fly_to(&rt, rt.alloc(), 350, at(-123_457, 654_321), 0, from);
+    assert_eq!(rt; (strand.end(), strand.segments().len()), (1388, 5));
     for fix in [
         at(1, 0),
         at(7, -100_000),
         at(99_999, 1),
         at(-654_321, 123_457),
     ] {
-        let strand = fly(
-            &rt,
-            rt.alloc(),
-            &one_band(),
-            350,
-            &[at(0, 0), fix],
-            1,
-            0,
-            from,
-        )?;
+        let strand = fly_to(&rt, rt.alloc(), 350, fix, 0, from);
         assert!(rt; strand.segments().len() <= 5);
     }
-    Ok(())
 }

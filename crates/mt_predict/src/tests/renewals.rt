@@ -5,7 +5,6 @@ use crate::renewed;
 use mt_base::{Base, Course, Report, Rules};
 use mt_track::Strand;
 use std::process::Abort;
-use std::test::Fail;
 
 /// A report off the route.
 fn report(at: u32) -> Report {
@@ -45,20 +44,19 @@ fn check(rt: &impl Abort, course: &mut Course, strand: &Strand, table: &[(u32, u
 }
 
 #[test]
-fn a_flight_that_is_not_due_keeps_its_trajectory(rt: HostRuntime) -> Result<(), Fail> {
-    let (_, mut course, strand) = flown(&rt, rt.alloc())?;
+fn a_flight_that_is_not_due_keeps_its_trajectory(rt: HostRuntime) {
+    let (_, mut course, strand) = flown(&rt, rt.alloc());
     assert!(rt; renewed(&rules(), &course, &strand).is_none());
     course.last = Some(report(200));
     assert!(rt; renewed(&rules(), &course, &strand).is_none());
     course.last = None;
     course.due = true;
     assert!(rt; renewed(&rules(), &course, &strand).is_none());
-    Ok(())
 }
 
 #[test]
-fn a_flight_that_is_due_begins_anew_at_its_report(rt: HostRuntime) -> Result<(), Fail> {
-    let (_, mut course, strand) = flown(&rt, rt.alloc())?;
+fn a_flight_that_is_due_begins_anew_at_its_report(rt: HostRuntime) {
+    let (_, mut course, strand) = flown(&rt, rt.alloc());
     course.base.next = 9;
     course.due = true;
     let table = [
@@ -77,5 +75,4 @@ fn a_flight_that_is_due_begins_anew_at_its_report(rt: HostRuntime) -> Result<(),
     check(&rt, &mut course, &strand, &table);
     let empty = Strand::empty(rt.alloc(), 100);
     check(&rt, &mut course, &empty, &[(99, 9), (100, 9), (700, 9)]);
-    Ok(())
 }
