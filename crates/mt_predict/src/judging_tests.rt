@@ -10,8 +10,7 @@ use mt_base::{
     Band, Callsign, Command, FixName, Path, Record, Refusal, Route, Row, Rules, Straight, TypeName,
 };
 use mt_tables::Tables;
-use std::alloc::Global;
-use std::test::Fail;
+use std::process::Abort;
 
 const STRETCH: Straight = Straight {
     from: 0,
@@ -31,12 +30,12 @@ const STRETCH: Straight = Straight {
     },
 };
 
-fn fix_name(text: &[u8]) -> Result<FixName, Fail> {
-    Ok(FixName::of(text).ok_or("no fix name")?)
+fn fix_name(rt: &impl Abort, text: &[u8]) -> FixName {
+    FixName::of(text).expect(rt, "a fix name")
 }
 
-fn type_name(text: &[u8]) -> Result<TypeName, Fail> {
-    Ok(TypeName::of(text).ok_or("no type name")?)
+fn type_name(rt: &impl Abort, text: &[u8]) -> TypeName {
+    TypeName::of(text).expect(rt, "a type name")
 }
 
 /// A band up to that level.
@@ -62,12 +61,13 @@ fn one_band(top: u32) -> [Band; 1]
 }
 
 /// The fixes AA and BB, and the type B7 up to flight level 410.
-fn small_tables(alloc: Global) -> Result<Tables, Fail> {
-    let mut tables = Tables::make(alloc)?;
-    let _first = tables.add_fix(fix_name(b"AA")?, 0, 0);
-    let _second = tables.add_fix(fix_name(b"BB")?, 72_000, 0);
-    let _kind = tables.add_type(type_name(b"B7")?, &one_band(410));
-    Ok(tables)
+fn small_tables(rt: &(impl AllocGlobal + Abort)) -> Tables {
+    let mut tables = Tables::make(rt.alloc()).expect(rt, "memory");
+    let first = tables.add_fix(fix_name(rt, b"AA"), 0, 0);
+    let second = tables.add_fix(fix_name(rt, b"BB"), 72_000, 0);
+    let kind = tables.add_type(type_name(rt, b"B7"), &one_band(410));
+    assert!(rt; first.is_ok() && second.is_ok() && kind.is_ok());
+    tables
 }
 
 /// At most two flights and five entries.
@@ -79,11 +79,11 @@ fn small_rules() -> Rules {
     }
 }
 
-fn flight() -> Result<Record, Fail> {
-    Ok(Record {
-        call: Callsign::of(b"AAA1").ok_or("no callsign")?,
+fn flight(rt: &impl Abort) -> Record {
+    Record {
+        call: Callsign::of(b"AAA1").expect(rt, "a callsign"),
         path: Path::Outer(STRETCH),
-    })
+    }
 }
 
 fn is_no_clearance(command: &Command) -> bool
@@ -100,15 +100,15 @@ fn is_no_clearance(command: &Command) -> bool
 
 /// What is told of a command where so many flights and entries are held, at second 9.
 fn told(
-    alloc: Global,
+    rt: &(impl AllocGlobal + Abort),
     is_held: bool,
     counts: (u32, u64),
     command: &Command,
-) -> Result<Result<(), Refusal>, Fail> {
-    let record = flight()?;
+) -> Result<(), Refusal> {
+    let record = flight(rt);
     let (held, entries) = counts;
     if !is_no_clearance(command) {
-        return Err("a clearance".into());
+        panic!(rt; "a clearance");
     }
     let looked = Looked {
         now: 9,
@@ -117,97 +117,85 @@ fn told(
         flight: if is_held { Some(&record) } else { None },
         strand: None,
     };
-    let tables = small_tables(alloc)?;
-    Ok(judge(&tables, &small_rules(), &looked, 1, command))
+    let tables = small_tables(rt);
+    judge(&tables, &small_rules(), &looked, 1, command)
 }
 
 /// What is told of the plan of a type along names of two letters each, from a level to a level.
 fn planned(
-    alloc: Global,
+    rt: &(impl AllocGlobal + Abort),
     is_held: bool,
     counts: (u32, u64),
     plan: (&[u8], &[u8], u32, u32),
-) -> Result<Result<(), Refusal>, Fail> {
+) -> Result<(), Refusal> {
     let (kind, names, from, level) = plan;
-    let mut route = Route::make(alloc)?;
+    let mut route = Route::make(rt.alloc()).expect(rt, "memory");
     for name in names.chunks(2) {
-        route.push(fix_name(name)?)?;
+        route.push(fix_name(rt, name)).expect(rt, "memory");
     }
     let command = Command::Plan {
-        call: Callsign::of(b"AAA1").ok_or("no callsign")?,
-        kind: type_name(kind)?,
+        call: Callsign::of(b"AAA1").expect(rt, "a callsign"),
+        kind: type_name(rt, kind),
         route,
         at: 0,
         from,
         level,
     };
-    told(alloc, is_held, counts, &command)
+    told(rt, is_held, counts, &command)
 }
 
 #[test]
-fn a_held_callsign_and_an_unknown_type_come_first(rt: HostRuntime) -> Result<(), Fail> {
-    let alloc = rt.alloc();
+fn a_held_callsign_and_an_unknown_type_come_first(rt: HostRuntime) {
     let held = Err(Refusal::HeldCall);
-    let unknown = Err(Refusal::UnknownType(type_name(b"B8")?));
-    assert!(rt; planned(alloc, true, (1, 4), (b"B8", b"AABB", 300, 410))? == held);
-    assert!(rt; planned(alloc, true, (2, 4), (b"B7", b"AABB", 300, 410))? == held);
-    assert!(rt; planned(alloc, false, (1, 4), (b"B8", b"AAXX", 300, 410))? == unknown);
-    assert!(rt; planned(alloc, false, (1, 4), (b"B8", b"AA", 300, 410))? == unknown);
-    assert!(rt; planned(alloc, false, (1, 4), (b"B8", b"AABB", 300, 411))? == unknown);
-    Ok(())
+    let unknown = Err(Refusal::UnknownType(type_name(&rt, b"B8")));
+    assert!(rt; planned(&rt, true, (1, 4), (b"B8", b"AABB", 300, 410)) == held);
+    assert!(rt; planned(&rt, true, (2, 4), (b"B7", b"AABB", 300, 410)) == held);
+    assert!(rt; planned(&rt, false, (1, 4), (b"B8", b"AAXX", 300, 410)) == unknown);
+    assert!(rt; planned(&rt, false, (1, 4), (b"B8", b"AA", 300, 410)) == unknown);
+    assert!(rt; planned(&rt, false, (1, 4), (b"B8", b"AABB", 300, 411)) == unknown);
 }
 
 #[test]
-fn the_route_comes_before_the_levels(rt: HostRuntime) -> Result<(), Fail> {
-    let alloc = rt.alloc();
-    let unknown = Err(Refusal::UnknownFix(fix_name(b"XX")?));
+fn the_route_comes_before_the_levels(rt: HostRuntime) {
+    let unknown = Err(Refusal::UnknownFix(fix_name(&rt, b"XX")));
     let short = Err(Refusal::RouteShort);
     let twice = Err(Refusal::RouteTwice);
-    assert!(rt; planned(alloc, false, (1, 4), (b"B7", b"XX", 300, 410))? == unknown);
-    assert!(rt; planned(alloc, false, (1, 4), (b"B7", b"AAXXYY", 411, 410))? == unknown);
-    assert!(rt; planned(alloc, false, (1, 4), (b"B7", b"AA", 411, 410))? == short);
-    assert!(rt; planned(alloc, false, (1, 4), (b"B7", b"AABBBB", 300, 411))? == twice);
-    Ok(())
+    assert!(rt; planned(&rt, false, (1, 4), (b"B7", b"XX", 300, 410)) == unknown);
+    assert!(rt; planned(&rt, false, (1, 4), (b"B7", b"AAXXYY", 411, 410)) == unknown);
+    assert!(rt; planned(&rt, false, (1, 4), (b"B7", b"AA", 411, 410)) == short);
+    assert!(rt; planned(&rt, false, (1, 4), (b"B7", b"AABBBB", 300, 411)) == twice);
 }
 
 #[test]
-fn the_levels_come_before_the_room(rt: HostRuntime) -> Result<(), Fail> {
-    let alloc = rt.alloc();
+fn the_levels_come_before_the_room(rt: HostRuntime) {
     let ceiling = Err(Refusal::Ceiling);
-    assert!(rt; planned(alloc, false, (2, 4), (b"B7", b"AABB", 411, 410))? == ceiling);
-    assert!(rt; planned(alloc, false, (1, 5), (b"B7", b"AABB", 300, 411))? == ceiling);
-    assert!(rt; planned(alloc, false, (2, 5), (b"B7", b"AABB", 300, 410))? == Err(Refusal::Full));
-    assert!(rt;
-        planned(alloc, false, (1, 5), (b"B7", b"AABB", 0, 0))? == Err(Refusal::HistoryFull)
-    );
-    assert!(rt; planned(alloc, false, (1, 4), (b"B7", b"AABB", 410, 410))? == Ok(()));
-    Ok(())
+    assert!(rt; planned(&rt, false, (2, 4), (b"B7", b"AABB", 411, 410)) == ceiling);
+    assert!(rt; planned(&rt, false, (1, 5), (b"B7", b"AABB", 300, 411)) == ceiling);
+    assert!(rt; planned(&rt, false, (2, 5), (b"B7", b"AABB", 300, 410)) == Err(Refusal::Full));
+    assert!(rt; planned(&rt, false, (1, 5), (b"B7", b"AABB", 0, 0)) == Err(Refusal::HistoryFull));
+    assert!(rt; planned(&rt, false, (1, 4), (b"B7", b"AABB", 410, 410)) == Ok(()));
 }
 
 #[test]
-fn an_external_flight_wants_room(rt: HostRuntime) -> Result<(), Fail> {
-    let alloc = rt.alloc();
-    let call = flight()?.call;
+fn an_external_flight_wants_room(rt: HostRuntime) {
+    let call = flight(&rt).call;
     let straight = STRETCH;
     let command = Command::External { call, straight };
-    assert!(rt; told(alloc, true, (2, 5), &command)? == Err(Refusal::HeldCall));
-    assert!(rt; told(alloc, false, (2, 5), &command)? == Err(Refusal::Full));
-    assert!(rt; told(alloc, false, (1, 5), &command)? == Err(Refusal::HistoryFull));
-    assert!(rt; told(alloc, false, (1, 4), &command)? == Ok(()));
-    Ok(())
+    assert!(rt; told(&rt, true, (2, 5), &command) == Err(Refusal::HeldCall));
+    assert!(rt; told(&rt, false, (2, 5), &command) == Err(Refusal::Full));
+    assert!(rt; told(&rt, false, (1, 5), &command) == Err(Refusal::HistoryFull));
+    assert!(rt; told(&rt, false, (1, 4), &command) == Ok(()));
 }
 
 #[test]
-fn a_drop_wants_its_flight_and_a_tick_a_later_moment(rt: HostRuntime) -> Result<(), Fail> {
-    let alloc = rt.alloc();
-    let call = flight()?.call;
+fn a_drop_wants_its_flight_and_a_tick_a_later_moment(rt: HostRuntime) {
+    let call = flight(&rt).call;
     let drop = Command::Drop { call };
-    assert!(rt; told(alloc, false, (2, 5), &drop)? == Err(Refusal::UnknownCall(call)));
-    assert!(rt; told(alloc, true, (2, 5), &drop)? == Err(Refusal::HistoryFull));
-    assert!(rt; told(alloc, true, (2, 4), &drop)? == Ok(()));
+    assert!(rt; told(&rt, false, (2, 5), &drop) == Err(Refusal::UnknownCall(call)));
+    assert!(rt; told(&rt, true, (2, 5), &drop) == Err(Refusal::HistoryFull));
+    assert!(rt; told(&rt, true, (2, 4), &drop) == Ok(()));
     let (same, later) = (Command::Tick { now: 9 }, Command::Tick { now: 10 });
-    assert!(rt; told(alloc, false, (2, 5), &same)? == Err(Refusal::Backward));
-    assert!(rt; told(alloc, false, (2, 5), &later)? == Err(Refusal::HistoryFull));
-    assert!(rt; told(alloc, false, (2, 4), &later)? == Ok(()));
-    Ok(())
+    assert!(rt; told(&rt, false, (2, 5), &same) == Err(Refusal::Backward));
+    assert!(rt; told(&rt, false, (2, 5), &later) == Err(Refusal::HistoryFull));
+    assert!(rt; told(&rt, false, (2, 4), &later) == Ok(()));
 }
