@@ -1,6 +1,5 @@
 //! Lines of a command, by the fields that differ from the usual ones.
-use std::alloc::Global;
-use std::test::Fail;
+use std::process::Abort;
 
 // The value of a field among the changes.
 fn changed<'a>(changes: &'a str, key: &str) -> Option<&'a str> {
@@ -16,19 +15,18 @@ fn changed<'a>(changes: &'a str, key: &str) -> Option<&'a str> {
 
 /// The line of a command with these changes; `-` leaves a field out.
 pub(super) fn line_with(
-    alloc: Global,
+    rt: &(impl Abort + AllocGlobal),
     word: &str,
     usual: &[(&str, &str)],
     changes: &str,
-) -> Result<String, Fail> {
-    let mut line = format!(in alloc; "{{\"do\":\"{word}\"")?;
+) -> String {
+    let mut line = format!(in rt.alloc(); "{{\"do\":\"{word}\"").expect(rt, "memory");
     for (key, value) in usual {
         let value = changed(changes, key).unwrap_or(value);
         if value != "-" {
-            let member = format!(in alloc; ",\"{key}\":{value}")?;
-            line.push_str(member.as_str())?;
+            write!(line, ",\"{key}\":{value}").expect(rt, "memory");
         }
     }
-    line.push_str("}")?;
-    Ok(line)
+    line.push_str("}").expect(rt, "memory");
+    line
 }

@@ -1,8 +1,8 @@
 use super::answers::answer;
 use super::changes::line_with;
+use super::scripts::check_lines;
 use crate::Place;
 use mt_base::Rules;
-use std::test::Fail;
 
 // The fields of a clearance.
 const CLEARANCE: [(&str, &str); 6] = [
@@ -77,22 +77,21 @@ at=1 level=- => form at
 "#;
 
 #[test]
-fn lines_of_clearances(rt: HostRuntime) -> Result<(), Fail> {
+fn lines_of_clearances(rt: HostRuntime) {
     for case in CLEARANCES.lines().skip(1) {
-        let (changes, wanted) = case.split_once(" => ").ok_or("two columns")?;
+        let (changes, wanted) = case.split_once(" => ").expect(&rt, "two columns");
         for word in ["probe", "clear"] {
-            let line = line_with(rt.alloc(), word, &CLEARANCE, changes)?;
-            let found = answer(rt.alloc(), line.as_bytes(), Place::Replay, &Rules::usual())?;
+            let line = line_with(&rt, word, &CLEARANCE, changes);
+            let found = answer(&rt, line.as_bytes(), Place::Replay, &Rules::usual());
             match wanted.split_once("* ") {
                 Some((_, rest)) => {
-                    let wanted = format!(in rt.alloc(); "{word} {rest}")?;
+                    let wanted = format!(in rt.alloc(); "{word} {rest}").expect(&rt, "memory");
                     assert_eq!(rt; found.as_str(), wanted.as_str(), "{line}");
                 }
                 None => assert_eq!(rt; found.as_str(), wanted, "{line}"),
             }
         }
     }
-    Ok(())
 }
 
 // Lines that accept a probe and that take the version.
@@ -125,11 +124,6 @@ const ACCEPTS: &str = r#"
 "#;
 
 #[test]
-fn lines_that_accept_and_take(rt: HostRuntime) -> Result<(), Fail> {
-    for case in ACCEPTS.lines().skip(1) {
-        let (line, wanted) = case.split_once(" => ").ok_or("two columns")?;
-        let found = answer(rt.alloc(), line.as_bytes(), Place::Replay, &Rules::usual())?;
-        assert_eq!(rt; found.as_str(), wanted, "{line}");
-    }
-    Ok(())
+fn lines_that_accept_and_take(rt: HostRuntime) {
+    check_lines(&rt, ACCEPTS);
 }

@@ -1,8 +1,4 @@
-use super::answers::answer;
-use super::changes::line_with;
-use crate::Place;
-use mt_base::Rules;
-use std::test::Fail;
+use super::scripts::check_changes;
 
 // An external flight's fields that differ from those of a flight that stands at the origin for one second; `-` leaves the field out.
 const EXTERNAL: &str = r#"
@@ -93,12 +89,6 @@ const USUAL: [(&str, &str); 15] = [
 ];
 
 #[test]
-fn lines_of_external_flights(rt: HostRuntime) -> Result<(), Fail> {
-    for case in EXTERNAL.lines().skip(1) {
-        let (changes, wanted) = case.split_once(" => ").ok_or("two columns")?;
-        let line = line_with(rt.alloc(), "external", &USUAL, changes)?;
-        let found = answer(rt.alloc(), line.as_bytes(), Place::Replay, &Rules::usual())?;
-        assert_eq!(rt; found.as_str(), wanted, "{line}");
-    }
-    Ok(())
+fn lines_of_external_flights(rt: HostRuntime) {
+    check_changes(&rt, "external", &USUAL, EXTERNAL);
 }

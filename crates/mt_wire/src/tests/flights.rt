@@ -1,18 +1,17 @@
-use crate::{DoneWord, Reply, write_entry, write_reply};
-use mt_base::{
-    Callsign, Command, Entries, Entry, FixName, FlightView, Refusal, Route, Row, Tent, TypeName,
-};
-use std::alloc::Global;
-use std::test::Fail;
+use super::names::{callsign, fix_name, type_name};
+use super::texts::{check_entry, check_reply};
+use crate::{DoneWord, Reply};
+use mt_base::{Command, Entries, Entry, FlightView, Refusal, Route, Row, Tent};
+use std::process::Abort;
 
 fn refused(refusal: Refusal, version: u64) -> Reply {
     Reply::Refused { refusal, version }
 }
 
 #[test]
-fn replies_to_planned_flights(rt: HostRuntime) -> Result<(), Fail> {
-    let fix = FixName::of(b"Q0123").ok_or("the name of a fix")?;
-    let kind = TypeName::of(b"J1").ok_or("the name of a type")?;
+fn replies_to_planned_flights(rt: HostRuntime) {
+    let fix = fix_name(&rt, b"Q0123");
+    let kind = type_name(&rt, b"J1");
     let cases = [
         (Reply::Done(DoneWord::Fix), "{\"done\":\"fix\"}\n"),
         (Reply::Done(DoneWord::TypeLine), "{\"done\":\"type\"}\n"),
@@ -28,16 +27,14 @@ fn replies_to_planned_flights(rt: HostRuntime) -> Result<(), Fail> {
         ),
     ];
     for (reply, wanted) in &cases {
-        let line = write_reply(rt.alloc(), reply)?;
-        assert_eq!(rt; line.as_slice(), wanted.as_bytes());
+        check_reply(&rt, reply, wanted);
     }
-    Ok(())
 }
 
 #[test]
-fn refusals_of_plans(rt: HostRuntime) -> Result<(), Fail> {
-    let fix = FixName::of(b"Q0123").ok_or("the name of a fix")?;
-    let kind = TypeName::of(b"J1").ok_or("the name of a type")?;
+fn refusals_of_plans(rt: HostRuntime) {
+    let fix = fix_name(&rt, b"Q0123");
+    let kind = type_name(&rt, b"J1");
     let cases = [
         (
             refused(Refusal::UnknownType(kind), 0),
@@ -65,10 +62,8 @@ fn refusals_of_plans(rt: HostRuntime) -> Result<(), Fail> {
         ),
     ];
     for (reply, wanted) in &cases {
-        let line = write_reply(rt.alloc(), reply)?;
-        assert_eq!(rt; line.as_slice(), wanted.as_bytes());
+        check_reply(&rt, reply, wanted);
     }
-    Ok(())
 }
 
 fn row(values: [i64; 5], gains: [i64; 5], leg: u32) -> Row {
@@ -89,9 +84,9 @@ fn row(values: [i64; 5], gains: [i64; 5], leg: u32) -> Row {
     }
 }
 
-fn external_flight() -> Option<FlightView> {
-    Some(FlightView {
-        call: Callsign::of(b"A")?,
+fn external_flight(rt: &impl Abort) -> FlightView {
+    FlightView {
+        call: callsign(rt, b"A"),
         due: false,
         end: 1,
         level: None,
@@ -99,13 +94,13 @@ fn external_flight() -> Option<FlightView> {
         start: 0,
         tentative: None,
         version: 0,
-    })
+    }
 }
 
-fn planned_flight() -> Option<FlightView> {
+fn planned_flight(rt: &impl Abort) -> FlightView {
     let flown = row([750, 5, 2100000, 45, 0], [250, 2, 0, 15, 0], 1);
-    Some(FlightView {
-        call: Callsign::of(b"CCC1")?,
+    FlightView {
+        call: callsign(rt, b"CCC1"),
         due: false,
         end: 4,
         level: Some(350),
@@ -113,17 +108,17 @@ fn planned_flight() -> Option<FlightView> {
         start: 0,
         tentative: None,
         version: 1,
-    })
+    }
 }
 
-fn tentative_flight() -> Option<FlightView> {
+fn tentative_flight(rt: &impl Abort) -> FlightView {
     let flown = row(
         [-3686400, -1, 0, 72000, 600000],
         [-1000, 0, -10000, 1, 2],
         63,
     );
-    Some(FlightView {
-        call: Callsign::of(b"Z9Z9Z9Z")?,
+    FlightView {
+        call: callsign(rt, b"Z9Z9Z9Z"),
         due: true,
         end: 4294967295,
         level: Some(0),
@@ -135,68 +130,62 @@ fn tentative_flight() -> Option<FlightView> {
             start: 10,
         }),
         version: u64::MAX,
-    })
+    }
 }
 
 #[test]
-fn what_is_told_of_a_flight(rt: HostRuntime) -> Result<(), Fail> {
+fn what_is_told_of_a_flight(rt: HostRuntime) {
     let cases = [
         (
-            external_flight(),
+            external_flight(&rt),
             "{\"call\":\"A\",\"due\":false,\"end\":1,\"level\":null,\"row\":null,\"start\":0,\"tentative\":null,\"version\":0}\n",
         ),
         (
-            planned_flight(),
+            planned_flight(&rt),
             "{\"call\":\"CCC1\",\"due\":false,\"end\":4,\"level\":350,\"row\":[750,5,2100000,45,0,250,2,0,15,0,1],\"start\":0,\"tentative\":null,\"version\":1}\n",
         ),
         (
-            tentative_flight(),
+            tentative_flight(&rt),
             "{\"call\":\"Z9Z9Z9Z\",\"due\":true,\"end\":4294967295,\"level\":0,\"row\":[-3686400,-1,0,72000,600000,-1000,0,-10000,1,2,63],\"start\":10000000,\"tentative\":{\"level\":360,\"owner\":4294967295,\"start\":10},\"version\":18446744073709551615}\n",
         ),
     ];
     for (view, wanted) in cases {
-        let view = view.ok_or("a callsign")?;
-        let line = write_reply(rt.alloc(), &Reply::Flight(view))?;
-        assert_eq!(rt; line.as_slice(), wanted.as_bytes());
+        check_reply(&rt, &Reply::Flight(view), wanted);
     }
-    Ok(())
 }
 
-fn plan(alloc: Global, names: &[&[u8]], who: u32) -> Result<Entry, Fail> {
-    let mut route = Route::make(alloc)?;
+fn plan(rt: &(impl Abort + AllocGlobal), names: &[&[u8]], who: u32) -> Entry {
+    let mut route = Route::make(rt.alloc()).expect(rt, "memory");
     for name in names {
-        route.push(FixName::of(name).ok_or("the name of a fix")?)?;
+        route.push(fix_name(rt, name)).expect(rt, "memory");
     }
-    Ok(Entry {
+    Entry {
         who,
         command: Command::Plan {
-            call: Callsign::of(b"DDD1").ok_or("a callsign")?,
-            kind: TypeName::of(b"JA1").ok_or("the name of a type")?,
+            call: callsign(rt, b"DDD1"),
+            kind: type_name(rt, b"JA1"),
             route,
             at: 10000000,
             from: 350,
             level: 600,
         },
-    })
+    }
 }
 
 #[test]
-fn entries_of_planned_flights(rt: HostRuntime) -> Result<(), Fail> {
-    let first = plan(rt.alloc(), &[b"Q0", b"R1234", b"Q0"], 4294967295)?;
+fn entries_of_planned_flights(rt: HostRuntime) {
+    let first = plan(&rt, &[b"Q0", b"R1234", b"Q0"], 4294967295);
     let wanted =
         "{\"at\":10000000,\"call\":\"DDD1\",\"do\":\"plan\",\"from\":350,\"level\":600,\"route\":[\"Q0\",\"R1234\",\"Q0\"],\"type\":\"JA1\",\"who\":4294967295}\n";
-    let line = write_entry(rt.alloc(), &first)?;
-    assert_eq!(rt; line.as_slice(), wanted.as_bytes());
-    let mut entries = Entries::make(rt.alloc())?;
-    entries.push(plan(rt.alloc(), &[], 0)?)?;
-    entries.push(plan(rt.alloc(), &[b"AB"], 1)?)?;
+    check_entry(&rt, &first, wanted);
+    let mut entries = Entries::make(rt.alloc()).expect(&rt, "memory");
+    entries.push(plan(&rt, &[], 0)).expect(&rt, "memory");
+    entries.push(plan(&rt, &[b"AB"], 1)).expect(&rt, "memory");
     let history = Reply::History {
         entries,
         version: 2,
     };
-    let line = write_reply(rt.alloc(), &history)?;
     let wanted =
         "{\"entries\":[{\"at\":10000000,\"call\":\"DDD1\",\"do\":\"plan\",\"from\":350,\"level\":600,\"route\":[],\"type\":\"JA1\",\"who\":0},{\"at\":10000000,\"call\":\"DDD1\",\"do\":\"plan\",\"from\":350,\"level\":600,\"route\":[\"AB\"],\"type\":\"JA1\",\"who\":1}],\"version\":2}\n";
-    assert_eq!(rt; line.as_slice(), wanted.as_bytes());
-    Ok(())
+    check_reply(&rt, &history, wanted);
 }

@@ -1,8 +1,8 @@
 use super::answers::answer;
+use super::scripts::check_lines;
 use crate::Place;
 use mt_base::Rules;
-use std::alloc::Global;
-use std::test::Fail;
+use std::process::Abort;
 
 // Lines of a script.
 const SCRIPT: &str = r#"
@@ -125,13 +125,8 @@ null => form
 "#;
 
 #[test]
-fn lines_of_a_script(rt: HostRuntime) -> Result<(), Fail> {
-    for case in SCRIPT.lines().skip(1) {
-        let (line, wanted) = case.split_once(" => ").ok_or("two columns")?;
-        let found = answer(rt.alloc(), line.as_bytes(), Place::Replay, &Rules::usual())?;
-        assert_eq!(rt; found.as_str(), wanted, "{line}");
-    }
-    Ok(())
+fn lines_of_a_script(rt: HostRuntime) {
+    check_lines(&rt, SCRIPT);
 }
 
 // Lines of sessions: of the feed, of a position, and without a role.
@@ -166,21 +161,20 @@ const SESSIONS: &str = r#"
 "#;
 
 #[test]
-fn lines_of_sessions(rt: HostRuntime) -> Result<(), Fail> {
+fn lines_of_sessions(rt: HostRuntime) {
     for case in SESSIONS.lines().skip(1) {
         let mut columns = case.split(" | ");
-        let line = columns.next().ok_or("a line")?.as_bytes();
+        let line = columns.next().expect(&rt, "a line").as_bytes();
         for place in [Place::Feed, Place::Position, Place::Plain] {
-            let wanted = columns.next().ok_or("four columns")?;
-            let found = answer(rt.alloc(), line, place, &Rules::usual())?;
+            let wanted = columns.next().expect(&rt, "four columns");
+            let found = answer(&rt, line, place, &Rules::usual());
             assert_eq!(rt; found.as_str(), wanted, "{case}");
         }
     }
-    Ok(())
 }
 
 #[test]
-fn rules_are_tested_as_they_would_stand(rt: HostRuntime) -> Result<(), Fail> {
+fn rules_are_tested_as_they_would_stand(rt: HostRuntime) {
     let rules = Rules {
         r0: 50,
         rmax: 100,
@@ -193,30 +187,29 @@ fn rules_are_tested_as_they_would_stand(rt: HostRuntime) -> Result<(), Fail> {
         (b"{\"do\":\"rule\",\"rmax\":49}", "range r0"),
     ];
     for (line, wanted) in cases {
-        let found = answer(rt.alloc(), line, Place::Replay, &rules)?;
+        let found = answer(&rt, line, Place::Replay, &rules);
         assert_eq!(rt; found.as_str(), wanted);
     }
-    Ok(())
 }
 
 // A line whose unknown field nests so many lists.
-fn nested(alloc: Global, depth: usize) -> Result<String, Fail> {
-    let mut line = format!(in alloc; "{{\"do\":\"list\",\"a\":")?;
+fn nested(rt: &(impl Abort + AllocGlobal), depth: usize) -> String {
+    let mut line = format!(in rt.alloc(); "{{\"do\":\"list\",\"a\":").expect(rt, "memory");
     for _ in 0..depth {
-        line.push_str("[")?;
+        line.push_str("[").expect(rt, "memory");
     }
     for _ in 0..depth {
-        line.push_str("]")?;
+        line.push_str("]").expect(rt, "memory");
     }
-    line.push_str("}")?;
-    Ok(line)
+    line.push_str("}").expect(rt, "memory");
+    line
 }
 
 #[test]
-fn bytes_that_are_no_text_and_nesting(rt: HostRuntime) -> Result<(), Fail> {
+fn bytes_that_are_no_text_and_nesting(rt: HostRuntime) {
     let rules = Rules::usual();
-    let deep = nested(rt.alloc(), 126)?;
-    let deeper = nested(rt.alloc(), 127)?;
+    let deep = nested(&rt, 126);
+    let deeper = nested(&rt, 127);
     let cases: [(&[u8], &str); 5] = [
         (b"{\"do\":\"list\",\"\xff\":1}", "json"),
         (b"{\"do\":\"list\",\"\xc3\xa9\":1}", "form \u{e9}"),
@@ -225,8 +218,7 @@ fn bytes_that_are_no_text_and_nesting(rt: HostRuntime) -> Result<(), Fail> {
         (deeper.as_bytes(), "json"),
     ];
     for (line, wanted) in cases {
-        let found = answer(rt.alloc(), line, Place::Replay, &rules)?;
+        let found = answer(&rt, line, Place::Replay, &rules);
         assert_eq!(rt; found.as_str(), wanted);
     }
-    Ok(())
 }

@@ -1,8 +1,7 @@
 use super::answers::answer;
-use super::changes::line_with;
+use super::scripts::{check_changes, check_lines};
 use crate::Place;
 use mt_base::Rules;
-use std::test::Fail;
 
 // Lines that fill the tables.
 const TABLES: &str = r#"
@@ -76,13 +75,8 @@ const TABLES: &str = r#"
 "#;
 
 #[test]
-fn lines_that_fill_the_tables(rt: HostRuntime) -> Result<(), Fail> {
-    for case in TABLES.lines().skip(1) {
-        let (line, wanted) = case.split_once(" => ").ok_or("two columns")?;
-        let found = answer(rt.alloc(), line.as_bytes(), Place::Replay, &Rules::usual())?;
-        assert_eq!(rt; found.as_str(), wanted, "{line}");
-    }
-    Ok(())
+fn lines_that_fill_the_tables(rt: HostRuntime) {
+    check_lines(&rt, TABLES);
 }
 
 // The fields of a plan.
@@ -156,14 +150,8 @@ x=1 call=- => form x
 "#;
 
 #[test]
-fn lines_of_planned_flights(rt: HostRuntime) -> Result<(), Fail> {
-    for case in PLANS.lines().skip(1) {
-        let (changes, wanted) = case.split_once(" => ").ok_or("two columns")?;
-        let line = line_with(rt.alloc(), "plan", &PLAN, changes)?;
-        let found = answer(rt.alloc(), line.as_bytes(), Place::Replay, &Rules::usual())?;
-        assert_eq!(rt; found.as_str(), wanted, "{line}");
-    }
-    Ok(())
+fn lines_of_planned_flights(rt: HostRuntime) {
+    check_changes(&rt, "plan", &PLAN, PLANS);
 }
 
 // The fields of a question for a flight.
@@ -194,30 +182,23 @@ at=1 call=- => form at
 "#;
 
 #[test]
-fn lines_that_ask_for_a_flight(rt: HostRuntime) -> Result<(), Fail> {
-    for case in FLIGHTS.lines().skip(1) {
-        let (changes, wanted) = case.split_once(" => ").ok_or("two columns")?;
-        let line = line_with(rt.alloc(), "flight", &FLIGHT, changes)?;
-        let found = answer(rt.alloc(), line.as_bytes(), Place::Replay, &Rules::usual())?;
-        assert_eq!(rt; found.as_str(), wanted, "{line}");
-    }
-    Ok(())
+fn lines_that_ask_for_a_flight(rt: HostRuntime) {
+    check_changes(&rt, "flight", &FLIGHT, FLIGHTS);
 }
 
 #[test]
-fn a_route_has_any_length(rt: HostRuntime) -> Result<(), Fail> {
-    let mut route = format!(in rt.alloc(); "[\"Q0\"")?;
+fn a_route_has_any_length(rt: HostRuntime) {
+    let mut route = format!(in rt.alloc(); "[\"Q0\"").expect(&rt, "memory");
     for number in 1..65 {
-        let name = format!(in rt.alloc(); ",\"Q{number}\"")?;
-        route.push_str(name.as_str())?;
+        write!(route, ",\"Q{number}\"").expect(&rt, "memory");
     }
     let line = format!(in rt.alloc();
         "{{\"do\":\"plan\",\"call\":\"A\",\"type\":\"JA1\",\"route\":{route}],\"at\":7,\"level\":8}}"
-    )?;
+    );
     let wanted = format!(in rt.alloc();
         "{{\"at\":7,\"call\":\"A\",\"do\":\"plan\",\"from\":8,\"level\":8,\"route\":{route}],\"type\":\"JA1\",\"who\":0}}"
-    )?;
-    let found = answer(rt.alloc(), line.as_bytes(), Place::Replay, &Rules::usual())?;
+    );
+    let (line, wanted) = (line.expect(&rt, "memory"), wanted.expect(&rt, "memory"));
+    let found = answer(&rt, line.as_bytes(), Place::Replay, &Rules::usual());
     assert_eq!(rt; found.as_str(), wanted.as_str());
-    Ok(())
 }

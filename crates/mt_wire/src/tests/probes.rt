@@ -1,23 +1,24 @@
-ghost use Rattle.std.specs.Prelude.{◌≤◌, length, All, IfOk, IfSome};
+ghost use Rattle.std.specs.Prelude.{◌≤◌, length, All};
 ghost use Rattle.mt_wire.specs.Short.{IsShortHit};
 
-use crate::{Reply, read_back_law, short_replies_law, write_entry, write_reply, write_short};
-use mt_base::{Callsign, Clearance, Command, Entries, Entry, FixName, Hit, Hits, Refusal};
-use std::alloc::Global;
-use std::test::Fail;
+use super::names::{callsign, fix_name};
+use super::texts::{check_entry, check_reply};
+use crate::{Reply, read_back_law, short_replies_law, write_short};
+use mt_base::{Callsign, Clearance, Command, Entries, Entry, Hit, Hits, Refusal};
+use std::process::Abort;
 
-fn hit(first: u32, with: &[u8], last: u32) -> Option<Hit> {
-    Some(Hit {
+fn hit(rt: &impl Abort, first: u32, with: &[u8], last: u32) -> Hit {
+    Hit {
         first,
-        with: Callsign::of(with)?,
+        with: callsign(rt, with),
         last,
-    })
+    }
 }
 
 #[test]
-fn refusals_of_clearances(rt: HostRuntime) -> Result<(), Fail> {
-    let first = hit(134, b"EEE1", 176).ok_or("a callsign")?;
-    let longest = hit(u32::MAX, b"Z9Z9Z9Z", 0).ok_or("a callsign")?;
+fn refusals_of_clearances(rt: HostRuntime) {
+    let first = hit(&rt, 134, b"EEE1", 176);
+    let longest = hit(&rt, u32::MAX, b"Z9Z9Z9Z", 0);
     let cases = [
         (Refusal::Future, 6, "{\"no\":\"future\",\"version\":6}\n"),
         (Refusal::Ended, 2, "{\"no\":\"ended\",\"version\":2}\n"),
@@ -45,17 +46,16 @@ fn refusals_of_clearances(rt: HostRuntime) -> Result<(), Fail> {
         ),
     ];
     for (refusal, version, wanted) in cases {
-        let line = write_reply(rt.alloc(), &Reply::Refused { refusal, version })?;
-        assert_eq!(rt; line.as_slice(), wanted.as_bytes());
+        check_reply(&rt, &Reply::Refused { refusal, version }, wanted);
     }
-    Ok(())
 }
 
 #[test]
-fn replies_to_probes(rt: HostRuntime) -> Result<(), Fail> {
-    let mut two = Hits::make(rt.alloc())?;
-    two.push(hit(134, b"EEE1", 176).ok_or("a callsign")?)?;
-    two.push(hit(0, b"Z9Z9Z9Z", u32::MAX).ok_or("a callsign")?)?;
+fn replies_to_probes(rt: HostRuntime) {
+    let mut two = Hits::make(rt.alloc()).expect(&rt, "memory");
+    two.push(hit(&rt, 134, b"EEE1", 176)).expect(&rt, "memory");
+    two.push(hit(&rt, 0, b"Z9Z9Z9Z", u32::MAX))
+        .expect(&rt, "memory");
     let cases = [
         (Reply::Taken { version: 0 }, "{\"taken\":0}\n"),
         (
@@ -64,7 +64,7 @@ fn replies_to_probes(rt: HostRuntime) -> Result<(), Fail> {
         ),
         (
             Reply::Probe {
-                conflicts: Hits::make(rt.alloc())?,
+                conflicts: Hits::make(rt.alloc()).expect(&rt, "memory"),
                 eff: 10,
                 probe: 1,
                 version: 5,
@@ -82,124 +82,118 @@ fn replies_to_probes(rt: HostRuntime) -> Result<(), Fail> {
         ),
     ];
     for (reply, wanted) in &cases {
-        let line = write_reply(rt.alloc(), reply)?;
-        assert_eq!(rt; line.as_slice(), wanted.as_bytes());
+        check_reply(&rt, reply, wanted);
     }
-    Ok(())
 }
 
-fn clear(clearance: Clearance, eff: Option<u32>) -> Option<Command> {
-    Some(Command::Clear {
-        call: Callsign::of(b"DDD1")?,
+fn clear(rt: &impl Abort, clearance: Clearance, eff: Option<u32>) -> Command {
+    Command::Clear {
+        call: callsign(rt, b"DDD1"),
         clearance,
         eff,
-    })
+    }
 }
 
-fn accept(clearance: Clearance, eff: u32, probed: u64) -> Option<Command> {
-    Some(Command::Accept {
-        call: Callsign::of(b"DDD1")?,
+fn accept(rt: &impl Abort, clearance: Clearance, eff: u32, probed: u64) -> Command {
+    Command::Accept {
+        call: callsign(rt, b"DDD1"),
         clearance,
         eff,
         probed,
-    })
+    }
 }
 
 #[test]
-fn entries_of_clearances(rt: HostRuntime) -> Result<(), Fail> {
+fn entries_of_clearances(rt: HostRuntime) {
     read_back_law();
-    let direct = Clearance::Direct(FixName::of(b"Q0123").ok_or("the name of a fix")?);
-    let level = Clearance::Level(360);
+    let fix = fix_name(&rt, b"Q0123");
     let cases = [
         (
-            clear(level, Some(10)),
+            clear(&rt, Clearance::Level(360), Some(10)),
             "{\"call\":\"DDD1\",\"do\":\"clear\",\"eff\":10,\"level\":360,\"who\":7}\n",
         ),
         (
-            clear(direct, Some(10000000)),
+            clear(&rt, Clearance::Direct(fix), Some(10000000)),
             "{\"call\":\"DDD1\",\"direct\":\"Q0123\",\"do\":\"clear\",\"eff\":10000000,\"who\":7}\n",
         ),
         (
-            clear(Clearance::Level(0), None),
+            clear(&rt, Clearance::Level(0), None),
             "{\"call\":\"DDD1\",\"do\":\"clear\",\"eff\":0,\"level\":0,\"who\":7}\n",
         ),
         (
-            accept(level, 10, 5),
+            accept(&rt, Clearance::Level(360), 10, 5),
             "{\"call\":\"DDD1\",\"do\":\"accept\",\"eff\":10,\"level\":360,\"v\":5,\"who\":7}\n",
         ),
         (
-            accept(direct, 0, u64::MAX),
+            accept(&rt, Clearance::Direct(fix), 0, u64::MAX),
             "{\"call\":\"DDD1\",\"direct\":\"Q0123\",\"do\":\"accept\",\"eff\":0,\"v\":18446744073709551615,\"who\":7}\n",
         ),
     ];
     for (command, wanted) in cases {
-        let command = command.ok_or("a callsign")?;
-        let line = write_entry(rt.alloc(), &Entry { who: 7, command })?;
-        assert_eq!(rt; line.as_slice(), wanted.as_bytes());
+        check_entry(&rt, &Entry { who: 7, command }, wanted);
     }
-    Ok(())
 }
 
 #[test]
-fn accepted_clearances_in_a_history(rt: HostRuntime) -> Result<(), Fail> {
-    let direct = Clearance::Direct(FixName::of(b"AB").ok_or("the name of a fix")?);
-    let mut entries = Entries::make(rt.alloc())?;
-    entries.push(Entry {
-        who: 0,
-        command: accept(Clearance::Level(360), 10, 5).ok_or("a callsign")?,
-    })?;
-    entries.push(Entry {
-        who: 4294967295,
-        command: clear(direct, Some(11)).ok_or("a callsign")?,
-    })?;
+fn accepted_clearances_in_a_history(rt: HostRuntime) {
+    let direct = Clearance::Direct(fix_name(&rt, b"AB"));
+    let mut entries = Entries::make(rt.alloc()).expect(&rt, "memory");
+    entries
+        .push(Entry {
+            who: 0,
+            command: accept(&rt, Clearance::Level(360), 10, 5),
+        })
+        .expect(&rt, "memory");
+    entries
+        .push(Entry {
+            who: 4294967295,
+            command: clear(&rt, direct, Some(11)),
+        })
+        .expect(&rt, "memory");
     let history = Reply::History {
         entries,
         version: 8,
     };
-    let line = write_reply(rt.alloc(), &history)?;
     let wanted =
         "{\"entries\":[{\"call\":\"DDD1\",\"do\":\"accept\",\"eff\":10,\"level\":360,\"v\":5,\"who\":0},{\"call\":\"DDD1\",\"direct\":\"AB\",\"do\":\"clear\",\"eff\":11,\"who\":4294967295}],\"version\":8}\n";
-    assert_eq!(rt; line.as_slice(), wanted.as_bytes());
-    Ok(())
+    check_reply(&rt, &history, wanted);
 }
 
 // A hit whose text is as long as that of any.
-fn longest_hit() -> Option<Hit>
-    ensures { IfSome result IsShortHit }
+fn longest_hit(rt: &impl Abort) -> Hit
+    ensures { IsShortHit result }
 {
-    let with = Callsign::of(b"Z9Z9Z9Z")?;
-    Some(Hit {
+    Hit {
         first: u32::MAX,
-        with,
+        with: Callsign::of(b"Z9Z9Z9Z").expect(rt, "a callsign"),
         last: u32::MAX,
-    })
+    }
 }
 
 // That hit 1,023 times.
-fn many_hits(alloc: Global, hit: &Hit) -> Result<Hits, Fail>
+fn many_hits(rt: &(impl Abort + AllocGlobal), hit: &Hit) -> Hits
     requires { IsShortHit hit.now }
-    ensures few { IfOk result (λ hits. length hits ≤ 1023) }
-    ensures each { IfOk result (λ hits. All IsShortHit hits) }
+    ensures few { length result ≤ 1023 }
+    ensures each { All IsShortHit result }
 {
-    let mut hits = Hits::make(alloc)?;
+    let mut hits = Hits::make(rt.alloc()).expect(rt, "memory");
     for _ in 0_u32..1_023 {
-        hits.push(*hit)?;
+        hits.push(*hit).expect(rt, "memory");
     }
-    Ok(hits)
+    hits
 }
 
 #[test]
-fn the_longest_probe_in_a_room(rt: HostRuntime) -> Result<(), Fail> {
+fn the_longest_probe_in_a_room(rt: HostRuntime) {
     short_replies_law();
-    let hit = longest_hit().ok_or("a callsign")?;
+    let hit = longest_hit(&rt);
     let reply = Reply::Probe {
-        conflicts: many_hits(rt.alloc(), &hit)?,
+        conflicts: many_hits(&rt, &hit),
         eff: u32::MAX,
         probe: u64::MAX,
         version: u64::MAX,
     };
-    let mut room = Vec::with_capacity(rt.alloc(), 65536)?;
+    let mut room = Vec::with_capacity(rt.alloc(), 65536).expect(&rt, "memory");
     write_short(&reply, &mut room);
     assert_eq!(rt; room.len(), 57381);
-    Ok(())
 }

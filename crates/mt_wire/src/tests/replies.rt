@@ -1,19 +1,21 @@
+use super::names::callsign;
+use super::texts::check_reply;
 use crate::{
     DoneWord, FieldName, NO_MEMORY, Reply, Role, no_memory_law, read_back_law, short_replies_law,
-    write_reply, write_short,
+    write_short,
 };
 use mt_base::{
-    Callsign, Command, Conflict, Conflicts, Entered, Entries, Entry, Kind, Refusal, Row, Straight,
+    Command, Conflict, Conflicts, Entered, Entries, Entry, Kind, Refusal, Row, Straight,
 };
-use std::test::Fail;
+use std::process::Abort;
 
 fn refused(refusal: Refusal, version: u64) -> Reply {
     Reply::Refused { refusal, version }
 }
 
 #[test]
-fn replies_without_a_list(rt: HostRuntime) -> Result<(), Fail> {
-    let call = Callsign::of(b"AAA1").ok_or("a callsign")?;
+fn replies_without_a_list(rt: HostRuntime) {
+    let call = callsign(&rt, b"AAA1");
     let version = u64::MAX;
     let cases = [
         (Reply::Done(DoneWord::Rule), "{\"done\":\"rule\"}\n"),
@@ -52,16 +54,19 @@ fn replies_without_a_list(rt: HostRuntime) -> Result<(), Fail> {
         ),
     ];
     for (reply, wanted) in &cases {
-        let line = write_reply(rt.alloc(), reply)?;
-        assert_eq!(rt; line.as_slice(), wanted.as_bytes());
+        check_reply(&rt, reply, wanted);
     }
     no_memory_law();
     assert_eq!(rt; NO_MEMORY, b"{\"no\":\"memory\"}\n".as_slice());
-    Ok(())
+}
+
+// The line that refuses a field for this.
+fn refused_field(rt: &(impl Abort + AllocGlobal), field: &str, why: &str) -> String {
+    format!(in rt.alloc(); "{{\"field\":\"{field}\",\"no\":\"{why}\"}}\n").expect(rt, "memory")
 }
 
 #[test]
-fn refusals_that_name_a_field(rt: HostRuntime) -> Result<(), Fail> {
+fn refusals_that_name_a_field(rt: HostRuntime) {
     let cases: [(&[u8], &str); 4] = [
         (b"", ""),
         (b"do", "do"),
@@ -72,56 +77,46 @@ fn refusals_that_name_a_field(rt: HostRuntime) -> Result<(), Fail> {
         (b"\x0b\x0e\x1a z", "\\u000b\\u000e\\u001a z"),
     ];
     for (name, written) in cases {
-        let form = Reply::Form(FieldName::of(rt.alloc(), name)?);
-        let line = write_reply(rt.alloc(), &form)?;
-        let wanted = format!(in rt.alloc(); "{{\"field\":\"{written}\",\"no\":\"form\"}}\n")?;
-        assert_eq!(rt; line.as_slice(), wanted.as_bytes());
-        let range = Reply::Range(FieldName::of(rt.alloc(), name)?);
-        let line = write_reply(rt.alloc(), &range)?;
-        let wanted = format!(in rt.alloc(); "{{\"field\":\"{written}\",\"no\":\"range\"}}\n")?;
-        assert_eq!(rt; line.as_slice(), wanted.as_bytes());
+        let form = Reply::Form(FieldName::of(rt.alloc(), name).expect(&rt, "memory"));
+        check_reply(&rt, &form, refused_field(&rt, written, "form").as_str());
+        let range = Reply::Range(FieldName::of(rt.alloc(), name).expect(&rt, "memory"));
+        check_reply(&rt, &range, refused_field(&rt, written, "range").as_str());
     }
-    Ok(())
 }
 
-fn conflict(first: u32, b: &[u8], ka: Kind, kb: Kind, last: u32) -> Option<Conflict> {
-    Some(Conflict {
+fn conflict(rt: &impl Abort, first: u32, b: &[u8], ka: Kind, kb: Kind, last: u32) -> Conflict {
+    Conflict {
         first,
-        a: Callsign::of(b"AAA1")?,
-        b: Callsign::of(b)?,
+        a: callsign(rt, b"AAA1"),
+        b: callsign(rt, b),
         ka,
         kb,
         last,
-    })
+    }
 }
 
 #[test]
-fn conflicts_of_a_list(rt: HostRuntime) -> Result<(), Fail> {
+fn conflicts_of_a_list(rt: HostRuntime) {
     let none = Reply::List {
-        conflicts: Conflicts::make(rt.alloc())?,
+        conflicts: Conflicts::make(rt.alloc()).expect(&rt, "memory"),
         version: 0,
     };
-    let line = write_reply(rt.alloc(), &none)?;
-    assert_eq!(rt;
-        line.as_slice(),
-        b"{\"conflicts\":[],\"version\":0}\n".as_slice()
-    );
-    let mut conflicts = Conflicts::make(rt.alloc())?;
-    let first = conflict(131, b"BBB1", Kind::Actual, Kind::Actual, 168);
-    conflicts.push(first.ok_or("a callsign")?)?;
-    let second = conflict(0, b"B", Kind::Tentative, Kind::Actual, 4294967295);
-    conflicts.push(second.ok_or("a callsign")?)?;
-    let third = conflict(7, b"Z9Z9Z9Z", Kind::Actual, Kind::Tentative, 7);
-    conflicts.push(third.ok_or("a callsign")?)?;
+    check_reply(&rt, &none, "{\"conflicts\":[],\"version\":0}\n");
+    let mut conflicts = Conflicts::make(rt.alloc()).expect(&rt, "memory");
+    for listed in [
+        conflict(&rt, 131, b"BBB1", Kind::Actual, Kind::Actual, 168),
+        conflict(&rt, 0, b"B", Kind::Tentative, Kind::Actual, 4294967295),
+        conflict(&rt, 7, b"Z9Z9Z9Z", Kind::Actual, Kind::Tentative, 7),
+    ] {
+        conflicts.push(listed).expect(&rt, "memory");
+    }
     let list = Reply::List {
         conflicts,
         version: 40,
     };
-    let line = write_reply(rt.alloc(), &list)?;
     let wanted =
         "{\"conflicts\":[{\"first\":131,\"kinds\":\"aa\",\"last\":168,\"pair\":[\"AAA1\",\"BBB1\"]},{\"first\":0,\"kinds\":\"ta\",\"last\":4294967295,\"pair\":[\"AAA1\",\"B\"]},{\"first\":7,\"kinds\":\"at\",\"last\":7,\"pair\":[\"AAA1\",\"Z9Z9Z9Z\"]}],\"version\":40}\n";
-    assert_eq!(rt; line.as_slice(), wanted.as_bytes());
-    Ok(())
+    check_reply(&rt, &list, wanted);
 }
 
 fn straight() -> Straight {
@@ -145,41 +140,44 @@ fn straight() -> Straight {
 }
 
 #[test]
-fn entries_of_a_history(rt: HostRuntime) -> Result<(), Fail> {
+fn entries_of_a_history(rt: HostRuntime) {
     read_back_law();
-    let call = Callsign::of(b"AAA1").ok_or("a callsign")?;
-    let mut entries = Entries::make(rt.alloc())?;
-    entries.push(Entry {
-        who: 4294967295,
-        command: Command::External {
-            call,
-            straight: straight(),
-        },
-    })?;
-    entries.push(Entry {
-        who: 0,
-        command: Command::Drop { call },
-    })?;
-    entries.push(Entry {
-        who: 15,
-        command: Command::Tick { now: 10000000 },
-    })?;
+    let call = callsign(&rt, b"AAA1");
+    let mut entries = Entries::make(rt.alloc()).expect(&rt, "memory");
+    entries
+        .push(Entry {
+            who: 4294967295,
+            command: Command::External {
+                call,
+                straight: straight(),
+            },
+        })
+        .expect(&rt, "memory");
+    entries
+        .push(Entry {
+            who: 0,
+            command: Command::Drop { call },
+        })
+        .expect(&rt, "memory");
+    entries
+        .push(Entry {
+            who: 15,
+            command: Command::Tick { now: 10000000 },
+        })
+        .expect(&rt, "memory");
     let history = Reply::History {
         entries,
         version: 3,
     };
-    let line = write_reply(rt.alloc(), &history)?;
     let wanted =
         "{\"entries\":[{\"call\":\"AAA1\",\"do\":\"external\",\"from\":60,\"gr\":0,\"gw\":12,\"r\":72000,\"to\":14460,\"vx\":1000,\"vy\":-1000,\"vz\":-10000,\"w\":600000,\"who\":4294967295,\"x\":-3686400,\"y\":3686400,\"z\":3600000},{\"call\":\"AAA1\",\"do\":\"drop\",\"who\":0},{\"do\":\"tick\",\"now\":10000000,\"who\":15}],\"version\":3}\n";
-    assert_eq!(rt; line.as_slice(), wanted.as_bytes());
-    Ok(())
+    check_reply(&rt, &history, wanted);
 }
 
 #[test]
-fn a_short_reply_in_a_room(rt: HostRuntime) -> Result<(), Fail> {
+fn a_short_reply_in_a_room(rt: HostRuntime) {
     short_replies_law();
-    let mut room = Vec::with_capacity(rt.alloc(), 65536)?;
+    let mut room = Vec::with_capacity(rt.alloc(), 65536).expect(&rt, "memory");
     write_short(&Reply::Entered(Entered { version: 7 }), &mut room);
     assert_eq!(rt; room.as_slice(), b"{\"entered\":7}\n".as_slice());
-    Ok(())
 }

@@ -3,7 +3,7 @@ use Rattle.mt_wire.specs.Short.{IsShortHit}
 use Rattle.mt_wire.proofs.tests.probes.many_hits.Given as goal
 
 abbrev pub invariant-loop : goal.invariant-loop
-invariant-loop l = record {
+invariant-loop g l = record {
   short : IsShortHit l.hit;
   few : length l.hits ≡ l.counter;
   each : All IsShortHit l.hits;

@@ -5,9 +5,9 @@ use Rattle.mt_wire.proofs.tests.probes.the_longest_probe_in_a_room.Goals as goal
 
 pub write_short-requires-clause-fits : goal.write_short-requires-clause-fits
 write_short-requires-clause-fits g c =
-    short_text (reply.Probe c.in_ok-many_hits.field-0 4294967295 18446744073709551615 18446744073709551615) (record {
-      few = c.in_ok-many_hits.ensures.few;
-      each = c.in_ok-many_hits.ensures.each;
+    short_text (reply.Probe c.many_hits.result 4294967295 18446744073709551615 18446744073709551615) (record {
+      few = c.many_hits.ensures.few;
+      each = c.many_hits.ensures.each;
       second = lit< tt;
       number = lit< tt;
       at_version = lit< tt;
