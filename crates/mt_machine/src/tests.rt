@@ -1,5 +1,5 @@
 //! Small pictures whose decisions, trajectories and views were worked out by hand.
-ghost use Rattle.std.specs.Prelude.{◌≤◌, IfOk, OnOk};
+ghost use Rattle.std.specs.Prelude.{◌≤◌};
 ghost use Rattle.mt_base.specs.Bounds.{AreBoundedBands, AreWithinBounds, IsBoundedCommand};
 ghost use Rattle.mt_machine.specs.Sound.{IsSoundState};
 
@@ -15,7 +15,6 @@ use mt_base::{
 use mt_tables::Tables;
 use std::alloc::Global;
 use std::process::Abort;
-use std::test::Fail;
 use std::thread::Threads;
 
 fn bands() -> [Band; 1]
@@ -29,34 +28,48 @@ fn bands() -> [Band; 1]
     }]
 }
 
+fn named(rt: &impl Abort, text: &[u8]) -> Callsign {
+    Callsign::of(text).expect(rt, "a callsign")
+}
+
+fn fix_named(rt: &impl Abort, text: &[u8]) -> FixName {
+    FixName::of(text).expect(rt, "a fix name")
+}
+
+fn type_named(rt: &impl Abort, text: &[u8]) -> TypeName {
+    TypeName::of(text).expect(rt, "a type name")
+}
+
 /// The fixes Q0 and Q1, 1,000 seconds apart at 480 knots, and a type that flies at that speed.
-fn small_tables(alloc: Global) -> Result<Tables, Fail> {
-    let mut tables = Tables::make(alloc)?;
-    let first = FixName::of(b"Q0").ok_or("no fix name")?;
-    let second = FixName::of(b"Q1").ok_or("no fix name")?;
-    let kind = TypeName::of(b"JA1").ok_or("no type name")?;
-    tables.add_fix(first, 0, 0).ok().ok_or("a fix")?;
-    tables.add_fix(second, 480_000, 0).ok().ok_or("a fix")?;
-    tables.add_type(kind, &bands()).ok().ok_or("a type")?;
-    Ok(tables)
+fn small_tables(rt: &impl Abort, alloc: Global) -> Tables {
+    let first = fix_named(rt, b"Q0");
+    let second = fix_named(rt, b"Q1");
+    let kind = type_named(rt, b"JA1");
+    let mut tables = Tables::make(alloc).expect(rt, "memory");
+    tables.add_fix(first, 0, 0).ok().expect(rt, "a fix");
+    tables.add_fix(second, 480_000, 0).ok().expect(rt, "a fix");
+    tables.add_type(kind, &bands()).ok().expect(rt, "a type");
+    tables
 }
 
 /// A plan from Q0 to Q1, from flight level 350.
-fn plan(alloc: Global, call: &[u8], level: u32) -> Result<Command, Fail>
+fn plan(rt: &impl Abort, alloc: Global, call: &[u8], level: u32) -> Command
     requires { level ≤ 600 }
-    ensures { IfOk result IsBoundedCommand }
+    ensures { IsBoundedCommand result }
 {
-    let mut route = Route::make(alloc)?;
-    route.push(FixName::of(b"Q0").ok_or("no fix name")?)?;
-    route.push(FixName::of(b"Q1").ok_or("no fix name")?)?;
-    Ok(Command::Plan {
-        call: Callsign::of(call).ok_or("no callsign")?,
-        kind: TypeName::of(b"JA1").ok_or("no type name")?,
+    let call = named(rt, call);
+    let kind = type_named(rt, b"JA1");
+    let mut route = Route::make(alloc).expect(rt, "memory");
+    route.push(fix_named(rt, b"Q0")).expect(rt, "memory");
+    route.push(fix_named(rt, b"Q1")).expect(rt, "memory");
+    Command::Plan {
+        call,
+        kind,
         route,
         at: 0,
         from: 350,
         level,
-    })
+    }
 }
 
 /// An external flight that flies east for 1,200 seconds.
@@ -95,26 +108,24 @@ fn values(row: &Row) -> ([i64; 5], [i64; 5], u32) {
 }
 
 /// Enters a command, which isn't refused.
-fn enter<R: Threads + Sync>(
+fn enter<R: Threads + Sync + Abort>(
     rt: &R,
     alloc: Global,
     tables: &Tables,
     rules: &Rules,
     plain: &mut Plain,
     command: &Command,
-) -> Result<(), Fail>
+)
     requires rules { AreWithinBounds rules.now }
     requires sound { IsSoundState (record { rules = rules.now; tables = tables.now }) plain.old }
     requires bounded { IsBoundedCommand command.now }
-    ensures { OnOk result (IsSoundState (record { rules = rules.now; tables = tables.now }) plain.new) }
+    ensures { IsSoundState (record { rules = rules.now; tables = tables.now }) plain.new }
 {
-    match decide(rt, alloc, tables, rules, plain, 3, command)? {
-        Ok(entry) => {
-            plain.apply(tables, rules, &entry)?;
-            Ok(())
-        }
-        Err(_) => Err(Fail::from("refused")),
-    }
+    let decided = decide(rt, alloc, tables, rules, plain, 3, command).expect(rt, "memory");
+    let Ok(entry) = decided else {
+        panic!(rt; "refused");
+    };
+    plain.apply(tables, rules, &entry).expect(rt, "memory");
 }
 
 fn check_view(rt: &impl Abort, view: &FlightView) {
@@ -132,87 +143,78 @@ fn check_view(rt: &impl Abort, view: &FlightView) {
 }
 
 /// A picture of the planned flight DDD1 and the external flight EEE1.
-fn two_flights<R: Threads + Sync>(
+fn two_flights<R: Threads + Sync + Abort>(
     rt: &R,
     alloc: Global,
     tables: &Tables,
     rules: &Rules,
-) -> Result<Plain, Fail>
+) -> Plain
     requires { AreWithinBounds rules.now }
-    ensures { IfOk result (IsSoundState (record { rules = rules.now; tables = tables.now })) }
+    ensures { IsSoundState (record { rules = rules.now; tables = tables.now }) result }
 {
-    let mut plain = Plain::make(alloc)?;
-    let planned = plan(alloc, b"DDD1", 360)?;
-    enter(rt, alloc, tables, rules, &mut plain, &planned)?;
-    let other = Callsign::of(b"EEE1").ok_or("no callsign")?;
-    enter(rt, alloc, tables, rules, &mut plain, &external(other))?;
-    Ok(plain)
+    let planned = plan(rt, alloc, b"DDD1", 360);
+    let other = external(named(rt, b"EEE1"));
+    let mut plain = Plain::make(alloc).expect(rt, "memory");
+    enter(rt, alloc, tables, rules, &mut plain, &planned);
+    enter(rt, alloc, tables, rules, &mut plain, &other);
+    plain
 }
 
 #[test]
-fn a_flight_is_told_at_a_second(rt: HostRuntime) -> Result<(), Fail> {
+fn a_flight_is_told_at_a_second(rt: HostRuntime) {
     let alloc = rt.alloc();
     let rules = Rules::usual();
-    let tables = small_tables(alloc)?;
-    let plain = two_flights(&rt, alloc, &tables, &rules)?;
-    let call = Callsign::of(b"DDD1").ok_or("no callsign")?;
+    let tables = small_tables(&rt, alloc);
+    let plain = two_flights(&rt, alloc, &tables, &rules);
     let view = plain
-        .view(alloc, &tables, &rules, call, Some(28))?
-        .ok_or("no flight")?;
+        .view(alloc, &tables, &rules, named(&rt, b"DDD1"), Some(28))
+        .expect(&rt, "memory")
+        .expect(&rt, "a flight");
     check_view(&rt, &view);
-    let other = Callsign::of(b"ZZZ1").ok_or("no callsign")?;
-    assert!(rt; plain.view(alloc, &tables, &rules, other, None)?.is_none());
-    Ok(())
+    let none = plain
+        .view(alloc, &tables, &rules, named(&rt, b"ZZZ1"), None)
+        .expect(&rt, "memory");
+    assert!(rt; none.is_none());
 }
 
 #[test]
-fn each_flight_has_its_trajectory(rt: HostRuntime) -> Result<(), Fail> {
+fn each_flight_has_its_trajectory(rt: HostRuntime) {
     let alloc = rt.alloc();
     let rules = Rules::usual();
-    let tables = small_tables(alloc)?;
-    let plain = two_flights(&rt, alloc, &tables, &rules)?;
-    let roster = plain.strands(alloc, &tables, &rules)?;
+    let tables = small_tables(&rt, alloc);
+    let plain = two_flights(&rt, alloc, &tables, &rules);
+    let roster = plain.strands(alloc, &tables, &rules).expect(&rt, "memory");
     let mut ends = Vec::new(alloc);
     for item in roster.items() {
         assert!(rt; item.kind == Kind::Actual);
-        ends.push(item.strand.end())?;
+        ends.push(item.strand.end()).expect(&rt, "memory");
     }
     assert!(rt; ends.as_slice() == [1_000, 1_200].as_slice());
-    Ok(())
 }
 
 #[test]
-fn a_flight_that_is_held_is_refused(rt: HostRuntime) -> Result<(), Fail> {
+fn a_flight_that_is_held_is_refused(rt: HostRuntime) {
     let alloc = rt.alloc();
     let rules = Rules::usual();
-    let tables = small_tables(alloc)?;
-    let plain = two_flights(&rt, alloc, &tables, &rules)?;
-    let again = decide(
-        &rt,
-        alloc,
-        &tables,
-        &rules,
-        &plain,
-        3,
-        &plan(alloc, b"DDD1", 350)?,
-    )?;
-    assert!(rt; again.err() == Some(Refusal::HeldCall));
-    Ok(())
+    let tables = small_tables(&rt, alloc);
+    let plain = two_flights(&rt, alloc, &tables, &rules);
+    let again = plan(&rt, alloc, b"DDD1", 350);
+    let decided = decide(&rt, alloc, &tables, &rules, &plain, 3, &again).expect(&rt, "memory");
+    assert!(rt; decided.err() == Some(Refusal::HeldCall));
 }
 
 #[test]
-fn a_dropped_flight_is_gone(rt: HostRuntime) -> Result<(), Fail> {
+fn a_dropped_flight_is_gone(rt: HostRuntime) {
     let alloc = rt.alloc();
     let rules = Rules::usual();
-    let tables = small_tables(alloc)?;
-    let mut plain = two_flights(&rt, alloc, &tables, &rules)?;
-    let call = Callsign::of(b"DDD1").ok_or("no callsign")?;
+    let tables = small_tables(&rt, alloc);
+    let mut plain = two_flights(&rt, alloc, &tables, &rules);
+    let call = named(&rt, b"DDD1");
     let dropped = Command::Drop { call };
-    enter(&rt, alloc, &tables, &rules, &mut plain, &dropped)?;
+    enter(&rt, alloc, &tables, &rules, &mut plain, &dropped);
     let later = Command::Tick { now: 7 };
-    enter(&rt, alloc, &tables, &rules, &mut plain, &later)?;
-    let other = Callsign::of(b"EEE1").ok_or("no callsign")?;
+    enter(&rt, alloc, &tables, &rules, &mut plain, &later);
+    let other = named(&rt, b"EEE1");
     assert!(rt; plain.flight(call).is_none() && plain.flight(other).is_some());
     assert_eq!(rt; (plain.now(), plain.version()), (7, 4));
-    Ok(())
 }

@@ -1,39 +1,36 @@
 //! Books with so many values put in that the oldest still fit, just fit, and no longer fit.
-ghost use Rattle.std.specs.Prelude.{◌≡◌, ◌≤◌, IfOk};
+ghost use Rattle.std.specs.Prelude.{◌≡◌, ◌≤◌};
 
 use crate::Book;
 use std::alloc::Global;
-use std::test::Fail;
+use std::process::Abort;
 
 /// Numbers of values that are put in, each with the least number that is kept then.
 const BOOKS: [(u64, u64); 4] = [(1, 1), (64, 1), (65, 2), (200, 137)];
 
 /// A book with so many values put in: under each number, 1,000 more than the number.
-fn filled(alloc: Global, count: u64) -> Result<Book<u64>, Fail>
+fn filled(rt: &impl Abort, alloc: Global, count: u64) -> Book<u64>
     requires { count ≤ 200 }
-    ensures { IfOk result (λ book. book.count ≡ count) }
+    ensures { result.count ≡ count }
 {
-    let mut book = Book::make(alloc)?;
+    let mut book = Book::make(alloc).expect(rt, "memory");
     for before in 0..count {
         book.put(1_001 + before);
     }
-    Ok(book)
+    book
 }
 
 #[test]
-fn an_empty_book_has_no_value(rt: HostRuntime) -> Result<(), Fail> {
-    let book = filled(rt.alloc(), 0)?;
+fn an_empty_book_has_no_value(rt: HostRuntime) {
+    let book = filled(&rt, rt.alloc(), 0);
     assert_eq!(rt; book.count(), 0);
-    assert!(rt; book.get(0).is_none());
-    assert!(rt; book.get(1).is_none());
-    assert!(rt; book.get(u64::MAX).is_none());
-    Ok(())
+    assert!(rt; book.get(0).is_none() && book.get(1).is_none() && book.get(u64::MAX).is_none());
 }
 
 #[test]
-fn a_book_has_its_last_64_values(rt: HostRuntime) -> Result<(), Fail> {
+fn a_book_has_its_last_64_values(rt: HostRuntime) {
     for (count, least) in BOOKS {
-        let mut book = filled(rt.alloc(), count)?;
+        let mut book = filled(&rt, rt.alloc(), count);
         assert_eq!(rt; book.count(), count);
         assert!(rt; book.get(0).is_none(), "0 of {count}");
         assert!(rt;
@@ -55,5 +52,4 @@ fn a_book_has_its_last_64_values(rt: HostRuntime) -> Result<(), Fail> {
             "one more than {count}"
         );
     }
-    Ok(())
 }

@@ -1,4 +1,4 @@
-use Rattle.std.proofs.Common.{◌≡◌, ◌≢◌, ◌+◌, ◌<◌, ◌≤◌, Bool, Bor, true, not, true≢false, Option, Some, None, option_copied, [], ◌∷◌, ◌++◌, length, sym, ◌∙◌, ap, refl, arith}
+use Rattle.std.proofs.Common.{◌≡◌, ◌≢◌, ◌<◌, Bool, Bor, true, not, true≢false, Option, Some, None, option_copied, [], ◌∷◌, ◌++◌, length, ◌∙◌, ap, refl, arith}
 use Rattle.std.proofs.lemmas.List.{length_push}
 use Rattle.std.proofs.lemmas.List.Elements.{All-push, All-from_recursion}
 use Rattle.std.proofs.lemmas.List.Quantifiers.{all_pairs_push}
@@ -30,13 +30,13 @@ none_copied : {X : Type 0} (r : Option (Bor X)) (b : Bool) → is_some r ≡ not
 none_copied None b tested is = refl
 none_copied (Some x) b tested is = absurd (true≢false (tested ∙ ap not is))
 
-pub returns-in_ok-push : goal.returns-in_ok-push
-returns-in_ok-push c =
+pub returns-then-is_none : goal.returns-then-is_none
+returns-then-is_none g c =
     let setup : Setup = record { rules = c.args.rules.now; tables = c.args.tables.now } in
     let free : not (is_some (flight_of c.args.plain.now.records c.args.call)) ≡ true =
     rw (← c.flight.ensures) (none_copied c.flight.result c.is_none.result c.is_none.ensures c.if-is_none.true) in
     let room : length c.args.plain.now.records < 1024 = rw (← c.plain.view_is) (omega (arith, c.if-len-lt1024.true, c.len.ensures)) in
-    rw c.in_ok-push.ensures.items
+    rw (rw c.expect.ensures at c.push.ensures.items)
     (one_more setup (the_view c.plain.inside) (record { call = c.args.call; path = Outer c.hour.result })
     (rw (← c.plain.view_is) at c.requires.sound) (rw c.hour.ensures c.requires.bounded)
     (rw (← c.plain.view_is) at free) (rw (← c.plain.view_is) at room))
