@@ -11,7 +11,6 @@ use mt_io::{Failed, MemSink, MemSource, Source};
 use scripts::SCRIPTS;
 use std::alloc::Global;
 use std::process::Abort;
-use std::test::Fail;
 use std::thread::Threads;
 
 /// Room for each answer but those of the tests of too little room.
@@ -87,12 +86,20 @@ impl Source for Torn {
     ghost reads_on = { λ a b c ab bc. tt };
 }
 
-fn words_of(alloc: Global, text: &str) -> Result<Words, Fail> {
-    let mut words = Words::make(alloc)?;
+fn words_of(rt: &impl Abort, alloc: Global, text: &str) -> Words {
+    let mut words = Words::make(alloc).expect(rt, "memory");
     for word in text.split_whitespace() {
-        words.add(alloc, word)?;
+        words.add(alloc, word).expect(rt, "memory");
     }
-    Ok(words)
+    words
+}
+
+fn push(rt: &impl Abort, text: &mut String, more: &str) {
+    text.push_str(more).expect(rt, "memory");
+}
+
+fn source_of(rt: &impl Abort, alloc: Global, bytes: &[u8]) -> MemSource {
+    MemSource::of(bytes.to_vec(alloc).expect(rt, "memory"))
 }
 
 // A run with these words on this input ends so, and has written this.
@@ -103,16 +110,15 @@ fn answers(
     input: &str,
     output: &str,
     status: Status,
-) -> Result<(), Fail> {
-    let words = words_of(alloc, words)?;
-    let mut source = MemSource::of(input.as_bytes().to_vec(alloc)?);
-    let mut sink = MemSink::make(alloc, AMPLE)?;
+) {
+    let words = words_of(rt, alloc, words);
+    let mut source = source_of(rt, alloc, input.as_bytes());
+    let mut sink = MemSink::make(alloc, AMPLE).expect(rt, "memory");
     let ended = run(rt, alloc, &words, &mut source, &mut sink);
-    let written = std::str::from_utf8(sink.held()).ok().ok_or("UTF-8")?;
+    let written = std::str::from_utf8(sink.held()).ok().expect(rt, "UTF-8");
     assert!(rt; !written.contains("memory"), "{written}");
     assert_eq!(rt; written, output, "{input}");
     assert_eq!(rt; ended, status, "{input}");
-    Ok(())
 }
 
 // The first lines of a text, as many as the count says, with their ends.
@@ -127,21 +133,24 @@ fn first_lines(text: &str, count: usize) -> &str {
     text.strip_suffix(rest).unwrap_or(text)
 }
 
-// Each of some scripts is answered as it says.
-fn all_answered(
-    rt: &(impl Abort + Threads + Sync),
-    alloc: Global,
-    scripts: &str,
-) -> Result<(), Fail> {
-    for script in scripts.split("# ").skip(1) {
-        let mut input = String::new(alloc);
-        let mut output = String::new(alloc);
-        for line in script.lines().skip(1) {
-            let (side, text) = line.split_once(' ').ok_or("two columns")?;
-            let bytes = if side == ">" { &mut input } else { &mut output };
-            bytes.push_str(text)?;
-            bytes.push_str("\n")?;
+// The lines of a script's input, or of its output, each with its end.
+fn side_of(rt: &impl Abort, alloc: Global, script: &str, is_input: bool) -> String {
+    let mut lines = String::new(alloc);
+    for line in script.lines().skip(1) {
+        let (side, text) = line.split_once(' ').expect(rt, "two columns");
+        if (side == ">") == is_input {
+            push(rt, &mut lines, text);
+            push(rt, &mut lines, "\n");
         }
+    }
+    lines
+}
+
+// Each of some scripts is answered as it says.
+fn all_answered(rt: &(impl Abort + Threads + Sync), alloc: Global, scripts: &str) {
+    for script in scripts.split("# ").skip(1) {
+        let input = side_of(rt, alloc, script, true);
+        let output = side_of(rt, alloc, script, false);
         answers(
             rt,
             alloc,
@@ -149,37 +158,47 @@ fn all_answered(
             input.as_str(),
             output.as_str(),
             Status::Done,
-        )?;
+        );
     }
-    Ok(())
 }
 
 #[test]
-fn scripts_are_answered_and_memory_that_is_ample_is_never_wanted(
-    rt: HostRuntime,
-) -> Result<(), Fail> {
-    all_answered(&rt, rt.alloc(), SCRIPTS)
+fn scripts_are_answered_and_memory_that_is_ample_is_never_wanted(rt: HostRuntime) {
+    all_answered(&rt, rt.alloc(), SCRIPTS);
 }
 
 #[test]
-fn clearances_and_probes_are_answered(rt: HostRuntime) -> Result<(), Fail> {
-    all_answered(&rt, rt.alloc(), CLEARANCES)
+fn clearances_and_probes_are_answered(rt: HostRuntime) {
+    all_answered(&rt, rt.alloc(), CLEARANCES);
 }
 
 #[test]
-fn a_book_keeps_the_last_sixty_four_probes(rt: HostRuntime) -> Result<(), Fail> {
+fn a_book_keeps_the_last_sixty_four_probes(rt: HostRuntime) {
     let alloc = rt.alloc();
-    let mut input = String::from_str(alloc, PLANNED)?;
-    let mut output = String::from_str(alloc, PLANNED_ANSWERS)?;
+    let mut input = String::from_str(alloc, PLANNED).expect(&rt, "memory");
+    let mut output = String::from_str(alloc, PLANNED_ANSWERS).expect(&rt, "memory");
     for number in 1..66 {
-        input.push_str("{\"call\":\"DDD1\",\"do\":\"probe\",\"level\":360}\n")?;
         let answer = format!(in alloc;
             "{{\"conflicts\":[],\"eff\":0,\"probe\":{number},\"version\":1}}\n"
-        )?;
-        output.push_str(answer.as_str())?;
+        );
+        let answer = answer.expect(&rt, "memory");
+        push(
+            &rt,
+            &mut input,
+            "{\"call\":\"DDD1\",\"do\":\"probe\",\"level\":360}\n",
+        );
+        push(&rt, &mut output, answer.as_str());
     }
-    input.push_str("{\"do\":\"accept\",\"probe\":1}\n{\"do\":\"accept\",\"probe\":2}\n")?;
-    output.push_str("{\"no\":\"no-probe\",\"version\":1}\n{\"entered\":2}\n")?;
+    push(
+        &rt,
+        &mut input,
+        "{\"do\":\"accept\",\"probe\":1}\n{\"do\":\"accept\",\"probe\":2}\n",
+    );
+    push(
+        &rt,
+        &mut output,
+        "{\"no\":\"no-probe\",\"version\":1}\n{\"entered\":2}\n",
+    );
     answers(
         &rt,
         alloc,
@@ -187,11 +206,31 @@ fn a_book_keeps_the_last_sixty_four_probes(rt: HostRuntime) -> Result<(), Fail> 
         input.as_str(),
         output.as_str(),
         Status::Done,
-    )
+    );
+}
+
+// A list behind so many spaces, and whether that is a line too long.
+fn spaced_list_answered(
+    rt: &(impl Abort + Threads + Sync),
+    alloc: Global,
+    spaces: u32,
+    is_long: bool,
+) {
+    let mut input = String::from_str(alloc, "{\"do\":\"begin\"}\n").expect(rt, "memory");
+    for _ in 0..spaces {
+        input.push(' ').expect(rt, "memory");
+    }
+    push(rt, &mut input, "{\"do\":\"list\"}\n{\"do\":\"bye\"}\n\n");
+    let output = if is_long {
+        "{\"done\":\"begin\"}\n{\"no\":\"long\"}\n{\"done\":\"bye\"}\n"
+    } else {
+        "{\"done\":\"begin\"}\n{\"conflicts\":[],\"version\":0}\n{\"done\":\"bye\"}\n"
+    };
+    answers(rt, alloc, "replay", input.as_str(), output, Status::Done);
 }
 
 #[test]
-fn words_ends_of_the_input_and_long_lines(rt: HostRuntime) -> Result<(), Fail> {
+fn words_ends_of_the_input_and_long_lines(rt: HostRuntime) {
     let alloc = rt.alloc();
     let rows = [
         ("replay", "", "", Status::Done),
@@ -213,54 +252,62 @@ fn words_ends_of_the_input_and_long_lines(rt: HostRuntime) -> Result<(), Fail> {
         ("replays", "", USAGE, Status::Usage),
     ];
     for (words, input, output, status) in rows {
-        answers(&rt, alloc, words, input, output, status)?;
+        answers(&rt, alloc, words, input, output, status);
     }
     // how many spaces stand before the list, which has 13 bytes, and whether the line is too long
     for (spaces, is_long) in [(65_523, false), (65_524, true)] {
-        let mut input = String::from_str(alloc, "{\"do\":\"begin\"}\n")?;
-        for _ in 0..spaces {
-            input.push(' ')?;
-        }
-        input.push_str("{\"do\":\"list\"}\n{\"do\":\"bye\"}\n\n")?;
-        let output = if is_long {
-            "{\"done\":\"begin\"}\n{\"no\":\"long\"}\n{\"done\":\"bye\"}\n"
-        } else {
-            "{\"done\":\"begin\"}\n{\"conflicts\":[],\"version\":0}\n{\"done\":\"bye\"}\n"
-        };
-        answers(&rt, alloc, "replay", input.as_str(), output, Status::Done)?;
+        spaced_list_answered(&rt, alloc, spaces, is_long);
     }
-    Ok(())
+}
+
+// An input that fails behind these bytes is answered up to its last whole line.
+fn torn_is_answered(
+    rt: &(impl Abort + Threads + Sync),
+    alloc: Global,
+    words: &Words,
+    given: &[u8],
+) {
+    let bytes = given.to_vec(alloc).expect(rt, "memory");
+    let (at, faults) = (0, 0);
+    let mut source = Torn { bytes, at, faults };
+    let mut sink = MemSink::make(alloc, AMPLE).expect(rt, "memory");
+    let ended = run(rt, alloc, words, &mut source, &mut sink);
+    let whole = given.iter().filter(|byte| **byte == b'\n').count();
+    assert_eq!(rt; ended, Status::ReadFault, "{}", given.len());
+    assert_eq!(rt;
+        sink.held(),
+        first_lines(OUTPUT, whole).as_bytes(),
+        "{}",
+        given.len()
+    );
+}
+
+// An output with room for this many bytes has taken these, and then fails.
+fn full_is_told(
+    rt: &(impl Abort + Threads + Sync),
+    alloc: Global,
+    words: &Words,
+    room: u32,
+    taken: &[u8],
+) {
+    let mut source = source_of(rt, alloc, INPUT.as_bytes());
+    let mut sink = MemSink::make(alloc, room).expect(rt, "memory");
+    let ended = run(rt, alloc, words, &mut source, &mut sink);
+    assert_eq!(rt; ended, Status::WriteFault, "{room}");
+    assert_eq!(rt; sink.held(), taken, "{room}");
 }
 
 #[test]
-fn streams_that_fail_at_each_place(rt: HostRuntime) -> Result<(), Fail> {
+fn streams_that_fail_at_each_place(rt: HostRuntime) {
     let alloc = rt.alloc();
-    let words = words_of(alloc, "replay")?;
+    let words = words_of(&rt, alloc, "replay");
     for given in 0..INPUT.len() {
-        let mut source = Torn {
-            bytes: INPUT.as_bytes()[..given].to_vec(alloc)?,
-            at: 0,
-            faults: 0,
-        };
-        let mut sink = MemSink::make(alloc, AMPLE)?;
-        let ended = run(&rt, alloc, &words, &mut source, &mut sink);
-        let whole = source.bytes.iter().filter(|byte| **byte == b'\n').count();
-        assert_eq!(rt; ended, Status::ReadFault, "{given}");
-        assert_eq!(rt;
-            sink.held(),
-            first_lines(OUTPUT, whole).as_bytes(),
-            "{given}"
-        );
+        torn_is_answered(&rt, alloc, &words, &INPUT.as_bytes()[..given]);
     }
     for (words, output) in [("replay", OUTPUT), ("fly", USAGE)] {
-        let words = words_of(alloc, words)?;
+        let words = words_of(&rt, alloc, words);
         for room in 0..output.len() {
-            let mut source = MemSource::of(INPUT.as_bytes().to_vec(alloc)?);
-            let mut sink = MemSink::make(alloc, room as u32)?;
-            let ended = run(&rt, alloc, &words, &mut source, &mut sink);
-            assert_eq!(rt; ended, Status::WriteFault, "{room}");
-            assert_eq!(rt; sink.held(), &output.as_bytes()[..room], "{room}");
+            full_is_told(&rt, alloc, &words, room as u32, &output.as_bytes()[..room]);
         }
     }
-    Ok(())
 }
