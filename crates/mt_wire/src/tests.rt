@@ -2,6 +2,7 @@ mod answers;
 mod changes;
 mod clearances;
 mod external;
+mod fields;
 mod flights;
 mod lines;
 mod names;

@@ -24,6 +24,7 @@ null => form
 {"do":"list "} => form do
 {"do":"plans"} => form do
 {"do":"lists","x":1} => form do
+{"x":1,"do":"lists"} => form do
 {"do":"list"} => list 0
  { "do" : "list" }  => list 0
 {"\u0064o":"l\u0069st"} => list 0
@@ -37,6 +38,8 @@ null => form
 {"do":"check","who":1.0} => form who
 {"do":"check","who":null} => form who
 {"do":"list","whom":1} => form whom
+{"do":"list","whom":1,"wha":1} => form wha
+{"do":"list","wha":1,"whom":1} => form wha
 {"do":"list","wha":1,"who":"x"} => form wha
 {"do":"list","c":1,"":2,"b":3} => form 
 {"do":"list","é":1,"z":2,"Z":3} => form Z
@@ -52,6 +55,8 @@ null => form
 {"do":"hello","role":"Feed"} => form role
 {"do":"hello","role":""} => form role
 {"do":"hello","role":1,"who":"a"} => form role
+{"who":16,"role":1,"do":"hello"} => form role
+{"do":"hello","role":"f\u0065ed"} => hello 0 feed
 {"do":"hello","role":"feed","who":16} => range who
 {"do":"tick","now":5} => {"do":"tick","now":5,"who":0}
 {"do":"tick","now":"a","now":7,"who":4} => {"do":"tick","now":7,"who":4}
@@ -73,7 +78,9 @@ null => form
 {"do":"tick","now":9223372036854775808} => range now
 {"do":"tick","now":18446744073709551615} => range now
 {"do":"tick","now":-1,"who":"a"} => form who
+{"who":"a","now":-1,"do":"tick"} => form who
 {"do":"tick","now":-1,"who":16} => range now
+{"who":16,"now":-1,"do":"tick"} => range now
 {"do":"tick","now":"a","who":"a"} => form now
 {"do":"tick","x":1} => form x
 {"do":"drop","call":"AAA1"} => {"call":"AAA1","do":"drop","who":0}
@@ -85,6 +92,8 @@ null => form
 {"do":"drop","call":"A-1"} => form call
 {"do":"drop","call":7} => form call
 {"do":"drop","call":7,"who":7.5} => form call
+{"who":7.5,"call":7,"do":"drop"} => form call
+{"do":"drop","call":"\u0041AA1"} => {"call":"AAA1","do":"drop","who":0}
 {"do":"history","from":0,"to":0} => history 0 0 0
 {"do":"history","from":1,"to":2,"who":1} => history 1 1 2
 {"do":"history","from":4194304,"to":4194368} => history 0 4194304 4194368
@@ -92,6 +101,8 @@ null => form
 {"do":"history","from":1} => form to
 {"do":"history","from":"1","to":"2"} => form from
 {"do":"history","from":-1,"to":"2"} => form to
+{"do":"history","to":"2","from":-1} => form to
+{"do":"history","to":4,"from":4194305} => range from
 {"do":"history","from":-1,"to":-2} => range from
 {"do":"history","from":4194305,"to":4194305} => range from
 {"do":"history","from":5,"to":4} => range to
@@ -114,7 +125,17 @@ null => form
 {"do":"rule","r0":9001,"rmax":9001} => rule 0 r0=9001 rmax=9001
 {"do":"rule","r0":-1} => range r0
 {"do":"rule","rmax":-1} => range r0
+{"do":"rule","r0":5,"rmax":4} => range r0
+{"do":"rule","r0":5,"rmax":5} => rule 0 r0=5 rmax=5
+{"do":"rule","rmax":72000} => rule 0 rmax=72000
 {"do":"rule","rmax":72001} => range rmax
+{"do":"rule","rmax":9223372036854775808} => range rmax
+{"do":"rule","wmax":-1} => range w0
+{"do":"rule","w0":5,"wmax":4} => range w0
+{"do":"rule","w0":5,"wmax":5} => rule 0 w0=5 wmax=5
+{"do":"rule","wmax":600000} => rule 0 wmax=600000
+{"do":"rule","wmax":600001} => range wmax
+{"do":"rule","wmax":9223372036854775808} => range wmax
 {"do":"rule","w0":30001} => range w0
 {"do":"rule","history":4194305} => range history
 {"do":"rule","history":4194305,"who":16} => range who
@@ -205,20 +226,48 @@ fn nested(rt: &(impl Abort + AllocGlobal), depth: usize) -> String {
     line
 }
 
+// A line that asks for a tick at a number of so many digits.
+fn long_number(rt: &(impl Abort + AllocGlobal), digits: usize) -> String {
+    let mut line = format!(in rt.alloc(); "{{\"do\":\"tick\",\"now\":").expect(rt, "memory");
+    for _ in 0..digits {
+        line.push_str("1").expect(rt, "memory");
+    }
+    line.push_str("}").expect(rt, "memory");
+    line
+}
+
+// Bytes that are no text, in a key, in a value, and behind the value; and blanks of each kind around values, with what is no blank.
+const BYTES: [(&[u8], &str); 10] = [
+    (b"{\"do\":\"list\",\"\xff\":1}", "json"),
+    (b"{\"do\":\"list\",\"\xc3\xa9\":1}", "form \u{e9}"),
+    (b"{\"do\":\"list\xff\"}", "json"),
+    (b"{\"do\":\"list\"}\xff", "json"),
+    (b"{\"do\":\"list\"}\xc3\xa9", "json"),
+    (b"\xef\xbb\xbf{\"do\":\"list\"}", "json"),
+    (b" \t\r\n{\t\"do\"\r:\n \"list\"\t}\n\r\t ", "list 0"),
+    (b"\x0c{\"do\":\"list\"}", "json"),
+    (b"{\"do\":\"list\"}\x0b", "json"),
+    (b"{\"do\":\"list\"}\x00", "json"),
+];
+
 #[test]
-fn bytes_that_are_no_text_and_nesting(rt: HostRuntime) {
-    let rules = Rules::usual();
-    let deep = nested(&rt, 126);
-    let deeper = nested(&rt, 127);
-    let cases: [(&[u8], &str); 5] = [
-        (b"{\"do\":\"list\",\"\xff\":1}", "json"),
-        (b"{\"do\":\"list\",\"\xc3\xa9\":1}", "form \u{e9}"),
-        (b"\xef\xbb\xbf{\"do\":\"list\"}", "json"),
-        (deep.as_bytes(), "form a"),
-        (deeper.as_bytes(), "json"),
-    ];
-    for (line, wanted) in cases {
-        let found = answer(&rt, line, Place::Replay, &rules);
+fn bytes_that_are_no_text_and_blanks(rt: HostRuntime) {
+    for (line, wanted) in BYTES {
+        let found = answer(&rt, line, Place::Replay, &Rules::usual());
         assert_eq!(rt; found.as_str(), wanted);
+    }
+}
+
+#[test]
+fn nesting_and_long_numbers(rt: HostRuntime) {
+    let cases = [
+        (nested(&rt, 126), "form a"),
+        (nested(&rt, 127), "json"),
+        (long_number(&rt, 308), "form now"),
+        (long_number(&rt, 400), "json"),
+    ];
+    for (line, wanted) in &cases {
+        let found = answer(&rt, line.as_bytes(), Place::Replay, &Rules::usual());
+        assert_eq!(rt; found.as_str(), *wanted);
     }
 }
