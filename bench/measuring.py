@@ -40,6 +40,6 @@ def run(data, program=PROGRAM):
     return seconds, written
 
 
-def best(data, repeats=REPEATS, program=PROGRAM):
+def best(data, repeats=REPEATS):
     """The seconds of the fastest of some runs."""
-    return min(run(data, program)[0] for _ in range(repeats))
+    return min(run(data)[0] for _ in range(repeats))
