@@ -19,6 +19,7 @@ mod place;
 mod route;
 mod row;
 mod rules;
+mod steps;
 mod tally;
 #[cfg(test)]
 mod tests;
@@ -42,6 +43,7 @@ pub use place::{Leg, Place, Point};
 pub use route::{Route, RouteNo};
 pub use row::{Row, Second};
 pub use rules::{RuleName, Rules};
+pub use steps::Steps;
 pub use tally::Tally;
 pub use type_name::TypeName;
 pub use words::Words;
