@@ -5,7 +5,7 @@ use Rattle.std.proofs.lemmas.List.Sums.{fold-append}
 use Rattle.std.proofs.lemmas.Option.{slice_get_within}
 use Rattle.std.specs.Prelude.{slice_get, fold}
 use Rattle.mt_base.specs.declared.command.Command.{Command}
-use Rattle.mt_base.specs.declared.command.Command.TheVariants.{Plan, External, Drop, Tick, Clear, Accept}
+use Rattle.mt_base.specs.declared.command.Command.TheVariants.{Accept}
 use Rattle.mt_base.specs.declared.command.Entry.{Entry}
 use Rattle.mt_base.specs.History.{IsDecided, IsInTime, IsLegal, IsReplayable, WasFree, effect, state_of}
 use Rattle.mt_base.specs.Picture.{State, opening}
@@ -53,24 +53,16 @@ replayable_push setup h e replayable decided in_time i f at = ⊎_elim
 
 -- what was free on a front is so on the whole, and back
 on_more : (setup : Setup) (h t : List Entry) (i : ℕ) (c : Command) → i ≤ length h → IsInTime i c → WasFree setup h c → WasFree setup (h ++ t) c
-on_more setup h t i (Plan call kind route at from level) within in_time free = tt
-on_more setup h t i (External call straight) within in_time free = tt
-on_more setup h t i (Drop call) within in_time free = tt
-on_more setup h t i (Tick now) within in_time free = tt
-on_more setup h t i (Clear call clearance eff) within in_time free = tt
 on_more setup h t i (Accept call clearance eff probed) within in_time free =
     let short : probed ≤ length h = omega arith in
     subst (λ (front : List Entry). IsWhatIf setup (state_of setup front) call clearance (Some eff) (Ok [])) (sym (take-append-le probed h t short)) free
+on_more setup h t i c within in_time free = tt
 
 on_front : (setup : Setup) (h t : List Entry) (i : ℕ) (c : Command) → i ≤ length h → IsInTime i c → WasFree setup (h ++ t) c → WasFree setup h c
-on_front setup h t i (Plan call kind route at from level) within in_time free = tt
-on_front setup h t i (External call straight) within in_time free = tt
-on_front setup h t i (Drop call) within in_time free = tt
-on_front setup h t i (Tick now) within in_time free = tt
-on_front setup h t i (Clear call clearance eff) within in_time free = tt
 on_front setup h t i (Accept call clearance eff probed) within in_time free =
     let short : probed ≤ length h = omega arith in
     subst (λ (front : List Entry). IsWhatIf setup (state_of setup front) call clearance (Some eff) (Ok [])) (take-append-le probed h t short) free
+on_front setup h t i c within in_time free = tt
 
 pub legal_prefix : (setup : Setup) (h t : List Entry) → IsLegal setup (h ++ t) → IsLegal setup h
 legal_prefix setup h t legal = record { replayable = replayable_prefix setup h t legal.replayable; free = free } where

@@ -1,8 +1,10 @@
 pub mod CheckLemmas
 pub mod ConflictOrder
+pub mod FewAdvised
 pub mod HistoryLemmas
 pub mod HitOrder
 pub mod NameLemmas
+pub mod OneAdvice
 pub mod OneHits
 pub mod OneOrder
 pub mod RuleLemmas

@@ -1,6 +1,7 @@
 use Rattle.std.specs.Prelude.{◌≡◌, ℕ, ℤ, pos, neg_ℤ, ◌+ℤ◌, ◌*ℤ◌, ◌<◌, ◌≤◌, ◌+◌, ◌-◌, ◌≤ℤ◌, true, List, length, All, IfSome, is_some, Ok, ⊤}
 use Rattle.mt_base.specs.declared.command.Command.{Command}
-use Rattle.mt_base.specs.declared.command.Command.TheVariants.{Plan, External, Drop, Tick, Clear, Accept}
+use Rattle.mt_base.specs.declared.command.Command.TheVariants.{Plan, External, Drop, Tick, Renew, Clear, Accept, Tentative, Withdraw, Commit}
+use Rattle.mt_base.specs.declared.command.Command.TheVariants as commands
 use Rattle.mt_base.specs.declared.band.Band.{Band}
 use Rattle.mt_base.specs.declared.clearance.Aim.{Aim}
 use Rattle.mt_base.specs.declared.clearance.Clearance.{Clearance}
@@ -131,18 +132,19 @@ abbrev pub IsBoundedCommand : Command → Type 0
 IsBoundedCommand (Plan call kind route at from level) = (at ≤ 10000000) × (from ≤ 600) × (level ≤ 600)
 IsBoundedCommand (External call straight) = IsBoundedStretch straight
 IsBoundedCommand (Drop call) = Unit {0}
+IsBoundedCommand (commands.Report call report) = IsBoundedReport report
 IsBoundedCommand (Tick now) = now ≤ 10000000
+IsBoundedCommand (Renew call) = Unit {0}
 IsBoundedCommand (Clear call clearance eff) = IsBoundedClearance clearance × IfSome eff (λ second. second ≤ 10000000)
 IsBoundedCommand (Accept call clearance eff probed) = IsBoundedClearance clearance × (eff ≤ 10000000) × (probed ≤ 4194304)
+IsBoundedCommand (Tentative call clearance eff) = IsBoundedClearance clearance × IfSome eff (λ second. second ≤ 10000000)
+IsBoundedCommand (Withdraw call force) = Unit {0}
+IsBoundedCommand (Commit call) = Unit {0}
 
 -- a command that is asked for by itself; a probe is accepted by its number
 abbrev pub IsAskedFor : Command → Type 0
-IsAskedFor (Plan call kind route at from level) = ⊤
-IsAskedFor (External call straight) = ⊤
-IsAskedFor (Drop call) = ⊤
-IsAskedFor (Tick now) = ⊤
-IsAskedFor (Clear call clearance eff) = ⊤
 IsAskedFor (Accept call clearance eff probed) = ⊥
+IsAskedFor command = ⊤
 
 -- Each rule within its bounds.
 pub record AreWithinBounds (rules : Rules) : Type 0 where

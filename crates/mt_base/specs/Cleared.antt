@@ -1,5 +1,5 @@
 -- What a clearance makes of a planned flight.
-use Rattle.std.specs.Prelude.{ℕ, ◌+◌, suc, Bool, List, [], ◌∷◌, drop, position, nat_le, nat_lt, Option, Some, is_some, unwrap_or, option_and_then, option_map, Result, if◌then◌else◌}
+use Rattle.std.specs.Prelude.{ℕ, ◌+◌, suc, Bool, List, [], ◌∷◌, ◌++◌, drop, position, nat_le, nat_lt, Option, Some, is_some, unwrap_or, option_and_then, option_map, Result, if◌then◌else◌}
 use Rattle.std.specs.Str.{bytes_eq}
 use Rattle.mt_base.specs.declared.clearance.Aim.{Aim}
 use Rattle.mt_base.specs.declared.clearance.Clearance.{Clearance}
@@ -34,17 +34,15 @@ is_below_ceiling tables kind level = nat_le level (ceiling_of (unwrap_or (bands_
 abbrev pub is_ahead : Course → Trajectory → ℕ → List ℕ → Bool
 is_ahead course t eff fix = is_some (option_and_then (λ (base : Base). place_behind course.route base.next fix) (base_from course.base t eff))
 
--- What is checked of a clearance that holds from second `eff` on, at the moment `now`, in order.
+-- What is checked of a clearance that holds from second `eff` on, in order: what it leaves, then that it is not above the moment `now`.
+abbrev pub aim_checks : Tables → Course → Trajectory → Clearance → ℕ → List (Refusal × Bool)
+aim_checks tables course t (Level level) eff =
+    (Ended, is_some (base_from course.base t eff)) ∷ (Ceiling, is_below_ceiling tables course.kind level) ∷ []
+aim_checks tables course t (Direct fix) eff =
+    (UnknownFix fix, is_some (fix_of tables fix)) ∷ (Ended, is_some (base_from course.base t eff)) ∷ (NotAhead, is_ahead course t eff fix) ∷ []
+
 abbrev pub clearance_checks : Tables → Course → Trajectory → Clearance → ℕ → ℕ → List (Refusal × Bool)
-clearance_checks tables course t (Level level) eff now =
-    (Ended, is_some (base_from course.base t eff)) ∷
-    (Ceiling, is_below_ceiling tables course.kind level) ∷
-    (Future, nat_le eff now) ∷ []
-clearance_checks tables course t (Direct fix) eff now =
-    (UnknownFix fix, is_some (fix_of tables fix)) ∷
-    (Ended, is_some (base_from course.base t eff)) ∷
-    (NotAhead, is_ahead course t eff fix) ∷
-    (Future, nat_le eff now) ∷ []
+clearance_checks tables course t clearance eff now = aim_checks tables course t clearance eff ++ (Future, nat_le eff now) ∷ []
 
 -- a base that flies to that fix next
 abbrev pub direct_to : List (List ℕ) → List ℕ → Base → Base

@@ -1,27 +1,35 @@
-use Rattle.std.specs.Prelude.{◌≡◌, ℕ, ◌+◌, ◌*◌, pos, List, [], ◌∷◌, ◌++◌, length, map, take, fold, filter, slice_get, Bool, not, nat_lt, int_lt, Option, Some, None, option_and_then, false, is_some, unwrap_or, Result, Ok, Err, ◌⊎◌, ◌≤◌, ⊤, if◌then◌else◌}
+use Rattle.std.specs.Prelude.{◌≡◌, ℕ, ◌+◌, ◌*◌, pos, List, [], ◌∷◌, ◌++◌, length, map, take, fold, filter, slice_get, Bool, not, nat_eq, nat_le, nat_lt, ◌||◌, true, int_lt, Option, Some, None, option_and_then, false, is_some, unwrap_or, option_map, Result, Ok, Err, ◌⊎◌, ◌≤◌, ⊤, if◌then◌else◌}
+use Rattle.std.specs.Option.{option_map_or}
 use Rattle.std.specs.Str.{bytes_eq}
 use Rattle.mt_base.specs.declared.command.Command.{Command}
-use Rattle.mt_base.specs.declared.command.Command.TheVariants.{Plan, External, Drop, Tick, Clear, Accept}
+use Rattle.mt_base.specs.declared.command.Command.TheVariants.{Plan, External, Drop, Tick, Renew, Clear, Accept, Tentative, Withdraw, Commit}
+use Rattle.mt_base.specs.declared.command.Command.TheVariants as commands
+use Rattle.mt_base.specs.declared.command.Entered.{Entered}
 use Rattle.mt_base.specs.declared.command.Entry.{Entry}
 use Rattle.mt_base.specs.declared.command.Refusal.{Refusal}
-use Rattle.mt_base.specs.declared.command.Refusal.TheVariants.{HeldCall, UnknownCall, UnknownType, UnknownFix, RouteShort, RouteLong, RouteTwice, Ceiling, Full, HistoryFull, Backward, Stale}
+use Rattle.mt_base.specs.declared.command.Refusal.TheVariants.{HeldCall, UnknownCall, UnknownType, UnknownFix, RouteShort, RouteLong, RouteTwice, Ceiling, Full, HistoryFull, Backward, Stale, Fixed, Old, Future, NotDue, TentativeHeld, NoTentative, NotOwner}
 use Rattle.mt_base.specs.declared.clearance.Aim.{Aim}
 use Rattle.mt_base.specs.declared.clearance.Clearance.{Clearance}
 use Rattle.mt_base.specs.declared.flight.Base.{Base}
 use Rattle.mt_base.specs.declared.flight.Course.{Course}
 use Rattle.mt_base.specs.declared.flight.Path.{Path}
 use Rattle.mt_base.specs.declared.flight.Path.TheVariants.{Planned, Outer}
+use Rattle.mt_base.specs.declared.flight.Mark.{Mark}
 use Rattle.mt_base.specs.declared.flight.Record.{Record}
+use Rattle.mt_base.specs.declared.flight.Report.{Report}
 use Rattle.mt_base.specs.declared.hit.Hit.{Hit}
 use Rattle.mt_base.specs.declared.place.Point.{Point}
 use Rattle.mt_base.specs.declared.route.RouteNo.{RouteNo}
 use Rattle.mt_base.specs.declared.route.RouteNo.TheVariants as route_no
 use Rattle.mt_base.specs.declared.rules.Rules.{Rules}
+use Rattle.mt_base.specs.declared.verdict.Verdict.{Verdict}
 use Rattle.mt_base.specs.Checks.{judged}
-use Rattle.mt_base.specs.Cleared.{aim_of, is_below_ceiling}
+use Rattle.mt_base.specs.Cleared.{aim_checks, aim_of, is_below_ceiling}
 use Rattle.mt_base.specs.Picture.{State, flight_of, opening, trajectory_of}
 use Rattle.mt_base.specs.Predictor.{points_of}
-use Rattle.mt_base.specs.WhatIf.{AreHits, IsWhatIf, what_if_checks}
+use Rattle.mt_base.specs.Renewed.{renewed}
+use Rattle.mt_base.specs.Verdict.{is_flagged, verdict_of}
+use Rattle.mt_base.specs.WhatIf.{AreHits, IsWhatIf, course_in, mark_in, what_if_checks}
 use Rattle.mt_base.specs.Tables.{Setup, Tables, bands_of, fix_checks, length_checks}
 
 -- What a decision looks at: the moment, how many flights are held, how many entries, and the flight that the command names.
@@ -37,8 +45,13 @@ call_of (Plan call kind route at from level) = Some call
 call_of (External call straight) = Some call
 call_of (Drop call) = Some call
 call_of (Tick now) = None
+call_of (commands.Report call report) = Some call
+call_of (Renew call) = Some call
 call_of (Clear call clearance eff) = Some call
 call_of (Accept call clearance eff probed) = Some call
+call_of (Tentative call clearance eff) = Some call
+call_of (Withdraw call force) = Some call
+call_of (Commit call) = Some call
 
 -- what a decision of a command looks at in a state
 abbrev pub look_at : State → Command → Look
@@ -67,9 +80,21 @@ refusal_of route_no.Twice = RouteTwice
 abbrev pub route_checks : Tables → List (List ℕ) → List (Refusal × Bool)
 route_checks tables route = map (λ c. (refusal_of c.0, c.1)) (fix_checks tables route ++ length_checks route)
 
+-- A report is later than the last one.
+abbrev pub is_later : Option Report → ℕ → Bool
+is_later last at = option_map_or (λ (report : Report). nat_lt report.at at) last true
+
+-- who owns a tentative clearance
+abbrev pub owner_of : Option Mark → ℕ
+owner_of mark = option_map_or (λ (m : Mark). m.owner) mark 0
+
+-- a tentative clearance is that actor's
+abbrev pub is_owned : ℕ → Option Mark → Bool
+is_owned who mark = option_map_or (λ (m : Mark). nat_eq m.owner who) mark false
+
 -- What is checked of a command, in order.
-abbrev pub checks : Setup → Look → Command → List (Refusal × Bool)
-checks setup look (Plan call kind route at from level) =
+abbrev pub checks : Setup → Look → ℕ → Command → List (Refusal × Bool)
+checks setup look who (Plan call kind route at from level) =
     (HeldCall, not (is_some look.flight)) ∷
     (UnknownType kind, is_some (bands_of setup.tables kind)) ∷
     (route_checks setup.tables route ++
@@ -77,36 +102,55 @@ checks setup look (Plan call kind route at from level) =
     (Ceiling, is_below_ceiling setup.tables kind level) ∷
     (Full, has_room setup.rules look) ∷
     (HistoryFull, has_history setup.rules look) ∷ [])
-checks setup look (External call straight) =
+checks setup look who (External call straight) =
     (HeldCall, not (is_some look.flight)) ∷ (Full, has_room setup.rules look) ∷ (HistoryFull, has_history setup.rules look) ∷ []
-checks setup look (Drop call) = (UnknownCall call, is_some look.flight) ∷ (HistoryFull, has_history setup.rules look) ∷ []
-checks setup look (Tick now) = (Backward, nat_lt look.now now) ∷ (HistoryFull, has_history setup.rules look) ∷ []
-checks setup look (Clear call clearance eff) =
+checks setup look who (Drop call) = (UnknownCall call, is_some look.flight) ∷ (HistoryFull, has_history setup.rules look) ∷ []
+checks setup look who (Tick now) = (Backward, nat_lt look.now now) ∷ (HistoryFull, has_history setup.rules look) ∷ []
+checks setup look who (Clear call clearance eff) =
     what_if_checks setup look.now look.flight call clearance (unwrap_or eff look.now) ++ (HistoryFull, has_history setup.rules look) ∷ []
-checks setup look (Accept call clearance eff probed) =
+checks setup look who (Accept call clearance eff probed) =
     what_if_checks setup look.now look.flight call clearance eff ++ (HistoryFull, has_history setup.rules look) ∷ []
+checks setup look who (commands.Report call report) =
+    (UnknownCall call, is_some look.flight) ∷
+    (Fixed, is_some (course_in look.flight)) ∷
+    (Old, option_map_or (λ course. is_later course.last report.at) (course_in look.flight) true) ∷
+    (Future, nat_le report.at look.now) ∷
+    (HistoryFull, has_history setup.rules look) ∷ []
+checks setup look who (Renew call) =
+    (UnknownCall call, is_some look.flight) ∷
+    (Fixed, is_some (course_in look.flight)) ∷
+    (NotDue, option_map_or (λ course. course.due) (course_in look.flight) false) ∷
+    (HistoryFull, has_history setup.rules look) ∷ []
+checks setup look who (Tentative call clearance eff) =
+    (UnknownCall call, is_some look.flight) ∷
+    (Fixed, is_some (course_in look.flight)) ∷
+    (option_map_or (λ course. aim_checks setup.tables course (trajectory_of setup (Planned course)) clearance (unwrap_or eff look.now))
+    (course_in look.flight) [] ++
+    (TentativeHeld (owner_of (mark_in look.flight)), not (is_some (mark_in look.flight))) ∷
+    (Future, nat_le (unwrap_or eff look.now) look.now) ∷
+    (HistoryFull, has_history setup.rules look) ∷ [])
+checks setup look who (Withdraw call force) =
+    (UnknownCall call, is_some look.flight) ∷
+    (NoTentative, is_some (mark_in look.flight)) ∷
+    (NotOwner, force || is_owned who (mark_in look.flight)) ∷
+    (HistoryFull, has_history setup.rules look) ∷ []
+checks setup look who (Commit call) =
+    (UnknownCall call, is_some look.flight) ∷ (NoTentative, is_some (mark_in look.flight)) ∷ (HistoryFull, has_history setup.rules look) ∷ []
 
 -- a command with the second from which it holds, where that is left to the moment
 abbrev pub filled : ℕ → Command → Command
-filled now (Plan call kind route at from level) = Plan call kind route at from level
-filled now (External call straight) = External call straight
-filled now (Drop call) = Drop call
-filled now (Tick next) = Tick next
 filled now (Clear call clearance eff) = Clear call clearance (Some (unwrap_or eff now))
-filled now (Accept call clearance eff probed) = Accept call clearance eff probed
+filled now (Tentative call clearance eff) = Tentative call clearance (Some (unwrap_or eff now))
+filled now command = command
 
 -- the first refusal of an actor's command in a state, but for one that was probed and is no longer free; or its entry
 abbrev pub judge : Setup → State → ℕ → Command → Result Entry Refusal
-judge setup s who command = judged (checks setup (look_at s command) command) (record { who = who; command = filled s.now command })
+judge setup s who command = judged (checks setup (look_at s command) who command) (record { who = who; command = filled s.now command })
 
 -- the hits of a command that was probed, on the state; no other command has any
 abbrev pub HasHits : Setup → State → Command → List Hit → Type 0
-HasHits setup s (Plan call kind route at from level) hits = hits ≡ []
-HasHits setup s (External call straight) hits = hits ≡ []
-HasHits setup s (Drop call) hits = hits ≡ []
-HasHits setup s (Tick now) hits = hits ≡ []
-HasHits setup s (Clear call clearance eff) hits = hits ≡ []
 HasHits setup s (Accept call clearance eff probed) hits = AreHits setup s call clearance eff hits
+HasHits setup s command hits = hits ≡ []
 
 -- A command that nothing else refuses has hits, and so is refused; the refusal carries the first.
 pub record IsStale (setup : Setup) (s : State) (who : ℕ) (command : Command) (refusal : Refusal) : Type 0 where
@@ -152,33 +196,80 @@ abbrev pub cleared_path : Setup → Clearance → ℕ → Path → Path
 cleared_path setup clearance eff (Planned course) = Planned (with_aim course (aim_of course (trajectory_of setup (Planned course)) clearance eff))
 cleared_path setup clearance eff (Outer stretch) = Outer stretch
 
--- a flight, cleared where it has that callsign
-abbrev pub cleared_if : Setup → List ℕ → Clearance → ℕ → Record → Record
-cleared_if setup call clearance eff flight =
-    if bytes_eq flight.call call then record flight { path = cleared_path setup clearance eff flight.path } else flight
+-- a report of a planned flight compared with its trajectory
+abbrev pub verdict_on : Setup → Course → Report → Verdict
+verdict_on setup course report = verdict_of setup.rules course.base (trajectory_of setup (Planned course)) report
+
+-- A flight, with its path changed where it has that callsign.
+abbrev pub changed : List ℕ → (Path → Path) → Record → Record
+changed call change flight = record flight { path = if bytes_eq flight.call call then change flight.path else flight.path }
+
+-- What a report leaves: it is the last one, and one with a flag makes the flight due. One without leaves the mark as it is.
+abbrev pub reported_path : Setup → Report → Path → Path
+reported_path setup report (Planned course) =
+    Planned (record course { last = Some report; due = course.due || is_flagged (verdict_on setup course report) })
+reported_path setup report (Outer stretch) = Outer stretch
+
+-- what a renewal leaves: the base at the last report, and no longer due
+abbrev pub renewed_path : Setup → Path → Path
+renewed_path setup (Planned course) =
+    Planned (record course { base = unwrap_or (renewed setup.rules course (trajectory_of setup (Planned course))) course.base; due = false })
+renewed_path setup (Outer stretch) = Outer stretch
+
+-- a tentative clearance by its owner and what the clearance would leave
+abbrev pub mark_by : ℕ → Aim → Mark
+mark_by who aim = record { owner = who; base = aim.base; level = aim.level }
+
+-- what a tentative clearance, its withdrawal and its commitment leave
+abbrev pub marked_path : Setup → ℕ → Clearance → ℕ → Path → Path
+marked_path setup who clearance eff (Planned course) =
+    Planned (record course { mark = Some (mark_by who (aim_of course (trajectory_of setup (Planned course)) clearance eff)) })
+marked_path setup who clearance eff (Outer stretch) = Outer stretch
+
+abbrev pub bare_path : Path → Path
+bare_path (Planned course) = Planned (record course { mark = None })
+bare_path (Outer stretch) = Outer stretch
+
+abbrev pub committed : Course → Option Mark → Course
+committed course None = course
+committed course (Some mark) = record course { base = mark.base; level = mark.level; mark = None }
+
+abbrev pub committed_path : Path → Path
+committed_path (Planned course) = Planned (committed course course.mark)
+committed_path (Outer stretch) = Outer stretch
 
 -- the records and the moment that an entry leaves
-abbrev pub records_after : Setup → Command → List Record → List Record
-records_after setup (Plan call kind route at from level) flights =
+abbrev pub records_after : Setup → ℕ → Command → List Record → List Record
+records_after setup who (Plan call kind route at from level) flights =
     flights ++ (record { call = call; path = Planned (course_of setup kind route at from level) }) ∷ []
-records_after setup (External call straight) flights = flights ++ (record { call = call; path = Outer straight }) ∷ []
-records_after setup (Drop call) flights = filter (λ flight. not (bytes_eq flight.call call)) flights
-records_after setup (Tick now) flights = flights
-records_after setup (Clear call clearance eff) flights = map (cleared_if setup call clearance (unwrap_or eff 0)) flights
-records_after setup (Accept call clearance eff probed) flights = map (cleared_if setup call clearance eff) flights
+records_after setup who (External call straight) flights = flights ++ (record { call = call; path = Outer straight }) ∷ []
+records_after setup who (Drop call) flights = filter (λ flight. not (bytes_eq flight.call call)) flights
+records_after setup who (commands.Report call report) flights = map (changed call (reported_path setup report)) flights
+records_after setup who (Tick now) flights = flights
+records_after setup who (Renew call) flights = map (changed call (renewed_path setup)) flights
+records_after setup who (Clear call clearance eff) flights = map (changed call (cleared_path setup clearance (unwrap_or eff 0))) flights
+records_after setup who (Accept call clearance eff probed) flights = map (changed call (cleared_path setup clearance eff)) flights
+records_after setup who (Tentative call clearance eff) flights = map (changed call (marked_path setup who clearance (unwrap_or eff 0))) flights
+records_after setup who (Withdraw call force) flights = map (changed call bare_path) flights
+records_after setup who (Commit call) flights = map (changed call committed_path) flights
 
 abbrev pub now_after : Command → ℕ → ℕ
-now_after (Plan call kind route at from level) now = now
-now_after (External call straight) now = now
-now_after (Drop call) now = now
 now_after (Tick next) now = next
-now_after (Clear call clearance eff) now = now
-now_after (Accept call clearance eff probed) now = now
+now_after command now = now
 
--- The effect of an entry: a plan or an external flight is filed behind the others, a dropped one is taken out, a tick moves the moment, a
--- cleared one has its base and its level anew; and the version rises by one.
+-- The effect of an entry: a plan or an external flight is filed behind the others, a dropped one is taken out, a tick moves the moment, and
+-- any other command changes the path of the flight that it names; and the version rises by one.
 abbrev pub effect : Setup → State → Entry → State
-effect setup s e = record { now = now_after e.command s.now; records = records_after setup e.command s.records; version = s.version + 1 }
+effect setup s e = record { now = now_after e.command s.now; records = records_after setup e.who e.command s.records; version = s.version + 1 }
+
+-- what an entered report is answered beside the version: its verdict in the state before it; no other command has one
+abbrev pub verdict_in : Setup → State → Command → Option Verdict
+verdict_in setup s (commands.Report call report) = option_map (λ course. verdict_on setup course report) (course_in (flight_of s.records call))
+verdict_in setup s command = None
+
+-- what an entry is answered: the version with it, and the verdict of a report
+abbrev pub entered_by : Setup → State → Entry → Entered
+entered_by setup s e = record { version = s.version + 1; verdict = verdict_in setup s e.command }
 
 -- The state of a history: the effects of its entries, in order, on the opening state.
 abbrev pub state_of : Setup → List Entry → State
@@ -186,12 +277,8 @@ state_of setup h = fold (effect setup) opening h
 
 -- the version that a command was probed at is none that comes after its place
 abbrev pub IsInTime : ℕ → Command → Type 0
-IsInTime place (Plan call kind route at from level) = ⊤
-IsInTime place (External call straight) = ⊤
-IsInTime place (Drop call) = ⊤
-IsInTime place (Tick now) = ⊤
-IsInTime place (Clear call clearance eff) = ⊤
 IsInTime place (Accept call clearance eff probed) = probed ≤ place
+IsInTime place command = ⊤
 
 -- A history is replayable where each entry is what is decided of its command on the state of the entries before it, and none was probed at a
 -- version after its place.
@@ -201,12 +288,8 @@ IsReplayable setup h = (i : ℕ) (e : Entry) → slice_get h i ≡ Some e
 
 -- what was probed was free of conflicts on the state of the version that it names
 abbrev pub WasFree : Setup → List Entry → Command → Type 0
-WasFree setup h (Plan call kind route at from level) = ⊤
-WasFree setup h (External call straight) = ⊤
-WasFree setup h (Drop call) = ⊤
-WasFree setup h (Tick now) = ⊤
-WasFree setup h (Clear call clearance eff) = ⊤
 WasFree setup h (Accept call clearance eff probed) = IsWhatIf setup (state_of setup (take probed h)) call clearance (Some eff) (Ok [])
+WasFree setup h command = ⊤
 
 -- A history is legal where it is replayable, and each clearance that was accepted was free of conflicts when it was probed.
 pub record IsLegal (setup : Setup) (h : List Entry) : Type 0 where

@@ -1,3 +1,4 @@
+pub mod Advice
 pub mod Bounds
 pub mod Checks
 pub mod Cleared
@@ -11,8 +12,11 @@ pub mod Picture
 pub mod Predictor
 pub mod Renewed
 pub mod Rules
+pub mod Settled
+pub mod StrikeOut
 pub mod Tables
 pub mod Tally
 pub mod Trajectory
+pub mod Verdict
 pub mod View
 pub mod WhatIf

@@ -23,6 +23,9 @@ pub record Setup : Type 0 where
   pub rules : Rules
   pub tables : Tables
 
+abbrev pub setup_with : Rules → Tables → Setup
+setup_with rules tables = record { rules = rules; tables = tables }
+
 -- the position of the fix of that name
 abbrev pub fix_of : Tables → List ℕ → Option Point
 fix_of tables name = lookup (pointwise nat_eq name) tables.fixes

@@ -10,6 +10,7 @@ use Rattle.mt_base.specs.declared.clearance.Clearance.{Clearance}
 use Rattle.mt_base.specs.declared.command.Refusal.{Refusal}
 use Rattle.mt_base.specs.declared.command.Refusal.TheVariants.{UnknownCall, Fixed}
 use Rattle.mt_base.specs.declared.flight.Course.{Course}
+use Rattle.mt_base.specs.declared.flight.Mark.{Mark}
 use Rattle.mt_base.specs.declared.flight.Path.{Path}
 use Rattle.mt_base.specs.declared.flight.Path.TheVariants.{Planned, Outer}
 use Rattle.mt_base.specs.declared.flight.Record.{Record}
@@ -30,6 +31,15 @@ course_on (Outer stretch) = None
 abbrev pub course_in : Option Record → Option Course
 course_in None = None
 course_in (Some flight) = course_on flight.path
+
+-- the tentative clearance of a flight that is there and has one
+abbrev pub mark_on : Path → Option Mark
+mark_on (Planned course) = course.mark
+mark_on (Outer stretch) = None
+
+abbrev pub mark_in : Option Record → Option Mark
+mark_in None = None
+mark_in (Some flight) = mark_on flight.path
 
 -- What is checked before a clearance of a flight is tried at the moment `now`: that it is there, that it is planned, and the clearance.
 abbrev pub what_if_checks : Setup → ℕ → Option Record → List ℕ → Clearance → ℕ → List (Refusal × Bool)

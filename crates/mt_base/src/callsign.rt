@@ -1,6 +1,7 @@
 ghost use Rattle.std.specs.Prelude.{◌≡◌, true};
 ghost use Rattle.mt_base.specs.Name.{is_name, name_of};
 
+use crate::list::Listed;
 use crate::name::Name;
 use std::marker::Model;
 
@@ -38,3 +39,6 @@ impl Callsign {
         self.name.bytes()
     }
 }
+
+/// Callsigns, seen as their list.
+pub type Calls = Listed<Callsign>;

@@ -1,5 +1,6 @@
 use crate::fix_name::FixName;
 use crate::flight::Base;
+use crate::list::Listed;
 
 /// What a planned flight is told to do.
 #[derive(Clone, Copy, PartialEq, Eq)]
@@ -18,3 +19,6 @@ pub struct Aim {
     /// The flight level that it climbs or descends to.
     pub level: u32,
 }
+
+/// Clearances, seen as their list.
+pub type Clearances = Listed<Clearance>;

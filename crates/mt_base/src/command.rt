@@ -4,12 +4,13 @@ ghost use Rattle.mt_base.specs.History.{call_of, filled};
 use crate::callsign::Callsign;
 use crate::clearance::Clearance;
 use crate::fix_name::FixName;
-use crate::flight::Straight;
+use crate::flight::{Report, Straight};
 use crate::hit::Hit;
 use crate::list::Listed;
 use crate::route::{Route, RouteNo};
 use crate::row::Second;
 use crate::type_name::TypeName;
+use crate::verdict::Verdict;
 use mt_memory::Memory;
 use std::alloc::Global;
 
@@ -43,10 +44,22 @@ pub enum Command {
         /// Its callsign.
         call: Callsign,
     },
+    /// Tell where a planned flight was seen.
+    Report {
+        /// Its callsign.
+        call: Callsign,
+        /// Where it was seen, and when.
+        report: Report,
+    },
     /// Move the moment.
     Tick {
         /// The new moment.
         now: Second,
+    },
+    /// Let a flight that is due begin anew at its last report.
+    Renew {
+        /// Its callsign.
+        call: Callsign,
     },
     /// Clear a planned flight.
     Clear {
@@ -68,6 +81,27 @@ pub enum Command {
         /// The version of the probe.
         probed: u64,
     },
+    /// Mark a clearance of a planned flight as tentative.
+    Tentative {
+        /// Its callsign.
+        call: Callsign,
+        /// The clearance.
+        clearance: Clearance,
+        /// From which second it holds; absent, from the moment at which the command is decided.
+        eff: Option<Second>,
+    },
+    /// Take a tentative clearance away.
+    Withdraw {
+        /// Its callsign.
+        call: Callsign,
+        /// Whether another than its owner may do so.
+        force: bool,
+    },
+    /// Make a tentative clearance the flight's own.
+    Commit {
+        /// Its callsign.
+        call: Callsign,
+    },
 }
 
 impl Command {
@@ -79,8 +113,13 @@ impl Command {
             Command::Plan { call, .. }
             | Command::External { call, .. }
             | Command::Drop { call }
+            | Command::Report { call, .. }
+            | Command::Renew { call }
             | Command::Clear { call, .. }
-            | Command::Accept { call, .. } => Some(*call),
+            | Command::Accept { call, .. }
+            | Command::Tentative { call, .. }
+            | Command::Withdraw { call, .. }
+            | Command::Commit { call } => Some(*call),
             Command::Tick { .. } => None,
         }
     }
@@ -95,6 +134,15 @@ impl Command {
                 clearance,
                 eff,
             } => Ok(Command::Clear {
+                call: *call,
+                clearance: *clearance,
+                eff: Some(eff.unwrap_or(now)),
+            }),
+            Command::Tentative {
+                call,
+                clearance,
+                eff,
+            } => Ok(Command::Tentative {
                 call: *call,
                 clearance: *clearance,
                 eff: Some(eff.unwrap_or(now)),
@@ -128,7 +176,26 @@ impl Command {
                 straight: *straight,
             }),
             Command::Drop { call } => Ok(Command::Drop { call: *call }),
+            Command::Report { call, report } => Ok(Command::Report {
+                call: *call,
+                report: *report,
+            }),
             Command::Tick { now } => Ok(Command::Tick { now: *now }),
+            Command::Renew { call } => Ok(Command::Renew { call: *call }),
+            Command::Tentative {
+                call,
+                clearance,
+                eff,
+            } => Ok(Command::Tentative {
+                call: *call,
+                clearance: *clearance,
+                eff: *eff,
+            }),
+            Command::Withdraw { call, force } => Ok(Command::Withdraw {
+                call: *call,
+                force: *force,
+            }),
+            Command::Commit { call } => Ok(Command::Commit { call: *call }),
             Command::Clear {
                 call,
                 clearance,
@@ -182,6 +249,8 @@ pub type Entries = Listed<Entry>;
 pub struct Entered {
     /// The version with the entry: the number of entries then.
     pub version: u64,
+    /// The verdict on a report; no other command has one.
+    pub verdict: Option<Verdict>,
 }
 
 /// Why a command is refused.
@@ -209,7 +278,9 @@ pub enum Refusal {
     HistoryFull,
     /// The new moment is not above the moment now.
     Backward,
-    /// The second from which a clearance holds is above the moment.
+    /// The report's second is not above the last report's.
+    Old,
+    /// The second of a report, or from which a clearance holds, is above the moment.
     Future,
     /// The second from which a clearance holds is at or past both ends of the trajectory.
     Ended,
@@ -226,6 +297,17 @@ pub enum Refusal {
     },
     /// The flight is an external one, which can't be cleared.
     Fixed,
+    /// The flight has a tentative clearance.
+    TentativeHeld {
+        /// The number of the actor that owns it.
+        owner: u32,
+    },
+    /// The flight has no tentative clearance.
+    NoTentative,
+    /// Another owns the tentative clearance.
+    NotOwner,
+    /// The flight is not due.
+    NotDue,
 }
 
 impl From<RouteNo> for Refusal {

@@ -28,6 +28,13 @@ impl<T: Drop> Listed<T> {
         })
     }
 
+    /// The list of these values. It takes no memory.
+    pub fn of(values: Vec<T>) -> Listed<T>
+        ensures { result ≡ values.items }
+    {
+        Listed { values }
+    }
+
     /// Puts a value behind the others. On an error the list stays as it was.
     pub fn push(&mut self, value: T) -> Result<(), Memory>
         ensures ok { OnOk result (self.new ≡ self.old ++ value ∷ []) }
