@@ -1,18 +1,19 @@
 -- The quadratic and the two lines of two rows are below 0 at an instant exactly where the rows lose separation there.
-use Rattle.std.proofs.Common.{◌≡◌, ℤ, pos, neg_ℤ, ◌+ℤ◌, ◌-ℤ◌, ◌*ℤ◌, ◌≤ℤ◌, ◌<ℤ◌, ◌↔◌, arith}
+use Rattle.std.proofs.Common.{◌≡◌, ℕ, ℤ, pos, neg_ℤ, ◌+ℤ◌, ◌-ℤ◌, ◌*ℤ◌, ◌<ℤ◌, ◌↔◌, ap₂, arith}
 use Rattle.mt_ring.proofs.Ring.{lin, spread}
-use Rattle.mt_ring.proofs.Signs.{weaken}
 use Rattle.mt_base.specs.declared.row.Row.{Row}
 use Rattle.mt_base.specs.declared.rules.Rules.{Rules}
-use Rattle.mt_base.specs.Loss.{LosesAt, LosesIn, apart_x, apart_y, width}
+use Rattle.mt_base.specs.Instant.{value_at}
+use Rattle.mt_base.specs.Loss.{LosesAt, LosesIn, apart_x, apart_y, apart_z, width, height}
+use Rattle.mt_track.specs.Rows.{row_after}
 use Rattle.mt_frac.specs.declared.linear.Line.{Line}
 use Rattle.mt_frac.specs.declared.quadratic.Quad.{Quad}
 use Rattle.mt_frac.specs.Polynomials.{value, line_value}
-use Rattle.mt_frac.proofs.Openness.{IsOpen, value_is_open, line_is_open, both_open, same_open, half_open}
-use Rattle.mt_pair.specs.Below.{AreBelowAt, AreBelowInside}
+use Rattle.mt_frac.proofs.Openness.{IsOpen, value_is_open, line_is_open, both_open, same_open}
+use Rattle.mt_pair.specs.Below.{AreBelowAt, AreBelowIn}
 use Rattle.mt_pair.specs.Gap.{gap_of, excess_of}
 
-are_open : (gap : Quad) (over under : Line) → IsOpen (AreBelowAt gap over under)
+pub are_open : (gap : Quad) (over under : Line) → IsOpen (AreBelowAt gap over under)
 are_open gap over under =
     let g = λ (n d : ℤ). value gap.a gap.b gap.c n d <ℤ pos 0 in
     let l = λ (n d : ℤ). line_value over.b over.c n d <ℤ pos 0 in
@@ -20,13 +21,6 @@ are_open gap over under =
     same_open (λ n d. g n d × (l n d × m n d)) (AreBelowAt gap over under)
     (λ n d. ((λ h. record { gap_is = h.0; over_is = h.1.0; under_is = h.1.1 }), (λ h. (h.gap_is, (h.over_is, h.under_is)))))
     (both_open g (λ n d. l n d × m n d) (value_is_open gap.a gap.b gap.c) (both_open l m (line_is_open over.b over.c) (line_is_open under.b under.c)))
-
--- at some instant of the half-open second, so at some instant strictly inside
-pub inside : (gap : Quad) (over under : Line) (n d : ℤ) → pos 0 ≤ℤ n → n <ℤ d → AreBelowAt gap over under n d → AreBelowInside gap over under
-inside gap over under n d begun within at =
-    let law = half_open (AreBelowAt gap over under) (pos 0) (pos 1) (pos 1) (pos 1) (omega (arith, lin)) (omega (arith, lin)) (are_open gap over under) in
-    let some = law.0 (record { n = n; d = d; positive = omega (arith, lin); begun = omega (arith, lin); until = omega (arith, lin); holds = at }) in
-    record { n = some.n; d = some.d; begun = let h = some.after in omega (arith, lin); within = let h = some.until in omega (arith, lin); are = some.holds }
 
 -- the square of the distance less that of the minimum, from the values at the start and the gains
 square_gap : (x y s u v g n d : ℤ) → value (u *ℤ u +ℤ v *ℤ v -ℤ g *ℤ g) (pos 2 *ℤ (x *ℤ u +ℤ y *ℤ v -ℤ s *ℤ g)) (x *ℤ x +ℤ y *ℤ y -ℤ s *ℤ s) n d
@@ -65,14 +59,38 @@ loses_at rules a b n d =
       (λ are. record { horizontal = horizontal.0 are.gap_is; above = under.0 are.under_is; below = over.0 are.over_is }),
     )
 
-pub loses_in : (rules : Rules) (a b : Row) → AreBelowInside (gap_of rules a b) (excess_of rules a b) (excess_of rules b a) ↔ LosesIn rules a b
-loses_in rules a b = (
+-- a value at an instant of a later second, by the row then and by the first row
+moved : (z v k n d : ℤ) → value_at (z +ℤ v *ℤ k) v n d ≡ value_at z v (n +ℤ k *ℤ d) d
+moved z v k n d = simp spread (omega (arith, lin))
+
+pub loses_moved : (rules : Rules) (a b : Row) (k : ℕ) (n d : ℤ) → LosesAt rules (row_after a k) (row_after b k) n d ↔ LosesAt rules a b (n +ℤ pos k *ℤ d) d
+loses_moved rules a b k n d =
+    let x : apart_x (row_after a k) (row_after b k) n d ≡ apart_x a b (n +ℤ pos k *ℤ d) d = ap₂ (λ (p q : ℤ). p -ℤ q) (moved b.x b.vx (pos k) n d) (moved a.x a.vx (pos k) n d) in
+    let y : apart_y (row_after a k) (row_after b k) n d ≡ apart_y a b (n +ℤ pos k *ℤ d) d = ap₂ (λ (p q : ℤ). p -ℤ q) (moved b.y b.vy (pos k) n d) (moved a.y a.vy (pos k) n d) in
+    let z : apart_z (row_after a k) (row_after b k) n d ≡ apart_z a b (n +ℤ pos k *ℤ d) d = ap₂ (λ (p q : ℤ). p -ℤ q) (moved b.z b.vz (pos k) n d) (moved a.z a.vz (pos k) n d) in
+    let w : width rules (row_after a k) (row_after b k) n d ≡ width rules a b (n +ℤ pos k *ℤ d) d = ap₂ (λ (p q : ℤ). rules.sh *ℤ d +ℤ p +ℤ q) (moved a.r a.gr (pos k) n d) (moved b.r b.gr (pos k) n d) in
+    let h : height rules (row_after a k) (row_after b k) n d ≡ height rules a b (n +ℤ pos k *ℤ d) d = ap₂ (λ (p q : ℤ). rules.sv *ℤ d +ℤ p +ℤ q) (moved a.w a.gw (pos k) n d) (moved b.w b.gw (pos k) n d) in (
+      (λ loss. record { horizontal = rw (x, y, w) at loss.horizontal; above = rw (z, h) at loss.above; below = rw (z, h) at loss.below }),
+      (λ loss. record { horizontal = rw (x, y, w) loss.horizontal; above = rw (z, h) loss.above; below = rw (z, h) loss.below }),
+    )
+
+-- In a second after two rows with the same gains: they lose separation there exactly where the quadratic and the two lines of the first
+-- two rows are below 0 at an instant of it.
+pub loses_in : (rules : Rules) (a b : Row) (k : ℕ) → LosesIn rules (row_after a k) (row_after b k)
+    ↔ AreBelowIn (gap_of rules a b) (excess_of rules a b) (excess_of rules b a) k
+loses_in rules a b k = (
   (λ some. record {
     n = some.n;
     d = some.d;
-    begun = weaken some.begun;
+    begun = some.begun;
     within = some.within;
-    loss = (loses_at rules a b some.n some.d).1 some.are;
+    are = (loses_at rules a b (some.n +ℤ pos k *ℤ some.d) some.d).0 ((loses_moved rules a b k some.n some.d).0 some.loss);
   }),
-  (λ some. inside _ _ _ some.n some.d some.begun some.within ((loses_at rules a b some.n some.d).0 some.loss)),
+  (λ some. record {
+    n = some.n;
+    d = some.d;
+    begun = some.begun;
+    within = some.within;
+    loss = (loses_moved rules a b k some.n some.d).1 ((loses_at rules a b (some.n +ℤ pos k *ℤ some.d) some.d).1 some.are);
+  }),
 )

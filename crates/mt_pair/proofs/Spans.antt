@@ -1,51 +1,112 @@
--- The span of the loss seconds of a range, one second more at a time.
-use Rattle.std.proofs.Common.{◌≡◌, ℕ, ◌+◌, ◌-◌, ◌<◌, ◌≤◌, Option, Some, None, length, Bool, false, true≢false, sym, ◌∙◌, ◌↔◌, IsTrue, arith, below_more, le_refl, refl, ⊎_elim}
+-- The span of the loss seconds of a range, one part of it after another.
+use Rattle.std.proofs.Common.{◌≡◌, ℕ, ◌+◌, ◌-◌, ◌<◌, ◌≤◌, ℤ, pos, ◌+ℤ◌, ◌*ℤ◌, Option, Some, None, length, sym, ap, subst, ◌∙◌, ◌↔◌, arith, refl, ⊎_elim}
 use Rattle.std.proofs.lemmas.Bool.{cases_lt, le-ltb, lt-ltb}
+use Rattle.std.proofs.lemmas.Int.{ints}
 use Rattle.std.proofs.lemmas.Option.{slice_get_within}
 use Rattle.mt_base.specs.declared.row.Row.{Row}
 use Rattle.mt_base.specs.declared.rules.Rules.{Rules}
 use Rattle.mt_base.specs.Conflict.{IsConflict, IsLossSecond}
+use Rattle.mt_base.specs.Loss.{LosesIn}
 use Rattle.mt_base.specs.Trajectory.{Trajectory, row_at}
-use Rattle.mt_pair.specs.Span.{with_loss}
+use Rattle.mt_track.specs.Rows.{row_after}
+use Rattle.mt_pair.specs.Span.{IsSpan, joined}
 
--- a test that came out false
-pub not_from_false : {P : Type 0} {r : Bool} → IsTrue r ↔ P → r ≡ false → ¬ P
-not_from_false test failed = λ p. true≢false (sym (test.1 p) ∙ failed)
+-- a second where both rows are known
+pub loss_second : (rules : Rules) (a b : Trajectory) (k : ℕ) (x y : Row) → row_at a k ≡ Some x → row_at b k ≡ Some y → IsLossSecond rules a b k ↔ LosesIn rules x y
+loss_second rules a b k x y at_a at_b = (
+  (λ loss.
+      let left : loss.left ≡ x = (let e : Some loss.left ≡ Some x = sym loss.left_is ∙ at_a in cc) in
+      let right : loss.right ≡ y = (let e : Some loss.right ≡ Some y = sym loss.right_is ∙ at_b in cc) in
+      subst (λ (z : Row). LosesIn rules x z) right (subst (λ (z : Row). LosesIn rules z loss.right) left loss.loss)),
+  (λ loss. record { left = x; right = y; left_is = at_a; right_is = at_b; loss = loss }),
+)
 
--- a second without loss
-pub IsConflict-quiet : (rules : Rules) (a b : Trajectory) (from k : ℕ) (span : Option (ℕ × ℕ)) → ¬ IsLossSecond rules a b k
-    → IsConflict rules a b from k span → IsConflict rules a b from (k + 1) span
-IsConflict-quiet rules a b from k None quiet so_far = λ j low high.
-    below_more (λ i. from ≤ i → ¬ IsLossSecond rules a b i) k (λ i h l. so_far i l h) (λ l. quiet) j high low
-IsConflict-quiet rules a b from k (Some span) quiet so_far = record {
-  inside = (so_far.inside.0, so_far.inside.1, omega (arith, so_far.inside.2));
-  first_is = so_far.first_is;
-  last_is = so_far.last_is;
-  none_outside = λ j low high.
-      below_more (λ i. from ≤ i → IsLossSecond rules a b i → (span.0 ≤ i) × (i ≤ span.1)) k (λ i h l. so_far.none_outside i l h)
-      (λ l loss. absurd (quiet loss)) j high low;
+-- a span of loss seconds is the conflict
+pub IsConflict-is : (rules : Rules) (a b : Trajectory) (from to : ℕ) (span : Option (ℕ × ℕ)) → IsSpan (IsLossSecond rules a b) from to span → IsConflict rules a b from to span
+IsConflict-is rules a b from to None none = none
+IsConflict-is rules a b from to (Some span) is =
+    record { inside = is.inside; first_is = is.first_is; last_is = is.last_is; none_outside = is.none_outside }
+
+-- the same seconds, said otherwise
+pub IsSpan-same : (P Q : ℕ → Type 0) (from to : ℕ) (span : Option (ℕ × ℕ)) → ((k : ℕ) → from ≤ k → k < to → P k ↔ Q k) → IsSpan P from to span → IsSpan Q from to span
+IsSpan-same P Q from to None same none = λ k begun ahead q. none k begun ahead ((same k begun ahead).1 q)
+IsSpan-same P Q from to (Some span) same is = record {
+  inside = is.inside;
+  first_is = (same span.0 is.inside.0 (omega (arith, is.inside.1, is.inside.2))).0 is.first_is;
+  last_is = (same span.1 (omega (arith, is.inside.0, is.inside.1)) is.inside.2).0 is.last_is;
+  none_outside = λ k begun ahead q. is.none_outside k begun ahead ((same k begun ahead).1 q);
 }
 
--- a loss second
-pub IsConflict-loss : (rules : Rules) (a b : Trajectory) (from k : ℕ) (span : Option (ℕ × ℕ)) → from ≤ k → IsLossSecond rules a b k
-    → IsConflict rules a b from k span → IsConflict rules a b from (k + 1) (with_loss span k)
-IsConflict-loss rules a b from k None begun loss so_far = record {
-  inside = (begun, le_refl k, omega arith);
-  first_is = loss;
-  last_is = loss;
-  none_outside = λ j low high.
-      below_more (λ i. from ≤ i → IsLossSecond rules a b i → (k ≤ i) × (i ≤ k)) k (λ i h l other. absurd (so_far i l h other))
-      (λ l other. (le_refl k, le_refl k)) j high low;
+-- seconds counted from another one, and a span of them
+abbrev shifted : ℕ → Option (ℕ × ℕ) → Option (ℕ × ℕ)
+shifted n None = None
+shifted n (Some span) = Some (n + span.0, n + span.1)
+
+pub IsSpan-later : (P Q : ℕ → Type 0) (from n to : ℕ) (span : Option (ℕ × ℕ)) → from + n ≡ to → ((k : ℕ) → from ≤ k → Q k ↔ P (k - from)) → IsSpan P 0 n span
+    → IsSpan Q from to (shifted from span)
+IsSpan-later P Q from n to None long same none = λ k begun ahead q. none (k - from) (omega arith) (omega arith) ((same k begun).0 q)
+IsSpan-later P Q from n to (Some span) long same is = record {
+  inside = (omega arith, omega (arith, is.inside.1), omega (arith, is.inside.2));
+  first_is = (same (from + span.0) (omega arith)).1 (subst P (omega arith) is.first_is);
+  last_is = (same (from + span.1) (omega arith)).1 (subst P (omega arith) is.last_is);
+  none_outside = λ k begun ahead q.
+      let h = is.none_outside (k - from) (omega arith) (omega arith) ((same k begun).0 q) in
+      (omega (arith, h.0), omega (arith, h.1));
 }
-IsConflict-loss rules a b from k (Some span) begun loss so_far = record {
-  inside = (so_far.inside.0, omega (arith, so_far.inside.1, so_far.inside.2), omega arith);
-  first_is = so_far.first_is;
-  last_is = loss;
-  none_outside = λ j low high.
-      below_more (λ i. from ≤ i → IsLossSecond rules a b i → (span.0 ≤ i) × (i ≤ k)) k
-      (λ i h l other. ((so_far.none_outside i l h other).0, omega arith))
-      (λ l other. (omega (arith, so_far.inside.1, so_far.inside.2), le_refl k)) j high low;
+
+-- one part after another
+split_at : (middle k : ℕ) {X : Type 0} → (k < middle → X) → (middle ≤ k → X) → X
+split_at middle k early late = ⊎_elim early late (cases_lt k middle)
+
+pub IsSpan-joined : (P : ℕ → Type 0) (from middle to : ℕ) (span more : Option (ℕ × ℕ)) → from ≤ middle → middle ≤ to → IsSpan P from middle span → IsSpan P middle to more
+    → IsSpan P from to (joined span more)
+IsSpan-joined P from middle to None None ordered longer is next = λ k begun ahead. split_at middle k (λ early. is k begun early) (λ late. next k late ahead)
+IsSpan-joined P from middle to None (Some later) ordered longer is next = record {
+  inside = (omega (arith, next.inside.0), next.inside.1, next.inside.2);
+  first_is = next.first_is;
+  last_is = next.last_is;
+  none_outside = λ k begun ahead p. split_at middle k (λ early. absurd (is k begun early p)) (λ late. next.none_outside k late ahead p);
 }
+IsSpan-joined P from middle to (Some span) None ordered longer is next = record {
+  inside = (is.inside.0, is.inside.1, omega (arith, is.inside.2));
+  first_is = is.first_is;
+  last_is = is.last_is;
+  none_outside = λ k begun ahead p. split_at middle k (λ early. is.none_outside k begun early p) (λ late. absurd (next k late ahead p));
+}
+IsSpan-joined P from middle to (Some span) (Some later) ordered longer is next = record {
+  inside = (is.inside.0, omega (arith, is.inside.1, is.inside.2, next.inside.0, next.inside.1), next.inside.2);
+  first_is = is.first_is;
+  last_is = next.last_is;
+  none_outside = λ k begun ahead p. split_at middle k
+      (λ early. let h = is.none_outside k begun early p in (h.0, omega (arith, h.1, is.inside.2, next.inside.0, next.inside.1)))
+      (λ late. let h = next.none_outside k late ahead p in (omega (arith, h.0, is.inside.1, is.inside.2, next.inside.0), h.1));
+}
+
+-- a conflict is such a span, too
+pub IsSpan-conflict : (rules : Rules) (a b : Trajectory) (from to : ℕ) (span : Option (ℕ × ℕ)) → IsConflict rules a b from to span → IsSpan (IsLossSecond rules a b) from to span
+IsSpan-conflict rules a b from to None none = none
+IsSpan-conflict rules a b from to (Some span) is =
+    record { inside = is.inside; first_is = is.first_is; last_is = is.last_is; none_outside = is.none_outside }
+
+-- later rows of a later row
+pub row_after-add : (a : Row) (m n : ℕ) → row_after (row_after a m) n ≡ row_after a (m + n)
+row_after-add a m n = λ i. record a {
+  x = more a.x a.vx i;
+  y = more a.y a.vy i;
+  z = more a.z a.vz i;
+  r = more a.r a.gr i;
+  w = more a.w a.gw i;
+} where
+  more : (z v : ℤ) → (z +ℤ v *ℤ pos m) +ℤ v *ℤ pos n ≡ z +ℤ v *ℤ pos (m + n)
+  more z v = omega (arith, ints)
+
+-- the rows of a second, counted from a later row of each
+pub loses_after : (rules : Rules) (a b : Row) (s t from k : ℕ) → s ≤ from → t ≤ from → from ≤ k
+    → LosesIn rules (row_after (row_after a (from - s)) (k - from)) (row_after (row_after b (from - t)) (k - from)) ↔ LosesIn rules (row_after a (k - s)) (row_after b (k - t))
+loses_after rules a b s t from k s_begun t_begun begun =
+    let left : row_after (row_after a (from - s)) (k - from) ≡ row_after a (k - s) = row_after-add a (from - s) (k - from) ∙ ap (row_after a) (omega arith) in
+    let right : row_after (row_after b (from - t)) (k - from) ≡ row_after b (k - t) = row_after-add b (from - t) (k - from) ∙ ap (row_after b) (omega arith) in
+    rw (left, right) ((λ h. h), (λ h. h))
 
 -- a loss second is covered by both
 pub record AreCovering (a b : Trajectory) (k : ℕ) : Type 0 where

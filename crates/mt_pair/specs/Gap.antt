@@ -1,4 +1,5 @@
--- What the test of a second decides, in the rows' numbers. No public contract cites these.
+-- What one question decides, in the numbers of two rows of one second. Time is counted in seconds from that second's start, while both keep
+-- their gains. No public contract cites these.
 use Rattle.std.specs.Prelude.{ℕ, ℤ, pos, neg_ℤ, ◌+ℤ◌, ◌-ℤ◌, ◌*ℤ◌}
 use Rattle.mt_base.specs.Bounds.{IsWithin}
 use Rattle.mt_base.specs.declared.row.Row.{Row}
@@ -7,11 +8,11 @@ use Rattle.mt_frac.specs.declared.linear.Line.{Line}
 use Rattle.mt_frac.specs.declared.quadratic.Quad.{Quad}
 use Rattle.mt_pair.specs.declared.horizontal.Offset.{Offset}
 
--- b as seen from a, and the horizontal minimum with both margins, at the start of the second
+-- b as seen from a, and the horizontal minimum with both margins, at the start
 abbrev pub offset_of : Rules → Row → Row → Offset
 offset_of rules a b = record { x = b.x -ℤ a.x; y = b.y -ℤ a.y; width = rules.sh +ℤ a.r +ℤ b.r }
 
--- what these gain in the second
+-- what these gain in a second
 abbrev pub gain_of : Row → Row → Offset
 gain_of a b = record { x = b.vx -ℤ a.vx; y = b.vy -ℤ a.vy; width = a.gr +ℤ b.gr }
 
@@ -25,13 +26,13 @@ pub record IsOffsetWithin (most : ℕ) (o : Offset) : Type 0 where
 abbrev pub product : Offset → Offset → ℤ
 product p q = p.x *ℤ q.x +ℤ p.y *ℤ q.y -ℤ p.width *ℤ q.width
 
--- the square of the distance less that of the minimum, over the second, from the offset at its start and what that gains
+-- the square of the distance less that of the minimum, over time, from the offset at the start and what that gains in a second
 abbrev pub square_of : Offset → Offset → Quad
 square_of offset gain = record { a = product gain gain; b = pos 2 *ℤ product offset gain; c = product offset offset }
 
 abbrev pub gap_of : Rules → Row → Row → Quad
 gap_of rules a b = square_of (offset_of rules a b) (gain_of a b)
 
--- the height of b above a less the vertical minimum with both margins, over the second
+-- the height of b above a less the vertical minimum with both margins, over time
 abbrev pub excess_of : Rules → Row → Row → Line
 excess_of rules a b = record { b = b.vz -ℤ a.vz -ℤ a.gw -ℤ b.gw; c = b.z -ℤ a.z -ℤ rules.sv -ℤ a.w -ℤ b.w }

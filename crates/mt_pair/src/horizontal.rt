@@ -14,7 +14,7 @@ pub(crate) struct Offset {
     width: i128,
 }
 
-/// The offset at the start of the second.
+/// The offset at the start of the rows' second.
 fn offset_at_start(rules: &Rules, a: &Row, b: &Row) -> Offset
     requires rules_kept { AreWithinBounds rules.now }
     requires a_kept { IsBoundedRow a.now }
@@ -29,7 +29,7 @@ fn offset_at_start(rules: &Rules, a: &Row, b: &Row) -> Offset
     }
 }
 
-/// What the offset gains in the second.
+/// What the offset gains in a second.
 fn offset_gain(a: &Row, b: &Row) -> Offset
     requires a_kept { IsBoundedRow a.now }
     requires b_kept { IsBoundedRow b.now }
@@ -53,7 +53,7 @@ fn product(p: Offset, q: Offset) -> i128
     p.x * q.x + p.y * q.y - p.width * q.width
 }
 
-/// The offset times itself, as a quadratic over the second.
+/// The offset times itself, as a quadratic in the seconds since the start of the rows' second.
 pub(crate) fn gap(rules: &Rules, a: &Row, b: &Row) -> Quad
     requires rules_kept { AreWithinBounds rules.now }
     requires a_kept { IsBoundedRow a.now }

@@ -1,48 +1,81 @@
-ghost use Rattle.std.specs.Prelude.{◌≡◌, ◌≤◌, Some};
+ghost use Rattle.std.specs.Prelude.{◌≡◌, ◌+◌, ◌<◌, ◌≤◌, length};
 ghost use Rattle.mt_base.specs.Bounds.{AreWithinBounds};
 ghost use Rattle.mt_base.specs.Conflict.{IsConflict};
 ghost use Rattle.mt_base.specs.Tally.{raised};
-ghost use Rattle.mt_pair.specs.Span.{with_loss};
+ghost use Rattle.mt_track.specs.Laid.{Covers};
+ghost use Rattle.mt_pair.specs.Held.{HasBegun};
+ghost use Rattle.mt_pair.specs.Span.{joined};
 
-use crate::second::lose_at;
-use mt_base::{Rules, Second, Tally};
+use crate::overlap::stretch;
+use mt_base::{Rules, Second, Steps, Tally};
 use mt_track::Strand;
 
-/// The span with a later loss second.
-fn extended(span: Option<(Second, Second)>, k: Second) -> Option<(Second, Second)>
-    ensures { result ≡ with_loss span k }
+/// The span of the seconds of a span and of a later one.
+fn join(span: Option<(Second, Second)>, more: Option<(Second, Second)>) -> Option<(Second, Second)>
+    ensures { result ≡ joined span more }
 {
-    match span {
-        None => Some((k, k)),
-        Some((first, _)) => Some((first, k)),
+    let Some((first, _)) = span else {
+        return more;
+    };
+    let Some((_, last)) = more else {
+        return span;
+    };
+    Some((first, last))
+}
+
+/// A segment of a strand: its place, and the second after its last one.
+#[derive(Clone, Copy)]
+struct Held {
+    place: usize,
+    end: Second,
+}
+
+/// The segment that holds second k. It is looked for from the one at place i on, which begins by then.
+fn holding(strand: &Strand, i: usize, k: Second) -> Held
+    requires within { k < strand.now.start + length strand.now.rows }
+    requires begun { HasBegun strand.now i k }
+    ensures ahead { k < result.end }
+    ensures covers { Covers strand.now result.place k result.end }
+{
+    let segments = strand.segments();
+    let mut place = i;
+    while segments[place].to <= k {
+        place += 1;
+    }
+    Held {
+        place,
+        end: segments[place].to,
     }
 }
 
-/// The conflict in a range, by a test of each of its seconds.
-fn span_in(
-    rules: &Rules,
-    a: &Strand,
-    b: &Strand,
-    from: Second,
-    to: Second,
-) -> Option<(Second, Second)>
+/// The conflict in seconds that both strands cover, by one walk along the segments of both: one stretch for each two that overlap.
+fn walk(a: &Strand, b: &Strand, rules: &Rules, from: Second, to: Second) -> Option<(Second, Second)>
     requires rules_kept { AreWithinBounds rules.now }
     requires ordered { from ≤ to }
+    requires a_begun { a.now.start ≤ from }
+    requires b_begun { b.now.start ≤ from }
+    requires a_within { to ≤ a.now.start + length a.now.rows }
+    requires b_within { to ≤ b.now.start + length b.now.rows }
     ensures { IsConflict rules.now a.now b.now from to result }
 {
+    let mut steps = Steps::new();
     let mut span = None;
-    for k in from..to {
-        if lose_at(rules, a, b, k) {
-            span = extended(span, k);
-        }
+    let mut k = from;
+    let mut i = 0;
+    let mut j = 0;
+    while k < to {
+        let s = holding(a, i, k);
+        let t = holding(b, j, k);
+        let until = to.min(s.end).min(t.end);
+        let more = stretch(a, s.place, b, t.place, rules, k, until, &mut steps);
+        span = join(span, more);
+        (k, i, j) = (until, s.place, t.place);
     }
     span
 }
 
 /// The conflict of two strands in the seconds `from <= k < to`: the first and the last of these at some instant of which they lose
 /// separation; `None` exactly where there is no such second.
-///
-/// Only seconds that both strands cover are tested. It takes no memory, and the tally rises by one.
 pub fn lose(
     a: &Strand,
     b: &Strand,
@@ -61,5 +94,5 @@ pub fn lose(
     if end <= begin {
         return None;
     }
-    span_in(rules, a, b, begin, end)
+    walk(a, b, rules, begin, end)
 }

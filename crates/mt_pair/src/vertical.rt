@@ -6,7 +6,8 @@ ghost use Rattle.mt_pair.specs.Gap.{excess_of};
 use mt_base::{Row, Rules};
 use mt_frac::Line;
 
-/// How much the height of `b` above `a` exceeds the vertical minimum with both margins, as a line over the second.
+/// How much the height of `b` above `a` exceeds the vertical minimum with both margins, as a line in the seconds
+/// since the start of the rows' second.
 pub(crate) fn excess(rules: &Rules, a: &Row, b: &Row) -> Line
     requires rules_kept { AreWithinBounds rules.now }
     requires a_kept { IsBoundedRow a.now }

@@ -8,6 +8,7 @@ use Rattle.mt_base.specs.Trajectory.{next_row, straight_rows}
 use Rattle.mt_track.specs.declared.segment.Segment.{Segment}
 use Rattle.mt_track.specs.Laid.{Adjoin, Follows, IsLaid, all_rows, rows_of}
 use Rattle.mt_track.specs.Rows.{row_after}
+use Rattle.mt_track.proofs.Apart.{AreApart-lengthened}
 use Rattle.mt_track.proofs.Segments.{edge_from, lies_at, length-all_rows, row_in}
 use Rattle.mt_track.proofs.Straight.{row_after-next, row_after-none}
 use Rattle.mt_track.proofs.Strands.{IsBoundedRow-slice_get, IsStrand-extended}
@@ -96,6 +97,7 @@ IsLaid-lengthened start end ss i t s laid last is follows same =
     let begins = end_of_strand start end ss s laid follows in
     let rows = all_rows-lengthened start end ss i t s laid.adjoin last is begins follows.some same in
     record {
+      apart = AreApart-lengthened ss i t s.to laid.apart last is;
       adjoin = Adjoin-lengthened start end ss i t s laid.adjoin last is begins follows.some;
       kept = rw rows (IsStrand-extended (record { start = start; rows = all_rows ss }) s laid.kept follows);
     }

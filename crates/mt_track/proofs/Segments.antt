@@ -1,9 +1,9 @@
--- Segments that lie end to end: the second at which each begins, and the row of each second.
+-- Segments that lie end to end: where each begins, and the row of each second.
 use Rattle.std.proofs.Common.{◌≡◌, ℕ, zero, suc, ◌+◌, ◌-◌, ◌<◌, ◌≤◌, List, [], ◌∷◌, ◌++◌, length, get_or, Some, sym, ap, ◌∙◌, arith, refl, length-append}
 use Rattle.std.specs.Prelude.{slice_get}
 use Rattle.mt_base.proofs.HistoryLemmas.{slice_get-append_left}
 use Rattle.mt_track.specs.declared.segment.Segment.{Segment}
-use Rattle.mt_track.specs.Laid.{Adjoin, all_rows, rows_of}
+use Rattle.mt_track.specs.Laid.{Adjoin, all_rows, edge, rows_of}
 use Rattle.mt_track.specs.Rows.{row_after}
 use Rattle.mt_track.proofs.Straight.{length-straight_rows, slice_get-straight_rows}
 
@@ -12,12 +12,6 @@ pub slice_get-append_right : {X : Type 0} (xs ys : List X) (i j : ℕ) → i ≡
 slice_get-append_right [] ys i j e = ap (slice_get ys) (e ∙ omega arith)
 slice_get-append_right (x ∷ xs) ys zero j e = absurd (omega arith)
 slice_get-append_right (x ∷ xs) ys (suc i) j e = slice_get-append_right xs ys i j (omega arith)
-
--- the second at which segment i begins; behind the last one, that at which it ends
-abbrev pub edge : ℕ → List Segment → ℕ → ℕ
-edge from ss zero = from
-edge from [] (suc i) = from
-edge from (s ∷ ss) (suc i) = edge s.to ss i
 
 -- behind the last segment is the end
 pub edge-length : (from to : ℕ) (ss : List Segment) → Adjoin from ss to → edge from ss (length ss) ≡ to

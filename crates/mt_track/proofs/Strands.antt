@@ -13,9 +13,9 @@ use Rattle.mt_base.specs.declared.row.Row.{Row}
 use Rattle.mt_base.specs.Bounds.{IsBoundedOver, IsBoundedRow}
 use Rattle.mt_base.specs.Trajectory.{Trajectory, row_at}
 use Rattle.mt_track.specs.declared.segment.Segment.{Segment}
-use Rattle.mt_track.specs.Laid.{Follows, Holds, IsLaid, IsStrand, all_rows, extended, rows_of}
+use Rattle.mt_track.specs.Laid.{AreApart, Follows, Holds, IsLaid, IsStrand, all_rows, edge, extended, rows_of}
 use Rattle.mt_track.specs.Rows.{Continues, row_after}
-use Rattle.mt_track.proofs.Segments.{Adjoin-push, LiesAt, edge, length-all_rows, lies_at, row_in}
+use Rattle.mt_track.proofs.Segments.{Adjoin-push, LiesAt, length-all_rows, lies_at, row_in}
 use Rattle.mt_track.proofs.Straight.{All-straight_rows, AllAdjacent-straight_rows, get_or-straight_rows, length-straight_rows, row_after-none}
 
 -- two lists, one behind the other: where each goes on from element to element, and from the first list to the second, so do both
@@ -71,8 +71,9 @@ all_rows-push ss s = flat_map-append rows_of ss (s ∷ []) ∙ ap (λ (rows : Li
 
 -- one segment more is laid
 pub IsLaid-push : (start end : ℕ) (ss : List Segment) (s : Segment) → IsLaid start end ss → Follows (record { start = start; rows = all_rows ss }) s
-    → IsLaid start s.to (ss ++ s ∷ [])
-IsLaid-push start end ss s laid follows = record {
+    → AreApart (ss ++ s ∷ []) → IsLaid start s.to (ss ++ s ∷ [])
+IsLaid-push start end ss s laid follows apart = record {
+  apart = apart;
   adjoin = Adjoin-push start end ss s laid.adjoin (follows.adjoins ∙ length-all_rows start end ss laid.adjoin) follows.some;
   kept = rw (all_rows-push ss s) (IsStrand-extended (record { start = start; rows = all_rows ss }) s laid.kept follows);
 }

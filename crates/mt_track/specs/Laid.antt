@@ -1,4 +1,4 @@
-use Rattle.std.specs.Prelude.{◌≡◌, ℕ, Some, ◌+◌, ◌-◌, ◌<◌, ◌≤◌, List, [], ◌∷◌, ◌++◌, length, slice_get, All, IfSome}
+use Rattle.std.specs.Prelude.{◌≡◌, ℕ, zero, suc, Some, ◌+◌, ◌-◌, ◌<◌, ◌≤◌, List, [], ◌∷◌, ◌++◌, length, slice_get, get_or, All, IfSome, ⊤}
 use Rattle.std.specs.List.{flat_map, AllAdjacentBelow}
 use Rattle.mt_base.specs.declared.row.Row.{Row}
 use Rattle.mt_base.specs.Bounds.{IsBoundedOver, IsBoundedRow}
@@ -19,6 +19,12 @@ abbrev pub Adjoin : ℕ → List Segment → ℕ → Type 0
 Adjoin from [] to = from ≡ to
 Adjoin from (s ∷ ss) to = (s.from ≡ from) × (s.from < s.to) × Adjoin s.to ss to
 
+-- the second at which segment i of these begins, from the one at which the first does; behind the last one, that at which it ends
+abbrev pub edge : ℕ → List Segment → ℕ → ℕ
+edge from ss zero = from
+edge from [] (suc i) = from
+edge from (s ∷ ss) (suc i) = edge s.to ss i
+
 -- What every strand keeps: each row within bounds, and continued by the next; at most 14,400 rows; an end by second 10,014,400.
 pub record IsStrand (t : Trajectory) : Type 0 where
   pub bounded : All IsBoundedRow t.rows
@@ -26,9 +32,32 @@ pub record IsStrand (t : Trajectory) : Type 0 where
   pub short : length t.rows ≤ 14400
   pub early : t.start + length t.rows ≤ 10014400
 
--- how a strand is kept: its segments lie from its start to its end
+-- Of two neighbouring segments the second does not go on from the first: the gains or the leg are others, or w does not continue.
+abbrev pub AreApart : List Segment → Type 0
+AreApart [] = ⊤
+AreApart (s ∷ []) = ⊤
+AreApart (s ∷ t ∷ ts) = ¬ (t.first ≡ row_after s.first (s.to - s.from)) × AreApart (t ∷ ts)
+
+-- These are the segments of a trajectory. Its rows have only this one such list.
+pub record AreSegmentsOf (t : Trajectory) (segments : List Segment) : Type 0 where
+  pub adjoin : Adjoin t.start segments (t.start + length t.rows)
+  pub rows : all_rows segments ≡ t.rows
+  pub apart : AreApart segments
+
+-- Segment i of a trajectory covers every second from `from` up to `to`.
+pub record Covers (t : Trajectory) (i from to : ℕ) : Type 0 where
+  pub segments : List Segment
+  pub segment : Segment
+  pub are : AreSegmentsOf t segments
+  pub place : i < length segments
+  pub is : segment ≡ get_or segments i segment
+  pub begun : segment.from ≤ from
+  pub ahead : to ≤ segment.to
+
+-- how a strand is kept: its segments lie from its start to its end, and no two neighbours are in one
 pub record IsLaid (start end : ℕ) (segments : List Segment) : Type 0 where
   pub adjoin : Adjoin start segments end
+  pub apart : AreApart segments
   pub kept : IsStrand (record { start = start; rows = all_rows segments })
 
 -- A segment can follow a strand: it begins where the strand ends, its first row continues the last one, and it keeps what every strand keeps.

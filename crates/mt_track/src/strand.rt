@@ -1,7 +1,7 @@
 ghost use Rattle.std.specs.Prelude.{◌≡◌, ◌+◌, ◌<◌, ◌≤◌, [], length, IfOk, IfSome, OnOk, OnErr};
 ghost use Rattle.mt_base.specs.Bounds.{IsBoundedRow, IsBoundedStretch};
 ghost use Rattle.mt_base.specs.Trajectory.{row_at, straight};
-ghost use Rattle.mt_track.specs.Laid.{Adjoin, IsStrand, Follows, Holds, all_rows, extended};
+ghost use Rattle.mt_track.specs.Laid.{AreSegmentsOf, IsStrand, Follows, Holds, extended};
 
 use crate::segment::{Segment, goes_on, later};
 use mt_base::{Memory, Row, Second, Straight};
@@ -9,6 +9,9 @@ use std::alloc::Global;
 use std::marker::Model;
 
 /// A trajectory as segments of constant gains that lie end to end, seen as its first second and its rows.
+///
+/// No segment goes on from the one before it: the gains or the leg are others, or the vertical margin begins anew. So the rows alone say
+/// which segments there are.
 ///
 /// Every row keeps within the plane and the greatest rates, during its whole second; x, y, z and r go on from row to row; and there are
 /// at most 14,400 rows, the last of which ends by second 10,014,400.
@@ -43,35 +46,20 @@ impl Strand {
         }
     }
 
-    /// Puts the rows of a segment behind those of the strand. On an error the strand stays as it was.
+    /// Puts the rows of a segment behind those of the strand: into its last segment where they go on from it with the same gains and leg,
+    /// else as a segment of their own. On an error the strand stays as it was.
     pub fn push(&mut self, segment: Segment) -> Result<(), Memory>
         requires { Follows self.old segment }
         ensures ok { OnOk result (self.new ≡ extended self.old segment) }
         ensures err { OnErr result (self.new ≡ self.old) }
     {
-        self.segments.push(segment)?;
-        self.end = segment.to;
-        Ok(())
-    }
-
-    /// Puts the rows of a segment behind those of the strand: into its last segment where they go on from it with the same gains and leg,
-    /// else as a segment of their own. On an error the strand stays as it was.
-    pub fn add(&mut self, segment: Segment) -> Result<(), Memory>
-        requires { Follows self.old segment }
-        ensures ok { OnOk result (self.new ≡ extended self.old segment) }
-        ensures err { OnErr result (self.new ≡ self.old) }
-    {
         let count = self.segments.len();
-        if count == 0 {
-            return self.push(segment);
+        if count > 0 && goes_on(&self.segments[count - 1], &segment.first) {
+            self.segments[count - 1].to = segment.to;
+        } else {
+            self.segments.push(segment)?;
         }
-        let last = self.segments[count - 1];
-        if !goes_on(&last, &segment.first) {
-            return self.push(segment);
-        }
-        let to = segment.to;
-        self.segments[count - 1].to = to;
-        self.end = to;
+        self.end = segment.to;
         Ok(())
     }
 
@@ -135,10 +123,10 @@ impl Strand {
         self.end
     }
 
-    /// Its segments, in order, end to end.
+    /// Its segments, in order, end to end, no two neighbours in one. What every strand keeps is said here too.
     pub fn segments(&self) -> &[Segment]
-        ensures rows { all_rows result.now ≡ self.now.rows }
-        ensures laid { Adjoin self.now.start result.now (self.now.start + length self.now.rows) }
+        ensures are { AreSegmentsOf self.now result.now }
+        ensures kept { IsStrand self.now }
     {
         &self.segments
     }

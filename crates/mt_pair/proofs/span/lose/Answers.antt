@@ -10,4 +10,4 @@ returns-then-end-begin-clause-conflict c = λ k low high loss.
 pub returns-clause-conflict : goal.returns-clause-conflict
 returns-clause-conflict c =
     IsConflict-cut c.args.rules.now c.args.a.now c.args.b.now c.args.from c.args.to _ _ _ (omega arith) (omega arith)
-    (λ k low high covering. (omega arith, omega arith)) c.span_in.ensures
+    (λ k low high covering. (omega arith, omega arith)) c.walk.ensures

@@ -1,0 +1,63 @@
+-- Halving: how often, and what is known of the seconds that are left.
+use Rattle.std.proofs.Common.{ℕ, zero, suc, ◌+◌, ◌*◌, ◌^◌, ◌<◌, ◌≤◌, subst, arith, le_refl, ⊎_elim}
+use Rattle.std.proofs.lemmas.Bool.{cases_lt}
+use Rattle.mt_frac.specs.declared.linear.Line.{Line}
+use Rattle.mt_frac.specs.declared.quadratic.Quad.{Quad}
+use Rattle.mt_pair.specs.Below.{AreBelowIn, AreBelowOver}
+use Rattle.mt_pair.specs.Span.{IsGreatest, IsLeast, IsSpanOf}
+
+-- so much is left that the halvings to come end within so many steps in all
+pub record IsHalvedTo (size count most : ℕ) : Type 0 where
+  pub rounds : ℕ
+  pub fits : size ≤ 2 ^ rounds
+  pub left : count + rounds ≤ most
+
+halved_fits : (size half rounds : ℕ) → 2 * half ≤ size + 1 → size ≤ 2 ^ suc rounds → half ≤ 2 ^ rounds
+halved_fits size half rounds about fits = omega arith
+
+halved_rounds : (size half count more most rounds : ℕ) → 1 < size → 2 * half ≤ size + 1 → more ≤ count + 1 → size ≤ 2 ^ rounds → count + rounds ≤ most
+    → IsHalvedTo half more most
+halved_rounds size half count more most zero some about once fits left = absurd (omega arith)
+halved_rounds size half count more most (suc rounds) some about once fits left =
+    record { rounds = rounds; fits = halved_fits size half rounds about fits; left = omega arith }
+
+pub halved : (size half count more most : ℕ) → 1 < size → 2 * half ≤ size + 1 → more ≤ count + 1 → IsHalvedTo size count most → IsHalvedTo half more most
+halved size half count more most some about once left = halved_rounds size half count more most left.rounds some about once left.fits left.left
+
+-- of the seconds with all three below 0, those from a middle on are left where none is before it; and the other way round
+pub left_behind : (gap : Quad) (over under : Line) (low middle high : ℕ) → ¬ AreBelowOver gap over under low middle → AreBelowOver gap over under low high
+    → AreBelowOver gap over under middle high
+left_behind gap over under low middle high none some = ⊎_elim
+    (λ less. absurd (none (record { k = some.k; begun = some.begun; ahead = less; are = some.are })))
+    (λ enough. record { k = some.k; begun = enough; ahead = some.ahead; are = some.are })
+    (cases_lt some.k middle)
+
+pub left_before : (gap : Quad) (over under : Line) (low middle high : ℕ) → ¬ AreBelowOver gap over under middle high → AreBelowOver gap over under low high
+    → AreBelowOver gap over under low middle
+left_before gap over under low middle high none some = ⊎_elim
+    (λ less. record { k = some.k; begun = some.begun; ahead = less; are = some.are })
+    (λ enough. absurd (none (record { k = some.k; begun = enough; ahead = some.ahead; are = some.are })))
+    (cases_lt some.k middle)
+
+-- one second is left
+pub only_one : (gap : Quad) (over under : Line) (low high : ℕ) → high ≤ low + 1 → AreBelowOver gap over under low high → AreBelowIn gap over under low
+only_one gap over under low high one some = subst (AreBelowIn gap over under) (let b = some.begun in let a = some.ahead in omega arith) some.are
+
+pub none_over : (gap : Quad) (over under : Line) (low high k : ℕ) → ¬ AreBelowOver gap over under low high → low ≤ k → k < high → ¬ AreBelowIn gap over under k
+none_over gap over under low high k none begun ahead at = none (record { k = k; begun = begun; ahead = ahead; are = at })
+
+-- the least and the greatest are the span
+pub IsSpan-of : (P : ℕ → Type 0) (low high first last : ℕ) → IsLeast P low high first → IsGreatest P first high last → IsSpanOf P low high first last
+IsSpan-of P low high first last least greatest = record {
+  inside = (least.begun, greatest.begun, greatest.ahead);
+  first_is = least.is;
+  last_is = greatest.is;
+  none_outside = λ k begun ahead at. (
+    ⊎_elim (λ less. absurd (least.none_before k begun less at)) (λ more. more) (cases_lt k first),
+    ⊎_elim (λ more. absurd (greatest.none_after k more ahead at)) (λ less. less) (cases_lt last k),
+  );
+}
+
+-- from the first on there is one
+pub some_from : (gap : Quad) (over under : Line) (low high first : ℕ) → IsLeast (AreBelowIn gap over under) low high first → AreBelowOver gap over under first high
+some_from gap over under low high first least = record { k = first; begun = le_refl first; ahead = least.ahead; are = least.is }

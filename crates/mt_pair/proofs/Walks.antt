@@ -1,0 +1,124 @@
+-- A walk along the segments of a strand, and what one of them says of the seconds that it covers.
+use Rattle.std.proofs.Common.{◌≡◌, ℕ, zero, suc, ◌+◌, ◌-◌, ◌<◌, ◌≤◌, List, [], ◌∷◌, length, get_or, pos, Option, subst, arith, refl}
+use Rattle.std.specs.Prelude.{slice_index_or}
+use Rattle.mt_base.specs.declared.row.Row.{Row}
+use Rattle.mt_base.specs.declared.rules.Rules.{Rules}
+use Rattle.mt_base.specs.Conflict.{IsConflict, IsLossSecond}
+use Rattle.mt_base.specs.Loss.{LosesIn}
+use Rattle.mt_base.specs.Trajectory.{Trajectory}
+use Rattle.mt_track.specs.declared.segment.Segment.{Segment}
+use Rattle.mt_track.specs.Laid.{Adjoin, AreSegmentsOf, Covers, Holds, IsLaid, IsStrand, edge}
+use Rattle.mt_track.specs.Rows.{row_after}
+use Rattle.mt_track.proofs.Apart.{few_segments, same_segments}
+use Rattle.mt_track.proofs.Joined.{one_element}
+use Rattle.mt_track.proofs.Segments.{edge_from, lies_at}
+use Rattle.mt_track.proofs.Strands.{found}
+use Rattle.mt_pair.specs.Held.{HasBegun}
+use Rattle.mt_pair.specs.Span.{IsSpan, joined}
+use Rattle.mt_pair.proofs.Spans.{IsConflict-is, IsSpan-conflict, IsSpan-joined, IsSpan-same, loss_second}
+
+-- what the code reads where a list has no such place
+abbrev pub blank : Segment
+blank = record { from = 0; to = 0; first = record { x = pos 0; y = pos 0; z = pos 0; r = pos 0; w = pos 0; vx = pos 0; vy = pos 0; vz = pos 0; gr = pos 0; gw = pos 0; leg = 0 } }
+
+-- a place of a list of segments, as the code reads it
+at_place : (ss : List Segment) (i : ℕ) (d : Segment) → i < length ss → slice_index_or ss i d ≡ get_or ss i (slice_index_or ss i d)
+at_place [] i d below = absurd (omega arith)
+at_place (s ∷ ss) zero d below = refl
+at_place (s ∷ ss) (suc i) d below = at_place ss i d (omega arith)
+
+-- a place whose edge is not behind a covered second is one of a segment
+below_length : (from to : ℕ) (ss : List Segment) (i k : ℕ) → Adjoin from ss to → edge from ss i ≤ k → k < to → i < length ss
+below_length from to [] zero k lie begun ahead = absurd (omega (arith, lie))
+below_length from to [] (suc i) k lie begun ahead = absurd (omega (arith, lie))
+below_length from to (s ∷ ss) zero k lie begun ahead = omega arith
+below_length from to (s ∷ ss) (suc i) k lie begun ahead = let h = below_length s.to to ss i k lie.2 begun ahead in omega (arith, h)
+
+-- no segment ends behind the end
+edge_to : (from to : ℕ) (ss : List Segment) (i : ℕ) → Adjoin from ss to → i ≤ length ss → edge from ss i ≤ to
+edge_to from to ss zero lie below = let h = few_segments from to ss lie in omega (arith, h)
+edge_to from to [] (suc i) lie below = absurd (omega arith)
+edge_to from to (s ∷ ss) (suc i) lie below = edge_to s.to to ss i lie.2 (omega arith)
+
+-- what the code reads at a place whose segment begins by a covered second
+pub record Reads (t : Trajectory) (ss : List Segment) (i k : ℕ) (s : Segment) : Type 0 where
+  pub below : i < length ss
+  pub few : i < 14400
+  pub is : s ≡ get_or ss i s
+  pub begun : s.from ≤ k
+  pub next : s.to ≤ k → edge t.start ss (i + 1) ≤ k
+
+pub reads : (t : Trajectory) (ss : List Segment) (i k : ℕ) → IsStrand t → AreSegmentsOf t ss → edge t.start ss i ≤ k → k < t.start + length t.rows
+    → Reads t ss i k (slice_index_or ss i blank)
+reads t ss i k kept are begun within =
+    let below = below_length t.start (t.start + length t.rows) ss i k are.adjoin begun within in
+    let is = at_place ss i blank below in
+    let few = few_segments t.start (t.start + length t.rows) ss are.adjoin in
+    let lies = lies_at t.start (t.start + length t.rows) ss i (slice_index_or ss i blank) are.adjoin below is in
+    let one : i + 1 ≡ suc i = omega arith in
+    record {
+      below = below;
+      few = omega (arith, below, few, kept.short);
+      is = is;
+      begun = omega (arith, lies.from);
+      next = λ past. rw one (omega (arith, lies.to));
+    }
+
+-- a segment that covers some seconds begins by the first of them, and so by any later second
+pub HasBegun-covers : (t : Trajectory) (i from to k : ℕ) → Covers t i from to → from ≤ k → HasBegun t i k
+HasBegun-covers t i from to k covers later = λ ss are.
+    let same = same_segments t covers.segments ss covers.are are in
+    let lies = lies_at t.start (t.start + length t.rows) covers.segments i covers.segment covers.are.adjoin covers.place covers.is in
+    subst (λ (us : List Segment). edge t.start us i ≤ k) same (omega (arith, lies.from, covers.begun))
+
+-- what the code reads at a place whose segment covers some seconds
+pub record ReadsCover (t : Trajectory) (ss : List Segment) (i from to : ℕ) (s : Segment) : Type 0 where
+  pub below : i < length ss
+  pub few : i < 14400
+  pub short : to ≤ from + 14400
+  pub holds : (k : ℕ) → from ≤ k → k < to → Holds t k s
+
+pub reads_cover : (t : Trajectory) (ss : List Segment) (i from to : ℕ) → IsStrand t → AreSegmentsOf t ss → Covers t i from to
+    → ReadsCover t ss i from to (slice_index_or ss i blank)
+reads_cover t ss i from to kept are covers =
+    let same = same_segments t covers.segments ss covers.are are in
+    let below : i < length ss = subst (λ (us : List Segment). i < length us) same covers.place in
+    let is : covers.segment ≡ get_or ss i covers.segment = subst (λ (us : List Segment). covers.segment ≡ get_or us i covers.segment) same covers.is in
+    let read = at_place ss i blank below in
+    let one : covers.segment ≡ slice_index_or ss i blank = one_element ss i covers.segment (slice_index_or ss i blank) below is read in
+    let begun : (slice_index_or ss i blank).from ≤ from = subst (λ (s : Segment). s.from ≤ from) one covers.begun in
+    let ahead : to ≤ (slice_index_or ss i blank).to = subst (λ (s : Segment). to ≤ s.to) one covers.ahead in
+    let all : IsLaid t.start (t.start + length t.rows) ss = record { adjoin = are.adjoin; apart = are.apart; kept = rw are.rows kept } in
+    let lies = lies_at t.start (t.start + length t.rows) ss i (slice_index_or ss i blank) are.adjoin below read in
+    let first = edge_from t.start (t.start + length t.rows) ss i are.adjoin in
+    let last = edge_to t.start (t.start + length t.rows) ss (suc i) are.adjoin (omega arith) in
+    let few = few_segments t.start (t.start + length t.rows) ss are.adjoin in
+    record {
+      below = below;
+      few = omega (arith, below, few, kept.short);
+      short = omega (arith, ahead, lies.to, last, kept.short, first, lies.from, begun);
+      holds = λ k later sooner.
+          subst (λ (rows : List Row). Holds (record { start = t.start; rows = rows }) k (slice_index_or ss i blank)) are.rows
+          (found t.start (t.start + length t.rows) ss i (suc i) k (slice_index_or ss i blank) all (omega arith) (omega arith) (omega arith)
+          (omega (arith, first, lies.from, begun)) (omega (arith, lies.from, begun)) (omega (arith, lies.to, ahead)) read);
+    }
+
+-- what two segments say of the seconds that both hold
+pub overlap_is : (rules : Rules) (a b : Trajectory) (from to : ℕ) (s t : Segment) (span : Option (ℕ × ℕ))
+    → ((k : ℕ) → from ≤ k → k < to → Holds a k s) → ((k : ℕ) → from ≤ k → k < to → Holds b k t)
+    → IsSpan (λ k. LosesIn rules (row_after s.first (k - s.from)) (row_after t.first (k - t.from))) from to span → IsConflict rules a b from to span
+overlap_is rules a b from to s t span left right is =
+    IsConflict-is rules a b from to span
+    (IsSpan-same (λ k. LosesIn rules (row_after s.first (k - s.from)) (row_after t.first (k - t.from))) (IsLossSecond rules a b) from to span
+    (λ k begun ahead.
+    let same = loss_second rules a b k _ _ (left k begun ahead).row (right k begun ahead).row in
+    (same.1, same.0))
+    is)
+
+-- one part more
+pub IsConflict-joined : (rules : Rules) (a b : Trajectory) (from middle to : ℕ) (span more : Option (ℕ × ℕ)) → from ≤ middle → middle ≤ to
+    → IsConflict rules a b from middle span → IsConflict rules a b middle to more → IsConflict rules a b from to (joined span more)
+IsConflict-joined rules a b from middle to span more ordered longer is next =
+    IsConflict-is rules a b from to (joined span more)
+    (IsSpan-joined (IsLossSecond rules a b) from middle to span more ordered longer (IsSpan-conflict rules a b from middle span is)
+    (IsSpan-conflict rules a b middle to more next))

@@ -1,0 +1,17 @@
+use Rattle.std.proofs.Common.{◌-◌}
+use Rattle.mt_base.specs.Loss.{LosesIn}
+use Rattle.mt_track.specs.Rows.{row_after}
+use Rattle.mt_pair.proofs.Spans.{IsSpan-same, loses_after}
+use Rattle.mt_pair.proofs.overlap.overlap.Goals as goal
+
+pub returns-clause-span : goal.returns-clause-span
+returns-clause-span c =
+    let rules = c.args.rules.now in
+    let s = c.args.s.now in
+    let t = c.args.t.now in
+    let span = rw (c.later-a.ensures, c.later-b.ensures) at c.span_from.ensures.span in
+    IsSpan-same
+    (λ k. LosesIn rules (row_after (row_after s.first (c.args.from - s.from)) (k - c.args.from)) (row_after (row_after t.first (c.args.from - t.from)) (k - c.args.from)))
+    (λ k. LosesIn rules (row_after s.first (k - s.from)) (row_after t.first (k - t.from)))
+    c.args.from c.args.to c.span_from.result
+    (λ k begun ahead. loses_after rules s.first t.first s.from t.from c.args.from k c.requires.s_begun c.requires.t_begun begun) span

@@ -1,0 +1,64 @@
+use Rattle.std.proofs.Common.{arith, le_refl}
+use Rattle.mt_pair.proofs.Walks.{overlap_is, reads_cover}
+use Rattle.mt_pair.proofs.overlap.stretch.Goals as goal
+
+pub offset_bounds-left-i : goal.offset_bounds-left-i
+offset_bounds-left-i c =
+    let at = reads_cover c.args.a.now c.segments-left.result.now c.args.i c.args.from c.args.to c.segments-left.ensures.kept c.segments-left.ensures.are c.requires.a_covers in
+    omega (arith, at.few)
+
+pub bounds-left-i : goal.bounds-left-i
+bounds-left-i c =
+    let at = reads_cover c.args.a.now c.segments-left.result.now c.args.i c.args.from c.args.to c.segments-left.ensures.kept c.segments-left.ensures.are c.requires.a_covers in
+    at.below
+
+pub overlap-requires-clause-s_begun : goal.overlap-requires-clause-s_begun
+overlap-requires-clause-s_begun c =
+    let at = reads_cover c.args.a.now c.segments-left.result.now c.args.i c.args.from c.args.to c.segments-left.ensures.kept c.segments-left.ensures.are c.requires.a_covers in
+    (at.holds c.args.from (le_refl c.args.from) c.requires.some).begun
+
+pub overlap-requires-clause-s_kept : goal.overlap-requires-clause-s_kept
+overlap-requires-clause-s_kept c =
+    let at = reads_cover c.args.a.now c.segments-left.result.now c.args.i c.args.from c.args.to c.segments-left.ensures.kept c.segments-left.ensures.are c.requires.a_covers in
+    (at.holds c.args.from (le_refl c.args.from) c.requires.some).kept
+
+pub overlap-requires-clause-s_bounded : goal.overlap-requires-clause-s_bounded
+overlap-requires-clause-s_bounded c =
+    let at = reads_cover c.args.a.now c.segments-left.result.now c.args.i c.args.from c.args.to c.segments-left.ensures.kept c.segments-left.ensures.are c.requires.a_covers in
+    (at.holds c.args.from (le_refl c.args.from) c.requires.some).bounded
+
+pub offset_bounds-right-j : goal.offset_bounds-right-j
+offset_bounds-right-j c =
+    let at = reads_cover c.args.b.now c.segments-right.result.now c.args.j c.args.from c.args.to c.segments-right.ensures.kept c.segments-right.ensures.are c.requires.b_covers in
+    omega (arith, at.few)
+
+pub bounds-right-j : goal.bounds-right-j
+bounds-right-j c =
+    let at = reads_cover c.args.b.now c.segments-right.result.now c.args.j c.args.from c.args.to c.segments-right.ensures.kept c.segments-right.ensures.are c.requires.b_covers in
+    at.below
+
+pub overlap-requires-clause-t_begun : goal.overlap-requires-clause-t_begun
+overlap-requires-clause-t_begun c =
+    let at = reads_cover c.args.b.now c.segments-right.result.now c.args.j c.args.from c.args.to c.segments-right.ensures.kept c.segments-right.ensures.are c.requires.b_covers in
+    (at.holds c.args.from (le_refl c.args.from) c.requires.some).begun
+
+pub overlap-requires-clause-t_kept : goal.overlap-requires-clause-t_kept
+overlap-requires-clause-t_kept c =
+    let at = reads_cover c.args.b.now c.segments-right.result.now c.args.j c.args.from c.args.to c.segments-right.ensures.kept c.segments-right.ensures.are c.requires.b_covers in
+    (at.holds c.args.from (le_refl c.args.from) c.requires.some).kept
+
+pub overlap-requires-clause-t_bounded : goal.overlap-requires-clause-t_bounded
+overlap-requires-clause-t_bounded c =
+    let at = reads_cover c.args.b.now c.segments-right.result.now c.args.j c.args.from c.args.to c.segments-right.ensures.kept c.segments-right.ensures.are c.requires.b_covers in
+    (at.holds c.args.from (le_refl c.args.from) c.requires.some).bounded
+
+pub overlap-requires-clause-short : goal.overlap-requires-clause-short
+overlap-requires-clause-short c =
+    let at = reads_cover c.args.a.now c.segments-left.result.now c.args.i c.args.from c.args.to c.segments-left.ensures.kept c.segments-left.ensures.are c.requires.a_covers in
+    at.short
+
+pub returns-clause-conflict : goal.returns-clause-conflict
+returns-clause-conflict c =
+    let left = reads_cover c.args.a.now c.segments-left.result.now c.args.i c.args.from c.args.to c.segments-left.ensures.kept c.segments-left.ensures.are c.requires.a_covers in
+    let right = reads_cover c.args.b.now c.segments-right.result.now c.args.j c.args.from c.args.to c.segments-right.ensures.kept c.segments-right.ensures.are c.requires.b_covers in
+    overlap_is c.args.rules.now c.args.a.now c.args.b.now c.args.from c.args.to _ _ c.overlap.result left.holds right.holds c.overlap.ensures.span

@@ -1,0 +1,89 @@
+ghost use Rattle.std.specs.Prelude.{◌+◌, ◌-◌, ◌<◌, ◌≤◌};
+ghost use Rattle.mt_base.specs.Bounds.{AreWithinBounds, IsBoundedOver, IsBoundedRow};
+ghost use Rattle.mt_base.specs.Conflict.{IsConflict};
+ghost use Rattle.mt_base.specs.Loss.{LosesIn};
+ghost use Rattle.mt_track.specs.Laid.{Covers};
+ghost use Rattle.mt_track.specs.Rows.{row_after};
+ghost use Rattle.mt_pair.specs.Span.{IsSpan};
+
+use crate::approach::Approach;
+use mt_base::{Row, Rules, Second, Steps};
+use mt_track::{Segment, Strand, later};
+
+/// The first and the last second from `from` up to `to` in which two trajectories lose separation that have these rows at `from` and keep
+/// their gains. At most 32 steps.
+fn span_from(
+    rules: &Rules,
+    a: &Row,
+    b: &Row,
+    from: Second,
+    to: Second,
+    steps: &mut Steps,
+) -> Option<(Second, Second)>
+    requires rules_kept { AreWithinBounds rules.now }
+    requires a_kept { IsBoundedRow a.now }
+    requires b_kept { IsBoundedRow b.now }
+    requires some { from < to }
+    requires short { to ≤ from + 14400 }
+    ensures span { IsSpan (λ k. LosesIn rules.now (row_after a.now (k - from)) (row_after b.now (k - from))) from to result }
+    ensures counted { steps.new ≤ steps.old + 32 }
+{
+    let approach = Approach::of(rules, a, b);
+    let Some((first, last)) = approach.span_before(to - from, steps) else {
+        return None;
+    };
+    Some((from + first, from + last))
+}
+
+/// The same for two segments that cover these seconds.
+fn overlap(
+    rules: &Rules,
+    s: &Segment,
+    t: &Segment,
+    from: Second,
+    to: Second,
+    steps: &mut Steps,
+) -> Option<(Second, Second)>
+    requires rules_kept { AreWithinBounds rules.now }
+    requires s_begun { s.now.from ≤ from }
+    requires s_kept { IsBoundedOver s.now.first (from - s.now.from) }
+    requires s_bounded { IsBoundedRow (row_after s.now.first (from - s.now.from)) }
+    requires t_begun { t.now.from ≤ from }
+    requires t_kept { IsBoundedOver t.now.first (from - t.now.from) }
+    requires t_bounded { IsBoundedRow (row_after t.now.first (from - t.now.from)) }
+    requires some { from < to }
+    requires short { to ≤ from + 14400 }
+    ensures span { IsSpan (λ k. LosesIn rules.now (row_after s.now.first (k - s.now.from)) (row_after t.now.first (k - t.now.from))) from to result }
+    ensures counted { steps.new ≤ steps.old + 32 }
+{
+    let a = later(&s.first, from - s.from);
+    let b = later(&t.first, from - t.from);
+    span_from(rules, &a, &b, from, to, steps)
+}
+
+/// The conflict of two strands in seconds that one segment of each covers: the first and the last second in which they lose separation;
+/// `None` exactly where there is none.
+///
+/// `i` and `j` are the places of these segments. It takes no memory and at most 32 steps, each one question whether some instant of a stretch
+/// has a loss.
+pub fn stretch(
+    a: &Strand,
+    i: usize,
+    b: &Strand,
+    j: usize,
+    rules: &Rules,
+    from: Second,
+    to: Second,
+    steps: &mut Steps,
+) -> Option<(Second, Second)>
+    requires rules_kept { AreWithinBounds rules.now }
+    requires a_covers { Covers a.now i from to }
+    requires b_covers { Covers b.now j from to }
+    requires some { from < to }
+    ensures conflict { IsConflict rules.now a.now b.now from to result }
+    ensures counted { steps.new ≤ steps.old + 32 }
+{
+    let left = a.segments();
+    let right = b.segments();
+    overlap(rules, &left[i], &right[j], from, to, steps)
+}
