@@ -1,0 +1,12 @@
+use Rattle.std.proofs.Common.{◌≡◌, ◌++◌, suc, length}
+use Rattle.mt_edges.specs.Kept.{Reads, gathered, left_at}
+use Rattle.mt_edges.proofs.table.Table.gather.Given as goal
+
+abbrev pub invariant-loop-place : goal.invariant-loop-place
+invariant-loop-place l = record {
+  reads : Reads l.self.ends l.self.base l.self.nodes.items l.self.free.items l.self.spare l.self.links.next.items l.self.links.prev.items l.head l.place;
+  out : l.out.items ≡ l.initial.out.items ++ gathered l.self.nodes.items l.self.base l.from l.to reads.done;
+}
+
+abbrev pub decreases-loop-place : goal.decreases-loop-place
+decreases-loop-place l = left_at l.self.links.next.items (suc (length l.self.links.next.items)) l.place
