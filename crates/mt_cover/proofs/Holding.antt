@@ -1,0 +1,68 @@
+-- The box of some rows holds each of them.
+use Rattle.std.proofs.Common.{◌≡◌, ℕ, zero, suc, ℤ, ◌+ℤ◌, ◌≤ℤ◌, List, [], ◌∷◌, Some, arith}
+use Rattle.std.proofs.lemmas.Int.{ints, clamps}
+use Rattle.std.specs.Int.{int_max}
+use Rattle.std.specs.Prelude.{slice_get}
+use Rattle.mt_base.specs.declared.row.Row.{Row}
+use Rattle.mt_cover.specs.declared.area.Area.{Area}
+use Rattle.mt_cover.specs.declared.area.Extent.{Extent}
+use Rattle.mt_cover.specs.Box.{area_of, extent_of, grown, grown_by, hull}
+use Rattle.mt_cover.proofs.Apart.{Holds, Spans}
+
+Spans-own : (z v : ℤ) → Spans (extent_of z v) z v
+Spans-own z v = record {
+  low = omega (arith, ints, clamps);
+  low_end = omega (arith, ints, clamps);
+  high = omega (arith, ints, clamps);
+  high_end = omega (arith, ints, clamps);
+}
+
+Spans-left : (e f : Extent) (z v : ℤ) → Spans e z v → Spans (hull e f) z v
+Spans-left e f z v h = record {
+  low = omega (arith, ints, clamps, h.low);
+  low_end = omega (arith, ints, clamps, h.low_end);
+  high = omega (arith, ints, clamps, h.high);
+  high_end = omega (arith, ints, clamps, h.high_end);
+}
+
+Spans-right : (e f : Extent) (z v : ℤ) → Spans f z v → Spans (hull e f) z v
+Spans-right e f z v h = record {
+  low = omega (arith, ints, clamps, h.low);
+  low_end = omega (arith, ints, clamps, h.low_end);
+  high = omega (arith, ints, clamps, h.high);
+  high_end = omega (arith, ints, clamps, h.high_end);
+}
+
+not_less : (m z : ℤ) → z ≤ℤ int_max m z
+not_less m z = omega (arith, ints, clamps)
+
+still : (m z y : ℤ) → y ≤ℤ m → y ≤ℤ int_max m z
+still m z y h = omega (arith, ints, clamps)
+
+pub Holds-own : (row : Row) → Holds (area_of row) row
+Holds-own row = record { x = Spans-own row.x row.vx; y = Spans-own row.y row.vy; margin = omega (arith, ints) }
+
+Holds-new : (a : Area) (row : Row) → Holds (grown a row) row
+Holds-new a row = record {
+  x = Spans-right a.x (extent_of row.x row.vx) row.x row.vx (Spans-own row.x row.vx);
+  y = Spans-right a.y (extent_of row.y row.vy) row.y row.vy (Spans-own row.y row.vy);
+  margin = not_less a.margin (row.r +ℤ row.gr);
+}
+
+Holds-grown : (a : Area) (next row : Row) → Holds a row → Holds (grown a next) row
+Holds-grown a next row h = record {
+  x = Spans-left a.x (extent_of next.x next.vx) row.x row.vx h.x;
+  y = Spans-left a.y (extent_of next.y next.vy) row.y row.vy h.y;
+  margin = still a.margin (next.r +ℤ next.gr) (row.r +ℤ row.gr) h.margin;
+}
+
+pub Holds-grown_by : (a : Area) (rows : List Row) (row : Row) → Holds a row → Holds (grown_by a rows) row
+Holds-grown_by a [] row h = h
+Holds-grown_by a (next ∷ rows) row h = Holds-grown_by (grown a next) rows row (Holds-grown a next row h)
+
+pub Holds-slice_get : (a : Area) (rows : List Row) (i : ℕ) (row : Row) → slice_get rows i ≡ Some row → Holds (grown_by a rows) row
+Holds-slice_get a [] i row at = cc
+Holds-slice_get a (next ∷ rows) zero row at =
+    let same : next ≡ row = cc in
+    rw same (Holds-grown_by (grown a row) rows row (Holds-new a row))
+Holds-slice_get a (next ∷ rows) (suc i) row at = Holds-slice_get (grown a next) rows i row at

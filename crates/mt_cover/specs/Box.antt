@@ -1,0 +1,40 @@
+-- The box of some rows: where they are at any instant, and their greatest margin.
+use Rattle.std.specs.Prelude.{ℤ, pos, ◌+ℤ◌, ◌-ℤ◌, int_div, List, [], ◌∷◌}
+use Rattle.std.specs.Int.{int_max, int_min}
+use Rattle.mt_base.specs.declared.row.Row.{Row}
+use Rattle.mt_base.specs.declared.rules.Rules.{Rules}
+use Rattle.mt_cover.specs.declared.area.Area.{Area}
+use Rattle.mt_cover.specs.declared.area.Extent.{Extent}
+
+-- from the lesser to the greater of a value and what it is after its gain
+abbrev pub extent_of : ℤ → ℤ → Extent
+extent_of z gain = record { low = int_min z (z +ℤ gain); high = int_max z (z +ℤ gain) }
+
+-- so far that it holds both
+abbrev pub hull : Extent → Extent → Extent
+hull a b = record { low = int_min a.low b.low; high = int_max a.high b.high }
+
+-- x and `x + vx`, y and `y + vy` of a row, and its margin at the end of its second
+abbrev pub area_of : Row → Area
+area_of row = record { x = extent_of row.x row.vx; y = extent_of row.y row.vy; margin = row.r +ℤ row.gr }
+
+-- with a row more
+abbrev pub grown : Area → Row → Area
+grown a row = record { x = hull a.x (extent_of row.x row.vx); y = hull a.y (extent_of row.y row.vy); margin = int_max a.margin (row.r +ℤ row.gr) }
+
+-- with some rows more
+abbrev pub grown_by : Area → List Row → Area
+grown_by a [] = a
+grown_by a (row ∷ rows) = grown_by (grown a row) rows
+
+-- The box of some rows: that of the first one, with all of them.
+abbrev pub area_over : List Row → Row → Area
+area_over rows first = grown_by (area_of first) rows
+
+-- half of the horizontal minimum, rounded up
+abbrev pub half : Rules → ℤ
+half rules = int_div (rules.sh +ℤ pos 1) (pos 2)
+
+-- wider on each side
+abbrev pub wider : Extent → ℤ → Extent
+wider e by = record { low = e.low -ℤ by; high = e.high +ℤ by }

@@ -1,0 +1,76 @@
+-- The cells that a trajectory meets: the plane is cut into 64 by 64 cells, and its seconds, from its start, into slices of 256.
+use Rattle.std.specs.Prelude.{◌≡◌, ℕ, suc, ◌+◌, ◌-◌, ◌*◌, ◌/◌, ◌<◌, ◌≤◌, min, ℤ, pos, negsuc, ◌+ℤ◌, List, [], ◌∷◌, length, take, drop, map, Contains}
+use Rattle.std.specs.Int.{div_ceil}
+use Rattle.std.specs.List.{flat_map, range_with_len}
+use Rattle.mt_base.specs.declared.row.Row.{Row}
+use Rattle.mt_base.specs.declared.rules.Rules.{Rules}
+use Rattle.mt_base.specs.Bounds.{AreWithinBounds}
+use Rattle.mt_base.specs.Conflict.{IsLossSecond}
+use Rattle.mt_base.specs.Trajectory.{Trajectory}
+use Rattle.mt_track.specs.Laid.{IsStrand}
+use Rattle.mt_cover.specs.declared.area.Area.{Area}
+use Rattle.mt_cover.specs.declared.area.Extent.{Extent}
+use Rattle.mt_cover.specs.declared.stays.Stay.{Stay}
+use Rattle.mt_cover.specs.Box.{area_over, half, wider}
+
+-- Which of 64 places of 115,200 units each a distance from the plane's edge lies in; what lies outside counts to the first or the last.
+abbrev pub place_from : ℤ → ℕ
+place_from (pos n) = min (n / 115200) 63
+place_from (negsuc n) = 0
+
+abbrev pub place : ℤ → ℕ
+place z = place_from (z +ℤ pos 3686400)
+
+-- the places from that of its lower to that of its upper end, in order
+abbrev pub places : Extent → List ℕ
+places e = range_with_len (place e.low) (suc (place e.high) - place e.low)
+
+-- the cells of one line of 64, and of the lines
+abbrev pub cells_in : Extent → ℕ → List ℕ
+cells_in e line = map (λ column. 64 * line + column) (places e)
+
+abbrev pub cells : Extent → Extent → List ℕ
+cells x y = flat_map (cells_in x) (places y)
+
+-- the cells of a box, made wider on each side by its greatest margin and half of the horizontal minimum
+abbrev pub cells_of : Rules → Area → List ℕ
+cells_of rules a = cells (wider a.x (a.margin +ℤ half rules)) (wider a.y (a.margin +ℤ half rules))
+
+-- a stay in each of some cells, for the same seconds
+abbrev pub stays_of : ℕ → ℕ → List ℕ → List Stay
+stays_of from to list = map (λ cell. record { cell = cell; from = from; to = to }) list
+
+-- the stays of a slice that begins at a second and has those rows
+abbrev pub stays_over : Rules → ℕ → List Row → List Stay
+stays_over rules from [] = []
+stays_over rules from (row ∷ rows) = stays_of from (from + length (row ∷ rows)) (cells_of rules (area_over (row ∷ rows) row))
+
+-- slice i
+abbrev pub slice_rows : List Row → ℕ → List Row
+slice_rows rows i = take 256 (drop (256 * i) rows)
+
+abbrev pub stays_in : Rules → Trajectory → ℕ → List Stay
+stays_in rules t i = stays_over rules (t.start + 256 * i) (slice_rows t.rows i)
+
+-- The cover of a trajectory: the stays of all its slices, the last of which may be shorter.
+abbrev pub cover_of : Rules → Trajectory → List Stay
+cover_of rules t = flat_map (stays_in rules t) (range_with_len 0 (div_ceil (length t.rows) 256))
+
+-- one of some stays is in that cell in second k
+pub record IsAt (stays : List Stay) (cell k : ℕ) : Type 0 where
+  pub stay : Stay
+  pub of : Contains stays stay
+  pub there : stay.cell ≡ cell
+  pub begun : stay.from ≤ k
+  pub within : k < stay.to
+
+-- in second k two covers share a cell
+pub record ShareAt (a b : List Stay) (k : ℕ) : Type 0 where
+  pub cell : ℕ
+  pub left : IsAt a cell k
+  pub right : IsAt b cell k
+
+-- No loss is missed: in a loss second of two trajectories their covers share a cell.
+abbrev pub MissesNone : Type 0
+MissesNone = (rules : Rules) (a b : Trajectory) (k : ℕ) → AreWithinBounds rules → IsStrand a → IsStrand b → IsLossSecond rules a b k
+    → ShareAt (cover_of rules a) (cover_of rules b) k

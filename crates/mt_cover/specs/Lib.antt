@@ -1,0 +1,4 @@
+pub mod Box
+pub mod Cells
+pub mod InPlane
+pub mod Walk

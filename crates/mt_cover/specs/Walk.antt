@@ -1,0 +1,14 @@
+-- How the segments of a strand are gone over, slice by slice. No public contract cites these.
+use Rattle.std.specs.Prelude.{ℕ, suc, ◌<◌, ◌≤◌, List, length, take, drop}
+use Rattle.mt_track.specs.declared.segment.Segment.{Segment}
+use Rattle.mt_track.specs.Laid.{edge}
+
+-- some elements from a place on
+abbrev pub part : {X : Type 0} → List X → ℕ → ℕ → List X
+part list place number = take number (drop place list)
+
+-- segment `index` is the one that holds second k; or k is the end, and it is behind the last one
+pub record Stands (start : ℕ) (segments : List Segment) (index k : ℕ) : Type 0 where
+  pub within : index ≤ length segments
+  pub begun : edge start segments index ≤ k
+  pub ahead : index < length segments → k < edge start segments (suc index)

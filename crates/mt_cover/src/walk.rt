@@ -1,0 +1,100 @@
+ghost use Rattle.std.specs.Prelude.{◌≡◌, ◌+◌, ◌-◌, ◌<◌, ◌≤◌, Some, All, IfOk, slice_get};
+ghost use Rattle.mt_base.specs.declared.row.Row.{Row};
+ghost use Rattle.mt_base.specs.Bounds.{AreWithinBounds, IsBoundedOver};
+ghost use Rattle.mt_base.specs.Trajectory.{straight_rows};
+ghost use Rattle.mt_track.specs.Laid.{IsLaid, all_rows};
+ghost use Rattle.mt_track.specs.Rows.{row_after};
+ghost use Rattle.mt_cover.specs.Box.{area_over, grown_by};
+ghost use Rattle.mt_cover.specs.Cells.{cover_of};
+ghost use Rattle.mt_cover.specs.InPlane.{IsAreaInPlane};
+ghost use Rattle.mt_cover.specs.declared.stays.Stay.{Stay};
+ghost use Rattle.mt_cover.specs.Walk.{Stands, part};
+
+use crate::area::{Area, area_of, grown};
+use crate::stays::Cover;
+use mt_base::{Memory, Rules, Second};
+use mt_track::{Segment, Strand, later};
+use std::alloc::Global;
+
+/// The box with the rows of a segment from one second to another. Their values are linear, so they are extreme in the first or the last.
+fn with_part(area: Area, segment: &Segment, from: Second, to: Second) -> Area
+    requires kept { IsAreaInPlane area }
+    requires bounded { IsBoundedOver segment.now.first (segment.now.to - segment.now.from) }
+    requires begun { segment.now.from ≤ from }
+    requires some { from < to }
+    requires within { to ≤ segment.now.to }
+    ensures is { result ≡ grown_by area (straight_rows (row_after segment.now.first (from - segment.now.from)) (to - from)) }
+    ensures kept { IsAreaInPlane result }
+{
+    let first = later(&segment.first, from - segment.from);
+    let last = later(&segment.first, to - 1 - segment.from);
+    grown(grown(area, &first), &last)
+}
+
+/// What was gathered of a slice: its box, and the number of the segment that holds the second after it.
+#[derive(Clone, Copy)]
+pub(crate) struct Gathered {
+    area: Area,
+    index: usize,
+}
+
+/// The box of the rows from one second to another. `index` is the number of the segment that holds the first. It takes a few steps for each
+/// segment that it meets, however many rows that has.
+fn gather(
+    segments: &[Segment],
+    start: Second,
+    end: Second,
+    index: usize,
+    from: Second,
+    to: Second,
+) -> Gathered
+    requires laid { IsLaid start end segments.now }
+    requires stands { Stands start segments.now index from }
+    requires begun { start ≤ from }
+    requires some { from < to }
+    requires within { to ≤ end }
+    ensures is { (row : Row) → slice_get (all_rows segments.now) (from - start) ≡ Some row
+        → result.area ≡ area_over (part (all_rows segments.now) (from - start) (to - from)) row }
+    ensures kept { IsAreaInPlane result.area }
+    ensures stands { Stands start segments.now result.index to }
+{
+    let mut index = index;
+    let mut at = from;
+    let first = later(&segments[index].first, from - segments[index].from);
+    let mut area = area_of(&first);
+    while at < to {
+        let segment = &segments[index];
+        let until = segment.to.min(to);
+        area = with_part(area, segment, at, until);
+        at = until;
+        if segment.to <= to {
+            index += 1;
+        }
+    }
+    Gathered { area, index }
+}
+
+/// How many seconds a slice has, but the last one, which may be shorter.
+const SLICE: Second = 256;
+
+/// The cover of a strand. Its seconds are cut from its start into slices of 256. In each slice the strand counts to the cells that the box of
+/// the slice's rows meets, made wider on each side by their greatest horizontal margin and half of the horizontal minimum, rounded up.
+pub fn cover(alloc: Global, strand: &Strand, rules: &Rules) -> Result<Cover, Memory>
+    requires { AreWithinBounds rules.now }
+    ensures is { IfOk result (λ cover. cover ≡ cover_of rules.now strand.now) }
+    ensures in_grid { IfOk result (λ cover. All (λ (stay : Stay). stay.cell < 4096) cover) }
+{
+    let start = strand.start();
+    let end = strand.end();
+    let segments = strand.segments();
+    let mut cover = Cover::empty(alloc);
+    let mut index = 0;
+    for slice in 0..(end - start).div_ceil(SLICE) {
+        let from = start + SLICE * slice;
+        let to = end.min(from + SLICE);
+        let gathered = gather(segments, start, end, index, from, to);
+        cover.add(rules, gathered.area, from, to)?;
+        index = gathered.index;
+    }
+    Ok(cover)
+}

@@ -1,0 +1,103 @@
+-- Near items, list by list and stay by stay.
+use Rattle.std.proofs.Common.{◌≡◌, ◌↔◌, ◌⊎◌, inl, inr, ⊎_elim, ℕ, zero, suc, ◌+◌, ◌<◌, List, [], ◌∷◌, ◌++◌, Option, None, Some, Contains, length, get_or, set, take, map, replicate, refl, sym, ap, ◌∙◌, subst, arith, eqb, IsPermutation, IsSorted}
+use Rattle.std.proofs.lemmas.List.{get_or-map, map-set, take_more}
+use Rattle.std.proofs.lemmas.List.Elements.{Contains-append_left, Contains-push, Contains-push_cases}
+use Rattle.std.proofs.lemmas.List.Kept.{Contains-dedup_nat, Contains-from_dedup}
+use Rattle.std.proofs.lemmas.List.Sorted.{Contains-permutation, IsPermutation-sym}
+use Rattle.std.proofs.lemmas.Map.Keys.{IsStrictlyIncreasing-dedup}
+use Rattle.std.specs.Ordering.{nat_cmp}
+use Rattle.std.specs.List.{dedup}
+use Rattle.mt_cover.specs.declared.stays.Stay.{Stay}
+use Rattle.mt_grid.specs.declared.placed.Placed.{Placed}
+use Rattle.mt_grid.specs.Lists.{AreNear, IsItemOf, IsNear, IsNearIn, filled, list_at}
+
+pub map-empty : (n : ℕ) → map filled (replicate n None) ≡ replicate n []
+map-empty zero = refl
+map-empty (suc n) = ap (λ (xs : List (List Placed)). [] ∷ xs) (map-empty n)
+
+-- a member of a front that is one longer
+pub Contains-more : {X : Type 0} (xs : List X) (i : ℕ) (d y : X) → i < length xs → Contains (take (i + 1) xs) y ↔ (Contains (take i xs) y ⊎ (get_or xs i d ≡ y))
+Contains-more {X} xs i d y below =
+    let e : take (i + 1) xs ≡ take i xs ++ get_or xs i d ∷ [] = take_more xs i d below in (
+      (λ h. Contains-push_cases (take i xs) (get_or xs i d) y (subst (λ (zs : List X). Contains zs y) e h)),
+      (λ h. subst (λ (zs : List X). Contains zs y) (sym e) (⊎_elim
+          (λ front. Contains-append_left (take i xs) (get_or xs i d ∷ []) y front)
+          (λ last. subst (λ (z : X). Contains (take i xs ++ get_or xs i d ∷ []) z) last (Contains-push (take i xs) (get_or xs i d))) h)),
+    )
+
+IsNearIn-more : (list : List Placed) (i : ℕ) (d : Placed) (stay : Stay) (item : ℕ) → i < length list
+    → IsNearIn (take (i + 1) list) stay item ↔ (IsNearIn (take i list) stay item ⊎ IsItemOf (get_or list i d) stay item)
+IsNearIn-more list i d stay item below = (
+  (λ h. ⊎_elim
+      (λ front. inl (record { by = h.by; of = front; item_of = h.item_of }))
+      (λ last. inr (subst (λ (p : Placed). IsItemOf p stay item) (sym last) h.item_of))
+      ((Contains-more list i d h.by below).0 h.of)),
+  (λ h. ⊎_elim
+      (λ near. record { by = near.by; of = (Contains-more list i d near.by below).1 (inl near.of); item_of = near.item_of })
+      (λ last. record { by = get_or list i d; of = (Contains-more list i d (get_or list i d) below).1 (inr refl); item_of = last })
+      h),
+)
+
+-- two steps of "adds exactly"
+more : (P Q R S T : Type 0) → (S ↔ (R ⊎ P)) → (T ↔ (S ⊎ Q)) → (U : Type 0) → (U ↔ (P ⊎ Q)) → T ↔ (R ⊎ U)
+more P Q R S T first second U both = (
+  (λ t. ⊎_elim (λ s. ⊎_elim (λ r. inl r) (λ p. inr (both.1 (inl p))) (first.0 s)) (λ q. inr (both.1 (inr q))) (second.0 t)),
+  (λ h. ⊎_elim (λ r. second.1 (inl (first.1 (inl r)))) (λ u. ⊎_elim (λ p. second.1 (inl (first.1 (inr p)))) (λ q. second.1 (inr q)) (both.0 u)) h),
+)
+
+pub near_more : (list : List Placed) (i : ℕ) (d : Placed) (stay : Stay) (first old new : List ℕ) → i < length list
+    → ((item : ℕ) → Contains old item ↔ (Contains first item ⊎ IsNearIn (take i list) stay item))
+    → ((item : ℕ) → Contains new item ↔ (Contains old item ⊎ IsItemOf (get_or list i d) stay item))
+    → (item : ℕ) → Contains new item ↔ (Contains first item ⊎ IsNearIn (take (i + 1) list) stay item)
+near_more list i d stay first old new below before step item =
+    more _ _ _ _ _ (before item) (step item) _ (IsNearIn-more list i d stay item below)
+
+-- and stay by stay
+IsNear-more : (grid : List (List Placed)) (stays : List Stay) (i : ℕ) (d : Stay) (item : ℕ) → i < length stays
+    → IsNear grid (take (i + 1) stays) item ↔ (IsNear grid (take i stays) item ⊎ IsNearIn (list_at grid (get_or stays i d).cell) (get_or stays i d) item)
+IsNear-more grid stays i d item below = (
+  (λ h. ⊎_elim
+      (λ front. inl (record { stay = h.stay; of = front; there = h.there }))
+      (λ last. inr (subst (λ (s : Stay). IsNearIn (list_at grid s.cell) s item) (sym last) h.there))
+      ((Contains-more stays i d h.stay below).0 h.of)),
+  (λ h. ⊎_elim
+      (λ near. record { stay = near.stay; of = (Contains-more stays i d near.stay below).1 (inl near.of); there = near.there })
+      (λ last. record { stay = get_or stays i d; of = (Contains-more stays i d (get_or stays i d) below).1 (inr refl); there = last })
+      h),
+)
+
+pub near_on : (grid : List (List Placed)) (stays : List Stay) (i : ℕ) (d : Stay) (old new : List ℕ) → i < length stays
+    → ((item : ℕ) → Contains old item ↔ IsNear grid (take i stays) item)
+    → ((item : ℕ) → Contains new item ↔ (Contains old item ⊎ IsNearIn (list_at grid (get_or stays i d).cell) (get_or stays i d) item))
+    → (item : ℕ) → Contains new item ↔ IsNear grid (take (i + 1) stays) item
+near_on grid stays i d old new below before step item =
+    let both = IsNear-more grid stays i d item below in (
+      (λ h. ⊎_elim (λ o. both.1 (inl ((before item).0 o))) (λ n. both.1 (inr n)) ((step item).0 h)),
+      (λ h. ⊎_elim (λ p. (step item).1 (inl ((before item).1 p))) (λ n. (step item).1 (inr n)) (both.0 h)),
+    )
+
+-- nothing is in, or near, an empty list
+pub none_in : {X : Type 0} (x : X) → ¬ Contains [] x
+none_in x h = omega (arith, h.1)
+
+-- put in order, each once
+pub ordered : (grid : List (List Placed)) (stays : List Stay) (found sorted kept : List ℕ) → ((item : ℕ) → Contains found item ↔ IsNear grid stays item)
+    → IsPermutation found sorted → IsSorted nat_cmp sorted → kept ≡ dedup eqb sorted → AreNear grid stays kept
+ordered grid stays found sorted kept near moved in_order is = rw is (record {
+  rising = IsStrictlyIncreasing-dedup sorted in_order;
+  same = λ item. (
+    (λ h. (near item).0 (Contains-permutation _ _ item (IsPermutation-sym _ _ moved) (Contains-from_dedup eqb sorted item h))),
+    (λ h. Contains-dedup_nat sorted item (Contains-permutation _ _ item moved ((near item).1 h))),
+  );
+})
+
+-- the list of a cell, from what stands at its place
+pub list_is : (cells : List (Option (List Placed))) (cell : ℕ) (o : Option (List Placed)) → cell < length cells → o ≡ get_or cells cell None
+    → list_at (map filled cells) cell ≡ filled o
+list_is cells cell o below is = get_or-map filled cells cell None [] below ∙ ap filled (sym is)
+
+-- the lists with another list at the place of a cell
+pub list_replaced : (cells new : List (Option (List Placed))) (grid : List (List Placed)) (cell : ℕ) (held list : List Placed) → map filled cells ≡ grid → held ≡ list
+    → new ≡ set cells cell (Some held) → map filled new ≡ set grid cell list
+list_replaced cells new grid cell held list was same is =
+    ap (map filled) is ∙ map-set filled cells cell (Some held) ∙ ap (λ (l : List Placed). set (map filled cells) cell l) same ∙ ap (λ (g : List (List Placed)). set g cell list) was

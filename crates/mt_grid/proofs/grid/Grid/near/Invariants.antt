@@ -1,0 +1,6 @@
+use Rattle.std.proofs.Common.{◌↔◌, ℕ, Contains, take}
+use Rattle.mt_grid.specs.Lists.{IsNear}
+use Rattle.mt_grid.proofs.grid.Grid.near.Given as goal
+
+abbrev pub invariant-loop-stay : goal.invariant-loop-stay
+invariant-loop-stay l = (item : ℕ) → Contains l.items.items item ↔ IsNear l.self (take l.stay-index l.cover) item

@@ -1,0 +1,324 @@
+ghost use Rattle.std.specs.Prelude.{◌≡◌};
+ghost use Rattle.mt_base.specs.Bounds.{IsBoundedStretch};
+ghost use Rattle.mt_grid.specs.Lists.{AreInGrid};
+
+use crate::Grid;
+use mt_base::{Row, Rules, Second, Straight};
+use mt_cover::{Cover, cover};
+use mt_track::Strand;
+use std::process::Abort;
+
+/// 9,000 units east of the edge between the columns 31 and 32: half of the horizontal minimum.
+const AT_EDGE: Row = Row {
+    x: 9_000,
+    y: 50_000,
+    z: 2_400_000,
+    r: 0,
+    w: 0,
+    vx: 0,
+    vy: 0,
+    vz: 0,
+    gr: 0,
+    gw: 0,
+    leg: 0,
+};
+
+const OVER_EDGE: Row = Row {
+    x: 8_999,
+    ..AT_EDGE
+};
+
+/// West of that edge: at the minimum from `AT_EDGE`, one unit less and one more.
+const AT_MINIMUM: Row = Row {
+    x: -9_000,
+    ..AT_EDGE
+};
+
+const BELOW_MINIMUM: Row = Row {
+    x: -8_999,
+    ..AT_EDGE
+};
+
+const ABOVE_MINIMUM: Row = Row {
+    x: -9_001,
+    ..AT_EDGE
+};
+
+/// Comes to the edge with its margin at the end of second 255, and one unit short of it.
+const REACHING: Row = Row {
+    x: -9_256,
+    vx: 1,
+    ..AT_EDGE
+};
+
+const SHORT: Row = Row {
+    x: -9_257,
+    vx: 1,
+    ..AT_EDGE
+};
+
+/// Its margin grows to the edge by the end of second 255, and one unit past it.
+const GROWN: Row = Row {
+    x: 12_000,
+    r: 440,
+    gr: 10,
+    ..AT_EDGE
+};
+
+const OUTGROWN: Row = Row {
+    x: 12_000,
+    r: 441,
+    gr: 10,
+    ..AT_EDGE
+};
+
+/// Flies along the edge between the lines 31 and 32.
+const ALONG: Row = Row {
+    x: -300_000,
+    y: 0,
+    vx: 480,
+    ..AT_EDGE
+};
+
+/// In a corner of the plane, which it leaves by its margin.
+const CORNER: Row = Row {
+    x: 3_686_400,
+    y: -3_686_400,
+    r: 1_000,
+    ..AT_EDGE
+};
+
+const FALLING: Row = Row {
+    x: 20_000,
+    vx: 100,
+    vy: -300,
+    ..AT_EDGE
+};
+
+/// The first of lanes that lie 200,000 units apart.
+const LANE: Row = Row {
+    x: 0,
+    y: 0,
+    vx: 480,
+    ..AT_EDGE
+};
+
+/// The cover of the stretch that flies from a row.
+fn covered(rt: &(impl AllocGlobal + Abort), from: Second, to: Second, first: Row) -> Cover
+    requires { IsBoundedStretch (record { from = from; to = to; first = first }) }
+    ensures { AreInGrid result }
+{
+    let stretch = Straight { from, to, first };
+    let strand = Strand::straight(rt.alloc(), &stretch).expect(rt, "memory");
+    cover(rt.alloc(), &strand, &Rules::usual()).expect(rt, "memory")
+}
+
+/// The stays of that stretch are those wanted: cell, first second, second after the last.
+fn check(
+    rt: &(impl AllocGlobal + Abort),
+    from: Second,
+    to: Second,
+    first: Row,
+    wanted: &[(u32, Second, Second)],
+)
+    requires { IsBoundedStretch (record { from = from; to = to; first = first }) }
+{
+    let cover = covered(rt, from, to, first);
+    assert_eq!(rt; cover.stays().len(), wanted.len());
+    for (stay, wanted) in cover.stays().iter().zip(wanted) {
+        assert!(rt; (stay.cell, stay.from, stay.to) == *wanted);
+    }
+}
+
+#[test]
+fn covers_are_those_worked_out_row_by_row(rt: HostRuntime) {
+    check(&rt, 0, 300, AT_EDGE, &[(2080, 0, 256), (2080, 256, 300)]);
+    check(&rt, 0, 256, OVER_EDGE, &[(2079, 0, 256), (2080, 0, 256)]);
+    check(&rt, 0, 256, REACHING, &[(2079, 0, 256), (2080, 0, 256)]);
+    check(&rt, 0, 256, SHORT, &[(2079, 0, 256)]);
+    check(&rt, 0, 256, GROWN, &[(2080, 0, 256)]);
+    check(&rt, 0, 256, OUTGROWN, &[(2079, 0, 256), (2080, 0, 256)]);
+    check(&rt, 0, 300, CORNER, &[(63, 0, 256), (63, 256, 300)]);
+    check(
+        &rt,
+        300,
+        700,
+        FALLING,
+        &[(2016, 300, 556), (2080, 300, 556), (2016, 556, 700)],
+    );
+    let first = [
+        (2013, 100, 356),
+        (2014, 100, 356),
+        (2077, 100, 356),
+        (2078, 100, 356),
+    ];
+    check(&rt, 100, 356, ALONG, &first);
+}
+
+/// Whether the second stretch is near the first, once it is put into an empty grid; before that and after it is taken it isn't.
+fn is_near(rt: &(impl AllocGlobal + Abort), one: Row, other: Row) -> bool
+    requires one { IsBoundedStretch (record { from = 0; to = 300; first = one }) }
+    requires other { IsBoundedStretch (record { from = 0; to = 300; first = other }) }
+{
+    let one = covered(rt, 0, 300, one);
+    let other = covered(rt, 0, 300, other);
+    let empty = Grid::make(rt.alloc()).expect(rt, "memory");
+    let grid = empty.put(7, &other).expect(rt, "memory");
+    let gone = grid.take(7, &other).expect(rt, "memory");
+    assert!(rt; empty.near(&one).expect(rt, "memory").is_empty());
+    assert!(rt; gone.near(&one).expect(rt, "memory").is_empty());
+    let near = grid
+        .share()
+        .expect(rt, "memory")
+        .near(&one)
+        .expect(rt, "memory");
+    assert!(rt; near.is_empty() || near.as_slice() == [7].as_slice());
+    !near.is_empty()
+}
+
+#[test]
+fn strands_on_both_sides_of_an_edge_are_near_up_to_the_minimum(rt: HostRuntime) {
+    assert!(rt; is_near(&rt, BELOW_MINIMUM, AT_EDGE));
+    assert!(rt; is_near(&rt, AT_MINIMUM, AT_EDGE));
+    assert!(rt; !is_near(&rt, ABOVE_MINIMUM, AT_EDGE));
+    assert!(rt; is_near(&rt, ABOVE_MINIMUM, OVER_EDGE));
+}
+
+/// Puts a lane into the grid, in which nothing is near it.
+fn with_lane(rt: &(impl AllocGlobal + Abort), grid: Grid, item: u32, first: Row) -> Grid
+    requires { IsBoundedStretch (record { from = 0; to = 1200; first = first }) }
+{
+    let lane = covered(rt, 0, 1200, first);
+    assert!(rt; grid.near(&lane).expect(rt, "memory").is_empty());
+    let grid = grid.put(item, &lane).expect(rt, "memory");
+    assert!(rt; grid.near(&lane).expect(rt, "memory").as_slice() == [item].as_slice());
+    grid
+}
+
+#[test]
+fn eighteen_lanes_share_no_cell(rt: HostRuntime) {
+    let grid = Grid::make(rt.alloc()).expect(&rt, "memory");
+    let grid = with_lane(&rt, grid, 0, Row { y: 0, ..LANE });
+    let grid = with_lane(&rt, grid, 1, Row { y: 200_000, ..LANE });
+    let grid = with_lane(&rt, grid, 2, Row { y: 400_000, ..LANE });
+    let grid = with_lane(&rt, grid, 3, Row { y: 600_000, ..LANE });
+    let grid = with_lane(&rt, grid, 4, Row { y: 800_000, ..LANE });
+    let grid = with_lane(
+        &rt,
+        grid,
+        5,
+        Row {
+            y: 1_000_000,
+            ..LANE
+        },
+    );
+    let grid = with_lane(
+        &rt,
+        grid,
+        6,
+        Row {
+            y: 1_200_000,
+            ..LANE
+        },
+    );
+    let grid = with_lane(
+        &rt,
+        grid,
+        7,
+        Row {
+            y: 1_400_000,
+            ..LANE
+        },
+    );
+    let grid = with_lane(
+        &rt,
+        grid,
+        8,
+        Row {
+            y: 1_600_000,
+            ..LANE
+        },
+    );
+    let grid = with_lane(
+        &rt,
+        grid,
+        9,
+        Row {
+            y: 1_800_000,
+            ..LANE
+        },
+    );
+    let grid = with_lane(
+        &rt,
+        grid,
+        10,
+        Row {
+            y: 2_000_000,
+            ..LANE
+        },
+    );
+    let grid = with_lane(
+        &rt,
+        grid,
+        11,
+        Row {
+            y: 2_200_000,
+            ..LANE
+        },
+    );
+    let grid = with_lane(
+        &rt,
+        grid,
+        12,
+        Row {
+            y: 2_400_000,
+            ..LANE
+        },
+    );
+    let grid = with_lane(
+        &rt,
+        grid,
+        13,
+        Row {
+            y: 2_600_000,
+            ..LANE
+        },
+    );
+    let grid = with_lane(
+        &rt,
+        grid,
+        14,
+        Row {
+            y: 2_800_000,
+            ..LANE
+        },
+    );
+    let grid = with_lane(
+        &rt,
+        grid,
+        15,
+        Row {
+            y: 3_000_000,
+            ..LANE
+        },
+    );
+    let grid = with_lane(
+        &rt,
+        grid,
+        16,
+        Row {
+            y: 3_200_000,
+            ..LANE
+        },
+    );
+    let grid = with_lane(
+        &rt,
+        grid,
+        17,
+        Row {
+            y: 3_400_000,
+            ..LANE
+        },
+    );
+    assert!(rt; grid.share().is_ok());
+}
