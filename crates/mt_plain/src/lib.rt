@@ -2,7 +2,5 @@
 #![tactic(auto)]
 
 mod pairs;
-#[cfg(test)]
-mod tests;
 
 pub use pairs::all_pairs;

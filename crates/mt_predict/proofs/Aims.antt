@@ -34,7 +34,7 @@ record HasMargins (rules : Rules) (a : Place) : Type 0 where
   pub w : IsWithin (pos 0) rules.wmax a.w
 
 -- a row with margins up to the greatest, on the leg to a place of the route
-record IsOnRoute (rules : Rules) (names : ℕ) (row : Row) : Type 0 where
+pub record IsOnRoute (rules : Rules) (names : ℕ) (row : Row) : Type 0 where
   pub r : IsWithin (pos 0) rules.rmax row.r
   pub w : IsWithin (pos 0) rules.wmax row.w
   pub leg : row.leg < names
@@ -80,7 +80,7 @@ route_on_route m names number (fix ∷ fixes) a kept within margins =
     (route_on_route m names (suc number) fixes b kept (omega arith) (margins_after m leg leg.seconds a kept margins))
 
 -- each row of the trajectory of a sound course
-rows_on_route : (setup : Setup) (course : Course) → AreWithinBounds setup.rules → IsSoundCourse setup course
+pub rows_on_route : (setup : Setup) (course : Course) → AreWithinBounds setup.rules → IsSoundCourse setup course
     → All (IsOnRoute setup.rules (length course.route)) (trajectory_of setup (Planned course)).rows
 rows_on_route setup course kept sound =
     let m = manner_of setup course.kind course.level in
@@ -92,7 +92,7 @@ rows_on_route setup course kept sound =
     (route_on_route m (length course.route) course.base.next fixes (place_of course.base) kept (omega (arith, few, sound.base.next))
     (record { r = sound.base.r; w = sound.base.w }))
 
-row_of : {rules : Rules} {names : ℕ} (rows : List Row) (i : ℕ) (row : Row) → All (IsOnRoute rules names) rows → slice_get rows i ≡ Some row → IsOnRoute rules names row
+pub row_of : {rules : Rules} {names : ℕ} (rows : List Row) (i : ℕ) (row : Row) → All (IsOnRoute rules names) rows → slice_get rows i ≡ Some row → IsOnRoute rules names row
 row_of {rules} {names} rows i row all is = subst (IsOnRoute rules names) (get_or_from_slice_get rows i row row is) (all i row (slice_get_within rows i row is))
 
 -- The base from which a clearance holds, or the flight's own.

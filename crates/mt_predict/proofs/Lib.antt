@@ -11,6 +11,7 @@ pub mod Margins
 pub mod Reading
 pub mod Refusing
 pub mod Remains
+pub mod Renewals
 pub mod Routes
 pub mod Rows
 pub mod Sound

@@ -1,7 +1,7 @@
 use Rattle.std.specs.Prelude.{◌≡◌, ◌≤◌, length, Some, IfSome, ⊤}
 use Rattle.std.specs.Option.{option_copied}
 use Rattle.mt_base.specs.declared.command.Command.{Command}
-use Rattle.mt_base.specs.declared.command.Command.TheVariants.{Plan, External, Drop, Tick, Clear, Accept}
+use Rattle.mt_base.specs.declared.command.Command.TheVariants.{Clear, Accept, Tentative}
 use Rattle.mt_base.specs.declared.flight.Course.{Course}
 use Rattle.mt_base.specs.declared.flight.Path.TheVariants.{Planned}
 use Rattle.mt_base.specs.History.{Look}
@@ -25,9 +25,7 @@ HasStrandOfPlanned setup looked = IfSome (course_in (option_copied looked.flight
 
 -- What a decision has at hand beside: for a clearance, the trajectory of the planned flight that is cleared.
 abbrev pub HasStrand : Setup → Looked → Command → Type 0
-HasStrand setup looked (Plan call kind route at from level) = ⊤
-HasStrand setup looked (External call straight) = ⊤
-HasStrand setup looked (Drop call) = ⊤
-HasStrand setup looked (Tick now) = ⊤
 HasStrand setup looked (Clear call clearance eff) = HasStrandOfPlanned setup looked
 HasStrand setup looked (Accept call clearance eff probed) = HasStrandOfPlanned setup looked
+HasStrand setup looked (Tentative call clearance eff) = HasStrandOfPlanned setup looked
+HasStrand setup looked command = ⊤

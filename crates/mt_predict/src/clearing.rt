@@ -6,6 +6,7 @@ ghost use Rattle.mt_base.specs.declared.flight.Path.TheVariants.{Planned};
 ghost use Rattle.mt_base.specs.Bounds.{AreWithinBounds, IsBoundedClearance, IsRightAim, IsSoundCourse};
 ghost use Rattle.mt_base.specs.Cleared.{base_by, base_from, cleared, place_behind};
 ghost use Rattle.mt_base.specs.Picture.{trajectory_of};
+ghost use Rattle.mt_base.specs.Tables.{setup_with};
 ghost use Rattle.mt_predict.specs.Clearing.{IsInAir};
 
 use crate::judging::is_below_ceiling;
@@ -30,7 +31,7 @@ fn base_by(at: Second, row: &Row) -> Base
 
 /// The base from which a clearance holds: the flight's own before its trajectory begins, the row of that second within it, and none at or
 /// past its end.
-fn base_from(base: &Base, strand: &Strand, eff: Second) -> Option<Base>
+pub fn base_from(base: &Base, strand: &Strand, eff: Second) -> Option<Base>
     ensures exact { result ≡ base_from base.now strand.now eff }
     ensures air { strand.now.start ≤ eff → IfSome result IsInAir }
 {
@@ -131,8 +132,8 @@ pub fn cleared(
 ) -> Result<Aim, Refusal>
     requires short { length course.now.route ≤ 64 }
     ensures exact { result ≡ cleared tables.now course.now strand.now clearance eff now }
-    ensures right { (rules : Rules) → AreWithinBounds rules → IsSoundCourse (record { rules = rules; tables = tables.now }) course.now
-        → strand.now ≡ trajectory_of (record { rules = rules; tables = tables.now }) (Planned course.now) → IsBoundedClearance clearance → eff ≤ 10000000
+    ensures right { (rules : Rules) → AreWithinBounds rules → IsSoundCourse (setup_with rules tables.now) course.now
+        → strand.now ≡ trajectory_of (setup_with rules tables.now) (Planned course.now) → IsBoundedClearance clearance → eff ≤ 10000000
         → IfOk result (λ aim. IsRightAim rules (length course.now.route) aim) }
 {
     match clearance {

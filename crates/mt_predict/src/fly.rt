@@ -41,7 +41,7 @@ fn fly_leg(
         let row = row_on(rules, bands, level, leg, left - 1, &place);
         let seconds = steady(rules, leg, left, left - cut, &row);
         let begin = strand.end();
-        strand.add(Segment {
+        strand.push(Segment {
             from: begin,
             to: begin + seconds,
             first: row,

@@ -7,17 +7,13 @@ mod climb;
 mod fly;
 mod gain;
 mod judging;
-#[cfg(test)]
-mod judging_tests;
 mod leg;
 mod predictor;
 mod renewing;
 mod second;
 mod steady;
-#[cfg(test)]
-mod tests;
 
-pub use clearing::cleared;
+pub use clearing::{base_from, cleared};
 pub use fly::fly_route;
 pub use judging::{Looked, judge};
 pub use predictor::predict;

@@ -1,5 +1,6 @@
 ghost use Rattle.std.specs.Prelude.{◌≡◌, ◌≤◌, length, All, IfOk, is_some, true};
 ghost use Rattle.mt_base.specs.Bounds.{AreWithinBounds, IsInPlane, IsRightBase, IsSoundCourse};
+ghost use Rattle.mt_base.specs.Tables.{setup_with};
 ghost use Rattle.mt_base.specs.Predictor.{flown, place_of, points_of};
 ghost use Rattle.mt_base.specs.declared.conflict.Kind.TheVariants.{Tentative};
 ghost use Rattle.mt_predict.specs.Paths.{IsPathOf};
@@ -46,10 +47,10 @@ fn fly(
     level: u32,
 ) -> Result<Strand, Memory>
     requires rules { AreWithinBounds rules.now }
-    requires sound { IsSoundCourse (record { rules = rules.now; tables = tables.now }) course.now }
+    requires sound { IsSoundCourse (setup_with rules.now tables.now) course.now }
     requires base { IsRightBase rules.now (length course.now.route) base.now }
     requires level { level ≤ 600 }
-    ensures { IfOk result (λ strand. strand ≡ flown (record { rules = rules.now; tables = tables.now }) course.now.kind course.now.route base.now level) }
+    ensures { IfOk result (λ strand. strand ≡ flown (setup_with rules.now tables.now) course.now.kind course.now.route base.now level) }
 {
     let points = points_of(alloc, tables, &course.route)?;
     let Some(bands) = tables.bands(course.kind) else {
@@ -71,9 +72,9 @@ pub fn predict(
     kind: Kind,
 ) -> Result<Strand, Memory>
     requires rules { AreWithinBounds rules.now }
-    requires sound { IsSoundCourse (record { rules = rules.now; tables = tables.now }) course.now }
+    requires sound { IsSoundCourse (setup_with rules.now tables.now) course.now }
     requires marked { kind ≡ Tentative → is_some course.now.mark ≡ true }
-    ensures rows { IfOk result (λ strand. IsPathOf (record { rules = rules.now; tables = tables.now }) course.now kind strand) }
+    ensures rows { IfOk result (λ strand. IsPathOf (setup_with rules.now tables.now) course.now kind strand) }
 {
     match kind {
         Kind::Actual => fly(alloc, tables, rules, course, &course.base, course.level),

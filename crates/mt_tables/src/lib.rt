@@ -5,8 +5,6 @@ mod add_no;
 mod bands;
 mod route;
 mod tables;
-#[cfg(test)]
-mod tests;
 
 pub use add_no::AddNo;
 pub use bands::band_at;

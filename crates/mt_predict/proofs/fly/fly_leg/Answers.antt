@@ -10,8 +10,8 @@ pub steady-seconds-requires-clause-r_kept : goal.steady-seconds-requires-clause-
 steady-seconds-requires-clause-r_kept c =
     margin_within _ _ _ _ _ c.row_on-row.ensures (first_bounded _ _ _ _ (omega (arith, c.loop-left-test.true)) c.loop-left.invariant.bounded)
 
-pub add-requires : goal.add-requires
-add-requires c =
+pub push-requires : goal.push-requires
+push-requires c =
     let m = manner c.args.rules.now c.args.bands.now c.args.level in
     let next : IsNext m c.args.leg.now (c.args.leg.now.seconds - c.min.result) c.loop-left.left c.loop-left.place c.row_on-row.result c.steady-seconds.result = record {
       is = c.row_on-row.ensures;
@@ -42,7 +42,7 @@ loop-left-preserved c =
       some = c.steady-seconds.ensures.some;
       few = c.steady-seconds.ensures.within;
     } in
-    stretch_flown c.end-begin.result c.loop-left.invariant next c.in_ok-add.ensures.ok c.place_at-place.ensures
+    stretch_flown c.end-begin.result c.loop-left.invariant next c.in_ok-push.ensures.ok c.place_at-place.ensures
 
 pub returns-clause-rows : goal.returns-clause-rows
 returns-clause-rows c =

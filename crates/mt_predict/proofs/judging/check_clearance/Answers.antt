@@ -1,39 +1,43 @@
-use Rattle.std.proofs.Common.{refl}
+use Rattle.std.proofs.Common.{◌∷◌, [], refl}
 use Rattle.std.proofs.lemmas.Result.{err_from_is_err_and}
-use Rattle.mt_base.specs.declared.command.Refusal.TheVariants.{Fixed, UnknownCall}
+use Rattle.std.specs.Prelude.{is_some, nat_le}
+use Rattle.mt_base.specs.declared.command.Refusal.TheVariants.{Future, HistoryFull, UnknownCall}
 use Rattle.mt_base.specs.declared.flight.Path.TheVariants.{Planned}
-use Rattle.mt_base.specs.Cleared.{aim_of, clearance_checks}
+use Rattle.mt_base.specs.Cleared.{aim_checks}
+use Rattle.mt_base.specs.History.{Look, has_history}
 use Rattle.mt_base.specs.Picture.{trajectory_of}
-use Rattle.mt_base.specs.Tables.{Setup}
-use Rattle.mt_base.specs.Trajectory.{Trajectory}
-use Rattle.mt_predict.proofs.Refusing.{check-false, check-true, passed_alike, refused_alike, strand_is}
+use Rattle.mt_base.specs.Tables.{Setup, setup_with}
+use Rattle.mt_base.specs.WhatIf.{course_in}
+use Rattle.mt_base.proofs.CheckLemmas.{next-ok}
+use Rattle.mt_predict.specs.Looking.{look_of}
+use Rattle.mt_predict.proofs.Refusing.{moment_last}
 use Rattle.mt_predict.proofs.judging.check_clearance.Goals as goal
 
-pub returns-in_default : goal.returns-in_default
-returns-in_default c = rw (c.in_default.is, check-false (UnknownCall c.args.call)) refl
-
-pub returns-in_default-path : goal.returns-in_default-path
-returns-in_default-path c = rw (c.in-Some.is, check-true (UnknownCall c.args.call), c.in_default-path.is, check-false Fixed) refl
-
-pub returns-in_err-cleared : goal.returns-in_err-cleared
-returns-in_err-cleared c =
-    let setup : Setup = record { rules = c.args.rules.now; tables = c.args.tables.now } in
-    let course = c.in-Planned.course in
-    let t : Trajectory = trajectory_of setup (Planned course) in
-    let has = rw (c.in-Some.is, c.in-Planned.is) at c.requires in
-    let flies = strand_is c.args.looked.now.strand c.in-Some-strand.strand t has.strand c.in-Some-strand.is in
-    let exact = rw flies at c.in_err-cleared.ensures.exact in
+pub returns-in_err-check_aim : goal.returns-in_err-check_aim
+returns-in_err-check_aim c = λ who.
     let p = err_from_is_err_and c.from_residual.result c.from_residual.ensures.1 in
-    let refused = refused_alike (clearance_checks setup.tables course t c.args.clearance c.args.eff c.args.looked.now.now) (aim_of course t c.args.clearance c.args.eff) c.in_err-cleared.field-0.0 exact in
-    rw (p.1, p.2, c.in-Some.is, check-true (UnknownCall c.args.call), c.in-Planned.is, check-true Fixed) refused
+    let setup : Setup = setup_with c.args.rules.now c.args.tables.now in
+    let look : Look = look_of c.args.looked.now in
+    let split = moment_last (UnknownCall c.args.call, is_some look.flight) (course_in look.flight)
+    (λ course. aim_checks setup.tables course (trajectory_of setup (Planned course)) c.args.clearance c.args.eff) (Future, nat_le c.args.eff look.now)
+    ((HistoryFull, has_history setup.rules look) ∷ []) in
+    rw (p.1, p.2, split, ← c.in_err-check_aim.ensures) refl
+
+pub returns-in_err-must : goal.returns-in_err-must
+returns-in_err-must c = λ who.
+    let p = err_from_is_err_and c.from_residual-in_err-must.result c.from_residual-in_err-must.ensures.1 in
+    let setup : Setup = setup_with c.args.rules.now c.args.tables.now in
+    let look : Look = look_of c.args.looked.now in
+    let split = moment_last (UnknownCall c.args.call, is_some look.flight) (course_in look.flight)
+    (λ course. aim_checks setup.tables course (trajectory_of setup (Planned course)) c.args.clearance c.args.eff) (Future, nat_le c.args.eff look.now)
+    ((HistoryFull, has_history setup.rules look) ∷ []) in
+    rw (p.1, p.2, split, ← c.in_ok-check_aim.ensures, ← c.in_err-must.ensures) refl
 
 pub returns : goal.returns
-returns c =
-    let setup : Setup = record { rules = c.args.rules.now; tables = c.args.tables.now } in
-    let course = c.in-Planned.course in
-    let t : Trajectory = trajectory_of setup (Planned course) in
-    let has = rw (c.in-Some.is, c.in-Planned.is) at c.requires in
-    let flies = strand_is c.args.looked.now.strand c.in-Some-strand.strand t has.strand c.in-Some-strand.is in
-    let exact = rw flies at c.in_ok-cleared.ensures.exact in
-    let passed = passed_alike (clearance_checks setup.tables course t c.args.clearance c.args.eff c.args.looked.now.now) (aim_of course t c.args.clearance c.args.eff) c.in_ok-cleared.field-0 exact in
-    rw (c.in-Some.is, check-true (UnknownCall c.args.call), c.in-Planned.is, check-true Fixed) passed
+returns c = λ who.
+    let setup : Setup = setup_with c.args.rules.now c.args.tables.now in
+    let look : Look = look_of c.args.looked.now in
+    let split = moment_last (UnknownCall c.args.call, is_some look.flight) (course_in look.flight)
+    (λ course. aim_checks setup.tables course (trajectory_of setup (Planned course)) c.args.clearance c.args.eff) (Future, nat_le c.args.eff look.now)
+    ((HistoryFull, has_history setup.rules look) ∷ []) in
+    rw (split, ← c.in_ok-check_aim.ensures, ← c.in_ok-must.ensures, ← c.has_history.ensures, next-ok, c.must-2.ensures) refl
