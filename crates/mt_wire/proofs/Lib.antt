@@ -1,9 +1,8 @@
-pub mod BoundedLines
-pub mod Decoding
-pub mod EntryTexts
-pub mod Lengths
+pub mod CompleteEntries
+pub mod EntryBack
+pub mod EntryLaw
+pub mod MembersRead
 pub mod PlainText
-pub mod Putting
 pub mod ReadBack
-pub mod ReplyTexts
-pub mod StepLemmas
+pub mod ReplyBack
+pub mod TrailingLine

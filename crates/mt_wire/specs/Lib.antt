@@ -1,15 +1,2 @@
-pub mod Bands
-pub mod Bounded
-pub mod Commands
-pub mod Entry
-pub mod Field
-pub mod Flight
+pub mod Complete
 pub mod Held
-pub mod Joined
-pub mod Key
-pub mod Line
-pub mod Numbers
-pub mod Puts
-pub mod Reply
-pub mod Short
-pub mod Steps

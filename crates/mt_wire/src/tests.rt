@@ -1,13 +1,72 @@
-mod answers;
-mod changes;
-mod clearances;
-mod external;
-mod fields;
-mod flights;
-mod lines;
-mod names;
-mod planned;
-mod probes;
-mod replies;
-mod scripts;
-mod texts;
+//! Texts of entries: each is read and written again, or refused.
+use crate::{LineNo, read_entry, write_entry};
+use std::process::Abort;
+
+// Behind each text stands what comes of it: `read`, or the refusal with the field that it names.
+const ENTRIES: &str = r#"
+{"at":0,"call":"DDD1","do":"plan","from":350,"level":360,"route":["Q0","Q1"],"type":"JA1","who":0} => read
+{"call":"AAA1","do":"external","from":0,"gr":15,"gw":1,"r":2,"to":1200,"vx":-480,"vy":3,"vz":-4,"w":5,"who":1,"x":-3110400,"y":3682800,"z":2100000} => read
+{"call":"AAA1","do":"drop","who":4294967295} => read
+{"at":10000000,"call":"DDD1","do":"report","who":2,"x":-7,"y":8,"z":3600000} => read
+{"do":"tick","now":10000000,"who":0} => read
+{"call":"DDD1","do":"renew","who":0} => read
+{"call":"DDD1","do":"clear","eff":0,"level":600,"who":0} => read
+{"call":"DDD1","direct":"Q1","do":"clear","eff":10,"who":0} => read
+{"call":"DDD1","do":"accept","eff":10,"level":360,"v":5,"who":0} => read
+{"call":"DDD1","direct":"Q1","do":"accept","eff":10,"v":4194304,"who":0} => read
+{"call":"DDD1","do":"tentative","eff":10,"level":0,"who":0} => read
+{"call":"DDD1","do":"withdraw","force":true,"who":0} => read
+{"call":"DDD1","do":"commit","who":0} => read
+{"call":"DDD1","do":"commit" => json
+["commit"] => form 
+{"call":"DDD1","do":"probe","level":360,"who":0} => form do
+{"do":"begin","who":0} => form do
+{"call":"DDD1","do":"commit","v":0,"who":0} => form v
+{"call":"DDD1","do":"accept","eff":10,"level":360,"probe":1,"v":5,"who":0} => form probe
+{"call":"DDD1","do":"commit"} => form who
+{"at":0,"call":"DDD1","do":"plan","level":360,"route":["Q0","Q1"],"type":"JA1","who":0} => form from
+{"call":"AAA1","do":"external","from":0,"gr":0,"gw":0,"r":0,"to":1,"vx":0,"vy":0,"vz":0,"who":1,"x":0,"y":0,"z":0} => form w
+{"call":"DDD1","do":"clear","level":350,"who":0} => form eff
+{"call":"DDD1","do":"accept","eff":10,"level":360,"who":"0"} => form v
+{"call":"DDD1","do":"accept","level":360,"who":0} => form eff
+{"call":"DDD1","do":"withdraw","who":0} => form force
+{"call":"DDD1","do":"withdraw","force":0,"who":-1} => form force
+{"call":"DDD1","do":"tentative","eff":10,"level":601,"who":0} => range level
+{"call":"DDD1","do":"accept","eff":10,"level":360,"v":4194305,"who":-1} => range v
+{"call":"DDD1","do":"commit","who":-1} => range who
+{"call":"DDD1","do":"commit","who":4294967296} => range who
+"#;
+
+// What comes of a text of an entry: the text that is written of what was read, or the refusal.
+fn answer(rt: &(impl Abort + AllocGlobal), text: &str) -> String {
+    match read_entry(rt.alloc(), text.as_bytes()) {
+        Ok(entry) => {
+            let line = write_entry(rt.alloc(), &entry).expect(rt, "memory");
+            String::from_utf8(line).ok().expect(rt, "UTF-8")
+        }
+        Err(LineNo::Json) => format!(in rt.alloc(); "json").expect(rt, "memory"),
+        Err(LineNo::Memory) => format!(in rt.alloc(); "memory").expect(rt, "memory"),
+        Err(LineNo::Form(name)) => refusal(rt, "form", name.bytes()),
+        Err(LineNo::Range(name)) => refusal(rt, "range", name.bytes()),
+    }
+}
+
+fn refusal(rt: &(impl Abort + AllocGlobal), word: &str, name: &[u8]) -> String {
+    let name = std::str::from_utf8(name).ok().expect(rt, "UTF-8");
+    format!(in rt.alloc(); "{word} {name}").expect(rt, "memory")
+}
+
+#[test]
+fn texts_of_entries_are_read_or_refused(rt: HostRuntime) {
+    for case in ENTRIES.lines().skip(1) {
+        let (text, wanted) = case.split_once(" => ").expect(&rt, "two columns");
+        let found = answer(&rt, text);
+        let found = if wanted == "read" {
+            found.trim_end()
+        } else {
+            found.as_str()
+        };
+        let wanted = if wanted == "read" { text } else { wanted };
+        assert_eq!(&rt; found, wanted, "{text}");
+    }
+}

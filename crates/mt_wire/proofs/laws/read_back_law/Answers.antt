@@ -1,4 +1,5 @@
-use Rattle.mt_wire.proofs.ReadBack.{entry_back, reply_back}
+use Rattle.mt_wire.proofs.EntryBack.{entry_back}
+use Rattle.mt_wire.proofs.ReplyBack.{reply_back}
 use Rattle.mt_wire.proofs.laws.read_back_law.Goals as goal
 
 pub returns-clause-replies : goal.returns-clause-replies

@@ -1,0 +1,4 @@
+pub mod BoundedLines
+pub mod Decoding
+pub mod EntryReading
+pub mod StepLemmas

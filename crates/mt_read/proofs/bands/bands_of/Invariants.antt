@@ -1,0 +1,9 @@
+use Rattle.std.proofs.Common.{◌≡◌, ◌++◌, drop, option_map}
+use Rattle.serde_json.specs.View.{items_view}
+use Rattle.mt_read.specs.Field.{each_of}
+use Rattle.mt_read.specs.Bands.{as_band}
+use Rattle.mt_read.proofs.bands.bands_of.Given as goal
+
+abbrev pub invariant-loop-value : goal.invariant-loop-value
+invariant-loop-value l =
+    option_map (λ xs. l.bands ++ xs) (each_of as_band (items_view (drop l.value-index l.values))) ≡ each_of as_band (items_view l.values)

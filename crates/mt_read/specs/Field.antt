@@ -1,0 +1,136 @@
+-- The fields of a line: what is read of one, and what is checked of one.
+use Rattle.std.specs.Prelude.{◌≡◌, ℕ, ℤ, pos, ◌&&◌, not, int_le, Bool, true, false, List, [], ◌∷◌, codes, Option, Some, None, is_some, option_and_then, option_map, unwrap_or, Result, Ok, Err, ⊤, unsigned_abs, if◌then◌else◌}
+use Rattle.std.specs.Option.{option_map_or}
+use Rattle.std.specs.Str.{bytes_eq}
+use Rattle.serde_json.specs.Data.{Data, Items, no_items, item, Members}
+use Rattle.serde_json.specs.Find.{as_array, as_str, get_member}
+use Rattle.mt_base.specs.declared.role.Role.{Role}
+use Rattle.mt_base.specs.declared.role.Role.TheVariants.{Feed, Position}
+use Rattle.mt_base.specs.Checks.{check, next}
+use Rattle.mt_base.specs.Name.{name_of}
+use Rattle.mt_json.specs.Field.{as_whole}
+use Rattle.mt_read.specs.declared.key.Key.{Key}
+use Rattle.mt_read.specs.declared.key.Fault.{Fault}
+use Rattle.mt_read.specs.declared.key.Fault.TheVariants.{Form, Range}
+use Rattle.mt_read.specs.declared.stop.Stop.{Stop}
+use Rattle.mt_read.specs.declared.stop.Stop.TheVariants as stop
+use Rattle.mt_read.specs.declared.origin.Origin.{Origin}
+use Rattle.mt_read.specs.declared.origin.Origin.TheVariants.{Line, Entry}
+use Rattle.mt_read.specs.Key.{key_text}
+
+-- a callsign: a text of 1 to 7 capital letters and digits
+abbrev pub as_call : Data → Option (List ℕ)
+as_call d = option_and_then (name_of 1 7) (as_str d)
+
+-- the name of a fix: of 2 to 5 of these
+abbrev pub as_fix : Data → Option (List ℕ)
+as_fix d = option_and_then (name_of 2 5) (as_str d)
+
+-- the name of a type: of 2 to 4 of these
+abbrev pub as_type : Data → Option (List ℕ)
+as_type d = option_and_then (name_of 2 4) (as_str d)
+
+-- each item of a list, by its kind; none where one is of another kind
+abbrev pub each_of : {A : Type 0} → (Data → Option A) → Items → Option (List A)
+each_of kind no_items = Some []
+each_of kind (item d ds) = option_and_then (λ x. option_map (λ xs. x ∷ xs) (each_of kind ds)) (kind d)
+
+-- a list whose items are of a kind
+abbrev pub as_list_of : {A : Type 0} → (Data → Option A) → Data → Option (List A)
+as_list_of kind d = option_and_then (each_of kind) (as_array d)
+
+abbrev pub role_of : List ℕ → Option Role
+role_of text = if bytes_eq text (codes "feed") then Some Feed else (if bytes_eq text (codes "position") then Some Position else None)
+
+-- a role: the text `feed` or `position`
+abbrev pub as_role : Data → Option Role
+as_role d = option_and_then role_of (as_str d)
+
+-- whether an object stands for a line
+abbrev pub is_line : Origin → Bool
+is_line (Line place) = true
+is_line Entry = false
+
+-- A field of a command: its key, whether it may be absent from a line or an entry, whether it may stand in it, and the values that are of
+-- its kind.
+pub record Field : Type 0 where
+  pub key : Key
+  pub may_lack : Origin → Members → Bool
+  pub may_stand : Members → Bool
+  pub kind : Data → Bool
+
+abbrev pub stands : Key → Members → Bool
+stands key ms = is_some (get_member (key_text key) ms)
+
+abbrev pub is_of : {A : Type 0} → (Data → Option A) → Data → Bool
+is_of kind d = is_some (kind d)
+
+abbrev pub must : {A : Type 0} → Key → (Data → Option A) → Field
+must key kind = record { key = key; may_lack = λ origin ms. false; may_stand = λ ms. true; kind = is_of kind }
+
+-- A field with a default, which a line may leave out; an entry has all its fields.
+abbrev pub may : {A : Type 0} → Key → (Data → Option A) → Field
+may key kind = record { key = key; may_lack = λ origin ms. is_line origin; may_stand = λ ms. true; kind = is_of kind }
+
+-- Two fields of which exactly one stands. Where neither does, the first is missing; where both do, the second is one too many.
+abbrev pub first_of_two : {A : Type 0} → Key → (Data → Option A) → Key → Field
+first_of_two key kind other = record { key = key; may_lack = λ origin ms. stands other ms; may_stand = λ ms. true; kind = is_of kind }
+
+abbrev pub second_of_two : {A : Type 0} → Key → (Data → Option A) → Key → Field
+second_of_two key kind other = record { key = key; may_lack = λ origin ms. true; may_stand = λ ms. not (stands other ms); kind = is_of kind }
+
+-- a key is absent, where that may be, or has a value of a kind, where it may have one
+abbrev pub form_check : Key → Bool → Bool → (Data → Bool) → Members → Fault × Bool
+form_check key may_lack may_stand kind ms = (Form key, option_map_or (λ d. may_stand && kind d) (get_member (key_text key) ms) may_lack)
+
+-- a key has a value of a kind
+abbrev pub there : {A : Type 0} → Key → (Data → Option A) → Members → Fault × Bool
+there key kind ms = form_check key false true (is_of kind) ms
+
+-- a field is there, where it may be, and of its kind, or absent where it may be
+abbrev pub kind_check : Origin → Members → Field → Fault × Bool
+kind_check origin ms field = form_check field.key (field.may_lack origin ms) (field.may_stand ms) field.kind ms
+
+-- what is read of a field by its kind; none where it is absent or of another kind
+abbrev pub read_at : {A : Type 0} → Key → (Data → Option A) → Members → Option A
+read_at key kind ms = option_and_then kind (get_member (key_text key) ms)
+
+-- the number at a key, by default 0
+abbrev pub number : Key → Members → ℤ
+number key ms = unwrap_or (read_at key as_whole ms) (pos 0)
+
+-- a number that is not below 0, as a second
+abbrev pub count : Key → Members → ℕ
+count key ms = unsigned_abs (number key ms)
+
+-- the same, or none where it is absent
+abbrev pub count_if_there : Key → Members → Option ℕ
+count_if_there key ms = option_map unsigned_abs (read_at key as_whole ms)
+
+-- a number within bounds
+abbrev pub bound : Key → ℤ → ℤ → ℤ → Fault × Bool
+bound key low high z = (Range key, int_le low z && int_le z high)
+
+-- the number at a key, within bounds
+unfoldable pub within : Key → ℤ → ℤ → Members → Result ℤ Fault
+within key low high ms = next (check (bound key low high (number key ms))) (Ok (number key ms))
+
+unfoldable pub count_within : Key → ℕ → ℕ → Members → Result ℕ Fault
+count_within key low high ms = next (check (bound key (pos low) (pos high) (number key ms))) (Ok (count key ms))
+
+-- a value that was read where a check passed; else its refusal
+abbrev pub Reads : {A : Type 0} → Result A Fault → Result ⊤ Fault → A → Type 0
+Reads (Ok y) r x = (r ≡ Ok (tt {0})) × (y ≡ x)
+Reads (Err e) r x = r ≡ Err e
+
+-- the same, or memory is wanting
+abbrev pub ReadsUnlessMemory : {A : Type 0} → Result A Stop → Result ⊤ Fault → A → Type 0
+ReadsUnlessMemory (Ok y) r x = (r ≡ Ok (tt {0})) × (y ≡ x)
+ReadsUnlessMemory (Err (stop.Fault e)) r x = r ≡ Err e
+ReadsUnlessMemory (Err stop.Memory) r x = ⊤
+
+-- the answer is this one, or memory is wanting
+abbrev pub IsUnlessMemory : {A : Type 0} → Result A Stop → Result A Fault → Type 0
+IsUnlessMemory (Ok y) r = r ≡ Ok y
+IsUnlessMemory (Err (stop.Fault e)) r = r ≡ Err e
+IsUnlessMemory (Err stop.Memory) r = ⊤

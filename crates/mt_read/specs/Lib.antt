@@ -1,0 +1,10 @@
+pub mod Bands
+pub mod Bounded
+pub mod Entry
+pub mod Field
+pub mod Key
+pub mod Line
+pub mod Rules
+pub mod Steps
+pub mod Table
+pub mod Words

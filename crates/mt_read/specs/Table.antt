@@ -1,0 +1,261 @@
+-- The table of commands: for each its word, who may give it, its fields with kinds and bounds, and what it asks for.
+use Rattle.std.specs.Prelude.{ℕ, pos, neg_ℤ, ◌+◌, ◌-◌, ◌^◌, ◌+ℤ◌, ◌*ℤ◌, Bool, false, List, [], ◌∷◌, ◌++◌, map, codes, Option, Some, None, is_some, unwrap_or}
+use Rattle.serde_json.specs.Data.{Members}
+use Rattle.serde_json.specs.Find.{as_bool}
+use Rattle.mt_base.specs.declared.clearance.Clearance.{Clearance}
+use Rattle.mt_base.specs.declared.clearance.Clearance.TheVariants.{Level, Direct}
+use Rattle.mt_base.specs.declared.command.Command.{Command}
+use Rattle.mt_base.specs.declared.command.Command.TheVariants as command
+use Rattle.mt_base.specs.declared.flight.Report.{Report}
+use Rattle.mt_base.specs.declared.flight.Straight.{Straight}
+use Rattle.mt_base.specs.declared.role.Role.TheVariants as role
+use Rattle.mt_base.specs.declared.row.Row.{Row}
+use Rattle.mt_json.specs.Field.{as_whole}
+use Rattle.mt_read.specs.declared.key.Fault.{Fault}
+use Rattle.mt_read.specs.declared.key.Fault.TheVariants.{Range}
+use Rattle.mt_read.specs.declared.key.Key.{Key}
+use Rattle.mt_read.specs.declared.key.Key.TheVariants as key
+use Rattle.mt_read.specs.declared.request.Request.{Request}
+use Rattle.mt_read.specs.declared.request.Request.TheVariants as request
+use Rattle.mt_read.specs.declared.word.Change.{Change}
+use Rattle.mt_read.specs.declared.word.Change.TheVariants as change
+use Rattle.mt_read.specs.declared.word.EntryWord.{EntryWord}
+use Rattle.mt_read.specs.declared.word.EntryWord.TheVariants as entries
+use Rattle.mt_read.specs.declared.word.Group.{Group}
+use Rattle.mt_read.specs.declared.word.Group.TheVariants as group
+use Rattle.mt_read.specs.declared.word.Word.{Word}
+use Rattle.mt_read.specs.declared.word.Word.TheVariants as word
+use Rattle.mt_read.specs.Bands.{as_bands, as_numbers}
+use Rattle.mt_read.specs.Field.{Field, as_call, as_fix, as_list_of, as_role, as_type, bound, count, count_if_there, first_of_two, may, must, number, read_at, second_of_two}
+use Rattle.mt_read.specs.Rules.{rule_bound, rule_names, set_in}
+
+-- A row of the table: the command's word, who may give it, its fields in order, their bounds in order, and what its members ask for.
+pub record Layout (A : Type 0) : Type 0 where
+  pub text : List ℕ
+  pub group : Group
+  pub fields : List Field
+  pub bounds : Members → List (Fault × Bool)
+  pub asks : Members → A
+
+abbrev pub layout : {A : Type 0} → List ℕ → Group → List Field → (Members → List (Fault × Bool)) → (Members → A) → Layout A
+layout text group fields bounds asks = record { text = text; group = group; fields = fields; bounds = bounds; asks = asks }
+
+-- ---- numbers and names that several commands have
+
+-- a second up to 10,000,000, a flight level up to 600, a position east or north within 1,024 nautical miles, a height up to flight level 600
+abbrev pub second_bound : Key → Members → Fault × Bool
+second_bound key ms = bound key (pos 0) (pos 10000000) (number key ms)
+
+abbrev pub level_bound : Key → Members → Fault × Bool
+level_bound key ms = bound key (pos 0) (pos 600) (number key ms)
+
+abbrev pub plane_bound : Key → Members → Fault × Bool
+plane_bound key ms = bound key (neg_ℤ (pos 3686400)) (pos 3686400) (number key ms)
+
+abbrev pub height_bound : Key → Members → Fault × Bool
+height_bound key ms = bound key (pos 0) (pos 3600000) (number key ms)
+
+abbrev pub call_in : Members → List ℕ
+call_in ms = unwrap_or (read_at key.Call as_call ms) []
+
+-- ---- planned flights
+
+abbrev pub plan_fields : List Field
+plan_fields =
+    must key.Call as_call ∷
+    must key.Kind as_type ∷
+    must key.Route (as_list_of as_fix) ∷
+    must key.At as_whole ∷
+    may key.From as_whole ∷
+    must key.Level as_whole ∷ []
+
+abbrev pub plan_bounds : Members → List (Fault × Bool)
+plan_bounds ms = second_bound key.At ms ∷ level_bound key.From ms ∷ level_bound key.Level ms ∷ []
+
+abbrev pub kind_in : Members → List ℕ
+kind_in ms = unwrap_or (read_at key.Kind as_type ms) []
+
+abbrev pub route_in : Members → List (List ℕ)
+route_in ms = unwrap_or (read_at key.Route (as_list_of as_fix) ms) []
+
+-- a planned flight, whose first level is that it is cleared to where it isn't given
+abbrev pub plan_in : Members → Command
+plan_in ms = command.Plan (call_in ms) (kind_in ms) (route_in ms) (count key.At ms) (unwrap_or (count_if_there key.From ms) (count key.Level ms)) (count key.Level ms)
+
+-- ---- external flights
+
+abbrev pub external_fields : List Field
+external_fields =
+    must key.Call as_call ∷
+    must key.From as_whole ∷
+    must key.To as_whole ∷
+    must key.X as_whole ∷
+    must key.Y as_whole ∷
+    must key.Z as_whole ∷
+    may key.Vx as_whole ∷
+    may key.Vy as_whole ∷
+    may key.Vz as_whole ∷
+    may key.R as_whole ∷
+    may key.Gr as_whole ∷
+    may key.W as_whole ∷
+    may key.Gw as_whole ∷ []
+
+-- five values at the end of so many seconds of a row's gains
+abbrev pub ends : Row → ℕ → List (Fault × Bool)
+ends row seconds =
+    bound key.X (neg_ℤ (pos 3686400)) (pos 3686400) (row.x +ℤ row.vx *ℤ pos seconds) ∷
+    bound key.Y (neg_ℤ (pos 3686400)) (pos 3686400) (row.y +ℤ row.vy *ℤ pos seconds) ∷
+    bound key.Z (pos 0) (pos 3600000) (row.z +ℤ row.vz *ℤ pos seconds) ∷
+    bound key.R (pos 0) (pos 72000) (row.r +ℤ row.gr *ℤ pos seconds) ∷
+    bound key.W (pos 0) (pos 600000) (row.w +ℤ row.gw *ℤ pos seconds) ∷ []
+
+abbrev pub row_in : Members → Row
+row_in ms = record {
+  x = number key.X ms;
+  y = number key.Y ms;
+  z = number key.Z ms;
+  r = number key.R ms;
+  w = number key.W ms;
+  vx = number key.Vx ms;
+  vy = number key.Vy ms;
+  vz = number key.Vz ms;
+  gr = number key.Gr ms;
+  gw = number key.Gw ms;
+  leg = 0;
+}
+
+abbrev pub straight_in : Members → Straight
+straight_in ms = record { from = count key.From ms; to = count key.To ms; first = row_in ms }
+
+abbrev pub external_bounds : Members → List (Fault × Bool)
+external_bounds ms =
+    second_bound key.From ms ∷
+    bound key.To (pos (count key.From ms + 1)) (pos (count key.From ms + 14400)) (number key.To ms) ∷
+    plane_bound key.X ms ∷
+    plane_bound key.Y ms ∷
+    height_bound key.Z ms ∷
+    bound key.Vx (neg_ℤ (pos 1000)) (pos 1000) (number key.Vx ms) ∷
+    bound key.Vy (neg_ℤ (pos 1000)) (pos 1000) (number key.Vy ms) ∷
+    bound key.Vz (neg_ℤ (pos 10000)) (pos 10000) (number key.Vz ms) ∷
+    bound key.R (pos 0) (pos 72000) (number key.R ms) ∷
+    bound key.Gr (pos 0) (pos 1000) (number key.Gr ms) ∷
+    bound key.W (pos 0) (pos 600000) (number key.W ms) ∷
+    bound key.Gw (pos 0) (pos 10000) (number key.Gw ms) ∷
+    ends (row_in ms) (count key.To ms - count key.From ms)
+
+-- ---- reports
+
+abbrev pub report_fields : List Field
+report_fields = must key.Call as_call ∷ must key.At as_whole ∷ must key.X as_whole ∷ must key.Y as_whole ∷ must key.Z as_whole ∷ []
+
+abbrev pub report_bounds : Members → List (Fault × Bool)
+report_bounds ms = second_bound key.At ms ∷ plane_bound key.X ms ∷ plane_bound key.Y ms ∷ height_bound key.Z ms ∷ []
+
+abbrev pub report_in : Members → Report
+report_in ms = record { at = count key.At ms; x = number key.X ms; y = number key.Y ms; z = number key.Z ms }
+
+-- ---- clearances
+
+-- a flight, the clearance, a level or a fix to fly direct to, and from when it holds
+abbrev pub clearance_fields : List Field
+clearance_fields =
+    must key.Call as_call ∷
+    first_of_two key.Level as_whole key.Direct ∷
+    second_of_two key.Direct as_fix key.Level ∷
+    may key.Eff as_whole ∷ []
+
+abbrev pub clearance_bounds : Members → List (Fault × Bool)
+clearance_bounds ms = level_bound key.Level ms ∷ second_bound key.Eff ms ∷ []
+
+-- to the fix where one is given, else to the level
+abbrev pub clearance_to : Option (List ℕ) → ℕ → Clearance
+clearance_to (Some fix) level = Direct fix
+clearance_to None level = Level level
+
+abbrev pub clearance_in : Members → Clearance
+clearance_in ms = clearance_to (read_at key.Direct as_fix ms) (count key.Level ms)
+
+-- an acceptance as it is entered has the version of its probe too
+abbrev pub accepted_fields : List Field
+accepted_fields = clearance_fields ++ must key.Probed as_whole ∷ []
+
+abbrev pub accepted_bounds : Members → List (Fault × Bool)
+accepted_bounds ms = clearance_bounds ms ++ bound key.Probed (pos 0) (pos 4194304) (number key.Probed ms) ∷ []
+
+-- ---- rows that several commands share: no field, a callsign alone, a clearance
+
+abbrev pub bare_layout : List ℕ → Group → Request → Layout Request
+bare_layout text group asked = layout text group [] (λ ms. []) (λ ms. asked)
+
+abbrev pub call_layout : {A : Type 0} → List ℕ → Group → (List ℕ → A) → Layout A
+call_layout text group asks = layout text group (must key.Call as_call ∷ []) (λ ms. []) (λ ms. asks (call_in ms))
+
+abbrev pub clearance_layout : {A : Type 0} → List ℕ → Group → (List ℕ → Clearance → Option ℕ → A) → Layout A
+clearance_layout text group asks =
+    layout text group clearance_fields clearance_bounds (λ ms. asks (call_in ms) (clearance_in ms) (count_if_there key.Eff ms))
+
+-- ---- the table
+
+-- the changes of the picture that are asked for by themselves
+abbrev pub change_layout : Change → Layout Command
+change_layout change.Plan = layout (codes "plan") group.Feed plan_fields plan_bounds plan_in
+change_layout change.External =
+    layout (codes "external") group.Feed external_fields external_bounds (λ ms. command.External (call_in ms) (straight_in ms))
+change_layout change.Drop = call_layout (codes "drop") group.Feed command.Drop
+change_layout change.Report = layout (codes "report") group.Feed report_fields report_bounds (λ ms. command.Report (call_in ms) (report_in ms))
+change_layout change.Tick =
+    layout (codes "tick") group.Feed (must key.Now as_whole ∷ []) (λ ms. second_bound key.Now ms ∷ []) (λ ms. command.Tick (count key.Now ms))
+change_layout change.Renew = call_layout (codes "renew") group.Feed command.Renew
+change_layout change.Clear = clearance_layout (codes "clear") group.Position command.Clear
+change_layout change.Tentative = clearance_layout (codes "tentative") group.Position command.Tentative
+change_layout change.Withdraw =
+    layout (codes "withdraw") group.Position (must key.Call as_call ∷ may key.Force as_bool ∷ []) (λ ms. [])
+    (λ ms. command.Withdraw (call_in ms) (unwrap_or (read_at key.Force as_bool ms) false))
+change_layout change.Commit = call_layout (codes "commit") group.Position command.Commit
+
+abbrev pub as_request : Layout Command → Layout Request
+as_request row = layout row.text row.group row.fields row.bounds (λ ms. request.Change (row.asks ms))
+
+-- everything that a line asks for
+abbrev pub layout_of : Word → Layout Request
+layout_of word.Fix =
+    layout (codes "fix") group.Script (must key.Name as_fix ∷ must key.X as_whole ∷ must key.Y as_whole ∷ [])
+    (λ ms. plane_bound key.X ms ∷ plane_bound key.Y ms ∷ [])
+    (λ ms. request.Fix (unwrap_or (read_at key.Name as_fix ms) []) (number key.X ms) (number key.Y ms))
+layout_of word.TypeLine =
+    layout (codes "type") group.Script (must key.Name as_type ∷ must key.Bands (as_list_of as_numbers) ∷ [])
+    (λ ms. (Range key.Bands, is_some (read_at key.Bands as_bands ms)) ∷ [])
+    (λ ms. request.TypeLine (unwrap_or (read_at key.Name as_type ms) []) (unwrap_or (read_at key.Bands as_bands ms) []))
+layout_of word.Rule =
+    layout (codes "rule") group.Script (map (λ name. may (key.Rule name) as_whole) rule_names) (λ ms. map (rule_bound ms) rule_names)
+    (λ ms. request.Rule (set_in ms))
+layout_of word.Begin = bare_layout (codes "begin") group.Script request.Begin
+layout_of word.Take = bare_layout (codes "take") group.Script request.Take
+layout_of (word.Change c) = as_request (change_layout c)
+layout_of word.Probe = clearance_layout (codes "probe") group.Position request.Probe
+layout_of word.Accept =
+    layout (codes "accept") group.Position (must key.Probe as_whole ∷ [])
+    (λ ms. bound key.Probe (pos 1) (pos (2 ^ 63 - 1)) (number key.Probe ms) ∷ []) (λ ms. request.Accept (count key.Probe ms))
+layout_of word.Advise = call_layout (codes "advise") group.Position request.Advise
+layout_of word.Hello =
+    layout (codes "hello") group.Any (must key.Role as_role ∷ []) (λ ms. []) (λ ms. request.Hello (unwrap_or (read_at key.Role as_role ms) role.Feed))
+layout_of word.List = bare_layout (codes "list") group.Any request.List
+layout_of word.Check = bare_layout (codes "check") group.Any request.Check
+layout_of word.Due = bare_layout (codes "due") group.Any request.Due
+layout_of word.Flight =
+    layout (codes "flight") group.Any (must key.Call as_call ∷ may key.Sec as_whole ∷ [])
+    (λ ms. bound key.Sec (pos 0) (pos 10014400) (number key.Sec ms) ∷ []) (λ ms. request.Flight (call_in ms) (count_if_there key.Sec ms))
+layout_of word.History =
+    layout (codes "history") group.Any (must key.From as_whole ∷ must key.To as_whole ∷ [])
+    (λ ms. bound key.From (pos 0) (pos 4194304) (number key.From ms) ∷
+    bound key.To (pos (count key.From ms)) (pos (count key.From ms + 64)) (number key.To ms) ∷ [])
+    (λ ms. request.History (count key.From ms) (count key.To ms))
+layout_of word.Settle = bare_layout (codes "settle") group.Any request.Settle
+layout_of word.Bye = bare_layout (codes "bye") group.Any request.Bye
+
+-- everything that an entry holds: a change, or an acceptance with what was accepted
+abbrev pub entry_layout : EntryWord → Layout Command
+entry_layout (entries.Change c) = change_layout c
+entry_layout entries.Accepted =
+    layout (codes "accept") group.Position accepted_fields accepted_bounds
+    (λ ms. command.Accept (call_in ms) (clearance_in ms) (count key.Eff ms) (count key.Probed ms))

@@ -1,0 +1,47 @@
+-- Which command a text is the word of, and where it may be given.
+use Rattle.std.specs.Prelude.{ℕ, Bool, true, false, List, [], ◌∷◌, map, Option, Some, None, if◌then◌else◌}
+use Rattle.std.specs.Str.{bytes_eq}
+use Rattle.mt_read.specs.declared.request.Place.{Place}
+use Rattle.mt_read.specs.declared.request.Place.TheVariants as place
+use Rattle.mt_read.specs.declared.word.Change.{Change}
+use Rattle.mt_read.specs.declared.word.Change.TheVariants as change
+use Rattle.mt_read.specs.declared.word.EntryWord.{EntryWord}
+use Rattle.mt_read.specs.declared.word.EntryWord.TheVariants as entries
+use Rattle.mt_read.specs.declared.word.Group.{Group}
+use Rattle.mt_read.specs.declared.word.Group.TheVariants as group
+use Rattle.mt_read.specs.declared.word.Word.{Word}
+use Rattle.mt_read.specs.declared.word.Word.TheVariants as word
+use Rattle.mt_read.specs.Table.{entry_layout, layout_of}
+
+-- the first of some commands whose word a text is
+abbrev pub named_by : {A : Type 0} → (A → List ℕ) → List A → List ℕ → Option A
+named_by text_of [] text = None
+named_by text_of (w ∷ ws) text = if bytes_eq text (text_of w) then Some w else named_by text_of ws text
+
+abbrev pub changes : List Change
+changes =
+    change.Plan ∷ change.External ∷ change.Drop ∷ change.Report ∷ change.Tick ∷ change.Renew ∷ change.Clear ∷ change.Tentative ∷
+    change.Withdraw ∷ change.Commit ∷ []
+
+abbrev pub words : List Word
+words =
+    word.Fix ∷ word.TypeLine ∷ word.Rule ∷ word.Begin ∷ word.Take ∷ word.Probe ∷ word.Accept ∷ word.Advise ∷ word.Hello ∷ word.List ∷
+    word.Check ∷ word.Due ∷ word.Flight ∷ word.History ∷ word.Settle ∷ word.Bye ∷ map word.Change changes
+
+-- the command of a line, and of an entry
+unfoldable pub word_of : List ℕ → Option Word
+word_of = named_by (λ w. (layout_of w).text) words
+
+unfoldable pub entry_word_of : List ℕ → Option EntryWord
+entry_word_of = named_by (λ w. (entry_layout w).text) (entries.Accepted ∷ map entries.Change changes)
+
+-- A script has every command, a session none that is a script's alone, and the feed's and a position's only in that role.
+abbrev pub may_give : Place → Group → Bool
+may_give place.Replay g = true
+may_give place.Feed group.Feed = true
+may_give place.Position group.Position = true
+may_give p group.Any = true
+may_give p g = false
+
+abbrev pub is_allowed : Place → Word → Bool
+is_allowed place w = may_give place (layout_of w).group

@@ -1,0 +1,79 @@
+//! The text of an entry read.
+ghost use Rattle.std.specs.Prelude.{◌≡◌, [], IfOk, option_and_then};
+ghost use Rattle.mt_base.specs.Bounds.{IsBoundedCommand};
+ghost use Rattle.mt_base.specs.declared.command.Entry.{Entry as Kept};
+ghost use Rattle.mt_json.specs.Shown.{members};
+ghost use Rattle.mt_read.specs.Entry.{entry, held_in};
+ghost use Rattle.mt_read.specs.Field.{IsUnlessMemory};
+ghost use Rattle.mt_read.specs.Line.{Gives, checked, decoded, read_value, word_text};
+ghost use Rattle.mt_read.specs.Table.{entry_layout};
+ghost use Rattle.mt_read.specs.Words.{entry_word_of};
+ghost use Rattle.mt_read.specs.declared.origin.Origin.TheVariants as origin;
+
+use crate::change::change_of;
+use crate::clearance::accepted_entry;
+use crate::object::{form, named, no_other, value_of};
+use crate::origin::Origin;
+use crate::request::LineNo;
+use crate::stop::Stop;
+use crate::word::{EntryWord, entry_keys, entry_word_of};
+use mt_base::{Command, Entry};
+use mt_json::Fields;
+use std::alloc::Global;
+
+// The command that the entry names.
+fn word_in(fields: &Fields) -> Option<EntryWord>
+    ensures { result ≡ option_and_then entry_word_of (word_text (members fields.now)) }
+{
+    let text = fields.word("do").ok()?;
+    entry_word_of(text)
+}
+
+// What the fields of a command's entry hold.
+fn checked(alloc: Global, fields: &Fields, word: EntryWord) -> Result<(u32, Command), Stop>
+    ensures { IsUnlessMemory result (checked origin.Entry [] (entry_layout word) (members fields.now)) }
+{
+    match word {
+        EntryWord::Change(change) => change_of(alloc, fields, Origin::Entry, change),
+        EntryWord::Accepted => Ok(accepted_entry(fields, Origin::Entry)?),
+    }
+}
+
+// What an object's fields hold.
+fn read_fields(alloc: Global, fields: &Fields) -> Result<(u32, Command), LineNo>
+    ensures { Gives result (held_in (members fields.now)) }
+{
+    let Some(word) = word_in(fields) else {
+        return Err(form(alloc, b"do"));
+    };
+    no_other(alloc, fields, entry_keys(word))?;
+    match checked(alloc, fields, word) {
+        Ok(held) => Ok(held),
+        Err(Stop::Fault(fault)) => Err(named(alloc, fault)),
+        Err(Stop::Memory) => Err(LineNo::Memory),
+    }
+}
+
+// What an entry's text holds.
+fn read_bytes(alloc: Global, bytes: &[u8]) -> Result<(u32, Command), LineNo>
+    ensures { Gives result (read_value held_in (decoded bytes.now)) }
+{
+    let value = value_of(alloc, bytes)?;
+    let Some(fields) = Fields::of(&value) else {
+        return Err(form(alloc, b""));
+    };
+    read_fields(alloc, &fields)
+}
+
+/// The entry that a text says, with or without its 0x0A.
+///
+/// It is one object with all the fields of the entry's command, those with a default too, and `who`, from 0 to 4,294,967,295. An
+/// acceptance has the fields of a clearance and `v`, the version of its probe, from 0 to 4,194,304. The refusals are those of a line, in
+/// the same order; `v` is checked behind the clearance, and `who` last, in both passes. [`LineNo::Memory`] may come in place of any answer.
+pub fn read_entry(alloc: Global, bytes: &[u8]) -> Result<Entry, LineNo>
+    ensures exact { Gives result (entry bytes.now) }
+    ensures bounded { IfOk result (λ (e : Kept). IsBoundedCommand e.command) }
+{
+    let (who, command) = read_bytes(alloc, bytes)?;
+    Ok(Entry { who, command })
+}

@@ -1,0 +1,29 @@
+//! Lines of JSON read as requests, and texts of entries read as entries, exactly.
+//!
+//! What a line and an entry are read as are definitions of `specs/` over serde_json's own definition of reading. The table of commands is
+//! `specs/Table.antt`.
+#![tactic(auto)]
+
+mod actor;
+mod bands;
+mod change;
+mod clearance;
+mod entry;
+mod feed;
+mod field;
+mod key;
+mod line;
+mod marks;
+mod object;
+mod origin;
+mod plain;
+mod plan;
+mod request;
+mod setup;
+mod stop;
+mod tables;
+mod word;
+
+pub use entry::read_entry;
+pub use line::read_line;
+pub use request::{LineNo, Place, Request, RuleSet};

@@ -1,0 +1,139 @@
+//! A line read.
+ghost use Rattle.std.specs.Prelude.{◌≡◌, [], IfOk};
+ghost use Rattle.mt_json.specs.Shown.{members};
+ghost use Rattle.mt_read.specs.Bounded.{IsBounded};
+ghost use Rattle.mt_read.specs.Field.{IsUnlessMemory};
+ghost use Rattle.mt_read.specs.Line.{Gives, checked, line, read_members, standing, word_in};
+ghost use Rattle.mt_read.specs.Table.{as_request, change_layout, layout_of};
+ghost use Rattle.mt_read.specs.declared.origin.Origin.TheVariants.{Line};
+
+use crate::change::change_of;
+use crate::clearance::{accept_line, probe_line};
+use crate::object::{form, named, no_other, value_of};
+use crate::origin::Origin;
+use crate::plain::{
+    advise_line, bye_line, check_line, due_line, flight_line, hello_line, history_line, list_line,
+    settle_line, take_line,
+};
+use crate::request::{LineNo, Place, Request};
+use crate::setup::{begin_line, rule_line};
+use crate::stop::Stop;
+use crate::tables::{fix_line, type_line};
+use crate::word::{Change, Word, is_allowed, keys_of, word_of};
+use mt_base::Rules;
+use mt_json::Fields;
+use std::alloc::Global;
+
+// The command that the line names, where the place has it.
+fn word_in(fields: &Fields, place: Place) -> Option<Word>
+    ensures { result ≡ word_in place (members fields.now) }
+{
+    let text = fields.word("do").ok()?;
+    let word = word_of(text)?;
+    if is_allowed(place, word) {
+        return Some(word);
+    }
+    None
+}
+
+// The change that a line asks for.
+#[tactic(auto, using(crate::proofs::StepLemmas::asks_change))]
+fn change_line(
+    alloc: Global,
+    fields: &Fields,
+    origin: Origin,
+    change: Change,
+) -> Result<(u32, Request), Stop>
+    ensures { IsUnlessMemory result (checked origin [] (as_request (change_layout change)) (members fields.now)) }
+{
+    let (who, command) = change_of(alloc, fields, origin, change)?;
+    Ok((who, Request::Change(command)))
+}
+
+// What the command's line asks for, and who asks.
+fn checked(
+    alloc: Global,
+    fields: &Fields,
+    place: Place,
+    rules: &Rules,
+    word: Word,
+) -> Result<(u32, Request), Stop>
+    ensures { IsUnlessMemory result (checked (Line place) (standing word rules.now (members fields.now)) (layout_of word) (members fields.now)) }
+{
+    let origin = Origin::Line(place);
+    match word {
+        Word::Fix => Ok(fix_line(fields, origin)?),
+        Word::TypeLine => type_line(alloc, fields, origin),
+        Word::Rule => Ok(rule_line(fields, origin, rules)?),
+        Word::Begin => Ok(begin_line(fields, origin)?),
+        Word::Take => Ok(take_line(fields, origin)?),
+        Word::Change(change) => change_line(alloc, fields, origin, change),
+        Word::Probe => Ok(probe_line(fields, origin)?),
+        Word::Accept => Ok(accept_line(fields, origin)?),
+        Word::Advise => Ok(advise_line(fields, origin)?),
+        Word::Hello => Ok(hello_line(fields, origin)?),
+        Word::List => Ok(list_line(fields, origin)?),
+        Word::Check => Ok(check_line(fields, origin)?),
+        Word::Due => Ok(due_line(fields, origin)?),
+        Word::Flight => Ok(flight_line(fields, origin)?),
+        Word::History => Ok(history_line(fields, origin)?),
+        Word::Settle => Ok(settle_line(fields, origin)?),
+        Word::Bye => Ok(bye_line(fields, origin)?),
+    }
+}
+
+// What an object's fields are read as.
+fn read_fields(
+    alloc: Global,
+    fields: &Fields,
+    place: Place,
+    rules: &Rules,
+) -> Result<(u32, Request), LineNo>
+    ensures { Gives result (read_members place rules.now (members fields.now)) }
+{
+    let Some(word) = word_in(fields, place) else {
+        return Err(form(alloc, b"do"));
+    };
+    no_other(alloc, fields, keys_of(place, word))?;
+    match checked(alloc, fields, place, rules, word) {
+        Ok(asked) => Ok(asked),
+        Err(Stop::Fault(fault)) => Err(named(alloc, fault)),
+        Err(Stop::Memory) => Err(LineNo::Memory),
+    }
+}
+
+// What a line is read as.
+fn read_bytes(
+    alloc: Global,
+    bytes: &[u8],
+    place: Place,
+    rules: &Rules,
+) -> Result<(u32, Request), LineNo>
+    ensures { Gives result (line place rules.now bytes.now) }
+{
+    let value = value_of(alloc, bytes)?;
+    let Some(fields) = Fields::of(&value) else {
+        return Err(form(alloc, b""));
+    };
+    read_fields(alloc, &fields, place, rules)
+}
+
+/// What the line asks for, and who asks; 0 where it doesn't say. The line is without its 0x0A, and `rules` are those that stand.
+///
+/// The refusal is the first of these, in this order. [`LineNo::Json`] where serde_json reads no value from the bytes. [`LineNo::Form`]
+/// with the empty name where the value isn't an object; with `do` where that member isn't the word of a command that the place has;
+/// with the least key, in byte order, that isn't a field of the command; with the first field that is missing or of another kind.
+/// [`LineNo::Range`] with the first field whose number, or list of bands, is outside its bounds. In a script each line may have the field
+/// `who`, checked after the others' kinds and again after the others' bounds. For `rule`, last, the rules as they would then stand are
+/// checked. [`LineNo::Memory`] may come in place of any answer.
+pub fn read_line(
+    alloc: Global,
+    bytes: &[u8],
+    place: Place,
+    rules: &Rules,
+) -> Result<(u32, Request), LineNo>
+    ensures exact { Gives result (line place rules.now bytes.now) }
+    ensures bounded { IfOk result (IsBounded rules.now) }
+{
+    read_bytes(alloc, bytes, place, rules)
+}

@@ -1,0 +1,266 @@
+ghost use Rattle.std.specs.Prelude.{◌≡◌};
+ghost use Rattle.mt_read.specs.Line.{keys_of};
+ghost use Rattle.mt_read.specs.Table.{change_layout, entry_layout, layout_of};
+ghost use Rattle.mt_read.specs.Words.{entry_word_of, is_allowed, may_give, word_of};
+ghost use Rattle.mt_read.specs.declared.origin.Origin.TheVariants.{Line, Entry};
+ghost use Rattle.mt_read.specs.declared.request.Place.TheVariants.{Replay, Plain};
+
+use crate::request::Place;
+
+/// The word of a change of the picture that is asked for by itself.
+#[derive(Clone, Copy)]
+pub(crate) enum Change {
+    Plan,
+    External,
+    Drop,
+    Report,
+    Tick,
+    Renew,
+    Clear,
+    Tentative,
+    Withdraw,
+    Commit,
+}
+
+/// The word of a line.
+#[derive(Clone, Copy)]
+pub(crate) enum Word {
+    Fix,
+    TypeLine,
+    Rule,
+    Begin,
+    Take,
+    Change(Change),
+    Probe,
+    Accept,
+    Advise,
+    Hello,
+    List,
+    Check,
+    Due,
+    Flight,
+    History,
+    Settle,
+    Bye,
+}
+
+/// The word of an entry.
+#[derive(Clone, Copy)]
+pub(crate) enum EntryWord {
+    Change(Change),
+    /// `accept`, which in an entry says what was accepted.
+    Accepted,
+}
+
+/// Which lines may give a command.
+#[derive(Clone, Copy)]
+pub(crate) enum Group {
+    /// Those of a script alone.
+    Script,
+    /// Those of a script and of the feed.
+    Feed,
+    /// Those of a script and of a position.
+    Position,
+    /// All.
+    Any,
+}
+
+/// The command of a line that a text is the word of.
+#[tactic(auto, unfolding(crate::specs::Words::word_of))]
+pub(crate) fn word_of(text: &str) -> Option<Word>
+    ensures { result ≡ word_of text.now }
+{
+    match text {
+        "fix" => Some(Word::Fix),
+        "type" => Some(Word::TypeLine),
+        "rule" => Some(Word::Rule),
+        "begin" => Some(Word::Begin),
+        "take" => Some(Word::Take),
+        "probe" => Some(Word::Probe),
+        "accept" => Some(Word::Accept),
+        "advise" => Some(Word::Advise),
+        "hello" => Some(Word::Hello),
+        "list" => Some(Word::List),
+        "check" => Some(Word::Check),
+        "due" => Some(Word::Due),
+        "flight" => Some(Word::Flight),
+        "history" => Some(Word::History),
+        "settle" => Some(Word::Settle),
+        "bye" => Some(Word::Bye),
+        "plan" => Some(Word::Change(Change::Plan)),
+        "external" => Some(Word::Change(Change::External)),
+        "drop" => Some(Word::Change(Change::Drop)),
+        "report" => Some(Word::Change(Change::Report)),
+        "tick" => Some(Word::Change(Change::Tick)),
+        "renew" => Some(Word::Change(Change::Renew)),
+        "clear" => Some(Word::Change(Change::Clear)),
+        "tentative" => Some(Word::Change(Change::Tentative)),
+        "withdraw" => Some(Word::Change(Change::Withdraw)),
+        "commit" => Some(Word::Change(Change::Commit)),
+        _ => None,
+    }
+}
+
+/// The command of an entry that a text is the word of.
+#[tactic(auto, unfolding(crate::specs::Words::entry_word_of))]
+pub(crate) fn entry_word_of(text: &str) -> Option<EntryWord>
+    ensures { result ≡ entry_word_of text.now }
+{
+    match text {
+        "accept" => Some(EntryWord::Accepted),
+        "plan" => Some(EntryWord::Change(Change::Plan)),
+        "external" => Some(EntryWord::Change(Change::External)),
+        "drop" => Some(EntryWord::Change(Change::Drop)),
+        "report" => Some(EntryWord::Change(Change::Report)),
+        "tick" => Some(EntryWord::Change(Change::Tick)),
+        "renew" => Some(EntryWord::Change(Change::Renew)),
+        "clear" => Some(EntryWord::Change(Change::Clear)),
+        "tentative" => Some(EntryWord::Change(Change::Tentative)),
+        "withdraw" => Some(EntryWord::Change(Change::Withdraw)),
+        "commit" => Some(EntryWord::Change(Change::Commit)),
+        _ => None,
+    }
+}
+
+fn group_of_change(change: Change) -> Group
+    ensures { result ≡ (change_layout change).group }
+{
+    match change {
+        Change::Plan
+        | Change::External
+        | Change::Drop
+        | Change::Report
+        | Change::Tick
+        | Change::Renew => Group::Feed,
+        Change::Clear | Change::Tentative | Change::Withdraw | Change::Commit => Group::Position,
+    }
+}
+
+fn group_of(word: Word) -> Group
+    ensures { result ≡ (layout_of word).group }
+{
+    match word {
+        Word::Fix | Word::TypeLine | Word::Rule | Word::Begin | Word::Take => Group::Script,
+        Word::Change(change) => group_of_change(change),
+        Word::Probe | Word::Accept | Word::Advise => Group::Position,
+        Word::Hello
+        | Word::List
+        | Word::Check
+        | Word::Due
+        | Word::Flight
+        | Word::History
+        | Word::Settle
+        | Word::Bye => Group::Any,
+    }
+}
+
+/// Whether a line of the place may give the command.
+pub(crate) fn is_allowed(place: Place, word: Word) -> bool
+    ensures { result ≡ is_allowed place word }
+{
+    match (place, group_of(word)) {
+        (Place::Replay, _) => true,
+        (Place::Feed, Group::Feed | Group::Any) => true,
+        (Place::Position, Group::Position | Group::Any) => true,
+        (Place::Plain, Group::Any) => true,
+        _ => false,
+    }
+}
+
+/// The keys of the command's line, with a space behind each.
+pub(crate) fn keys_of(place: Place, word: Word) -> &'static str
+    ensures { result.now ≡ keys_of (Line place) (layout_of word).fields }
+{
+    match place {
+        Place::Replay => script_keys(word),
+        Place::Feed | Place::Position | Place::Plain => session_keys(word),
+    }
+}
+
+/// The keys of an entry, with a space behind each.
+pub(crate) fn entry_keys(word: EntryWord) -> &'static str
+    ensures { result.now ≡ keys_of Entry (entry_layout word).fields }
+{
+    match word {
+        EntryWord::Change(change) => change_keys(change),
+        EntryWord::Accepted => "do call level direct eff v who ",
+    }
+}
+
+// The keys of a change, with who asks for it.
+fn change_keys(change: Change) -> &'static str
+    ensures { result.now ≡ keys_of (Line Replay) (change_layout change).fields }
+{
+    match change {
+        Change::Plan => "do call type route at from level who ",
+        Change::External => "do call from to x y z vx vy vz r gr w gw who ",
+        Change::Drop | Change::Renew | Change::Commit => "do call who ",
+        Change::Report => "do call at x y z who ",
+        Change::Tick => "do now who ",
+        Change::Clear | Change::Tentative => "do call level direct eff who ",
+        Change::Withdraw => "do call force who ",
+    }
+}
+
+fn script_keys(word: Word) -> &'static str
+    ensures { result.now ≡ keys_of (Line Replay) (layout_of word).fields }
+{
+    match word {
+        Word::Begin
+        | Word::List
+        | Word::Check
+        | Word::Due
+        | Word::Settle
+        | Word::Bye
+        | Word::Take => "do who ",
+        Word::Fix => "do name x y who ",
+        Word::TypeLine => "do name bands who ",
+        Word::Rule => "do sh sv r0 gh rmax w0 gv wmax tc ta tv flights history who ",
+        Word::Change(change) => change_keys(change),
+        Word::Flight => "do call sec who ",
+        Word::History => "do from to who ",
+        Word::Hello => "do role who ",
+        Word::Probe => "do call level direct eff who ",
+        Word::Accept => "do probe who ",
+        Word::Advise => "do call who ",
+    }
+}
+
+// The keys of a change, without who asks for it.
+fn session_change_keys(change: Change) -> &'static str
+    ensures { result.now ≡ keys_of (Line Plain) (change_layout change).fields }
+{
+    match change {
+        Change::Plan => "do call type route at from level ",
+        Change::External => "do call from to x y z vx vy vz r gr w gw ",
+        Change::Drop | Change::Renew | Change::Commit => "do call ",
+        Change::Report => "do call at x y z ",
+        Change::Tick => "do now ",
+        Change::Clear | Change::Tentative => "do call level direct eff ",
+        Change::Withdraw => "do call force ",
+    }
+}
+
+fn session_keys(word: Word) -> &'static str
+    ensures { result.now ≡ keys_of (Line Plain) (layout_of word).fields }
+{
+    match word {
+        Word::Begin
+        | Word::List
+        | Word::Check
+        | Word::Due
+        | Word::Settle
+        | Word::Bye
+        | Word::Take => "do ",
+        Word::Fix => "do name x y ",
+        Word::TypeLine => "do name bands ",
+        Word::Rule => "do sh sv r0 gh rmax w0 gv wmax tc ta tv flights history ",
+        Word::Change(change) => session_change_keys(change),
+        Word::Flight => "do call sec ",
+        Word::History => "do from to ",
+        Word::Hello => "do role ",
+        Word::Probe => "do call level direct eff ",
+        Word::Accept => "do probe ",
+        Word::Advise => "do call ",
+    }
+}

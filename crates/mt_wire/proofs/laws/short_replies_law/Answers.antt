@@ -1,5 +1,0 @@
-use Rattle.mt_wire.proofs.Lengths.{short_text}
-use Rattle.mt_wire.proofs.laws.short_replies_law.Goals as goal
-
-pub returns : goal.returns
-returns c = short_text

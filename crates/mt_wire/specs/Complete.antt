@@ -1,0 +1,52 @@
+-- Entries as a history keeps them.
+use Rattle.std.specs.Prelude.{◌≡◌, ℕ, ◌<◌, ◌^◌, true, List, All, is_some, ⊤}
+use Rattle.mt_base.specs.declared.clearance.Clearance.{Clearance}
+use Rattle.mt_base.specs.declared.clearance.Clearance.TheVariants.{Level, Direct}
+use Rattle.mt_base.specs.declared.command.Command.{Command}
+use Rattle.mt_base.specs.declared.command.Command.TheVariants as command
+use Rattle.mt_base.specs.declared.command.Entry.{Entry}
+use Rattle.mt_base.specs.Bounds.{IsBoundedCommand}
+use Rattle.mt_base.specs.Name.{is_name}
+
+-- the callsign of a flight, the name of a fix and the name of a type
+abbrev pub IsCallsign : List ℕ → Type 0
+IsCallsign text = is_name 1 7 text ≡ true
+
+abbrev pub IsFixName : List ℕ → Type 0
+IsFixName text = is_name 2 5 text ≡ true
+
+abbrev pub IsTypeName : List ℕ → Type 0
+IsTypeName text = is_name 2 4 text ≡ true
+
+-- a clearance to a level, or direct to what is the name of a fix
+abbrev pub IsNamedClearance : Clearance → Type 0
+IsNamedClearance (Level level) = ⊤
+IsNamedClearance (Direct fix) = IsFixName fix
+
+-- the names in a command are names
+abbrev pub HasNames : Command → Type 0
+HasNames (command.Plan call kind route at from level) = IsCallsign call × IsTypeName kind × All IsFixName route
+HasNames (command.External call straight) = IsCallsign call
+HasNames (command.Drop call) = IsCallsign call
+HasNames (command.Report call report) = IsCallsign call
+HasNames (command.Tick now) = ⊤
+HasNames (command.Renew call) = IsCallsign call
+HasNames (command.Clear call clearance eff) = IsCallsign call × IsNamedClearance clearance
+HasNames (command.Accept call clearance eff probed) = IsCallsign call × IsNamedClearance clearance
+HasNames (command.Tentative call clearance eff) = IsCallsign call × IsNamedClearance clearance
+HasNames (command.Withdraw call force) = IsCallsign call
+HasNames (command.Commit call) = IsCallsign call
+
+-- a clearance says from when it holds
+abbrev pub IsTimed : Command → Type 0
+IsTimed (command.Clear call clearance eff) = is_some eff ≡ true
+IsTimed (command.Tentative call clearance eff) = is_some eff ≡ true
+IsTimed command = ⊤
+
+-- An entry as it is entered: its names are names, its clearance says from when it holds, its numbers are within their bounds, and the number
+-- of who asked has 32 bits.
+pub record IsComplete (e : Entry) : Type 0 where
+  pub names : HasNames e.command
+  pub timed : IsTimed e.command
+  pub bounded : IsBoundedCommand e.command
+  pub who : e.who < 2 ^ 32

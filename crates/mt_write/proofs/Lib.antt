@@ -1,0 +1,6 @@
+pub mod EntryTexts
+pub mod Lengths
+pub mod PlainText
+pub mod Putting
+pub mod ReplyTexts
+pub mod ValueTexts

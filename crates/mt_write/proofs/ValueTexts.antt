@@ -1,0 +1,82 @@
+-- The pieces of a conflict, a hit and an advised clearance, joined, are the compact texts of their values; and those of a flight.
+use Rattle.std.proofs.Common.{◌≡◌, ℕ, pos, List, [], ◌∷◌, ◌++◌, decimal, codes, refl, ap, ◌∙◌, append_assoc}
+use Rattle.json.proofs.OnLiterals.{json_on_literals}
+use Rattle.json.specs.Print.{escape}
+use Rattle.serde_json.specs.Data.{string, array, object, no_items, item, no_members, member}
+use Rattle.serde_json.specs.Written.{compact_text}
+use Rattle.mt_base.specs.declared.clearance.Clearance.TheVariants.{Level, Direct}
+use Rattle.mt_base.specs.declared.conflict.Kind.{Kind}
+use Rattle.mt_base.specs.declared.conflict.Kind.TheVariants.{Actual, Tentative}
+use Rattle.mt_base.specs.declared.flight.FlightView.{FlightView}
+use Rattle.mt_base.specs.declared.flight.Tent.{Tent}
+use Rattle.mt_base.specs.declared.hit.Hit.{Hit}
+use Rattle.mt_write.specs.declared.reply.Reply.TheVariants as reply
+use Rattle.mt_write.specs.Entry.{whole}
+use Rattle.mt_write.specs.Flight.{or_null, row_value, tent_value}
+use Rattle.mt_write.specs.Numbers.{flight_front, flight_text}
+use Rattle.mt_write.specs.Reply.{advised_members, hit_value, kind_letter, reply_text}
+
+pub plain_kinds : (a b : Kind) → kind_letter a ∷ kind_letter b ∷ [] ≡ escape (kind_letter a ∷ kind_letter b ∷ [])
+unfolding json_on_literals
+plain_kinds Actual Actual = refl
+plain_kinds Actual Tentative = refl
+plain_kinds Tentative Actual = refl
+plain_kinds Tentative Tentative = refl
+
+pub conflict_text : (f l : ℕ) (kinds a b first last letters left right : List ℕ) → letters ≡ escape kinds → left ≡ escape a → right ≡ escape b → first ≡ decimal f → last ≡ decimal l
+    → codes "{\"first\":" ++ (first ++ (codes ",\"kinds\":\"" ++ (letters ++ (codes "\",\"last\":" ++ (last ++ (codes ",\"pair\":[\"" ++ (left ++ (codes "\",\"" ++ (right ++ (codes "\"]}" ++ []))))))))))
+    ≡ compact_text (object (
+    member (codes "first") (whole (pos f)) (
+    member (codes "kinds") (string kinds) (
+    member (codes "last") (whole (pos l)) (
+    member (codes "pair") (array (item (string a) (item (string b) no_items))) no_members)))))
+unfolding json_on_literals
+conflict_text f l kinds a b first last letters left right k p q d e = simp (k, p, q, d, e, append_assoc)
+
+pub hit_text : (hit : Hit) (first last with_is : List ℕ) → first ≡ decimal hit.first → last ≡ decimal hit.last → with_is ≡ escape hit.with
+    → codes "{\"first\":" ++ (first ++ (codes ",\"last\":" ++ (last ++ (codes ",\"with\":\"" ++ (with_is ++ (codes "\"}" ++ [])))))) ≡ compact_text (hit_value hit)
+unfolding json_on_literals
+hit_text hit first last with_is d e p = simp (d, e, p, append_assoc)
+
+pub level_advised_text : (level probe : ℕ) (height number : List ℕ) → height ≡ decimal level → number ≡ decimal probe
+    → codes "{\"level\":" ++ (height ++ (codes ",\"probe\":" ++ (number ++ (codes "}" ++ [])))) ≡ compact_text (object (advised_members (Level level) probe))
+unfolding json_on_literals
+level_advised_text level probe height number d e = simp (d, e, append_assoc)
+
+pub direct_advised_text : (fix : List ℕ) (probe : ℕ) (name number : List ℕ) → name ≡ escape fix → number ≡ decimal probe
+    → codes "{\"direct\":\"" ++ (name ++ (codes "\",\"probe\":" ++ (number ++ (codes "}" ++ [])))) ≡ compact_text (object (advised_members (Direct fix) probe))
+unfolding json_on_literals
+direct_advised_text fix probe name number p e = simp (p, e, append_assoc)
+
+pub tent_text : (tent : Tent) (level owner start : List ℕ) → level ≡ decimal tent.level → owner ≡ decimal tent.owner → start ≡ decimal tent.start
+    → codes "{\"level\":" ++ (level ++ (codes ",\"owner\":" ++ (owner ++ (codes ",\"start\":" ++ (start ++ (codes "}" ++ [])))))) ≡ compact_text (tent_value tent)
+unfolding json_on_literals
+tent_text tent level owner start d e f = simp (d, e, f, append_assoc)
+
+-- two texts within two others, and beside them
+beside : (a b c d rest : List ℕ) → (a ++ b) ++ ((c ++ d) ++ rest) ≡ a ++ (b ++ (c ++ (d ++ rest)))
+beside a b c d rest = append_assoc a b ((c ++ d) ++ rest) ∙ ap (λ t. a ++ (b ++ t)) (append_assoc c d rest)
+
+abbrev level_part : FlightView → List ℕ
+level_part view = codes ",\"level\":" ++ compact_text (or_null (λ level. whole (pos level)) view.level)
+
+abbrev row_part : FlightView → List ℕ
+row_part view = codes ",\"row\":" ++ compact_text (or_null row_value view.row)
+
+abbrev start_part : FlightView → List ℕ
+start_part view = codes ",\"start\":" ++ compact_text (whole (pos view.start))
+
+abbrev tent_part : FlightView → List ℕ
+tent_part view = codes ",\"tentative\":" ++ compact_text (or_null tent_value view.tentative)
+
+abbrev version_part : FlightView → List ℕ
+version_part view = codes ",\"version\":" ++ (decimal view.version ++ codes "}\n")
+
+flat_text : (view : FlightView)
+    → flight_front view ++ (level_part view ++ (row_part view ++ (start_part view ++ (tent_part view ++ version_part view)))) ≡ reply_text (reply.Flight view)
+unfolding json_on_literals
+flat_text view = simp append_assoc
+
+pub flight_text_is : (view : FlightView) → flight_text view ≡ reply_text (reply.Flight view)
+flight_text_is view =
+    ap (λ t. flight_front view ++ t) (beside (level_part view) (row_part view) (start_part view) (tent_part view) (version_part view)) ∙ flat_text view

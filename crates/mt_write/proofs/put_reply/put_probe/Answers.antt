@@ -1,0 +1,17 @@
+use Rattle.std.proofs.Common.{ℕ, List, ◌++◌, Ok, false, codes, append_assoc}
+use Rattle.serde_json.specs.Written.{items_text}
+use Rattle.mt_write.specs.Entry.{values}
+use Rattle.mt_write.specs.Numbers.{tried_text}
+use Rattle.mt_write.proofs.Putting.{puts_is, puts_then}
+use Rattle.mt_write.proofs.put_reply.put_probe.Goals as goal
+
+abbrev front : List ℕ
+front = codes "{\"conflicts\":["
+
+pub returns : goal.returns
+returns g c =
+    let hits = items_text false (values g.T.Written.value c.args.conflicts.now) in
+    let numbers = tried_text c.args.eff c.args.probe c.args.version in
+    puts_is c.put_tried.result c.args.out.now c.put_tried.new.out ((front ++ hits) ++ numbers) (front ++ (hits ++ numbers)) (append_assoc front hits numbers)
+    (puts_then c.put_tried.result c.args.out.now c.put_items.new.out c.put_tried.new.out (front ++ hits) numbers
+    (puts_then (Ok tt) c.args.out.now c.put.new.out c.put_items.new.out front hits c.in_ok-put.ensures c.in_ok-put_items.ensures) c.put_tried.ensures)

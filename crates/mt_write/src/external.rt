@@ -1,0 +1,62 @@
+//! The entry of an external flight.
+ghost use Rattle.mt_write.specs.Numbers.{external_front, external_numbers, external_text};
+ghost use Rattle.mt_write.specs.Puts.{Puts};
+
+use crate::number::put_numbers;
+use crate::write::put_all;
+use itoa::Buffer;
+use mt_base::{Callsign, Straight};
+use mt_memory::Memory;
+
+// Puts the callsign and the first second of an external flight.
+fn put_external_front(out: &mut Vec<u8>, call: &Callsign, from: u32) -> Result<(), Memory>
+    ensures { Puts result out.old out.new (external_front call.now from) }
+{
+    let mut digits = Buffer::new();
+    put_all(
+        out,
+        &[
+            b"{\"call\":\"",
+            call.bytes(),
+            b"\",\"do\":\"external\",\"from\":",
+            digits.format(from).as_bytes(),
+        ],
+    )
+}
+
+/// Puts the entry of an external flight.
+pub(crate) fn put_external(
+    out: &mut Vec<u8>,
+    who: u32,
+    call: &Callsign,
+    straight: &Straight,
+) -> Result<(), Memory>
+    ensures { Puts result out.old out.new (external_text who call.now straight.now) }
+{
+    put_external_front(out, call, straight.from)?;
+    put_external_numbers(out, who, straight)
+}
+
+// Puts the numbers of an external flight behind its first second.
+fn put_external_numbers(out: &mut Vec<u8>, who: u32, straight: &Straight) -> Result<(), Memory>
+    ensures { Puts result out.old out.new (external_numbers who straight.now) }
+{
+    let first = &straight.first;
+    put_numbers(
+        out,
+        &[
+            ("gr", first.gr),
+            ("gw", first.gw),
+            ("r", first.r),
+            ("to", i64::from(straight.to)),
+            ("vx", first.vx),
+            ("vy", first.vy),
+            ("vz", first.vz),
+            ("w", first.w),
+            ("who", i64::from(who)),
+            ("x", first.x),
+            ("y", first.y),
+            ("z", first.z),
+        ],
+    )
+}

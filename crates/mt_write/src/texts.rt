@@ -1,0 +1,41 @@
+ghost use Rattle.std.specs.Prelude.{◌≡◌, ◌≤◌, IfOk, [], length, vec_capacity};
+ghost use Rattle.mt_write.specs.Entry.{entry_text};
+ghost use Rattle.mt_write.specs.Reply.{reply_text};
+
+use crate::put_reply::put_reply;
+use crate::reply::Reply;
+use crate::write::put;
+use crate::written::Written;
+use mt_base::Entry;
+use mt_memory::Memory;
+use std::alloc::Global;
+
+/// The text of a reply: one compact object, its keys in byte order, and 0x0A at its end.
+pub fn write_reply(alloc: Global, reply: &Reply) -> Result<Vec<u8>, Memory>
+    ensures { IfOk result (λ line. line.items ≡ reply_text reply.now) }
+{
+    let mut line = Vec::new(alloc);
+    put_reply(&mut line, reply)?;
+    Ok(line)
+}
+
+/// Leaves the text of a reply in a room that is lent, and takes no memory.
+pub fn write_short(reply: &Reply, room: &mut Vec<u8>)
+    requires empty { room.old.items ≡ [] }
+    requires fits { length (reply_text reply.now) ≤ 65536 }
+    requires capacity { 65536 ≤ vec_capacity room.old }
+    ensures text { room.new.items ≡ reply_text reply.now }
+    ensures capacity { vec_capacity room.old ≤ vec_capacity room.new }
+{
+    put_reply(room, reply).unwrap()
+}
+
+/// The text of an entry: one compact object, its keys in byte order, and 0x0A at its end.
+pub fn write_entry(alloc: Global, entry: &Entry) -> Result<Vec<u8>, Memory>
+    ensures { IfOk result (λ line. line.items ≡ entry_text entry.now) }
+{
+    let mut line = Vec::new(alloc);
+    entry.put(&mut line)?;
+    put(&mut line, b"\n")?;
+    Ok(line)
+}
