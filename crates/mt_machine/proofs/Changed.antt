@@ -7,24 +7,13 @@ use Rattle.std.proofs.lemmas.Slice.Eq.{bytes_eq-Decides}
 use Rattle.std.specs.List.{AllByRecursion}
 use Rattle.std.specs.Prelude.{slice_set}
 use Rattle.std.specs.Str.{bytes_eq}
-use Rattle.mt_base.specs.declared.clearance.Aim.{Aim}
-use Rattle.mt_base.specs.declared.clearance.Clearance.{Clearance}
-use Rattle.mt_base.specs.declared.flight.Course.{Course}
 use Rattle.mt_base.specs.declared.flight.Path.{Path}
-use Rattle.mt_base.specs.declared.flight.Path.TheVariants.{Planned}
 use Rattle.mt_base.specs.declared.flight.Record.{Record}
-use Rattle.mt_base.specs.Bounds.{IsRightAim, IsSoundCourse, IsSoundFlight, IsSoundPath}
-use Rattle.mt_base.specs.Cleared.{cleared}
-use Rattle.mt_base.specs.History.{cleared_if, cleared_path, with_aim}
-use Rattle.mt_base.specs.Picture.{HaveOwnCalls, State, flight_of, trajectory_of}
+use Rattle.mt_base.specs.Bounds.{IsSoundFlight, IsSoundPath}
+use Rattle.mt_base.specs.History.{changed}
+use Rattle.mt_base.specs.Picture.{HaveOwnCalls, State, flight_of}
 use Rattle.mt_base.specs.Tables.{Setup}
-use Rattle.mt_machine.specs.Aimed.{aimed_if, aimed_path}
 use Rattle.mt_machine.specs.Sound.{IsSoundState}
-use Rattle.mt_machine.proofs.Clearances.{aim_is, sound_path}
-
--- a flight, with another path where it has that callsign
-abbrev with_path : List ℕ → (Path → Path) → Record → Record
-with_path call other flight = if bytes_eq flight.call call then record flight { path = other flight.path } else flight
 
 -- a list of which the elements before a place are changed, parted at that place
 module _ {X : Type 0} (f : X → X) (now old : List X) (i : ℕ) (d : X) (below : i < length old) (is : now ≡ map f (take i old) ++ drop i old) where
@@ -55,24 +44,18 @@ module _ {X : Type 0} (f : X → X) (now old : List X) (i : ℕ) (d : X) (below 
       ∙ ap (λ (y : X). map f (take i old) ++ y ∷ drop (i + 1) old) x_is ∙ sym one_more)
 
 -- a flight of the callsign, and one of another
-pub aimed_one : (call : List ℕ) (aim : Aim) (f : Record) → bytes_eq f.call call ≡ true → record f { path = aimed_path aim f.path } ≡ aimed_if call aim f
-aimed_one call aim f is = rw is refl
+pub changed_one : (call : List ℕ) (change : Path → Path) (f : Record) → bytes_eq f.call call ≡ true → record f { path = change f.path } ≡ changed call change f
+changed_one call change f is = rw is refl
 
-pub aimed_other : (call : List ℕ) (aim : Aim) (f : Record) → bytes_eq f.call call ≡ false → aimed_if call aim f ≡ f
-aimed_other call aim f is = rw is refl
+pub changed_other : (call : List ℕ) (change : Path → Path) (f : Record) → bytes_eq f.call call ≡ false → changed call change f ≡ f
+changed_other call change f is = rw is refl
 
-call_kept : (call : List ℕ) (other : Path → Path) (f : Record) → (with_path call other f).call ≡ f.call
-call_kept call other f = by_test (bytes_eq f.call call) where
-  by_test : (b : Bool) → (if b then record f { path = other f.path } else f).call ≡ f.call
-  by_test true = refl
-  by_test false = refl
-
-own_kept : (call : List ℕ) (other : Path → Path) (fs : List Record) → HaveOwnCalls fs → HaveOwnCalls (map (with_path call other) fs)
+own_kept : (call : List ℕ) (other : Path → Path) (fs : List Record) → HaveOwnCalls fs → HaveOwnCalls (map (changed call other) fs)
 own_kept call other fs own = λ i j d before below same.
-    let inside : j < length fs = omega (arith, length-map fs (with_path call other)) in
+    let inside : j < length fs = omega (arith, length-map fs (changed call other)) in
     let earlier : i < length fs = omega arith in
-    let left = ap (λ (f : Record). f.call) (get_or-map (with_path call other) fs i d d earlier) ∙ call_kept call other (get_or fs i d) in
-    let right = ap (λ (f : Record). f.call) (get_or-map (with_path call other) fs j d d inside) ∙ call_kept call other (get_or fs j d) in
+    let left = ap (λ (f : Record). f.call) (get_or-map (changed call other) fs i d d earlier) in
+    let right = ap (λ (f : Record). f.call) (get_or-map (changed call other) fs j d d inside) in
     own i j d before inside (sym left ∙ same ∙ right)
 
 first_apart : (f : Record) (fs : List Record) → HaveOwnCalls (f ∷ fs) → AllByRecursion (λ g. f.call ≢ g.call) fs
@@ -83,25 +66,25 @@ others_apart f fs own = λ i j d before below. own (suc i) (suc j) d (omega arit
 
 -- no flight of the callsign, no change
 unchanged : (call own : List ℕ) (other : Path → Path) (fs : List Record) → own ≡ call → AllByRecursion (λ g. own ≢ g.call) fs
-    → map (with_path call other) fs ≡ fs
+    → map (changed call other) fs ≡ fs
 unchanged call own other [] is apart = refl
 unchanged call own other (f ∷ fs) is apart = step (bytes_eq f.call call) refl (unchanged call own other fs is apart.1) where
-  step : (b : Bool) → bytes_eq f.call call ≡ b → map (with_path call other) fs ≡ fs
-      → (if b then record f { path = other f.path } else f) ∷ map (with_path call other) fs ≡ f ∷ fs
+  step : (b : Bool) → bytes_eq f.call call ≡ b → map (changed call other) fs ≡ fs
+      → record f { path = if b then other f.path else f.path } ∷ map (changed call other) fs ≡ f ∷ fs
   step true e rest = absurd (apart.0 (is ∙ sym ((bytes_eq-Decides f.call call).0 e)))
   step false e rest = ap (λ (gs : List Record). f ∷ gs) rest
 
 -- two changes that agree on the flight that is found
 pub changed_alike : (call : List ℕ) (one other : Path → Path) (flight : Record) (fs : List Record) → HaveOwnCalls fs → flight_of fs call ≡ Some flight
-    → one flight.path ≡ other flight.path → map (with_path call one) fs ≡ map (with_path call other) fs
+    → one flight.path ≡ other flight.path → map (changed call one) fs ≡ map (changed call other) fs
 changed_alike call one other flight [] own is alike = refl
 changed_alike call one other flight (f ∷ fs) own is alike =
     step (bytes_eq f.call call) refl (changed_alike call one other flight fs (others_apart f fs own)) is where
       step : (b : Bool) → bytes_eq f.call call ≡ b
-          → (flight_of fs call ≡ Some flight → one flight.path ≡ other flight.path → map (with_path call one) fs ≡ map (with_path call other) fs)
+          → (flight_of fs call ≡ Some flight → one flight.path ≡ other flight.path → map (changed call one) fs ≡ map (changed call other) fs)
           → (if b then Some f else flight_of fs call) ≡ Some flight
-          → (if b then record f { path = one f.path } else f) ∷ map (with_path call one) fs
-          ≡ (if b then record f { path = other f.path } else f) ∷ map (with_path call other) fs
+          → record f { path = if b then one f.path else f.path } ∷ map (changed call one) fs
+          ≡ record f { path = if b then other f.path else f.path } ∷ map (changed call other) fs
       step true e rest found =
           let same : f ≡ flight = cc in
           let here = (bytes_eq-Decides f.call call).0 e in
@@ -111,14 +94,14 @@ changed_alike call one other flight (f ∷ fs) own is alike =
 
 -- what holds of all flights, and of the one that is found once it has another path
 pub all_changed : (P : Record → Type 0) (call : List ℕ) (other : Path → Path) (flight : Record) (fs : List Record) → AllByRecursion P fs → HaveOwnCalls fs
-    → flight_of fs call ≡ Some flight → P (record flight { path = other flight.path }) → AllByRecursion P (map (with_path call other) fs)
+    → flight_of fs call ≡ Some flight → P (record flight { path = other flight.path }) → AllByRecursion P (map (changed call other) fs)
 all_changed P call other flight [] all own is holds = tt
 all_changed P call other flight (f ∷ fs) all own is holds =
     step (bytes_eq f.call call) refl (all_changed P call other flight fs all.1 (others_apart f fs own)) is where
       step : (b : Bool) → bytes_eq f.call call ≡ b
-          → (flight_of fs call ≡ Some flight → P (record flight { path = other flight.path }) → AllByRecursion P (map (with_path call other) fs))
+          → (flight_of fs call ≡ Some flight → P (record flight { path = other flight.path }) → AllByRecursion P (map (changed call other) fs))
           → (if b then Some f else flight_of fs call) ≡ Some flight
-          → P (if b then record f { path = other f.path } else f) × AllByRecursion P (map (with_path call other) fs)
+          → P record f { path = if b then other f.path else f.path } × AllByRecursion P (map (changed call other) fs)
       step true e rest found =
           let same : f ≡ flight = cc in
           let here = (bytes_eq-Decides f.call call).0 e in (
@@ -127,42 +110,16 @@ all_changed P call other flight (f ∷ fs) all own is holds =
           )
       step false e rest found = (all.0, rest found holds)
 
--- a right aim leaves a course sound
-aimed_sound : (setup : Setup) (course : Course) (aim : Aim) → IsSoundCourse setup course → IsRightAim setup.rules (length course.route) aim
-    → IsSoundCourse setup (with_aim course aim)
-aimed_sound setup course aim sound right = record {
-  kind = sound.kind;
-  route = sound.route;
-  level = right.level;
-  base = right.base;
-  mark = sound.mark;
-  last = sound.last;
-  due = sound.due;
-}
-
--- the state with the flight of a callsign cleared
-pub cleared_state : (setup : Setup) (s : State) (call : List ℕ) (flight : Record) (course : Course) (aim : Aim) → IsSoundState setup s
-    → flight_of s.records call ≡ Some flight → flight.path ≡ Planned course → IsRightAim setup.rules (length course.route) aim
-    → IsSoundState setup (record s { records = map (aimed_if call aim) s.records })
-cleared_state setup s call flight course aim sound is planned right = record {
-  sound = All-from_recursion (IsSoundFlight setup) (map (aimed_if call aim) s.records)
-      (all_changed (IsSoundFlight setup) call (aimed_path aim) flight s.records (recursion_from_All (IsSoundFlight setup) s.records sound.sound)
+-- the state with the flight of a callsign changed
+pub changed_state : (setup : Setup) (s : State) (call : List ℕ) (change : Path → Path) (flight : Record) → IsSoundState setup s
+    → flight_of s.records call ≡ Some flight → IsSoundPath setup (change flight.path)
+    → IsSoundState setup (record s { records = map (changed call change) s.records })
+changed_state setup s call change flight sound is within = record {
+  sound = All-from_recursion (IsSoundFlight setup) (map (changed call change) s.records)
+      (all_changed (IsSoundFlight setup) call change flight s.records (recursion_from_All (IsSoundFlight setup) s.records sound.sound)
       sound.own_calls is within);
-  own_calls = own_kept call (aimed_path aim) s.records sound.own_calls;
-  few = rw (length-map s.records (aimed_if call aim)) sound.few;
+  own_calls = own_kept call change s.records sound.own_calls;
+  few = rw (length-map s.records (changed call change)) sound.few;
   early = sound.early;
   counted = sound.counted;
-} where
-  within : IsSoundPath setup (aimed_path aim flight.path)
-  within = let course_sound : IsSoundCourse setup course = rw planned at (sound_path setup s call flight sound is) in
-      rw planned (aimed_sound setup course aim course_sound right)
-
--- what is left is the aim of the clearance
-pub cleared_alike : (setup : Setup) (s : State) (call : List ℕ) (flight : Record) (course : Course) (clearance : Clearance) (eff : ℕ) (aim : Aim)
-    → HaveOwnCalls s.records → flight_of s.records call ≡ Some flight → flight.path ≡ Planned course
-    → Ok aim ≡ cleared setup.tables course (trajectory_of setup (Planned course)) clearance eff s.now
-    → map (aimed_if call aim) s.records ≡ map (cleared_if setup call clearance eff) s.records
-cleared_alike setup s call flight course clearance eff aim own is planned exact =
-    let same : aimed_path aim flight.path ≡ cleared_path setup clearance eff flight.path =
-    rw planned (ap (λ (a : Aim). Planned (with_aim course a)) (aim_is setup s.now course clearance eff aim exact)) in
-    changed_alike call (aimed_path aim) (cleared_path setup clearance eff) flight s.records own is same
+}

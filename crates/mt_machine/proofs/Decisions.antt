@@ -23,15 +23,15 @@ module _ (setup : Setup) (s : State) (who : ℕ) (command : Command) where
   abbrev pub entry_of : Entry
   entry_of = record { who = who; command = filled s.now command }
 
-  judge_is : (r : Result ⊤ Refusal) → judged (checks setup (look_at s command) command) (tt {0}) ≡ r → judge setup s who command ≡ next r (Ok entry_of)
-  judge_is r is = judged-answer (checks setup (look_at s command) command) entry_of ∙ ap (λ (q : Result ⊤ Refusal). next q (Ok entry_of)) is
+  judge_is : (r : Result ⊤ Refusal) → judged (checks setup (look_at s command) who command) (tt {0}) ≡ r → judge setup s who command ≡ next r (Ok entry_of)
+  judge_is r is = judged-answer (checks setup (look_at s command) who command) entry_of ∙ ap (λ (q : Result ⊤ Refusal). next q (Ok entry_of)) is
 
   -- a check fails
-  pub refused : (refusal : Refusal) → judged (checks setup (look_at s command) command) (tt {0}) ≡ Err refusal → IsDecided setup s who command (Err refusal)
+  pub refused : (refusal : Refusal) → judged (checks setup (look_at s command) who command) (tt {0}) ≡ Err refusal → IsDecided setup s who command (Err refusal)
   refused refusal is = inl (judge_is (Err refusal) is)
 
   -- none fails, and there is a hit
-  pub stale : (first : Hit) → judged (checks setup (look_at s command) command) (tt {0}) ≡ Ok (tt {0}) → (others : List Hit)
+  pub stale : (first : Hit) → judged (checks setup (look_at s command) who command) (tt {0}) ≡ Ok (tt {0}) → (others : List Hit)
       → HasHits setup s command (first ∷ others) → IsDecided setup s who command (Err (Stale first))
   stale first is others has = inr (record {
     entry = entry_of;
@@ -43,6 +43,6 @@ module _ (setup : Setup) (s : State) (who : ℕ) (command : Command) where
   })
 
   -- none fails, and there is none
-  pub entered : judged (checks setup (look_at s command) command) (tt {0}) ≡ Ok (tt {0}) → HasHits setup s command []
+  pub entered : judged (checks setup (look_at s command) who command) (tt {0}) ≡ Ok (tt {0}) → HasHits setup s command []
       → IsDecided setup s who command (Ok entry_of)
   entered is none = (judge_is (Ok (tt {0})) is, none)

@@ -7,11 +7,13 @@ use Rattle.std.proofs.lemmas.List.Filters.{length-filter_both}
 use Rattle.std.proofs.lemmas.List.Kept.{AllPairs-filter}
 use Rattle.std.proofs.lemmas.List.Quantifiers.{all_pairs_push}
 use Rattle.std.specs.List.{AllByRecursion, filter}
+use Rattle.std.specs.Option.{option_map_or}
 use Rattle.std.specs.Prelude.{int_lt, nat_le, is_some, unwrap_or, ⊤}
 use Rattle.std.specs.Str.{bytes_eq}
 use Rattle.mt_base.specs.declared.clearance.Clearance.{Clearance}
 use Rattle.mt_base.specs.declared.command.Command.{Command}
-use Rattle.mt_base.specs.declared.command.Command.TheVariants.{Plan, External, Drop, Tick, Clear, Accept}
+use Rattle.mt_base.specs.declared.command.Command.TheVariants.{Plan, External, Drop, Tick, Renew, Clear, Accept, Tentative, Withdraw, Commit}
+use Rattle.mt_base.specs.declared.command.Command.TheVariants as commands
 use Rattle.mt_base.specs.declared.command.Entry.{Entry}
 use Rattle.mt_base.specs.declared.command.Refusal.{Refusal}
 use Rattle.mt_base.specs.declared.flight.Course.{Course}
@@ -22,10 +24,11 @@ use Rattle.mt_base.specs.declared.route.RouteNo.{RouteNo}
 use Rattle.mt_base.specs.Bounds.{AreWithinBounds, IsBoundedCommand, IsInPlane, IsSoundCourse, IsSoundFlight, IsSoundPath}
 use Rattle.mt_base.specs.Checks.{judged}
 use Rattle.mt_base.specs.History.{IsDecided, checks, course_of, filled, first_of, look_at, refusal_of, route_checks}
-use Rattle.mt_base.specs.Picture.{State, flight_of, opening}
+use Rattle.mt_base.specs.Cleared.{aim_checks}
+use Rattle.mt_base.specs.Picture.{State, flight_of, opening, trajectory_of}
 use Rattle.mt_base.specs.Predictor.{points_of}
 use Rattle.mt_base.specs.Tables.{Setup, Tables, bands_of, fix_checks, length_checks}
-use Rattle.mt_base.specs.WhatIf.{what_if_checks}
+use Rattle.mt_base.specs.WhatIf.{course_in, what_if_checks}
 use Rattle.mt_base.proofs.CheckLemmas.{all_pass, all_passed, answer_is}
 use Rattle.mt_machine.specs.Sound.{IsSoundState, Passes}
 use Rattle.mt_machine.proofs.Found.{none_found}
@@ -41,21 +44,16 @@ opening_sound setup = record {
 }
 
 -- an entry that was decided passed its checks
-pub passed : (setup : Setup) (s : State) (e : Entry) → IsDecided setup s e.who e.command (Ok e) → Passes setup s e.command
+pub passed : (setup : Setup) (s : State) (e : Entry) → IsDecided setup s e.who e.command (Ok e) → Passes setup s e.who e.command
 passed setup s e decided =
     let entry : Entry = record { who = e.who; command = filled s.now e.command } in
-    all_passed (checks setup (look_at s e.command) e.command) entry (rw decided.0 refl)
+    all_passed (checks setup (look_at s e.command) e.who e.command) entry (rw decided.0 refl)
 
 -- and it says from when it holds
 pub filled_is : (setup : Setup) (s : State) (e : Entry) → IsDecided setup s e.who e.command (Ok e) → e.command ≡ filled s.now e.command
 filled_is setup s e decided =
     let entry : Entry = record { who = e.who; command = filled s.now e.command } in
-    sym (ap (λ (x : Entry). x.command) (answer_is (checks setup (look_at s e.command) e.command) entry e decided.0))
-
-pub second_is : (call : List ℕ) (clearance : Clearance) (eff : Option ℕ) (now : ℕ) → Clear call clearance eff ≡ filled now (Clear call clearance eff)
-    → unwrap_or eff now ≡ unwrap_or eff 0
-second_is call clearance None now is = cc
-second_is call clearance (Some second) now is = refl
+    sym (ap (λ (x : Entry). x.command) (answer_is (checks setup (look_at s e.command) e.who e.command) entry e decided.0))
 
 -- both halves of a list of which all holds
 pub halves : {X : Type 0} (P : X → Type 0) (xs ys : List X) → AllByRecursion P (xs ++ ys) → AllByRecursion P xs × AllByRecursion P ys
@@ -125,19 +123,19 @@ planned setup kind route at from level rules at_early from_low level_low plane k
   due = λ due. cc;
 }
 
-pub sound_plan : (setup : Setup) (s : State) (call kind : List ℕ) (route : List (List ℕ)) (at from level : ℕ) → AreWithinBounds setup.rules
-    → IsSoundState setup s → Passes setup s (Plan call kind route at from level) → IsBoundedCommand (Plan call kind route at from level)
+pub sound_plan : (setup : Setup) (s : State) (who : ℕ) (call kind : List ℕ) (route : List (List ℕ)) (at from level : ℕ) → AreWithinBounds setup.rules
+    → IsSoundState setup s → Passes setup s who (Plan call kind route at from level) → IsBoundedCommand (Plan call kind route at from level)
     → IsInPlane (first_of (points_of setup.tables route)).x (first_of (points_of setup.tables route)).y
     → IsSoundState setup (record s { records = s.records ++ (record { call = call; path = Planned (course_of setup kind route at from level) }) ∷ [] })
-sound_plan setup s call kind route at from level rules sound tests within plane =
+sound_plan setup s who call kind route at from level rules sound tests within plane =
     let split = halves (λ c. c.1 ≡ true) (route_checks setup.tables route) _ tests.1.1 in
     filed setup s call (Planned (course_of setup kind route at from level)) sound
     (planned setup kind route at from level rules within.0 within.1 within.2 plane tests.1.0 split.0) tests.0 split.1.1.1.0 rules.flights.most
 
-pub sound_external : (setup : Setup) (s : State) (call : List ℕ) (stretch : Straight) → AreWithinBounds setup.rules → IsSoundState setup s
-    → Passes setup s (External call stretch) → IsBoundedCommand (External call stretch)
+pub sound_external : (setup : Setup) (s : State) (who : ℕ) (call : List ℕ) (stretch : Straight) → AreWithinBounds setup.rules → IsSoundState setup s
+    → Passes setup s who (External call stretch) → IsBoundedCommand (External call stretch)
     → IsSoundState setup (record s { records = s.records ++ (record { call = call; path = Outer stretch }) ∷ [] })
-sound_external setup s call stretch rules sound tests within = filed setup s call (Outer stretch) sound within tests.0 tests.1.0 rules.flights.most
+sound_external setup s who call stretch rules sound tests within = filed setup s call (Outer stretch) sound within tests.0 tests.1.0 rules.flights.most
 
 pub sound_drop : (setup : Setup) (s : State) (call : List ℕ) → IsSoundState setup s
     → IsSoundState setup (record s { records = filter (λ f. not (bytes_eq f.call call)) s.records })
@@ -150,15 +148,21 @@ sound_drop setup s call sound = record {
 }
 
 -- a command is entered only where there is room in the history
-room_by : (setup : Setup) (s : State) (c : Command) → Passes setup s c → int_lt (pos s.version) setup.rules.history ≡ true
-room_by setup s (Plan call kind route at from level) tests = (halves (λ c. c.1 ≡ true) (route_checks setup.tables route) _ tests.1.1).1.1.1.1.0
-room_by setup s (External call stretch) tests = tests.1.1.0
-room_by setup s (Drop call) tests = tests.1.0
-room_by setup s (Tick now) tests = tests.1.0
-room_by setup s (Clear call clearance eff) tests =
+room_by : (setup : Setup) (s : State) (who : ℕ) (c : Command) → Passes setup s who c → int_lt (pos s.version) setup.rules.history ≡ true
+room_by setup s who (Plan call kind route at from level) tests = (halves (λ c. c.1 ≡ true) (route_checks setup.tables route) _ tests.1.1).1.1.1.1.0
+room_by setup s who (External call stretch) tests = tests.1.1.0
+room_by setup s who (Drop call) tests = tests.1.0
+room_by setup s who (commands.Report call report) tests = tests.1.1.1.1.0
+room_by setup s who (Tick now) tests = tests.1.0
+room_by setup s who (Renew call) tests = tests.1.1.1.0
+room_by setup s who (Clear call clearance eff) tests =
     (halves (λ c. c.1 ≡ true) (what_if_checks setup s.now (flight_of s.records call) call clearance (unwrap_or eff s.now)) _ tests).1.0
-room_by setup s (Accept call clearance eff probed) tests =
+room_by setup s who (Accept call clearance eff probed) tests =
     (halves (λ c. c.1 ≡ true) (what_if_checks setup s.now (flight_of s.records call) call clearance eff) _ tests).1.0
+room_by setup s who (Tentative call clearance eff) tests = (halves (λ c. c.1 ≡ true) (option_map_or
+    (λ course. aim_checks setup.tables course (trajectory_of setup (Planned course)) clearance (unwrap_or eff s.now)) (course_in (flight_of s.records call)) []) _ tests.1.1).1.1.1.0
+room_by setup s who (Withdraw call force) tests = tests.1.1.1.0
+room_by setup s who (Commit call) tests = tests.1.1.0
 
 -- with one entry more it is sound
 pub sound_counted : (setup : Setup) (s after : State) (e : Entry) → IsDecided setup s e.who e.command (Ok e) → AreWithinBounds setup.rules
@@ -168,7 +172,7 @@ sound_counted setup s after e decided rules sound same = record {
   own_calls = sound.own_calls;
   few = sound.few;
   early = sound.early;
-  counted = let room = below (pos s.version) setup.rules.history (room_by setup s e.command (passed setup s e decided)) rules.history.most in
+  counted = let room = below (pos s.version) setup.rules.history (room_by setup s e.who e.command (passed setup s e decided)) rules.history.most in
       omega (arith, ints, same);
 } where
   below : (v h : ℤ) → int_lt v h ≡ true → h ≤ℤ pos 4194304 → v <ℤ pos 4194304

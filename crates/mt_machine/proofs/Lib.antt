@@ -1,3 +1,5 @@
+pub mod Advised
+pub mod Alterations
 pub mod Changed
 pub mod Clearances
 pub mod Decisions

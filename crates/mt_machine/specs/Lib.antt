@@ -1,4 +1,5 @@
-pub mod Aimed
+pub mod Advising
+pub mod Altered
 pub mod Book
 pub mod Deciding
 pub mod Hits

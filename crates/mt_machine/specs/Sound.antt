@@ -17,9 +17,9 @@ pub record IsSoundState (setup : Setup) (s : State) : Type 0 where
   pub early : s.now ≤ 10000000
   pub counted : s.version ≤ 4194304
 
--- each check of a command is passed in a state
-abbrev pub Passes : Setup → State → Command → Type 0
-Passes setup s command = AllByRecursion (λ c. c.1 ≡ true) (checks setup (look_at s command) command)
+-- each check of an actor's command is passed in a state
+abbrev pub Passes : Setup → State → ℕ → Command → Type 0
+Passes setup s who command = AllByRecursion (λ c. c.1 ≡ true) (checks setup (look_at s command) who command)
 
 -- trajectories of other flights
 abbrev pub AreOfOthers : List ℕ → List NamedTrajectory → Type 0

@@ -1,11 +1,12 @@
 //! What is decided of a command.
-ghost use Rattle.std.specs.Prelude.{◌≡◌, ◌≤◌, length, option_copied, IfOk};
+ghost use Rattle.std.specs.Prelude.{◌≡◌, ◌≤◌, ℕ, length, option_copied, IfOk};
 ghost use Rattle.mt_base.specs.Bounds.{AreWithinBounds, IsBoundedCommand};
 ghost use Rattle.mt_base.specs.History.{IsDecided, look_at};
 ghost use Rattle.mt_base.specs.Picture.{flight_of};
 ghost use Rattle.mt_machine.specs.Deciding.{IsFirstHit, IsPlannedStrand, IsStrandFor};
 ghost use Rattle.mt_machine.specs.Sound.{IsSoundState, Passes};
 ghost use Rattle.mt_predict.specs.Looking.{look_of};
+ghost use Rattle.mt_base.specs.Tables.{setup_with};
 
 use crate::plain::Plain;
 use crate::what_if::hits;
@@ -43,12 +44,13 @@ fn strand_for(
     command: &Command,
 ) -> Result<Option<Strand>, Memory>
     requires rules { AreWithinBounds rules.now }
-    requires sound { IsSoundState (record { rules = rules.now; tables = tables.now }) plain.now }
-    ensures { IfOk result (IsStrandFor (record { rules = rules.now; tables = tables.now }) plain.now command.now) }
+    requires sound { IsSoundState (setup_with rules.now tables.now) plain.now }
+    ensures { IfOk result (IsStrandFor (setup_with rules.now tables.now) plain.now command.now) }
 {
     match command {
-        Command::Clear { call, .. } => planned_strand(alloc, tables, rules, plain, *call),
-        Command::Accept { call, .. } => planned_strand(alloc, tables, rules, plain, *call),
+        Command::Clear { call, .. }
+        | Command::Accept { call, .. }
+        | Command::Tentative { call, .. } => planned_strand(alloc, tables, rules, plain, *call),
         _ => Ok(None),
     }
 }
@@ -62,8 +64,8 @@ fn planned_strand(
     call: Callsign,
 ) -> Result<Option<Strand>, Memory>
     requires rules { AreWithinBounds rules.now }
-    requires sound { IsSoundState (record { rules = rules.now; tables = tables.now }) plain.now }
-    ensures { IfOk result (IsPlannedStrand (record { rules = rules.now; tables = tables.now }) (flight_of plain.now.records call)) }
+    requires sound { IsSoundState (setup_with rules.now tables.now) plain.now }
+    ensures { IfOk result (IsPlannedStrand (setup_with rules.now tables.now) (flight_of plain.now.records call)) }
 {
     let Some(flight) = plain.flight(call) else {
         return Ok(None);
@@ -84,10 +86,10 @@ fn first_hit<R: Threads + Sync>(
     command: &Command,
 ) -> Result<Option<Hit>, Memory>
     requires rules { AreWithinBounds rules.now }
-    requires sound { IsSoundState (record { rules = rules.now; tables = tables.now }) plain.now }
+    requires sound { IsSoundState (setup_with rules.now tables.now) plain.now }
     requires bounded { IsBoundedCommand command.now }
-    requires passed { Passes (record { rules = rules.now; tables = tables.now }) plain.now command.now }
-    ensures { IfOk result (IsFirstHit (record { rules = rules.now; tables = tables.now }) plain.now command.now) }
+    requires passed { (who : ℕ) × Passes (setup_with rules.now tables.now) plain.now who command.now }
+    ensures { IfOk result (IsFirstHit (setup_with rules.now tables.now) plain.now command.now) }
 {
     let Command::Accept {
         call,
@@ -129,9 +131,9 @@ pub fn decide<R: Threads + Sync>(
     command: &Command,
 ) -> Result<Result<Entry, Refusal>, Memory>
     requires rules { AreWithinBounds rules.now }
-    requires sound { IsSoundState (record { rules = rules.now; tables = tables.now }) plain.now }
+    requires sound { IsSoundState (setup_with rules.now tables.now) plain.now }
     requires bounded { IsBoundedCommand command.now }
-    ensures { IfOk result (IsDecided (record { rules = rules.now; tables = tables.now }) plain.now who command.now) }
+    ensures { IfOk result (IsDecided (setup_with rules.now tables.now) plain.now who command.now) }
 {
     let strand = strand_for(alloc, tables, rules, plain, command)?;
     let looked = look(plain, command, strand.as_ref());

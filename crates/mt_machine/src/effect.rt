@@ -1,13 +1,17 @@
 //! What an entry leaves.
-ghost use Rattle.std.specs.Prelude.{◌≡◌, ◌≤◌, ◌∷◌, ◌++◌, [], OnOk, OnErr, Ok};
+ghost use Rattle.std.specs.Prelude.{◌≡◌, ◌≤◌, ◌∷◌, ◌++◌, [], IfOk, OnOk, OnErr, Ok};
 ghost use Rattle.mt_base.specs.Bounds.{AreWithinBounds, IsBoundedCommand, IsInPlane};
-ghost use Rattle.mt_base.specs.History.{IsDecided, base_of, course_of, effect, filled, first_of, now_after, records_after};
+ghost use Rattle.mt_base.specs.History.{IsDecided, base_of, course_of, effect, entered_by, filled, first_of, now_after, records_after, verdict_in};
 ghost use Rattle.mt_base.specs.Predictor.{points_of};
+ghost use Rattle.mt_machine.specs.Altered.{Alters};
 ghost use Rattle.mt_machine.specs.Sound.{IsSoundState, Passes};
+ghost use Rattle.mt_base.specs.Tables.{setup_with};
 
+use crate::altering::alteration_by;
 use crate::plain::Plain;
 use mt_base::{
-    Base, Command, Course, Entry, Memory, Path, Point, Record, Route, Rules, Second, TypeName,
+    Base, Command, Course, Entered, Entry, Memory, Path, Point, Record, Route, Rules, Second,
+    Verdict,
 };
 use mt_tables::Tables;
 use std::alloc::Global;
@@ -43,35 +47,52 @@ fn base_of(rules: &Rules, fix: Point, at: Second, from: u32) -> Base
 }
 
 impl Plain {
-    /// The effect of an entry. On an error the state stays as it was.
+    /// The effect of an entry, and what it is answered: the version with it, and of a report the verdict on it in the state before. On an
+    /// error the state stays as it was.
     ///
     /// It asks that the entry is what is decided of its command on this state, with its numbers within their bounds.
-    pub fn apply(&mut self, tables: &Tables, rules: &Rules, entry: &Entry) -> Result<(), Memory>
+    pub fn apply(
+        &mut self,
+        tables: &Tables,
+        rules: &Rules,
+        entry: &Entry,
+    ) -> Result<Entered, Memory>
         requires rules { AreWithinBounds rules.now }
-        requires sound { IsSoundState (record { rules = rules.now; tables = tables.now }) self.old }
+        requires sound { IsSoundState (setup_with rules.now tables.now) self.old }
         requires bounded { IsBoundedCommand entry.now.command }
-        requires decided { IsDecided (record { rules = rules.now; tables = tables.now }) self.old entry.now.who entry.now.command (Ok entry.now) }
-        ensures ok { OnOk result (self.new ≡ effect (record { rules = rules.now; tables = tables.now }) self.old entry.now) }
-        ensures sound { OnOk result (IsSoundState (record { rules = rules.now; tables = tables.now }) self.new) }
+        requires decided { IsDecided (setup_with rules.now tables.now) self.old entry.now.who entry.now.command (Ok entry.now) }
+        ensures entered { IfOk result (λ entered. entered ≡ entered_by (setup_with rules.now tables.now) self.old entry.now) }
+        ensures ok { OnOk result (self.new ≡ effect (setup_with rules.now tables.now) self.old entry.now) }
+        ensures sound { OnOk result (IsSoundState (setup_with rules.now tables.now) self.new) }
         ensures err { OnErr result (self.new ≡ self.old) }
     {
-        self.change(tables, rules, &entry.command)?;
+        let verdict = self.change(tables, rules, entry.who, &entry.command)?;
         self.version += 1;
-        Ok(())
+        Ok(Entered {
+            version: self.version,
+            verdict,
+        })
     }
 
-    // What a command leaves of the flights and the moment.
-    fn change(&mut self, tables: &Tables, rules: &Rules, command: &Command) -> Result<(), Memory>
+    // What a command leaves of the flights and the moment; the verdict on a report.
+    fn change(
+        &mut self,
+        tables: &Tables,
+        rules: &Rules,
+        who: u32,
+        command: &Command,
+    ) -> Result<Option<Verdict>, Memory>
         requires rules { AreWithinBounds rules.now }
-        requires sound { IsSoundState (record { rules = rules.now; tables = tables.now }) self.old }
+        requires sound { IsSoundState (setup_with rules.now tables.now) self.old }
         requires bounded { IsBoundedCommand command.now }
-        requires passed { Passes (record { rules = rules.now; tables = tables.now }) self.old command.now }
+        requires passed { Passes (setup_with rules.now tables.now) self.old who command.now }
         requires filled { command.now ≡ filled self.old.now command.now }
         ensures ok { OnOk result (self.new ≡ record self.old {
           now = now_after command.now self.old.now;
-          records = records_after (record { rules = rules.now; tables = tables.now }) command.now self.old.records;
+          records = records_after (setup_with rules.now tables.now) who command.now self.old.records;
         }) }
-        ensures sound { OnOk result (IsSoundState (record { rules = rules.now; tables = tables.now }) self.new) }
+        ensures verdict { IfOk result (λ verdict. verdict ≡ verdict_in (setup_with rules.now tables.now) self.old command.now) }
+        ensures sound { OnOk result (IsSoundState (setup_with rules.now tables.now) self.new) }
         ensures err { OnErr result (self.new ≡ self.old) }
     {
         match command {
@@ -95,33 +116,59 @@ impl Plain {
                 };
                 let path = Path::Planned(course);
                 self.file(Record { call: *call, path })?;
-                Ok(())
+                Ok(None)
             }
             Command::External { call, straight } => {
                 let path = Path::Outer(*straight);
                 self.file(Record { call: *call, path })?;
-                Ok(())
+                Ok(None)
             }
             Command::Drop { call } => {
                 self.flights.retain(|flight| flight.call != *call);
-                Ok(())
+                Ok(None)
             }
             Command::Tick { now } => {
                 self.moment = *now;
-                Ok(())
+                Ok(None)
             }
-            Command::Clear {
-                call,
-                clearance,
-                eff,
-            } => self.clear(tables, rules, *call, *clearance, eff.unwrap_or(0)),
-            Command::Accept {
-                call,
-                clearance,
-                eff,
-                ..
-            } => self.clear(tables, rules, *call, *clearance, *eff),
+            _ => self.alter(tables, rules, who, command),
         }
+    }
+
+    // Changes the planned flight that a command names; the verdict on a report.
+    fn alter(
+        &mut self,
+        tables: &Tables,
+        rules: &Rules,
+        who: u32,
+        command: &Command,
+    ) -> Result<Option<Verdict>, Memory>
+        requires rules { AreWithinBounds rules.now }
+        requires sound { IsSoundState (setup_with rules.now tables.now) self.old }
+        requires bounded { IsBoundedCommand command.now }
+        requires passed { Passes (setup_with rules.now tables.now) self.old who command.now }
+        requires filled { command.now ≡ filled self.old.now command.now }
+        requires alters { Alters command.now }
+        ensures ok { OnOk result (self.new ≡ record self.old {
+          records = records_after (setup_with rules.now tables.now) who command.now self.old.records;
+        }) }
+        ensures verdict { IfOk result (λ verdict. verdict ≡ verdict_in (setup_with rules.now tables.now) self.old command.now) }
+        ensures sound { OnOk result (IsSoundState (setup_with rules.now tables.now) self.new) }
+        ensures err { OnErr result (self.new ≡ self.old) }
+    {
+        let Some(call) = command.call() else {
+            unreachable!()
+        };
+        let Some(flight) = self.flight(call) else {
+            unreachable!()
+        };
+        let Path::Planned(course) = &flight.path else {
+            unreachable!()
+        };
+        let now = self.moment;
+        let alteration = alteration_by(self.alloc, tables, rules, who, command, course, now)?;
+        alteration.alter_each(&mut self.flights, call);
+        Ok(alteration.verdict())
     }
 
     // Puts a flight behind the others.

@@ -7,6 +7,7 @@ ghost use Rattle.mt_base.specs.Picture.{flight_of};
 ghost use Rattle.mt_base.specs.WhatIf.{AreHitsOf};
 ghost use Rattle.mt_machine.specs.Hits.{IsHitWith};
 ghost use Rattle.mt_machine.specs.Sound.{AreShortHits, IsSoundState};
+ghost use Rattle.mt_base.specs.Tables.{setup_with};
 
 use crate::plain::Plain;
 use crate::strands::strand_of;
@@ -30,10 +31,10 @@ fn hit_with(
     tests: &mut Tally,
 ) -> Result<Option<Hit>, Memory>
     requires rules { AreWithinBounds rules.now }
-    requires sound { IsSoundFlight (record { rules = rules.now; tables = tables.now }) other.now }
+    requires sound { IsSoundFlight (setup_with rules.now tables.now) other.now }
     requires early { now ≤ 10000000 }
     ensures exact { IfOk result (λ found. (hit : Hit) →
-        (found ≡ Some hit) ↔ IsHitWith (record { rules = rules.now; tables = tables.now }) now strand.now other.now hit) }
+        (found ≡ Some hit) ↔ IsHitWith (setup_with rules.now tables.now) now strand.now other.now hit) }
     ensures named { is_name 1 7 other.now.call ≡ true }
 {
     let _letters = other.call.bytes();
@@ -63,9 +64,9 @@ pub(crate) fn hits_of(
     tests: &mut Tally,
 ) -> Result<Hits, Memory>
     requires rules { AreWithinBounds rules.now }
-    requires sound { IsSoundState (record { rules = rules.now; tables = tables.now }) plain.now }
+    requires sound { IsSoundState (setup_with rules.now tables.now) plain.now }
     requires flies { is_some (flight_of plain.now.records call) ≡ true }
-    ensures exact { IfOk result (AreHitsOf (record { rules = rules.now; tables = tables.now }) plain.now call strand.now) }
+    ensures exact { IfOk result (AreHitsOf (setup_with rules.now tables.now) plain.now call strand.now) }
     ensures short { IfOk result AreShortHits }
 {
     let mut hits = Hits::make(alloc)?;

@@ -2,21 +2,23 @@
 //! nothing but the state, so that a kept picture can be compared with it.
 #![tactic(auto)]
 
+mod advising;
 mod aiming;
+mod altering;
 mod book;
 mod decision;
+mod due;
 mod effect;
 mod finding;
 mod laws;
 mod plain;
 mod strands;
-#[cfg(test)]
-mod tests;
 mod view;
 mod what_if;
 
+pub use advising::advise;
 pub use book::Book;
 pub use decision::decide;
-pub use laws::one_hits_law;
+pub use laws::{one_advice_law, one_hits_law};
 pub use plain::Plain;
 pub use what_if::hits;

@@ -4,6 +4,7 @@ ghost use Rattle.std.specs.List.{flat_map};
 ghost use Rattle.mt_base.specs.Bounds.{AreWithinBounds, IsSoundFlight, IsSoundPath};
 ghost use Rattle.mt_base.specs.Picture.{HaveOwnCalls, trajectories, trajectories_of, trajectory_of};
 ghost use Rattle.mt_machine.specs.Sound.{AreOfOthers, IsSoundState};
+ghost use Rattle.mt_base.specs.Tables.{setup_with};
 
 use crate::plain::Plain;
 use mt_base::{Kind, Memory, Path, Record, Rules};
@@ -21,8 +22,8 @@ pub(crate) fn strand_of(
     path: &Path,
 ) -> Result<Strand, Memory>
     requires rules { AreWithinBounds rules.now }
-    requires sound { IsSoundPath (record { rules = rules.now; tables = tables.now }) path.now }
-    ensures { IfOk result (λ strand. strand ≡ trajectory_of (record { rules = rules.now; tables = tables.now }) path.now) }
+    requires sound { IsSoundPath (setup_with rules.now tables.now) path.now }
+    ensures { IfOk result (λ strand. strand ≡ trajectory_of (setup_with rules.now tables.now) path.now) }
 {
     match path {
         Path::Planned(course) => predict(alloc, tables, rules, course, Kind::Actual),
@@ -39,9 +40,9 @@ fn add_flight(
     roster: &mut Roster,
 ) -> Result<(), Memory>
     requires rules { AreWithinBounds rules.now }
-    requires sound { IsSoundFlight (record { rules = rules.now; tables = tables.now }) flight.now }
+    requires sound { IsSoundFlight (setup_with rules.now tables.now) flight.now }
     requires free { AreOfOthers flight.now.call roster.old }
-    ensures { OnOk result (roster.new ≡ roster.old ++ trajectories_of (record { rules = rules.now; tables = tables.now }) flight.now) }
+    ensures { OnOk result (roster.new ≡ roster.old ++ trajectories_of (setup_with rules.now tables.now) flight.now) }
 {
     let strand = Arc::new(alloc, strand_of(alloc, tables, rules, &flight.path)?)?;
     roster.add(flight.call, Kind::Actual, &strand)?;
@@ -65,9 +66,9 @@ fn roster_of(
     flights: &[Record],
 ) -> Result<Roster, Memory>
     requires rules { AreWithinBounds rules.now }
-    requires sound { All (IsSoundFlight (record { rules = rules.now; tables = tables.now })) flights.now }
+    requires sound { All (IsSoundFlight (setup_with rules.now tables.now)) flights.now }
     requires own_calls { HaveOwnCalls flights.now }
-    ensures { IfOk result (λ roster. roster ≡ flat_map (trajectories_of (record { rules = rules.now; tables = tables.now })) flights.now) }
+    ensures { IfOk result (λ roster. roster ≡ flat_map (trajectories_of (setup_with rules.now tables.now)) flights.now) }
 {
     let mut roster = Roster::make(alloc)?;
     for flight in flights {
@@ -83,8 +84,8 @@ impl Plain {
     /// It asks that the rules are within their bounds and the state is sound for them and the tables.
     pub fn strands(&self, alloc: Global, tables: &Tables, rules: &Rules) -> Result<Roster, Memory>
         requires rules { AreWithinBounds rules.now }
-        requires sound { IsSoundState (record { rules = rules.now; tables = tables.now }) self.now }
-        ensures { IfOk result (λ roster. roster ≡ trajectories (record { rules = rules.now; tables = tables.now }) self.now) }
+        requires sound { IsSoundState (setup_with rules.now tables.now) self.now }
+        ensures { IfOk result (λ roster. roster ≡ trajectories (setup_with rules.now tables.now) self.now) }
     {
         roster_of(alloc, tables, rules, &self.flights)
     }

@@ -4,6 +4,7 @@ ghost use Rattle.mt_base.specs.Bounds.{AreWithinBounds};
 ghost use Rattle.mt_base.specs.Picture.{flight_of};
 ghost use Rattle.mt_base.specs.View.{tent_of, view_of, view_of_path};
 ghost use Rattle.mt_machine.specs.Sound.{IsSoundState};
+ghost use Rattle.mt_base.specs.Tables.{setup_with};
 
 use crate::plain::Plain;
 use crate::strands::strand_of;
@@ -60,9 +61,9 @@ impl Plain {
         sec: Option<Second>,
     ) -> Result<Option<FlightView>, Memory>
         requires rules { AreWithinBounds rules.now }
-        requires sound { IsSoundState (record { rules = rules.now; tables = tables.now }) self.now }
+        requires sound { IsSoundState (setup_with rules.now tables.now) self.now }
         ensures { IfOk result (λ view. view ≡
-            option_map (view_of (record { rules = rules.now; tables = tables.now }) self.now sec) (flight_of self.now.records call)) }
+            option_map (view_of (setup_with rules.now tables.now) self.now sec) (flight_of self.now.records call)) }
     {
         let Some(flight) = self.flight(call) else {
             return Ok(None);

@@ -4,6 +4,7 @@ ghost use Rattle.mt_base.specs.Bounds.{AreWithinBounds, IsBoundedClearance, IsRi
 ghost use Rattle.mt_base.specs.History.{with_aim};
 ghost use Rattle.mt_base.specs.WhatIf.{IsWhatIf, aimed};
 ghost use Rattle.mt_machine.specs.Sound.{AreShortHits, IsSoundState};
+ghost use Rattle.mt_base.specs.Tables.{setup_with};
 
 use crate::aiming::aim;
 use crate::finding::hits_of;
@@ -37,9 +38,9 @@ fn aimed(
     aim: &Aim,
 ) -> Result<Strand, Memory>
     requires rules { AreWithinBounds rules.now }
-    requires sound { IsSoundCourse (record { rules = rules.now; tables = tables.now }) course.now }
+    requires sound { IsSoundCourse (setup_with rules.now tables.now) course.now }
     requires right { IsRightAim rules.now (length course.now.route) aim.now }
-    ensures { IfOk result (λ strand. strand ≡ aimed (record { rules = rules.now; tables = tables.now }) course.now aim.now) }
+    ensures { IfOk result (λ strand. strand ≡ aimed (setup_with rules.now tables.now) course.now aim.now) }
 {
     predict(
         alloc,
@@ -67,10 +68,10 @@ pub fn hits<R: Threads + Sync>(
     eff: Option<Second>,
 ) -> Result<Result<Hits, Refusal>, Memory>
     requires rules { AreWithinBounds rules.now }
-    requires sound { IsSoundState (record { rules = rules.now; tables = tables.now }) plain.now }
+    requires sound { IsSoundState (setup_with rules.now tables.now) plain.now }
     requires clearance { IsBoundedClearance clearance }
     requires early { IfSome eff (λ second. second ≤ 10000000) }
-    ensures exact { IfOk result (IsWhatIf (record { rules = rules.now; tables = tables.now }) plain.now call clearance eff) }
+    ensures exact { IfOk result (IsWhatIf (setup_with rules.now tables.now) plain.now call clearance eff) }
     ensures short { IfOk result (λ found. IfOk found AreShortHits) }
 {
     let Some(flight) = plain.flight(call) else {

@@ -1,6 +1,8 @@
+pub mod Booked
 pub mod BriefHits
 pub mod OneReply
 pub mod OneSolution
+pub mod Renewing
 pub mod Replying
 pub mod Turning
 pub mod WordLemmas

@@ -9,19 +9,21 @@ use Rattle.mt_base.specs.declared.clearance.Clearance.{Clearance}
 use Rattle.mt_base.specs.declared.flight.Record.{Record}
 use Rattle.mt_base.specs.declared.hit.Hit.{Hit}
 use Rattle.mt_base.specs.Picture.{flight_of}
+use Rattle.mt_base.specs.History.{state_of}
+use Rattle.mt_base.specs.Settled.{due_calls}
 use Rattle.mt_base.specs.Tables.{Tables}
 use Rattle.mt_base.proofs.ConflictOrder.{total}
 use Rattle.mt_base.proofs.OneOrder.{one_order}
-use Rattle.mt_wire.specs.declared.request.Request.{Request}
-use Rattle.mt_wire.specs.declared.request.Request.TheVariants as requests
+use Rattle.mt_read.specs.declared.request.Request.{Request}
+use Rattle.mt_read.specs.declared.request.Request.TheVariants as requests
 use Rattle.mt_tables.specs.declared.add_no.AddNo.{AddNo}
 use Rattle.mt_machine.specs.Book.{probe_at}
-use Rattle.mt_wire.specs.declared.reply.DoneWord.{DoneWord}
-use Rattle.mt_wire.specs.declared.reply.Reply.{Reply}
-use Rattle.mt_wire.specs.declared.reply.Reply.TheVariants.{List as listed}
+use Rattle.mt_write.specs.declared.reply.DoneWord.{DoneWord}
+use Rattle.mt_write.specs.declared.reply.Reply.{Reply}
+use Rattle.mt_write.specs.declared.reply.Reply.TheVariants.{List as listed, Settled as settled}
 use Rattle.mt_top.specs.declared.actor.Probe.{Probe}
-use Rattle.mt_top.specs.World.{IsAcceptedOf, IsAdded, IsAnswered, IsChanged, IsGiven, IsListed, IsOutcome, IsProbed, IsRefused, IsServed, IsTold, IsTried, World, actor_of, is_empty, picture_of, picture_taken, setup_of}
-use Rattle.mt_top.proofs.OneSolution.{one_decision, one_what_if}
+use Rattle.mt_top.specs.World.{IsAcceptedOf, IsAdded, IsAdvised, IsAdvisedAs, IsAnswered, IsChanged, IsGiven, IsListed, IsOutcome, IsProbed, IsRefused, IsServed, IsSettling, IsTold, IsTried, World, actor_of, is_empty, picture_of, picture_taken, setup_of}
+use Rattle.mt_top.proofs.OneSolution.{one_advised, one_decision, one_renewal, one_what_if}
 
 -- the same reply, and the same world after it
 abbrev AreOne : Reply → Reply → World → World → Type 0
@@ -79,6 +81,26 @@ one_accepted w who None r s next other x y = one_refused w _ r s next other x y
 one_accepted w who (Some probe) r s next other x y =
     by_begun (is_empty probe.hits) _ _ _ _ _ (one_changed w who _ r s next other) (one_refused w _ r s next other) x y
 
+one_told : (w : World) (who : ℕ) (call : List ℕ) (eff : ℕ) (advice : Result (List Clearance) Refusal) (r s : Reply) (next other : World)
+    → IsAdvisedAs w who call eff advice r next → IsAdvisedAs w who call eff advice s other → AreOne r s next other
+one_told w who call eff (Ok advised) r s next other x y = one_given _ _ r s next other x y
+one_told w who call eff (Err refusal) r s next other x y = one_refused w _ r s next other x y
+
+one_advice_told : (w : World) (who : ℕ) (call : List ℕ) (r s : Reply) (next other : World) → IsAdvised w who call r next → IsAdvised w who call s other
+    → AreOne r s next other
+one_advice_told w who call r s next other x y =
+    let eff : ℕ = (picture_taken w who).now in
+    let same : y.result ≡ x.result = one_advised (setup_of w) (picture_taken w who) call y.result x.result y.advice x.advice in
+    one_told w who call eff x.result r s next other x.told
+    (subst (λ (advice : Result (List Clearance) Refusal). IsAdvisedAs w who call eff advice s other) same y.told)
+
+one_settled : (w : World) (who : ℕ) (r s : Reply) (next other : World) → IsSettling w who r next → IsSettling w who s other → AreOne r s next other
+one_settled w who r s next other x y =
+    let same : y.history ≡ x.history =
+    one_renewal (setup_of w) who (due_calls (state_of (setup_of w) w.history).records) w.history y.history x.history y.settled x.settled in
+    one_given _ _ r s next other x.given (subst (λ (h : List Entry).
+    IsGiven (settled (due_calls (state_of (setup_of w) h).records) (length h)) (record w { history = h }) s other) same y.given)
+
 one_served : (w : World) (who : ℕ) (request : Request) (r s : Reply) (next other : World) → IsServed w who request r next
     → IsServed w who request s other → AreOne r s next other
 one_served w who (requests.Fix name a b) r s next other x y =
@@ -105,6 +127,10 @@ one_served w who (requests.Probe call clearance eff) r s next other x y =
     by_begun w.begun _ _ _ _ _ (one_probed w who call clearance eff r s next other) (one_refused w _ r s next other) x y
 one_served w who (requests.Accept number) r s next other x y =
     by_begun w.begun _ _ _ _ _ (one_accepted w who (probe_at (actor_of w who).book number) r s next other) (one_refused w _ r s next other) x y
+one_served w who (requests.Advise call) r s next other x y =
+    by_begun w.begun _ _ _ _ _ (one_advice_told w who call r s next other) (one_refused w _ r s next other) x y
+one_served w who requests.Due r s next other x y = by_begun w.begun _ _ _ _ _ (one_given _ _ r s next other) (one_refused w _ r s next other) x y
+one_served w who requests.Settle r s next other x y = by_begun w.begun _ _ _ _ _ (one_settled w who r s next other) (one_refused w _ r s next other) x y
 
 pub one_reply : (w : World) (a : Result (ℕ × Request) Reply) (r s : Reply) (next other : World) → IsAnswered w a r next → IsAnswered w a s other
     → AreOne r s next other

@@ -9,17 +9,17 @@ use Rattle.mt_base.specs.declared.hit.Hit.{Hit}
 use Rattle.mt_base.specs.Picture.{flight_of}
 use Rattle.mt_base.specs.Tables.{Tables}
 use Rattle.mt_tables.specs.declared.add_no.AddNo.{AddNo}
-use Rattle.mt_wire.specs.declared.reply.DoneWord.{DoneWord}
-use Rattle.mt_wire.specs.declared.request.Request.{Request}
-use Rattle.mt_wire.specs.declared.request.Request.TheVariants as requests
-use Rattle.mt_wire.specs.declared.reply.Reply.{Reply}
-use Rattle.mt_wire.specs.declared.reply.Reply.TheVariants as replies
-use Rattle.mt_wire.specs.Reply.{reply_text}
+use Rattle.mt_write.specs.declared.reply.DoneWord.{DoneWord}
+use Rattle.mt_read.specs.declared.request.Request.{Request}
+use Rattle.mt_read.specs.declared.request.Request.TheVariants as requests
+use Rattle.mt_write.specs.declared.reply.Reply.{Reply}
+use Rattle.mt_write.specs.declared.reply.Reply.TheVariants as replies
+use Rattle.mt_write.specs.Reply.{reply_text}
 use Rattle.mt_top.specs.Given.{IsGivenFor, is_brief, is_farewell}
-use Rattle.mt_top.specs.Script.{AreReplied, IsReplied}
+use Rattle.mt_top.specs.Script.{AreReplied, IsLeftBy, IsReplied}
 use Rattle.mt_machine.specs.Book.{probe_at}
 use Rattle.mt_top.specs.declared.actor.Probe.{Probe}
-use Rattle.mt_top.specs.World.{IsAcceptedOf, IsAdded, IsAnswered, IsOutcome, IsServed, IsTold, IsTried, World, actor_of, asked, is_empty, picture_of}
+use Rattle.mt_top.specs.World.{IsAcceptedOf, IsAdded, IsAdvisedAs, IsAnswered, IsLeft, IsOutcome, IsServed, IsTold, IsTried, World, actor_of, asked, is_empty, picture_of}
 
 -- one line more
 pub replied_push : (w : World) (lines : List (List ℕ)) (bytes : List ℕ) (middle : World) (line : List ℕ) (reply : Reply) (next : World)
@@ -62,6 +62,11 @@ tried : (w next : World) (who : ℕ) (call : List ℕ) (clearance : Clearance) (
 tried w next who call clearance eff (Ok hits) reply b g = not_given _ reply _ g.reply_is refl b
 tried w next who call clearance eff (Err refusal) reply b r = r.same
 
+told_free : (w next : World) (who : ℕ) (call : List ℕ) (eff : ℕ) (advice : Result (List Clearance) Refusal) (reply : Reply)
+    → is_brief reply ≡ false → IsAdvisedAs w who call eff advice reply next → next ≡ w
+told_free w next who call eff (Ok advised) reply b g = not_given _ reply _ g.reply_is refl b
+told_free w next who call eff (Err refusal) reply b r = r.same
+
 accepted : (w next : World) (who : ℕ) (found : Option Probe) (reply : Reply) → is_brief reply ≡ false → IsAcceptedOf w who found reply next → next ≡ w
 accepted w next who None reply b r = r.same
 accepted w next who (Some probe) reply b a =
@@ -92,20 +97,33 @@ unchanged_by w next who (requests.Probe call clearance eff) reply served b =
     by_begun w.begun _ _ _ (λ probed. tried w next who call clearance _ probed.result reply b probed.tried) (λ r. r.same) served
 unchanged_by w next who (requests.Accept number) reply served b =
     by_begun w.begun _ _ _ (accepted w next who (probe_at (actor_of w who).book number) reply b) (λ r. r.same) served
+unchanged_by w next who (requests.Advise call) reply served b =
+    by_begun w.begun _ _ _ (λ advised. told_free w next who call _ advised.result reply b advised.told) (λ r. r.same) served
+unchanged_by w next who requests.Due reply served b = by_begun w.begun _ _ _ (λ g. g.next_is) (λ r. r.same) served
+unchanged_by w next who requests.Settle reply served b =
+    by_begun w.begun _ _ _ (λ settling. not_given _ reply _ settling.given.reply_is refl b) (λ r. r.same) served
 
 unchanged_of : (w next : World) (a : Result (ℕ × Request) Reply) (reply : Reply) → IsAnswered w a reply next → is_brief reply ≡ false → next ≡ w
 unchanged_of w next (Ok a) reply served b = unchanged_by w next a.0 a.1 reply served b
 unchanged_of w next (Err refusal) reply refused b = refused.same
 
 unchanged : (w next : World) (line : List ℕ) (reply : Reply) → IsReplied w line reply next → is_brief reply ≡ false → next ≡ w
-unchanged w next line reply replied b = ⊎_elim (λ answered. unchanged_of w next (asked w line) reply answered b) (λ wants. wants.same) replied
+unchanged w next line reply replied b = ⊎_elim (λ answered. unchanged_of w next (asked w line) reply answered b) (λ wants. not_given _ reply _ wants.reply_is refl b) replied
+
+-- a line that found no memory may leave the world as it was
+left_same : (w next : World) (a : Result (ℕ × Request) Reply) → next ≡ w → IsLeftBy w a next
+left_same w next (Err refusal) same = same
+left_same w next (Ok a) same = by_request a.1 where
+  by_request : (request : Request) → IsLeft w a.0 request next
+  by_request requests.Settle = inl same
+  by_request request = same
 
 -- what is given in place of a reply is a reply
 pub given_replied : (w next : World) (line : List ℕ) (reply given : Reply) → IsReplied w line reply next → IsGivenFor reply given
     → (is_brief reply ≡ false → length line ≤ 65536) → IsReplied w line given next
 given_replied w next line reply given replied for short = ⊎_elim
     (λ same. rw same replied)
-    (λ (memory, not_brief). inr (record { short = short not_brief; reply_is = memory; same = unchanged w next line reply replied not_brief }))
+    (λ (memory, not_brief). inr (record { short = short not_brief; reply_is = memory; left = left_same w next (asked w line) (unchanged w next line reply replied not_brief) }))
     for
 
 -- the reply to a line that is too long

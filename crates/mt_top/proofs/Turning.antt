@@ -7,8 +7,8 @@ use Rattle.mt_io.specs.declared.line.LineFault.{LineFault}
 use Rattle.mt_io.specs.declared.line.LineFault.TheVariants as faults
 use Rattle.mt_io.proofs.HasRead.{told, read_none, read_more, read_all, read_part, first_lines}
 use Rattle.mt_io.proofs.Known.{appends_none, appends_on, consumes_none}
-use Rattle.mt_wire.specs.declared.reply.Reply.{Reply}
-use Rattle.mt_wire.specs.Reply.{reply_text}
+use Rattle.mt_write.specs.declared.reply.Reply.{Reply}
+use Rattle.mt_write.specs.Reply.{reply_text}
 use Rattle.mt_top.specs.declared.status.Status.{Status}
 use Rattle.mt_top.specs.declared.status.Status.TheVariants.{Done, Usage, ReadFault, WriteFault, Spent, Memory}
 use Rattle.mt_top.specs.Given.{Gives, Sends, is_brief, is_farewell}

@@ -6,7 +6,7 @@ use Rattle.std.proofs.lemmas.Option.{get_or_from_slice_get, slice_get_within}
 use Rattle.std.specs.List.{All}
 use Rattle.std.specs.Prelude.{MatchBool, nat_eq, nat_lt, slice_get, slice_set, ⊤, ◌+◌, ◌-◌, if◌then◌else◌}
 use Rattle.mt_base.specs.declared.command.Command.{Command}
-use Rattle.mt_base.specs.declared.command.Command.TheVariants.{Plan, External, Drop, Tick, Clear, Accept}
+use Rattle.mt_base.specs.declared.command.Command.TheVariants.{Accept}
 use Rattle.mt_base.specs.declared.command.Entry.{Entry}
 use Rattle.mt_base.specs.Bounds.{AreWithinBounds, IsAskedFor}
 use Rattle.mt_base.specs.History.{IsDecided, IsInTime, IsLegal, WasFree, effect, state_of}
@@ -20,9 +20,9 @@ use Rattle.mt_machine.proofs.Effects.{opening_sound}
 use Rattle.mt_tables.specs.declared.add_no.AddNo.{AddNo}
 use Rattle.mt_tables.specs.declared.add_no.AddNo.TheVariants as add
 use Rattle.mt_tables.specs.Adding.{Answers}
-use Rattle.mt_wire.specs.declared.reply.DoneWord.{DoneWord}
-use Rattle.mt_wire.specs.declared.reply.Reply.{Reply}
-use Rattle.mt_wire.specs.declared.reply.Reply.TheVariants.{Begun, Done, Memory}
+use Rattle.mt_write.specs.declared.reply.DoneWord.{DoneWord}
+use Rattle.mt_write.specs.declared.reply.Reply.{Reply}
+use Rattle.mt_write.specs.declared.reply.Reply.TheVariants.{Begun, Done, Memory}
 use Rattle.mt_top.specs.declared.actor.Actor.{Actor}
 use Rattle.mt_top.specs.declared.actor.Probe.{Probe}
 use Rattle.mt_top.specs.Sound.{IsKept, IsSoundActor, IsSoundWorld, fresh, shown}
@@ -128,20 +128,12 @@ shown_fresh (a ∷ bs) (suc n) e all = ap₂ (λ (b : world.Actor) (cs : List wo
 
 -- a command that is asked for by itself was not probed
 pub asked_in_time : (place : ℕ) (c : Command) → IsAskedFor c → IsInTime place c
-asked_in_time place (Plan call kind route at from level) asked = tt
-asked_in_time place (External call straight) asked = tt
-asked_in_time place (Drop call) asked = tt
-asked_in_time place (Tick next) asked = tt
-asked_in_time place (Clear call clearance eff) asked = tt
 asked_in_time place (Accept call clearance eff probed) asked = absurd asked
+asked_in_time place c asked = tt
 
 pub asked_free : (setup : Setup) (h : List Entry) (c : Command) → IsAskedFor c → WasFree setup h c
-asked_free setup h (Plan call kind route at from level) asked = tt
-asked_free setup h (External call straight) asked = tt
-asked_free setup h (Drop call) asked = tt
-asked_free setup h (Tick next) asked = tt
-asked_free setup h (Clear call clearance eff) asked = tt
 asked_free setup h (Accept call clearance eff probed) asked = absurd asked
+asked_free setup h c asked = tt
 
 pub on_true : (b : Bool) (P Q : Type 0) → b ≡ true → P → MatchBool b P Q
 on_true true P Q e p = p
@@ -221,7 +213,7 @@ all_drop : {X : Type 0} (P : X → Type 0) (xs : List X) (n : ℕ) → All P xs 
 all_drop P xs n all k d below = rw (get_or-drop n xs k d) (all (n + k) d (omega (arith, length-drop n xs, below)))
 
 -- an actor with one more probe in its book is sound
-actor_kept : (setup : Setup) (h : List Entry) (a : Actor) (p : Probe) → IsSoundActor setup h a → IsKept setup h p
+pub actor_kept : (setup : Setup) (h : List Entry) (a : Actor) (p : Probe) → IsSoundActor setup h a → IsKept setup h p
     → IsSoundActor setup h (record { picture = a.picture; book = with_probe a.book p })
 actor_kept setup h a p sound kept = record {
   past = sound.past;
@@ -237,7 +229,7 @@ sound_kept setup begun h s actors i d p sound started within kept = sound_set se
     (actor_kept setup h (get_or actors i d) p (sound.each i d within) kept)
 
 -- an actor of a world by its number is the actor of that place
-actor_at : (actors : List Actor) (i : ℕ) (d : Actor) (e : world.Actor) → i < length actors → get_or (map shown actors) i e ≡ shown (get_or actors i d)
+pub actor_at : (actors : List Actor) (i : ℕ) (d : Actor) (e : world.Actor) → i < length actors → get_or (map shown actors) i e ≡ shown (get_or actors i d)
 actor_at [] i d e below = absurd (omega arith)
 actor_at (a ∷ bs) zero d e below = refl
 actor_at (a ∷ bs) (suc i) d e below = actor_at bs i d e (omega arith)

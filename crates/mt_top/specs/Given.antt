@@ -3,62 +3,30 @@ use Rattle.std.specs.Io.KnownBytes.{Appends}
 use Rattle.std.specs.declared.option.Option.{Option}
 use Rattle.std.specs.declared.option.Option.TheVariants.{None, Some}
 use Rattle.mt_io.specs.Writing.{AppendsFront}
-use Rattle.mt_wire.specs.declared.reply.DoneWord.TheVariants as done
-use Rattle.mt_wire.specs.declared.reply.Reply.{Reply}
-use Rattle.mt_wire.specs.declared.reply.Reply.TheVariants as replies
-use Rattle.mt_wire.specs.Reply.{reply_text}
+use Rattle.mt_write.specs.declared.reply.DoneWord.TheVariants as done
+use Rattle.mt_write.specs.declared.reply.Reply.{Reply}
+use Rattle.mt_write.specs.declared.reply.Reply.TheVariants as replies
+use Rattle.mt_write.specs.Reply.{reply_text}
 use Rattle.mt_top.specs.declared.status.Status.{Status}
 use Rattle.mt_top.specs.declared.status.Status.TheVariants.{Done, Usage, ReadFault, WriteFault, Spent, Memory}
 
 -- A reply that is written in the room that was taken before the first line, and so never wants memory. Each reply that follows a change is one.
 abbrev pub is_brief : Reply → Bool
-is_brief (replies.Done word) = true
-is_brief (replies.Hello role) = true
-is_brief (replies.Entered entered) = true
-is_brief (replies.Taken version) = true
-is_brief (replies.Probe conflicts eff probe version) = true
-is_brief replies.Json = true
-is_brief replies.Long = true
-is_brief replies.Begun = true
-is_brief replies.Unbegun = true
-is_brief replies.Bands = true
-is_brief replies.TablesFull = true
-is_brief replies.Memory = true
 is_brief (replies.List conflicts version) = false
 is_brief (replies.Flight view) = false
+is_brief (replies.Due calls version) = false
 is_brief (replies.History entries version) = false
 is_brief (replies.Form name) = false
 is_brief (replies.Range name) = false
 is_brief (replies.TakenFix name) = false
 is_brief (replies.TakenType name) = false
 is_brief (replies.Refused refusal version) = false
+is_brief reply = true
 
 -- the reply after which a script ends
 abbrev pub is_farewell : Reply → Bool
 is_farewell (replies.Done done.Bye) = true
-is_farewell (replies.Done done.Fix) = false
-is_farewell (replies.Done done.TypeLine) = false
-is_farewell (replies.Done done.Begin) = false
-is_farewell (replies.Done done.Rule) = false
-is_farewell (replies.Hello role) = false
-is_farewell (replies.Entered entered) = false
-is_farewell (replies.Taken version) = false
-is_farewell (replies.Probe conflicts eff probe version) = false
-is_farewell replies.Json = false
-is_farewell replies.Long = false
-is_farewell replies.Begun = false
-is_farewell replies.Unbegun = false
-is_farewell replies.Bands = false
-is_farewell replies.TablesFull = false
-is_farewell replies.Memory = false
-is_farewell (replies.List conflicts version) = false
-is_farewell (replies.Flight view) = false
-is_farewell (replies.History entries version) = false
-is_farewell (replies.Form name) = false
-is_farewell (replies.Range name) = false
-is_farewell (replies.TakenFix name) = false
-is_farewell (replies.TakenType name) = false
-is_farewell (replies.Refused refusal version) = false
+is_farewell reply = false
 
 -- the reply that is given: this one, or `memory` in place of one that is not brief
 abbrev pub IsGivenFor : Reply → Reply → Type 0

@@ -1,15 +1,21 @@
-use Rattle.std.specs.Prelude.{◌≡◌, ◌≤◌, ℕ, ◌⊎◌, List, [], ◌∷◌, ◌++◌, length, true, false}
-use Rattle.mt_wire.specs.declared.reply.Reply.{Reply}
-use Rattle.mt_wire.specs.declared.reply.Reply.TheVariants as replies
-use Rattle.mt_wire.specs.Reply.{reply_text}
+use Rattle.std.specs.Prelude.{◌≡◌, ◌≤◌, ℕ, ◌⊎◌, List, [], ◌∷◌, ◌++◌, length, true, false, Result, Ok, Err}
+use Rattle.mt_write.specs.declared.reply.Reply.{Reply}
+use Rattle.mt_write.specs.declared.reply.Reply.TheVariants as replies
+use Rattle.mt_write.specs.Reply.{reply_text}
 use Rattle.mt_top.specs.Given.{is_farewell}
-use Rattle.mt_top.specs.World.{World, IsAnswered, asked}
+use Rattle.mt_read.specs.declared.request.Request.{Request}
+use Rattle.mt_top.specs.World.{World, IsAnswered, IsLeft, asked}
 
--- In place of any reply but `long`, `memory` may stand; then the line changed nothing.
+-- what a line leaves for which there was no memory: the world as it was, but for what settling had renewed
+abbrev pub IsLeftBy : World → Result (ℕ × Request) Reply → World → Type 0
+IsLeftBy w (Ok asked) next = IsLeft w asked.0 asked.1 next
+IsLeftBy w (Err refusal) next = next ≡ w
+
+-- In place of any reply but `long`, `memory` may stand; then the line changed nothing, but that settling may have renewed some flights.
 pub record WantsMemory (w : World) (line : List ℕ) (reply : Reply) (next : World) : Type 0 where
   pub short : length line ≤ 65536
   pub reply_is : reply ≡ replies.Memory
-  pub same : next ≡ w
+  pub left : IsLeftBy w (asked w line) next
 
 -- this reply is given to a line of a world, and leaves this world
 abbrev pub IsReplied : World → List ℕ → Reply → World → Type 0

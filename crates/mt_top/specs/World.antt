@@ -1,4 +1,4 @@
-use Rattle.std.specs.Prelude.{◌≡◌, ℕ, ◌+◌, ◌-◌, Bool, true, false, List, [], ◌∷◌, ◌++◌, length, replicate, take, drop, get_or, slice_set, nat_lt, unwrap_or, Option, Some, None, Result, Ok, Err, MatchBool, ⊤, if◌then◌else◌}
+use Rattle.std.specs.Prelude.{◌≡◌, ℕ, ◌-◌, Bool, true, false, List, [], ◌∷◌, ◌++◌, length, map, replicate, take, drop, get_or, slice_set, nat_lt, unwrap_or, Option, Some, None, Result, Ok, Err, MatchBool, ◌⊎◌, ⊤, if◌then◌else◌}
 use Rattle.mt_base.specs.declared.command.Entry.{Entry}
 use Rattle.mt_base.specs.declared.command.Refusal.{Refusal}
 use Rattle.mt_base.specs.declared.conflict.Conflict.{Conflict}
@@ -10,9 +10,11 @@ use Rattle.mt_base.specs.declared.command.Refusal.TheVariants.{UnknownCall, NoPr
 use Rattle.mt_base.specs.declared.hit.Hit.{Hit}
 use Rattle.mt_base.specs.declared.flight.Record.{Record}
 use Rattle.mt_base.specs.Checks.{judged}
-use Rattle.mt_base.specs.History.{IsDecided, state_of}
+use Rattle.mt_base.specs.Advice.{IsAdvice}
+use Rattle.mt_base.specs.History.{IsDecided, entered_by, state_of}
 use Rattle.mt_base.specs.Picture.{IsPublished, State, flight_of}
 use Rattle.mt_base.specs.Rules.{usual_rules}
+use Rattle.mt_base.specs.Settled.{IsSettled, IsSettledInPart, due_calls}
 use Rattle.mt_base.specs.Tally.{raised}
 use Rattle.mt_base.specs.Tables.{Setup, Tables, no_tables}
 use Rattle.mt_base.specs.View.{view_of}
@@ -21,17 +23,18 @@ use Rattle.mt_machine.specs.Book.{Book, empty_book, probe_at, with_probe}
 use Rattle.mt_tables.specs.declared.add_no.AddNo.{AddNo}
 use Rattle.mt_tables.specs.declared.add_no.AddNo.TheVariants as add
 use Rattle.mt_tables.specs.Adding.{fix_adding, type_adding, with_fix, with_type}
-use Rattle.mt_wire.specs.declared.request.Request.{Request}
-use Rattle.mt_wire.specs.declared.request.Request.TheVariants as requests
-use Rattle.mt_wire.specs.declared.reply.DoneWord.{DoneWord}
-use Rattle.mt_wire.specs.declared.reply.DoneWord.TheVariants as done
-use Rattle.mt_wire.specs.declared.reply.Reply.{Reply}
-use Rattle.mt_wire.specs.declared.reply.Reply.TheVariants as replies
-use Rattle.mt_wire.specs.declared.request.Place.TheVariants.{Replay}
-use Rattle.mt_wire.specs.Commands.{rules_with}
-use Rattle.mt_wire.specs.Line.{line as read_as}
-use Rattle.mt_wire.specs.declared.request.LineNo.{LineNo}
-use Rattle.mt_wire.specs.declared.request.LineNo.TheVariants as nos
+use Rattle.mt_read.specs.declared.request.Request.{Request}
+use Rattle.mt_read.specs.declared.request.Request.TheVariants as requests
+use Rattle.mt_write.specs.declared.reply.DoneWord.{DoneWord}
+use Rattle.mt_write.specs.declared.reply.DoneWord.TheVariants as done
+use Rattle.mt_write.specs.declared.reply.AdviceItem.{AdviceItem}
+use Rattle.mt_write.specs.declared.reply.Reply.{Reply}
+use Rattle.mt_write.specs.declared.reply.Reply.TheVariants as replies
+use Rattle.mt_read.specs.declared.request.Place.TheVariants.{Replay}
+use Rattle.mt_read.specs.Rules.{rules_with}
+use Rattle.mt_read.specs.Line.{line as read_as}
+use Rattle.mt_read.specs.declared.request.LineNo.{LineNo}
+use Rattle.mt_read.specs.declared.request.LineNo.TheVariants as nos
 use Rattle.mt_top.specs.declared.actor.Probe.{Probe}
 
 -- whether there are none
@@ -118,7 +121,7 @@ IsTold w call sec None reply next = IsRefused w (replies.Refused (UnknownCall ca
 -- what a decision answers: an entry is put behind the history, a refusal changes nothing
 abbrev pub IsOutcome : World → Result Entry Refusal → Reply → World → Type 0
 IsOutcome w (Ok entry) reply next =
-    IsGiven (replies.Entered (record { version = length w.history + 1 })) (record w { history = w.history ++ entry ∷ [] }) reply next
+    IsGiven (replies.Entered (entered_by (setup_of w) (picture_of w) entry)) (record w { history = w.history ++ entry ∷ [] }) reply next
 IsOutcome w (Err refusal) reply next = IsRefused w (replies.Refused refusal (length w.history)) reply next
 
 -- what an actor's command is answered: what is decided of it on the state of the history
@@ -151,6 +154,38 @@ IsAcceptedOf w who (Some probe) reply next = MatchBool (is_empty probe.hits)
 abbrev pub IsAccepted : World → ℕ → ℕ → Reply → World → Type 0
 IsAccepted w who number reply next = IsAcceptedOf w who (probe_at (actor_of w who).book number) reply next
 
+-- A book with some probes more, in order; and advised clearances, each with the number that its probe gets behind so many.
+abbrev pub with_probes : Book Probe → List Probe → Book Probe
+with_probes book [] = book
+with_probes book (p ∷ ps) = with_probes (with_probe book p) ps
+
+abbrev pub items_from : ℕ → List Clearance → List AdviceItem
+items_from count [] = []
+items_from count (c ∷ cs) = record { clearance = c; probe = raised count } ∷ items_from (raised count) cs
+
+-- a clearance that is advised, as a probe without hits
+abbrev pub free_probe : List ℕ → ℕ → ℕ → Clearance → Probe
+free_probe call eff version clearance = record { call = call; clearance = clearance; eff = eff; version = version; hits = [] }
+
+-- The reply carries the advice, each clearance of which is put in the actor's book; or the refusal.
+abbrev pub IsAdvisedAs : World → ℕ → List ℕ → ℕ → Result (List Clearance) Refusal → Reply → World → Type 0
+IsAdvisedAs w who call eff (Ok advised) reply next =
+    IsGiven (replies.Advice (items_from (actor_of w who).book.count advised) call eff (actor_of w who).taken)
+    (with_book w who (with_probes (actor_of w who).book (map (free_probe call eff (actor_of w who).taken) advised))) reply next
+IsAdvisedAs w who call eff (Err refusal) reply next = IsRefused w (replies.Refused refusal (actor_of w who).taken) reply next
+
+-- what is answered where advice is asked for: the advice on the state that its actor has taken
+pub record IsAdvised (w : World) (who : ℕ) (call : List ℕ) (reply : Reply) (next : World) : Type 0 where
+  pub result : Result (List Clearance) Refusal
+  pub advice : IsAdvice (setup_of w) (picture_taken w who) call result
+  pub told : IsAdvisedAs w who call (picture_taken w who).now result reply next
+
+-- what settling is answered: the flights that are due behind the renewals of those that were due at first
+pub record IsSettling (w : World) (who : ℕ) (reply : Reply) (next : World) : Type 0 where
+  pub history : List Entry
+  pub settled : IsSettled (setup_of w) who w.history history
+  pub given : IsGiven (replies.Settled (due_calls (state_of (setup_of w) history).records) (length history)) (record w { history = history }) reply next
+
 -- What an actor's request is answered, and the world after it. Fixes, types and rules are set and the picture is begun once, at first;
 -- `hello` and `bye` are answered always, and the other requests once the picture has begun.
 abbrev pub IsServed : World → ℕ → Request → Reply → World → Type 0
@@ -180,6 +215,26 @@ IsServed w who (requests.Probe call clearance eff) reply next = MatchBool w.begu
     (IsProbed w who call clearance eff reply next) (IsRefused w replies.Unbegun reply next)
 IsServed w who (requests.Accept number) reply next = MatchBool w.begun
     (IsAccepted w who number reply next) (IsRefused w replies.Unbegun reply next)
+IsServed w who (requests.Advise call) reply next = MatchBool w.begun
+    (IsAdvised w who call reply next) (IsRefused w replies.Unbegun reply next)
+IsServed w who requests.Due reply next = MatchBool w.begun
+    (IsGiven (replies.Due (due_calls (picture_of w).records) (length w.history)) w reply next) (IsRefused w replies.Unbegun reply next)
+IsServed w who requests.Settle reply next = MatchBool w.begun
+    (IsSettling w who reply next) (IsRefused w replies.Unbegun reply next)
+
+-- A request that found no memory changed nothing, but that settling may have renewed some of the flights.
+pub record IsSettledSoFar (w : World) (who : ℕ) (next : World) : Type 0 where
+  pub history : List Entry
+  pub part : IsSettledInPart (setup_of w) who w.history history
+  pub next_is : next ≡ record w { history = history }
+
+abbrev pub IsLeft : World → ℕ → Request → World → Type 0
+IsLeft w who requests.Settle next = (next ≡ w) ⊎ IsSettledSoFar w who next
+IsLeft w who request next = next ≡ w
+
+pub record IsStarved (w : World) (who : ℕ) (request : Request) (reply : Reply) (next : World) : Type 0 where
+  pub reply_is : reply ≡ replies.Memory
+  pub left : IsLeft w who request next
 
 -- the refusal of a line as a reply
 abbrev pub or_reply : Result (ℕ × Request) LineNo → Result (ℕ × Request) Reply

@@ -1,10 +1,10 @@
 //! Lines that change the picture.
-ghost use Rattle.std.specs.Prelude.{◌≡◌, ◌⊎◌, ◌≤◌, length, Ok, MatchBool, true};
+ghost use Rattle.std.specs.Prelude.{◌≡◌, ◌⊎◌, ◌≤◌, ◌++◌, ◌∷◌, [], length, Ok, IfOk, OnOk, OnErr, MatchBool, true};
 ghost use Rattle.mt_base.specs.Bounds.{IsBoundedCommand};
-ghost use Rattle.mt_base.specs.History.{IsDecided, IsInTime, WasFree};
-ghost use Rattle.mt_wire.specs.declared.reply.Reply.TheVariants as replies;
+ghost use Rattle.mt_base.specs.History.{IsDecided, IsInTime, WasFree, entered_by};
+ghost use Rattle.mt_write.specs.declared.reply.Reply.TheVariants as replies;
 ghost use Rattle.mt_top.specs.Fit.{IsFit};
-ghost use Rattle.mt_top.specs.World.{IsAccepted, IsChanged, IsOutcome, IsRefused, picture_of, setup_of};
+ghost use Rattle.mt_top.specs.World.{IsAccepted, IsChanged, IsRefused, picture_of, setup_of};
 
 use crate::world::World;
 use mt_base::{Command, Entered, Entry, Memory, Refusal};
@@ -41,33 +41,33 @@ impl World {
             who,
             command,
         ) {
-            Ok(Ok(entry)) => self.enter(entry),
+            Ok(Ok(entry)) => match self.enter(entry) {
+                Ok(entered) => Reply::Entered(entered),
+                Err(Memory) => Reply::Memory,
+            },
             Ok(Err(refusal)) => self.refused(refusal),
             Err(Memory) => Reply::Memory,
         }
     }
 
-    // Puts what was decided into the history and the picture. Where memory is wanted, nothing changes.
-    fn enter(&mut self, entry: Entry) -> Reply
+    // Puts what was decided into the history and the picture; what it is answered. Where memory is wanted, nothing changes.
+    pub(crate) fn enter(&mut self, entry: Entry) -> Result<Entered, Memory>
         requires decided { IsDecided (setup_of self.old) (picture_of self.old) entry.who entry.command (Ok entry) }
         requires bounded { IsBoundedCommand entry.command }
         requires in_time { IsInTime (length self.old.history) entry.command }
         requires was_free { WasFree (setup_of self.old) self.old.history entry.command }
         requires begun { self.old.begun ≡ true }
-        ensures answered { IsOutcome self.old (Ok entry) result self.new ⊎ IsRefused self.old replies.Memory result self.new }
-        ensures fit { IsFit result }
+        ensures entered { IfOk result (λ entered. entered ≡ entered_by (setup_of self.old) (picture_of self.old) entry) }
+        ensures ok { OnOk result (self.new ≡ record self.old { history = self.old.history ++ entry ∷ [] }) }
+        ensures err { OnErr result (self.new ≡ self.old) }
     {
-        if let Err(Memory) = self.history.push(entry) {
-            return Reply::Memory;
-        }
+        self.history.push(entry)?;
         let entry = self.history.last();
         match self.picture.apply(&self.tables, &self.rules, entry) {
-            Ok(()) => Reply::Entered(Entered {
-                version: self.version(),
-            }),
+            Ok(entered) => Ok(entered),
             Err(Memory) => {
                 self.history.drop_last();
-                Reply::Memory
+                Err(Memory)
             }
         }
     }

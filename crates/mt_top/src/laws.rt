@@ -1,5 +1,5 @@
 ghost use Rattle.std.specs.Prelude.{◌≡◌, ℕ, List};
-ghost use Rattle.mt_wire.specs.declared.reply.Reply.{Reply};
+ghost use Rattle.mt_write.specs.declared.reply.Reply.{Reply};
 ghost use Rattle.mt_top.specs.World.{IsAnswered, World, asked};
 
 /// A line of a world has one reply, and leaves one world, but where memory is wanted. So the bytes that answer a script in which no line

@@ -2,6 +2,7 @@
 #![tactic(auto)]
 
 mod actor;
+mod advising;
 mod entering;
 mod laws;
 mod probing;
@@ -9,9 +10,8 @@ mod reading;
 mod replay;
 mod reply_out;
 mod setting;
+mod settling;
 mod status;
-#[cfg(test)]
-mod tests;
 mod top_call;
 mod world;
 

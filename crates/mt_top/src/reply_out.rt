@@ -1,15 +1,15 @@
 //! Replies on their way out.
 ghost use Rattle.std.specs.Prelude.{◌≡◌, ◌≤◌, vec_capacity, true};
 ghost use Rattle.mt_io.specs.Causes.{Rose};
-ghost use Rattle.mt_wire.specs.Short.{IsShort, IsShortProbe};
-ghost use Rattle.mt_top.specs.Fit.{AreBrief, IsFit};
+ghost use Rattle.mt_write.specs.Short.{AreShortCalls, IsShort, IsShortAdvice, IsShortProbe};
+ghost use Rattle.mt_top.specs.Fit.{AreBrief, AreBriefCalls, IsBriefAdvice, IsFit};
 ghost use Rattle.mt_top.specs.Given.{Gives, Sends, is_brief, is_farewell};
 ghost use Rattle.mt_top.specs.declared.status.Status.TheVariants.{WriteFault};
 
 use crate::status::Status;
-use mt_base::{Hit, Second};
+use mt_base::{Callsign, Hit, Second};
 use mt_io::{Sink, put_all};
-use mt_wire::{DoneWord, Reply, write_reply, write_short};
+use mt_wire::{AdviceItem, DoneWord, Reply, write_reply, write_short};
 use std::alloc::Global;
 
 /// Gives a reply: writes its text, or that of `memory` where a text that isn't brief finds none. A status where the script ends with it
@@ -64,9 +64,16 @@ fn is_brief(reply: &Reply) -> bool
             probe,
             version,
         } => is_short(conflicts.items(), *eff, *probe, *version),
+        Reply::Advice {
+            advice,
+            call,
+            eff,
+            version,
+        } => is_short_advice(advice.items(), *call, *eff, *version),
+        Reply::Settled { left, version } => are_short(left.items(), *version),
         Reply::Json | Reply::Long | Reply::Begun | Reply::Unbegun => true,
         Reply::Bands | Reply::TablesFull | Reply::Memory => true,
-        Reply::List { .. } | Reply::Flight(_) | Reply::History { .. } => false,
+        Reply::List { .. } | Reply::Flight(_) | Reply::Due { .. } | Reply::History { .. } => false,
         Reply::Form(_) | Reply::Range(_) | Reply::TakenFix(_) | Reply::TakenType(_) => false,
         Reply::Refused { .. } => false,
     }
@@ -76,6 +83,24 @@ fn is_brief(reply: &Reply) -> bool
 fn is_short(conflicts: &[Hit], eff: Second, probe: u64, version: u64) -> bool
     requires { AreBrief conflicts.now }
     ensures short { IsShortProbe conflicts.now eff probe version }
+    ensures brief { result ≡ true }
+{
+    true
+}
+
+// Whether the reply of an advice is brief: it is.
+fn is_short_advice(advice: &[AdviceItem], call: Callsign, eff: Second, version: u64) -> bool
+    requires { IsBriefAdvice advice.now call }
+    ensures short { IsShortAdvice advice.now call eff version }
+    ensures brief { result ≡ true }
+{
+    true
+}
+
+// Whether the reply of settling is brief: it is.
+fn are_short(left: &[Callsign], version: u64) -> bool
+    requires { AreBriefCalls left.now }
+    ensures short { AreShortCalls left.now version }
     ensures brief { result ≡ true }
 {
     true

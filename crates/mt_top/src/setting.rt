@@ -3,9 +3,9 @@ ghost use Rattle.std.specs.Prelude.{◌≡◌, ◌⊎◌, [], MatchBool, true, r
 ghost use Rattle.mt_base.specs.Bounds.{AreBoundedBands, AreWithinBounds, IsInPlane};
 ghost use Rattle.mt_base.specs.Checks.{judged};
 ghost use Rattle.mt_tables.specs.Adding.{fix_adding, type_adding, with_fix, with_type};
-ghost use Rattle.mt_wire.specs.declared.reply.DoneWord.TheVariants as done;
-ghost use Rattle.mt_wire.specs.declared.reply.Reply.TheVariants as replies;
-ghost use Rattle.mt_wire.specs.Commands.{rules_with};
+ghost use Rattle.mt_write.specs.declared.reply.DoneWord.TheVariants as done;
+ghost use Rattle.mt_write.specs.declared.reply.Reply.TheVariants as replies;
+ghost use Rattle.mt_read.specs.Rules.{rules_with};
 ghost use Rattle.mt_top.specs.Fit.{IsFit};
 ghost use Rattle.mt_top.specs.World.{IsAdded, IsGiven, IsRefused, new_actor, not_added};
 

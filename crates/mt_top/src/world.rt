@@ -1,11 +1,10 @@
 //! The world of a script: what each line is answered, and what it leaves.
 ghost use Rattle.std.specs.Prelude.{◌≡◌, ◌⊎◌, ◌≤◌, length, IfOk, All};
-ghost use Rattle.mt_wire.specs.declared.reply.Reply.TheVariants as replies;
-ghost use Rattle.mt_wire.specs.Bounded.{IsBoundedRequest};
+ghost use Rattle.mt_read.specs.Bounded.{IsBoundedRequest};
 ghost use Rattle.mt_top.specs.Fit.{IsFit};
 ghost use Rattle.mt_top.specs.Script.{IsReplied};
 ghost use Rattle.mt_top.specs.Sound.{fresh};
-ghost use Rattle.mt_top.specs.World.{IsRefused, IsServed, opening_world};
+ghost use Rattle.mt_top.specs.World.{IsServed, IsStarved, opening_world};
 
 use crate::actor::Actor;
 use mt_base::{Entries, Memory, Rules, Tally};
@@ -96,7 +95,7 @@ impl World {
     ) -> Reply
         requires who { who ≤ 15 }
         requires bounded { IsBoundedRequest self.old.rules request.now }
-        ensures served { IsServed self.old who request.now result self.new ⊎ IsRefused self.old replies.Memory result self.new }
+        ensures served { IsServed self.old who request.now result self.new ⊎ IsStarved self.old who request.now result self.new }
         ensures fit { IsFit result }
     {
         match request {
@@ -118,6 +117,9 @@ impl World {
                 eff,
             } => self.probe(rt, alloc, who, *call, *clearance, *eff),
             Request::Accept { probe } => self.accept(rt, alloc, who, *probe),
+            Request::Advise { call } => self.advise(rt, alloc, who, *call),
+            Request::Due => self.due(alloc),
+            Request::Settle => self.settle(rt, alloc, who),
         }
     }
 

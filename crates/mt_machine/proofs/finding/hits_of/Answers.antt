@@ -1,20 +1,20 @@
 use Rattle.std.proofs.Common.{sym, ◌∙◌, ap, true≢false}
 use Rattle.std.proofs.lemmas.Slice.Eq.{bytes_eq-Decides}
 use Rattle.mt_base.specs.Picture.{State}
-use Rattle.mt_base.specs.Tables.{Setup}
+use Rattle.mt_base.specs.Tables.{Setup, setup_with}
 use Rattle.mt_machine.proofs.Struck.{hit_more, hits_are, hits_short, other_more, own_more}
 use Rattle.mt_machine.proofs.finding.hits_of.Goals as goal
 use Rattle.mt_machine.proofs.finding.hits_of.Goals.{in-Some+in_ok-push, in_default}
 
 pub loop-other-preserved-then-eq : goal.loop-other-preserved-then-eq
 loop-other-preserved-then-eq c =
-    own_more (record { rules = c.args.rules.now; tables = c.args.tables.now }) c.plain.inside.moment c.deref-other-items.result.now c.loop-other.other-index
+    own_more (setup_with c.args.rules.now c.args.tables.now) c.plain.inside.moment c.deref-other-items.result.now c.loop-other.other-index
     c.other-item.result c.args.call c.args.strand.now c.loop-other.hits c.loop-other-test.true c.other-item.is c.loop-other.invariant
     ((bytes_eq-Decides c.other-item.result.call c.args.call).0 (sym c.eq.ensures ∙ c.if-eq.true))
 
 pub loop-other-preserved : goal.loop-other-preserved
 loop-other-preserved c =
-    let setup : Setup = record { rules = c.args.rules.now; tables = c.args.tables.now } in
+    let setup : Setup = setup_with c.args.rules.now c.args.tables.now in
     elim c.match-branch-3.branch [
       | in-Some+in_ok-push w ↦
           rw (w.hits-is, w.in_ok-push.ensures.ok)
@@ -31,7 +31,7 @@ loop-other-preserved c =
 
 pub returns-clause-exact : goal.returns-clause-exact
 returns-clause-exact c =
-    let setup : Setup = record { rules = c.args.rules.now; tables = c.args.tables.now } in
+    let setup : Setup = setup_with c.args.rules.now c.args.tables.now in
     let moment = ap (λ (s : State). s.now) (sym c.plain.view_is) in
     let flights = ap (λ (s : State). s.records) (sym c.plain.view_is) ∙ sym c.deref-other-items.ensures.value in
     hits_are setup c.args.plain.now c.plain.inside.moment c.deref-other-items.result.now c.loop-other.other-index c.args.call c.args.strand.now
@@ -39,7 +39,7 @@ returns-clause-exact c =
 
 pub returns-clause-short : goal.returns-clause-short
 returns-clause-short c =
-    let setup : Setup = record { rules = c.args.rules.now; tables = c.args.tables.now } in
+    let setup : Setup = setup_with c.args.rules.now c.args.tables.now in
     let flights = ap (λ (s : State). s.records) (sym c.plain.view_is) ∙ sym c.deref-other-items.ensures.value in
     hits_short setup c.args.plain.now c.plain.inside.moment c.deref-other-items.result.now c.loop-other.other-index c.args.call c.args.strand.now
     c.loop-other.hits c.order.new.self flights c.requires.sound.few c.requires.flies c.loop-other-test.false c.loop-other.invariant

@@ -1,5 +1,5 @@
 use Rattle.mt_io.specs.declared.line.LineFault.TheVariants as faults
-use Rattle.mt_wire.specs.declared.reply.Reply.TheVariants as replies
+use Rattle.mt_write.specs.declared.reply.Reply.TheVariants as replies
 use Rattle.mt_top.proofs.Replying.{long_replied}
 use Rattle.mt_top.proofs.Turning.{ended, stopped, turned}
 use Rattle.mt_top.proofs.replay.turn.Goals as goal

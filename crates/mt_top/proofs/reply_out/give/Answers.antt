@@ -1,6 +1,6 @@
 use Rattle.std.proofs.Common.{◌∙◌, sym, inr, refl}
-use Rattle.mt_wire.proofs.Lengths.{short_text}
-use Rattle.mt_wire.specs.declared.reply.Reply.TheVariants as replies
+use Rattle.mt_write.proofs.Lengths.{short_text}
+use Rattle.mt_write.specs.declared.reply.Reply.TheVariants as replies
 use Rattle.mt_top.proofs.reply_out.give.Goals as goal
 
 pub write_short-requires-clause-fits : goal.write_short-requires-clause-fits

@@ -1,3 +1,4 @@
+use Rattle.mt_base.specs.Tables.{setup_with}
 use Rattle.std.proofs.Common.{◌∙◌, ap}
 use Rattle.mt_base.specs.Picture.{State}
 use Rattle.mt_machine.specs.contracts.plain.Plain.{the_view}
@@ -6,13 +7,13 @@ use Rattle.mt_machine.proofs.plain.Plain.apply.Goals as goal
 
 pub change-requires-clause-passed : goal.change-requires-clause-passed
 change-requires-clause-passed c =
-    passed (record { rules = c.args.rules.now; tables = c.args.tables.now }) c.args.self.now c.args.entry.now c.requires.decided
+    passed (setup_with c.args.rules.now c.args.tables.now) c.args.self.now c.args.entry.now c.requires.decided
 
 pub change-requires-clause-filled : goal.change-requires-clause-filled
 change-requires-clause-filled c =
-    filled_is (record { rules = c.args.rules.now; tables = c.args.tables.now }) c.args.self.now c.args.entry.now c.requires.decided
+    filled_is (setup_with c.args.rules.now c.args.tables.now) c.args.self.now c.args.entry.now c.requires.decided
 
 pub returns-clause-sound : goal.returns-clause-sound
-returns-clause-sound c = sound_counted (record { rules = c.args.rules.now; tables = c.args.tables.now }) c.args.self.now (the_view c.self.inside)
-    c.args.entry.now c.requires.decided c.requires.rules (rw c.self.view_is c.in_ok-change.ensures.sound)
-    (ap (λ (s : State). s.version) (c.self.view_is ∙ c.in_ok-change.ensures.ok))
+returns-clause-sound c = sound_counted (setup_with c.args.rules.now c.args.tables.now) c.args.self.now (the_view c.self.inside)
+    c.args.entry.now c.requires.decided c.requires.rules (rw c.self.view_is c.in_ok-verdict.ensures.sound)
+    (ap (λ (s : State). s.version) (c.self.view_is ∙ c.in_ok-verdict.ensures.ok))

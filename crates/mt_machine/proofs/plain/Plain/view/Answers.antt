@@ -1,3 +1,4 @@
+use Rattle.mt_base.specs.Tables.{setup_with}
 use Rattle.std.proofs.Common.{sym, ◌∙◌, option_copied, ap}
 use Rattle.std.specs.Str.{bytes_eq}
 use Rattle.mt_base.specs.Bounds.{IsSoundFlight}
@@ -5,6 +6,6 @@ use Rattle.mt_machine.proofs.Found.{found}
 use Rattle.mt_machine.proofs.plain.Plain.view.Goals as goal
 
 pub strand_of-requires-clause-sound : goal.strand_of-requires-clause-sound
-strand_of-requires-clause-sound c = found (IsSoundFlight (record { rules = c.args.rules.now; tables = c.args.tables.now }))
+strand_of-requires-clause-sound c = found (IsSoundFlight (setup_with c.args.rules.now c.args.tables.now))
     (λ flight. bytes_eq flight.call c.args.call) c.args.self.now.records c.in-Some.flight.now c.requires.sound.sound
     (sym c.flight.ensures ∙ ap option_copied c.in-Some.is)

@@ -2,8 +2,8 @@ use Rattle.std.proofs.Common.{◌≡◌, map, false, inl, ap, ◌∙◌, to_z-of
 use Rattle.mt_base.specs.Checks.{judged}
 use Rattle.mt_base.specs.Tables.{Tables}
 use Rattle.mt_tables.specs.Adding.{fix_adding, with_fix}
-use Rattle.mt_wire.specs.declared.reply.DoneWord.TheVariants.{Fix}
-use Rattle.mt_wire.specs.declared.reply.Reply.TheVariants.{TakenFix}
+use Rattle.mt_write.specs.declared.reply.DoneWord.TheVariants.{Fix}
+use Rattle.mt_write.specs.declared.reply.Reply.TheVariants.{TakenFix}
 use Rattle.mt_top.specs.Sound.{shown}
 use Rattle.mt_top.proofs.WorldLemmas.{is_added, sound_before}
 use Rattle.mt_top.proofs.world.World.add_fix.Goals as goal

@@ -11,7 +11,7 @@ invariant_of-self-in-Ok c =
     let started = rw (← c.self.view_is) at c.requires.begun in
     let in_time = rw (← c.self.view_is) at c.requires.in_time in
     let was_free = rw (← c.self.view_is) at c.requires.was_free in
-    let last = c.last-entry.ensures c.self.inside.history c.args.entry c.in_default.ensures.ok in
-    rw c.in_default.ensures.ok
+    let last = c.last-entry.ensures c.self.inside.history c.args.entry c.in_ok-push.ensures.ok in
+    rw c.in_ok-push.ensures.ok
     (sound_push setup c.self.inside.begun c.self.inside.history c.self.inside.picture c.apply.new.self c.self.inside.actors.items c.args.entry
     c.self.invariant decided in_time was_free started (c.in-Ok.ensures.ok ∙ ap (effect setup c.self.inside.picture) last) c.in-Ok.ensures.sound)

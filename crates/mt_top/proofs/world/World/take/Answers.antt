@@ -2,7 +2,7 @@ use Rattle.std.proofs.Common.{◌≡◌, ◌<◌, ℕ, map, slice_set, length, t
 use Rattle.mt_base.specs.Picture.{State}
 use Rattle.mt_base.specs.Tables.{Setup}
 use Rattle.mt_base.proofs.HistoryLemmas.{version_is}
-use Rattle.mt_wire.specs.declared.reply.Reply.TheVariants.{Taken}
+use Rattle.mt_write.specs.declared.reply.Reply.TheVariants.{Taken}
 use Rattle.mt_top.specs.Sound.{shown}
 use Rattle.mt_top.specs.World.{new_actor}
 use Rattle.mt_top.specs.declared.actor.Actor.{Actor}

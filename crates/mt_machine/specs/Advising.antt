@@ -1,0 +1,38 @@
+-- How an advice is found. Public contracts cite `IsFree` alone.
+use Rattle.std.specs.Prelude.{◌≡◌, ℕ, Bool, List, [], All, map, None, Result, Ok, Err}
+use Rattle.mt_advise.specs.Trying.{CanBeTried}
+use Rattle.mt_base.specs.declared.clearance.Clearance.{Clearance}
+use Rattle.mt_base.specs.declared.command.Refusal.{Refusal}
+use Rattle.mt_base.specs.declared.hit.Hit.{Hit}
+use Rattle.mt_base.specs.Advice.{Tried, advice_checks, candidates_in, free_of, has_none}
+use Rattle.mt_base.specs.Bounds.{IsBoundedClearance}
+use Rattle.mt_base.specs.Checks.{judged}
+use Rattle.mt_base.specs.Picture.{State, flight_of}
+use Rattle.mt_base.specs.Tables.{Setup}
+use Rattle.mt_base.specs.WhatIf.{IsWhatIf}
+
+-- A clearance of a flight is bounded, and nothing would follow from it.
+pub record IsFree (setup : Setup) (s : State) (call : List ℕ) (clearance : Clearance) : Type 0 where
+  pub bounded : IsBoundedClearance clearance
+  pub follows : IsWhatIf setup s call clearance None (Ok [])
+
+-- the candidates for a flight, each of which can be tried; or why it isn't advised
+abbrev pub AreAsked : Setup → State → List ℕ → Result (List Clearance) Refusal → Type 0
+AreAsked setup s call (Err refusal) = judged (advice_checks setup s.now (flight_of s.records call) call) (tt {0}) ≡ Err refusal
+AreAsked setup s call (Ok tried) =
+    (judged (advice_checks setup s.now (flight_of s.records call) call) (tt {0}) ≡ Ok (tt {0}))
+    × (tried ≡ candidates_in setup s call)
+    × All (CanBeTried setup s call) tried
+
+-- A clearance was tried, and this says whether it has no hit.
+pub record WasTried (setup : Setup) (s : State) (call : List ℕ) (clearance : Clearance) (free : Bool) : Type 0 where
+  pub hits : List Hit
+  pub follows : IsWhatIf setup s call clearance None (Ok hits)
+  pub free_is : free ≡ has_none hits
+
+-- Each of some clearances was tried, and these are those without a hit, in order.
+pub record AreFreeAmong (setup : Setup) (s : State) (call : List ℕ) (clearances free : List Clearance) : Type 0 where
+  pub tried : List Tried
+  pub all : map (λ t. t.clearance) tried ≡ clearances
+  pub each : All (λ t. IsWhatIf setup s call t.clearance None (Ok t.hits)) tried
+  pub free_is : free ≡ free_of tried

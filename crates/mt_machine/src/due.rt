@@ -1,0 +1,45 @@
+//! The flights for which a new trajectory is due.
+ghost use Rattle.std.specs.Prelude.{◌≡◌, ◌≤◌, All, true, length, IfOk};
+ghost use Rattle.mt_base.specs.Name.{is_name};
+ghost use Rattle.mt_base.specs.Settled.{due_calls, is_due};
+
+use crate::plain::Plain;
+use mt_base::{Calls, Memory, Path, Record};
+use std::alloc::Global;
+
+// Whether a new trajectory of the flight is due.
+fn is_due(flight: &Record) -> bool
+    ensures { result ≡ is_due flight.now }
+{
+    match &flight.path {
+        Path::Planned(course) => course.due,
+        Path::Outer(_) => false,
+    }
+}
+
+// The callsigns of those of the flights that are due, in order.
+fn calls_of(alloc: Global, flights: &[Record]) -> Result<Calls, Memory>
+    ensures exact { IfOk result (λ calls. calls ≡ due_calls flights.now) }
+    ensures few { IfOk result (λ calls. length calls ≤ length flights.now) }
+    ensures named { IfOk result (All (λ call. is_name 1 7 call ≡ true)) }
+{
+    let mut calls = Calls::make(alloc)?;
+    for flight in flights {
+        let _letters = flight.call.bytes();
+        if is_due(flight) {
+            calls.push(flight.call)?;
+        }
+    }
+    Ok(calls)
+}
+
+impl Plain {
+    /// The callsigns of the flights for which a new trajectory is due, in the order of filing.
+    pub fn due(&self, alloc: Global) -> Result<Calls, Memory>
+        ensures exact { IfOk result (λ calls. calls ≡ due_calls self.now.records) }
+        ensures few { IfOk result (λ calls. length calls ≤ length self.now.records) }
+        ensures named { IfOk result (All (λ call. is_name 1 7 call ≡ true)) }
+    {
+        calls_of(alloc, &self.flights)
+    }
+}
