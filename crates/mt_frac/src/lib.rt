@@ -9,8 +9,6 @@
 mod fraction;
 mod linear;
 mod quadratic;
-#[cfg(test)]
-mod tests;
 
 pub use fraction::Frac;
 pub use linear::Line;

@@ -12,8 +12,6 @@ mod read_line;
 mod sink;
 mod source;
 mod std_streams;
-#[cfg(test)]
-mod tests;
 mod whole_write;
 
 pub use laws::laws_of_lines;

@@ -8,8 +8,6 @@
 mod bad;
 mod builder;
 mod fields;
-#[cfg(test)]
-mod tests;
 
 pub use bad::{Bad, Extra};
 pub use builder::Builder;

@@ -1,6 +1,10 @@
+//! Lines of small sources, a fault in mid-stream, whole writes, and the standard streams.
 ghost use Rattle.std.specs.Prelude.{◌≡◌, ◌<◌, ◌≤◌, ◌+◌, None, vec_len};
 
-use super::*;
+use mt_io::{
+    Failed, Line, LineFault, LineReader, MemSink, MemSource, Sink, Source, StdIn, StdOut,
+    laws_of_lines, put_all,
+};
 use std::alloc::Global;
 use std::process::Abort;
 

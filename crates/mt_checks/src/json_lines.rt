@@ -1,4 +1,6 @@
-use crate::{Builder, Fields};
+//! Fields of objects by their values, and objects written as lines.
+
+use mt_json::{Builder, Fields};
 use serde_json::Value;
 
 // An object, and what its key "k" is as a text, a truth value, a whole number from -5 to 5, one of any size, and a list, by its length.

@@ -4,9 +4,7 @@ ghost use Rattle.std.specs.Prelude.{IsTrue};
 ghost use Rattle.mt_frac.specs.FractionOrder.{IsBefore};
 ghost use Rattle.mt_frac.specs.Signs.{IsBoundedLine, IsBoundedQuad};
 
-use crate::fraction::Frac;
-use crate::linear::Line;
-use crate::quadratic::Quad;
+use mt_frac::{Frac, Line, Quad};
 use std::cmp::Ordering;
 use std::process::Abort;
 

@@ -1,0 +1,25 @@
+//! Tests of calls of the crates below, of cases that no line of a script can say.
+//!
+//! Cases that lines can say are those of `mt_rows`.
+#![tactic(auto)]
+
+#[cfg(test)]
+mod base;
+#[cfg(test)]
+mod book;
+#[cfg(test)]
+mod faults;
+#[cfg(test)]
+mod fractions;
+#[cfg(test)]
+mod json_lines;
+#[cfg(test)]
+mod published;
+#[cfg(test)]
+mod streams;
+#[cfg(test)]
+mod tables;
+#[cfg(test)]
+mod trajectories;
+#[cfg(test)]
+mod wire;

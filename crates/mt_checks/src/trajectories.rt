@@ -1,0 +1,172 @@
+//! Trajectories that no plan can say: from places and margins of their own, with their segments counted. Their rows were worked out by a
+//! program with whole numbers.
+ghost use Rattle.std.specs.Prelude.{◌≡◌, pos, IsTrue, All};
+ghost use Rattle.mt_base.specs.Bounds.{AreBoundedBands, IsBoundedBand, IsInPlane, IsWithin};
+ghost use Rattle.mt_predict.specs.Manners.{IsHeld};
+
+mod acceptances;
+mod climbing;
+mod courses;
+mod margins;
+mod renewals;
+mod segments;
+
+use mt_base::{Band, Place, Point, Row, Rules};
+use mt_predict::fly_route;
+use mt_track::Strand;
+use std::alloc::Global;
+use std::process::Abort;
+
+/// The values of a row, in the order of its fields.
+type Values = [i64; 11];
+
+fn values(row: &Row) -> Values {
+    [
+        row.x,
+        row.y,
+        row.z,
+        row.r,
+        row.w,
+        row.vx,
+        row.vy,
+        row.vz,
+        row.gr,
+        row.gw,
+        i64::from(row.leg),
+    ]
+}
+
+fn is_within(low: i64, high: i64, z: &i64) -> bool
+    ensures { IsTrue result → IsWithin low high z.now }
+{
+    low <= *z && *z <= high
+}
+
+fn is_up_to(most: &i64, z: &i64) -> bool
+    ensures { IsTrue result → IsWithin (pos 0) most.now z.now }
+{
+    0 <= *z && *z <= *most
+}
+
+fn is_in_plane(x: &i64, y: &i64) -> bool
+    ensures { IsTrue result → IsInPlane x.now y.now }
+{
+    is_within(-3_686_400, 3_686_400, x) && is_within(-3_686_400, 3_686_400, y)
+}
+
+fn is_band(band: &Band) -> bool
+    ensures { IsTrue result → IsBoundedBand band.now }
+{
+    if band.top < 1 || band.top > 600 {
+        return false;
+    }
+    if !is_within(1, 1_000, &band.speed) || !is_within(1, 10_000, &band.climb) {
+        return false;
+    }
+    is_within(1, 10_000, &band.descent)
+}
+
+fn are_bands(bands: &[Band]) -> bool
+    ensures { IsTrue result → AreBoundedBands bands.now }
+{
+    let count = bands.len();
+    if count < 1 || count > 8 {
+        return false;
+    }
+    for band in bands {
+        if !is_band(band) {
+            return false;
+        }
+    }
+    true
+}
+
+fn are_in_plane(fixes: &[Point]) -> bool
+    ensures { IsTrue result → All (λ p. IsInPlane p.x p.y) fixes.now }
+{
+    for fix in fixes {
+        if !is_in_plane(&fix.x, &fix.y) {
+            return false;
+        }
+    }
+    true
+}
+
+fn is_held(rules: &Rules, a: &Place) -> bool
+    ensures { IsTrue result → IsHeld rules.now a.now }
+{
+    if !is_in_plane(&a.x, &a.y) || !is_within(0, 3_600_000, &a.z) {
+        return false;
+    }
+    is_up_to(&rules.rmax, &a.r) && is_up_to(&rules.wmax, &a.w)
+}
+
+/// The trajectory over fixes that begins at a second and a place, in the usual rules.
+fn fly(
+    rt: &impl Abort,
+    alloc: Global,
+    bands: &[Band],
+    level: u32,
+    fixes: &[Point],
+    next: u32,
+    at: u32,
+    from: Place,
+) -> Strand {
+    let rules = Rules::usual();
+    assert!(rt; are_bands(bands));
+    assert!(rt; level <= 600);
+    assert!(rt; are_in_plane(fixes));
+    assert!(rt; fixes.len() <= 64);
+    assert!(rt; (next as usize) < fixes.len());
+    assert!(rt; at <= 10_000_000);
+    assert!(rt; is_held(&rules, &from));
+    fly_route(alloc, &rules, bands, level, fixes, next, at, from).expect(rt, "memory")
+}
+
+/// What the strand says of each second of the table, its first second and the one after its last, and how many segments it has.
+fn check(
+    rt: &impl Abort,
+    strand: Strand,
+    ends: (u32, u32),
+    segments: usize,
+    table: &[(u32, Values)],
+) {
+    assert_eq!(rt; (strand.start(), strand.end()), ends);
+    assert_eq!(rt; strand.segments().len(), segments);
+    assert!(rt; strand.at(ends.1).is_none());
+    for (k, wanted) in table {
+        let row = strand.at(*k);
+        assert!(rt; row.as_ref().map(values) == Some(*wanted), "at second {k}");
+    }
+}
+
+fn band(top: u32, speed: i64, climb: i64, descent: i64) -> Band {
+    Band {
+        top,
+        speed,
+        climb,
+        descent,
+    }
+}
+
+fn at(x: i64, y: i64) -> Point {
+    Point { x, y }
+}
+
+fn over(x: i64, y: i64, z: i64) -> Place {
+    Place {
+        x,
+        y,
+        z,
+        r: 0,
+        w: 0,
+    }
+}
+
+fn one_band() -> [Band; 1] {
+    [band(410, 480, 2100, 2100)]
+}
+
+fn two_bands() -> [Band; 2] {
+    [band(300, 480, 2000, 2000), band(410, 480, 1000, 1000)]
+}

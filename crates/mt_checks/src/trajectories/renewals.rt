@@ -1,0 +1,78 @@
+//! Where the flight of `climbing` begins anew.
+
+use super::climbing::flown;
+use mt_base::{Base, Course, Report, Rules};
+use mt_predict::renewed;
+use mt_track::Strand;
+use std::process::Abort;
+
+/// A report off the route.
+fn report(at: u32) -> Report {
+    Report {
+        at,
+        x: 1_000,
+        y: -2_000,
+        z: 300_000,
+    }
+}
+
+/// First margins of 50 and 70.
+fn rules() -> Rules {
+    Rules {
+        r0: 50,
+        w0: 70,
+        ..Rules::usual()
+    }
+}
+
+/// For each second of the table, the place of the route that is flown to from a report at it.
+fn check(rt: &impl Abort, course: &mut Course, strand: &Strand, table: &[(u32, u32)]) {
+    for (at, next) in table {
+        course.last = Some(report(*at));
+        let wanted = Base {
+            at: *at,
+            x: 1_000,
+            y: -2_000,
+            z: 300_000,
+            r: 50,
+            w: 70,
+            next: *next,
+        };
+        let told = renewed(&rules(), course, strand);
+        assert!(rt; told == Some(wanted), "at second {at}");
+    }
+}
+
+#[test]
+fn a_flight_that_is_not_due_keeps_its_trajectory(rt: HostRuntime) {
+    let (_, mut course, strand) = flown(&rt, rt.alloc());
+    assert!(rt; renewed(&rules(), &course, &strand).is_none());
+    course.last = Some(report(200));
+    assert!(rt; renewed(&rules(), &course, &strand).is_none());
+    course.last = None;
+    course.due = true;
+    assert!(rt; renewed(&rules(), &course, &strand).is_none());
+}
+
+#[test]
+fn a_flight_that_is_due_begins_anew_at_its_report(rt: HostRuntime) {
+    let (_, mut course, strand) = flown(&rt, rt.alloc());
+    course.base.next = 9;
+    course.due = true;
+    let table = [
+        (0, 9),
+        (99, 9),
+        (100, 1),
+        (199, 1),
+        (200, 2),
+        (399, 3),
+        (400, 4),
+        (699, 5),
+        (700, 5),
+        (701, 5),
+        (10_000_000, 5),
+    ];
+    check(&rt, &mut course, &strand, &table);
+    let empty = Strand::empty(rt.alloc(), 100);
+    check(&rt, &mut course, &empty, &[(99, 9), (100, 9), (700, 9)]);
+}

@@ -1,0 +1,8 @@
+//! Lines of sessions, and the texts of replies and entries with values that no script reaches.
+
+mod flights;
+mod names;
+mod probes;
+mod replies;
+mod sessions;
+mod texts;

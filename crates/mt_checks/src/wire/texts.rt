@@ -1,0 +1,16 @@
+//! What replies and entries are written as.
+use mt_base::Entry;
+use mt_wire::{Reply, write_entry, write_reply};
+use std::process::Abort;
+
+/// Asserts the text of a reply.
+pub(super) fn check_reply(rt: &(impl Abort + AllocGlobal), reply: &Reply, wanted: &str) {
+    let line = write_reply(rt.alloc(), reply).expect(rt, "memory");
+    assert_eq!(rt; line.as_slice(), wanted.as_bytes());
+}
+
+/// Asserts the text of an entry.
+pub(super) fn check_entry(rt: &(impl Abort + AllocGlobal), entry: &Entry, wanted: &str) {
+    let line = write_entry(rt.alloc(), entry).expect(rt, "memory");
+    assert_eq!(rt; line.as_slice(), wanted.as_bytes());
+}
