@@ -1,0 +1,16 @@
+pub mod Alike
+pub mod Bare
+pub mod Behind
+pub mod Counts
+pub mod Decided
+pub mod Flights
+pub mod Hits
+pub mod Left
+pub mod Lists
+pub mod Lowered
+pub mod Marks
+pub mod Passing
+pub mod Seam
+pub mod Since
+pub mod Standing
+pub mod Struck
