@@ -1,5 +1,5 @@
-ghost use Rattle.std.specs.Prelude.{◌≡◌};
-ghost use Rattle.mt_base.specs.Bounds.{IsBoundedStretch};
+ghost use Rattle.std.specs.Prelude.{◌≡◌, pos};
+ghost use Rattle.mt_base.specs.Bounds.{IsBoundedStretch, IsWithin};
 ghost use Rattle.mt_grid.specs.Lists.{AreInGrid};
 
 use crate::Grid;
@@ -184,11 +184,11 @@ fn strands_on_both_sides_of_an_edge_are_near_up_to_the_minimum(rt: HostRuntime) 
     assert!(rt; is_near(&rt, ABOVE_MINIMUM, OVER_EDGE));
 }
 
-/// Puts a lane into the grid, in which nothing is near it.
-fn with_lane(rt: &(impl AllocGlobal + Abort), grid: Grid, item: u32, first: Row) -> Grid
-    requires { IsBoundedStretch (record { from = 0; to = 1200; first = first }) }
+/// Puts a lane into the grid, in which nothing is near it, so far north.
+fn with_lane(rt: &(impl AllocGlobal + Abort), grid: Grid, item: u32, y: i64) -> Grid
+    requires { IsWithin (pos 0) (pos 3400000) y }
 {
-    let lane = covered(rt, 0, 1200, first);
+    let lane = covered(rt, 0, 1200, Row { y, ..LANE });
     assert!(rt; grid.near(&lane).expect(rt, "memory").is_empty());
     let grid = grid.put(item, &lane).expect(rt, "memory");
     assert!(rt; grid.near(&lane).expect(rt, "memory").as_slice() == [item].as_slice());
@@ -198,127 +198,23 @@ fn with_lane(rt: &(impl AllocGlobal + Abort), grid: Grid, item: u32, first: Row)
 #[test]
 fn eighteen_lanes_share_no_cell(rt: HostRuntime) {
     let grid = Grid::make(rt.alloc()).expect(&rt, "memory");
-    let grid = with_lane(&rt, grid, 0, Row { y: 0, ..LANE });
-    let grid = with_lane(&rt, grid, 1, Row { y: 200_000, ..LANE });
-    let grid = with_lane(&rt, grid, 2, Row { y: 400_000, ..LANE });
-    let grid = with_lane(&rt, grid, 3, Row { y: 600_000, ..LANE });
-    let grid = with_lane(&rt, grid, 4, Row { y: 800_000, ..LANE });
-    let grid = with_lane(
-        &rt,
-        grid,
-        5,
-        Row {
-            y: 1_000_000,
-            ..LANE
-        },
-    );
-    let grid = with_lane(
-        &rt,
-        grid,
-        6,
-        Row {
-            y: 1_200_000,
-            ..LANE
-        },
-    );
-    let grid = with_lane(
-        &rt,
-        grid,
-        7,
-        Row {
-            y: 1_400_000,
-            ..LANE
-        },
-    );
-    let grid = with_lane(
-        &rt,
-        grid,
-        8,
-        Row {
-            y: 1_600_000,
-            ..LANE
-        },
-    );
-    let grid = with_lane(
-        &rt,
-        grid,
-        9,
-        Row {
-            y: 1_800_000,
-            ..LANE
-        },
-    );
-    let grid = with_lane(
-        &rt,
-        grid,
-        10,
-        Row {
-            y: 2_000_000,
-            ..LANE
-        },
-    );
-    let grid = with_lane(
-        &rt,
-        grid,
-        11,
-        Row {
-            y: 2_200_000,
-            ..LANE
-        },
-    );
-    let grid = with_lane(
-        &rt,
-        grid,
-        12,
-        Row {
-            y: 2_400_000,
-            ..LANE
-        },
-    );
-    let grid = with_lane(
-        &rt,
-        grid,
-        13,
-        Row {
-            y: 2_600_000,
-            ..LANE
-        },
-    );
-    let grid = with_lane(
-        &rt,
-        grid,
-        14,
-        Row {
-            y: 2_800_000,
-            ..LANE
-        },
-    );
-    let grid = with_lane(
-        &rt,
-        grid,
-        15,
-        Row {
-            y: 3_000_000,
-            ..LANE
-        },
-    );
-    let grid = with_lane(
-        &rt,
-        grid,
-        16,
-        Row {
-            y: 3_200_000,
-            ..LANE
-        },
-    );
-    let grid = with_lane(
-        &rt,
-        grid,
-        17,
-        Row {
-            y: 3_400_000,
-            ..LANE
-        },
-    );
+    let grid = with_lane(&rt, grid, 0, 0);
+    let grid = with_lane(&rt, grid, 1, 200_000);
+    let grid = with_lane(&rt, grid, 2, 400_000);
+    let grid = with_lane(&rt, grid, 3, 600_000);
+    let grid = with_lane(&rt, grid, 4, 800_000);
+    let grid = with_lane(&rt, grid, 5, 1_000_000);
+    let grid = with_lane(&rt, grid, 6, 1_200_000);
+    let grid = with_lane(&rt, grid, 7, 1_400_000);
+    let grid = with_lane(&rt, grid, 8, 1_600_000);
+    let grid = with_lane(&rt, grid, 9, 1_800_000);
+    let grid = with_lane(&rt, grid, 10, 2_000_000);
+    let grid = with_lane(&rt, grid, 11, 2_200_000);
+    let grid = with_lane(&rt, grid, 12, 2_400_000);
+    let grid = with_lane(&rt, grid, 13, 2_600_000);
+    let grid = with_lane(&rt, grid, 14, 2_800_000);
+    let grid = with_lane(&rt, grid, 15, 3_000_000);
+    let grid = with_lane(&rt, grid, 16, 3_200_000);
+    let grid = with_lane(&rt, grid, 17, 3_400_000);
     assert!(rt; grid.share().is_ok());
 }
