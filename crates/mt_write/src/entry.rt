@@ -18,6 +18,11 @@ use itoa::Buffer;
 use mt_base::{Callsign, Command, Entry, Report};
 use mt_memory::Memory;
 
+// What stands between the callsign and the second from which a clearance holds.
+const CLEAR: &[u8] = b"\",\"do\":\"clear\",\"eff\":";
+
+const TENTATIVE: &[u8] = b"\",\"do\":\"tentative\",\"eff\":";
+
 impl Written for Entry {
     ghost value = { entry_value };
 
@@ -49,14 +54,7 @@ impl Written for Entry {
                 call,
                 clearance,
                 eff,
-            } => put_clear(
-                out,
-                self.who,
-                b"\",\"do\":\"clear\",\"eff\":",
-                call,
-                clearance,
-                eff.unwrap_or(0),
-            ),
+            } => put_clear(out, self.who, CLEAR, call, clearance, eff.unwrap_or(0)),
             Command::Accept {
                 call,
                 clearance,
@@ -73,14 +71,7 @@ impl Written for Entry {
                 call,
                 clearance,
                 eff,
-            } => put_clear(
-                out,
-                self.who,
-                b"\",\"do\":\"tentative\",\"eff\":",
-                call,
-                clearance,
-                eff.unwrap_or(0),
-            ),
+            } => put_clear(out, self.who, TENTATIVE, call, clearance, eff.unwrap_or(0)),
             Command::Withdraw { call, force } => put_withdraw(out, self.who, call, *force),
             Command::Commit { call } => {
                 put_call_alone(out, self.who, call, b"\",\"do\":\"commit\"")
