@@ -171,15 +171,9 @@ impl Command {
                 from: *from,
                 level: *level,
             }),
-            Command::External { call, straight } => Ok(Command::External {
-                call: *call,
-                straight: *straight,
-            }),
+            &Command::External { call, straight } => Ok(Command::External { call, straight }),
             Command::Drop { call } => Ok(Command::Drop { call: *call }),
-            Command::Report { call, report } => Ok(Command::Report {
-                call: *call,
-                report: *report,
-            }),
+            &Command::Report { call, report } => Ok(Command::Report { call, report }),
             Command::Tick { now } => Ok(Command::Tick { now: *now }),
             Command::Renew { call } => Ok(Command::Renew { call: *call }),
             Command::Tentative {
@@ -191,10 +185,7 @@ impl Command {
                 clearance: *clearance,
                 eff: *eff,
             }),
-            Command::Withdraw { call, force } => Ok(Command::Withdraw {
-                call: *call,
-                force: *force,
-            }),
+            &Command::Withdraw { call, force } => Ok(Command::Withdraw { call, force }),
             Command::Commit { call } => Ok(Command::Commit { call: *call }),
             Command::Clear {
                 call,
