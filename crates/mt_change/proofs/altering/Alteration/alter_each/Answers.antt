@@ -1,9 +1,9 @@
 use Rattle.std.proofs.Common.{get_or, sym, ◌∙◌, ap}
 use Rattle.mt_base.specs.History.{changed}
-use Rattle.mt_machine.specs.Altered.{altered_path}
-use Rattle.mt_machine.proofs.Changed.{changed_one, changed_other, element_is, one_changed}
-use Rattle.mt_machine.proofs.altering.Alteration.alter_each.Goals as goal
-use Rattle.mt_machine.proofs.altering.Alteration.alter_each.Goals.{then-eq, else-eq}
+use Rattle.mt_change.specs.Altered.{altered_path}
+use Rattle.mt_change.proofs.Changed.{changed_one, changed_other, element_is, one_changed}
+use Rattle.mt_change.proofs.altering.Alteration.alter_each.Goals as goal
+use Rattle.mt_change.proofs.altering.Alteration.alter_each.Goals.{then-eq, else-eq}
 
 pub loop-flight-preserved : goal.loop-flight-preserved
 loop-flight-preserved c =

@@ -1,7 +1,7 @@
 use Rattle.std.proofs.Common.{◌≡◌, ◌++◌, drop, map, take}
 use Rattle.mt_base.specs.History.{changed}
-use Rattle.mt_machine.specs.Altered.{altered_path}
-use Rattle.mt_machine.proofs.altering.Alteration.alter_each.Given as goal
+use Rattle.mt_change.specs.Altered.{altered_path}
+use Rattle.mt_change.proofs.altering.Alteration.alter_each.Given as goal
 
 abbrev pub invariant-loop-flight : goal.invariant-loop-flight
 invariant-loop-flight l =

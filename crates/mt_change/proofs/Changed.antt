@@ -13,7 +13,7 @@ use Rattle.mt_base.specs.Bounds.{IsSoundFlight, IsSoundPath}
 use Rattle.mt_base.specs.History.{changed}
 use Rattle.mt_base.specs.Picture.{HaveOwnCalls, State, flight_of}
 use Rattle.mt_base.specs.Tables.{Setup}
-use Rattle.mt_machine.specs.Sound.{IsSoundState}
+use Rattle.mt_change.specs.Sound.{IsSoundState}
 
 -- a list of which the elements before a place are changed, parted at that place
 module _ {X : Type 0} (f : X → X) (now old : List X) (i : ℕ) (d : X) (below : i < length old) (is : now ≡ map f (take i old) ++ drop i old) where

@@ -1,5 +1,5 @@
 //! What an entry does to the planned flight that it names.
-ghost use Rattle.std.specs.Prelude.{◌≡◌, ◌≤◌, IfOk, Ok, length, map};
+ghost use Rattle.std.specs.Prelude.{◌≡◌, ◌≤◌, Ok, length, map};
 ghost use Rattle.mt_base.specs.Bounds.{AreWithinBounds, IsBoundedClearance, IsBoundedCommand, IsRightAim, IsSoundCourse};
 ghost use Rattle.mt_base.specs.Checks.{judged};
 ghost use Rattle.mt_base.specs.Cleared.{aim_of, clearance_checks};
@@ -7,21 +7,20 @@ ghost use Rattle.mt_base.specs.History.{changed, committed};
 ghost use Rattle.mt_base.specs.Picture.{trajectory_of};
 ghost use Rattle.mt_base.specs.Tables.{setup_with};
 ghost use Rattle.mt_base.specs.declared.flight.Path.TheVariants.{Planned};
-ghost use Rattle.mt_machine.specs.Altered.{CanAlter, IsAlterationBy, altered, altered_path, verdict_on_alteration};
+ghost use Rattle.mt_change.specs.Altered.{CanAlter, IsAlterationBy, altered, altered_path, verdict_on_alteration};
 
-use crate::aiming::aim;
 use mt_base::{
-    Aim, Base, Callsign, Clearance, Command, Course, Kind, Mark, Memory, Path, Record, Report,
-    Rules, Second, Verdict,
+    Aim, Base, Callsign, Clearance, Command, Course, Mark, Path, Record, Report, Rules, Second,
+    Verdict,
 };
-use mt_predict::{predict, renewed};
+use mt_predict::{cleared, renewed};
 use mt_tables::Tables;
+use mt_track::Strand;
 use mt_watch::verdict;
-use std::alloc::Global;
 
 /// What is altered of a planned flight.
 #[derive(Clone, Copy)]
-pub(crate) enum Alteration {
+pub enum Alteration {
     /// A report is its last one; with a flag of the verdict it is due.
     Reported(Report, Verdict),
     /// It begins anew and is no longer due.
@@ -37,8 +36,8 @@ pub(crate) enum Alteration {
 }
 
 impl Alteration {
-    // The verdict on the report, where it is one.
-    pub(crate) fn verdict(&self) -> Option<Verdict>
+    /// The verdict on the report, where it is one.
+    pub fn verdict(&self) -> Option<Verdict>
         ensures { result ≡ verdict_on_alteration self.now }
     {
         match self {
@@ -47,8 +46,8 @@ impl Alteration {
         }
     }
 
-    // Alters a course.
-    fn alter(&self, course: &mut Course)
+    /// Alters a course.
+    pub fn alter(&self, course: &mut Course)
         ensures { course.new ≡ altered self.now course.old }
     {
         match self {
@@ -79,8 +78,8 @@ impl Alteration {
         }
     }
 
-    // Alters each flight of that callsign.
-    pub(crate) fn alter_each(&self, flights: &mut [Record], call: Callsign)
+    /// Alters each planned flight of that callsign.
+    pub fn alter_each(&self, flights: &mut [Record], call: Callsign)
         ensures { flights.new ≡ map (changed call (altered_path self.now)) flights.old }
     {
         for flight in flights.iter_mut() {
@@ -104,73 +103,71 @@ fn commit(course: &mut Course)
 
 // What a clearance leaves of a course of which no check fails.
 fn free_aim(
-    alloc: Global,
     tables: &Tables,
     rules: &Rules,
     course: &Course,
+    strand: &Strand,
     clearance: Clearance,
     eff: Second,
     now: Second,
-) -> Result<Aim, Memory>
+) -> Aim
     requires rules { AreWithinBounds rules.now }
     requires sound { IsSoundCourse (setup_with rules.now tables.now) course.now }
+    requires strand { strand.now ≡ trajectory_of (setup_with rules.now tables.now) (Planned course.now) }
     requires clearance { IsBoundedClearance clearance }
     requires early { eff ≤ 10000000 }
-    requires passed { judged (clearance_checks tables.now course.now (trajectory_of (setup_with rules.now tables.now) (Planned course.now))
-        clearance eff now) (tt {0}) ≡ Ok (tt {0}) }
-    ensures exact { IfOk result (λ aim. aim ≡ aim_of course.now (trajectory_of (setup_with rules.now tables.now) (Planned course.now)) clearance eff) }
-    ensures right { IfOk result (IsRightAim rules.now (length course.now.route)) }
+    requires passed { judged (clearance_checks tables.now course.now strand.now clearance eff now) (tt {0}) ≡ Ok (tt {0}) }
+    ensures exact { result ≡ aim_of course.now strand.now clearance eff }
+    ensures right { IsRightAim rules.now (length course.now.route) result }
 {
-    let Ok(aim) = aim(alloc, tables, rules, course, clearance, eff, now)? else {
+    let Ok(aim) = cleared(tables, course, strand, clearance, eff, now) else {
         unreachable!()
     };
-    Ok(aim)
+    aim
 }
 
-/// What a command that passed its checks at the moment `now` alters of the planned flight that it names.
-pub(crate) fn alteration_by(
-    alloc: Global,
+/// What a command that passed its checks at the moment `now` alters of the planned flight that it names, whose trajectory is the strand. It
+/// takes no memory.
+///
+/// It asks that the rules are within their bounds, that the course is sound for them and the tables, and that the numbers of the command are
+/// within their bounds.
+pub fn alteration_by(
     tables: &Tables,
     rules: &Rules,
     who: u32,
     command: &Command,
     course: &Course,
+    strand: &Strand,
     now: Second,
-) -> Result<Alteration, Memory>
+) -> Alteration
     requires rules { AreWithinBounds rules.now }
     requires sound { IsSoundCourse (setup_with rules.now tables.now) course.now }
+    requires strand { strand.now ≡ trajectory_of (setup_with rules.now tables.now) (Planned course.now) }
     requires bounded { IsBoundedCommand command.now }
     requires early { now ≤ 10000000 }
     requires can { CanAlter (setup_with rules.now tables.now) now course.now command.now }
-    ensures { IfOk result (IsAlterationBy (setup_with rules.now tables.now) who command.now course.now) }
+    ensures { IsAlterationBy (setup_with rules.now tables.now) who command.now course.now result }
 {
-    Ok(match command {
+    match command {
         Command::Report { report, .. } => {
-            let strand = predict(alloc, tables, rules, course, Kind::Actual)?;
-            Alteration::Reported(*report, verdict(&strand, &course.base, report, rules))
+            Alteration::Reported(*report, verdict(strand, &course.base, report, rules))
         }
         Command::Renew { .. } => {
-            let strand = predict(alloc, tables, rules, course, Kind::Actual)?;
-            let Some(base) = renewed(rules, course, &strand) else {
+            let Some(base) = renewed(rules, course, strand) else {
                 unreachable!()
             };
             Alteration::Begun(base)
         }
-        Command::Clear { clearance, eff, .. } => Alteration::Cleared(free_aim(
-            alloc,
-            tables,
-            rules,
-            course,
-            *clearance,
-            eff.unwrap_or(0),
-            now,
-        )?),
-        Command::Accept { clearance, eff, .. } => Alteration::Cleared(free_aim(
-            alloc, tables, rules, course, *clearance, *eff, now,
-        )?),
+        Command::Clear { clearance, eff, .. } => {
+            let eff = eff.unwrap_or(0);
+            Alteration::Cleared(free_aim(tables, rules, course, strand, *clearance, eff, now))
+        }
+        Command::Accept { clearance, eff, .. } => {
+            Alteration::Cleared(free_aim(tables, rules, course, strand, *clearance, *eff, now))
+        }
         Command::Tentative { clearance, eff, .. } => {
             let eff = eff.unwrap_or(0);
-            let aim = free_aim(alloc, tables, rules, course, *clearance, eff, now)?;
+            let aim = free_aim(tables, rules, course, strand, *clearance, eff, now);
             Alteration::Marked(Mark {
                 owner: who,
                 base: aim.base,
@@ -183,5 +180,5 @@ pub(crate) fn alteration_by(
         | Command::External { .. }
         | Command::Drop { .. }
         | Command::Tick { .. } => unreachable!(),
-    })
+    }
 }

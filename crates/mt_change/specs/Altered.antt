@@ -1,4 +1,4 @@
--- What an entry does to the planned flight that it names. No public contract cites this.
+-- What an entry does to the planned flight that it names.
 use Rattle.std.specs.Prelude.{◌≡◌, ℕ, Bool, true, false, ◌||◌, List, map, Option, Some, None, unwrap_or, Ok, ⊤}
 use Rattle.mt_base.specs.declared.clearance.Clearance.{Clearance}
 use Rattle.mt_base.specs.declared.command.Command.{Command}
@@ -16,8 +16,8 @@ use Rattle.mt_base.specs.History.{bare_path, cleared_path, committed, committed_
 use Rattle.mt_base.specs.Picture.{trajectory_of}
 use Rattle.mt_base.specs.Tables.{Setup}
 use Rattle.mt_base.specs.Verdict.{is_flagged}
-use Rattle.mt_machine.specs.declared.altering.Alteration.{Alteration}
-use Rattle.mt_machine.specs.declared.altering.Alteration.TheVariants.{Reported, Begun, Cleared, Marked, Bare, Committed}
+use Rattle.mt_change.specs.declared.altering.Alteration.{Alteration}
+use Rattle.mt_change.specs.declared.altering.Alteration.TheVariants.{Reported, Begun, Cleared, Marked, Bare, Committed}
 
 -- a course with an alteration
 abbrev pub altered : Alteration → Course → Course
