@@ -1,17 +1,18 @@
 //! The trajectories of a state.
 ghost use Rattle.std.specs.Prelude.{◌≡◌, ◌++◌, All, IfOk, OnOk};
 ghost use Rattle.std.specs.List.{flat_map};
-ghost use Rattle.mt_base.specs.Bounds.{AreWithinBounds, IsSoundFlight, IsSoundPath};
-ghost use Rattle.mt_base.specs.Picture.{HaveOwnCalls, trajectories, trajectories_of, trajectory_of};
+ghost use Rattle.mt_base.specs.Bounds.{AreWithinBounds, IsSoundFlight};
+ghost use Rattle.mt_base.specs.Picture.{HaveOwnCalls, trajectories, trajectories_of};
 ghost use Rattle.mt_change.specs.Sound.{IsSoundState};
 ghost use Rattle.mt_machine.specs.Others.{AreOfOthers};
 ghost use Rattle.mt_base.specs.Tables.{setup_with};
 
 use crate::plain::Plain;
 use mt_base::{Kind, Memory, Path, Record, Rules};
+use mt_change::strand_of;
 use mt_predict::predict;
 use mt_tables::Tables;
-use mt_track::{Roster, Strand};
+use mt_track::Roster;
 use std::alloc::Global;
 use std::sync::Arc;
 
