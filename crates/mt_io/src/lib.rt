@@ -1,7 +1,8 @@
-//! Lines in, bytes out: sources and sinks that count their faults, a reader of lines, and a whole write.
+//! Lines in, bytes out: sources and sinks that count their faults, a reader of lines, and a whole write; and the gate between two turns.
 #![tactic(auto)]
 
 mod ahead;
+mod gate;
 mod gathered;
 mod laws;
 mod line;
@@ -14,6 +15,7 @@ mod source;
 mod std_streams;
 mod whole_write;
 
+pub use gate::{Gate, OpenGate};
 pub use laws::laws_of_lines;
 pub use line::{Line, LineFault};
 pub use line_reader::LineReader;
