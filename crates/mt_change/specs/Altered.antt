@@ -1,5 +1,5 @@
 -- What an entry does to the planned flight that it names.
-use Rattle.std.specs.Prelude.{◌≡◌, ℕ, Bool, true, false, ◌||◌, List, map, Option, Some, None, unwrap_or, Ok, ⊤}
+use Rattle.std.specs.Prelude.{◌≡◌, ◌≤◌, ℕ, Bool, true, false, ◌||◌, List, map, Option, Some, None, unwrap_or, Ok, ⊤}
 use Rattle.mt_base.specs.declared.clearance.Clearance.{Clearance}
 use Rattle.mt_base.specs.declared.command.Command.{Command}
 use Rattle.mt_base.specs.declared.command.Command.TheVariants.{Plan, External, Drop, Tick, Renew, Clear, Accept, Tentative, Withdraw, Commit}
@@ -9,7 +9,7 @@ use Rattle.mt_base.specs.declared.flight.Path.{Path}
 use Rattle.mt_base.specs.declared.flight.Path.TheVariants.{Planned, Outer}
 use Rattle.mt_base.specs.declared.flight.Record.{Record}
 use Rattle.mt_base.specs.declared.verdict.Verdict.{Verdict}
-use Rattle.mt_base.specs.Bounds.{IsSoundCourse}
+use Rattle.mt_base.specs.Bounds.{IsBoundedClearance, IsBoundedCommand, IsSoundCourse}
 use Rattle.mt_base.specs.Checks.{judged}
 use Rattle.mt_base.specs.Cleared.{clearance_checks}
 use Rattle.mt_base.specs.History.{bare_path, cleared_path, committed, committed_path, marked_path, renewed_path, reported_path, verdict_on, with_aim}
@@ -83,3 +83,8 @@ CanAlter setup now course (Clear call clearance eff) = IsFreeToFly setup now cou
 CanAlter setup now course (Accept call clearance eff probed) = IsFreeToFly setup now course clearance eff
 CanAlter setup now course (Tentative call clearance eff) = IsFreeToFly setup now course clearance (unwrap_or eff 0)
 CanAlter setup now course command = ⊤
+
+-- the numbers of a command are within their bounds, whatever version the probe of an acceptance names
+abbrev pub IsBoundedBesides : Command → Type 0
+IsBoundedBesides (Accept call clearance eff probed) = IsBoundedClearance clearance × (eff ≤ 10000000)
+IsBoundedBesides command = IsBoundedCommand command

@@ -1,13 +1,13 @@
 //! What an entry does to the planned flight that it names.
 ghost use Rattle.std.specs.Prelude.{◌≡◌, ◌≤◌, Ok, length, map};
-ghost use Rattle.mt_base.specs.Bounds.{AreWithinBounds, IsBoundedClearance, IsBoundedCommand, IsRightAim, IsSoundCourse};
+ghost use Rattle.mt_base.specs.Bounds.{AreWithinBounds, IsBoundedClearance, IsRightAim, IsSoundCourse};
 ghost use Rattle.mt_base.specs.Checks.{judged};
 ghost use Rattle.mt_base.specs.Cleared.{aim_of, clearance_checks};
 ghost use Rattle.mt_base.specs.History.{changed, committed};
 ghost use Rattle.mt_base.specs.Picture.{trajectory_of};
 ghost use Rattle.mt_base.specs.Tables.{setup_with};
 ghost use Rattle.mt_base.specs.declared.flight.Path.TheVariants.{Planned};
-ghost use Rattle.mt_change.specs.Altered.{CanAlter, IsAlterationBy, altered, altered_path, verdict_on_alteration};
+ghost use Rattle.mt_change.specs.Altered.{CanAlter, IsAlterationBy, IsBoundedBesides, altered, altered_path, verdict_on_alteration};
 
 use mt_base::{
     Aim, Base, Callsign, Clearance, Command, Course, Mark, Path, Record, Report, Rules, Second,
@@ -130,7 +130,7 @@ fn free_aim(
 /// takes no memory.
 ///
 /// It asks that the rules are within their bounds, that the course is sound for them and the tables, and that the numbers of the command are
-/// within their bounds.
+/// within their bounds, whatever version the probe of an acceptance names.
 pub fn alteration_by(
     tables: &Tables,
     rules: &Rules,
@@ -143,7 +143,7 @@ pub fn alteration_by(
     requires rules { AreWithinBounds rules.now }
     requires sound { IsSoundCourse (setup_with rules.now tables.now) course.now }
     requires strand { strand.now ≡ trajectory_of (setup_with rules.now tables.now) (Planned course.now) }
-    requires bounded { IsBoundedCommand command.now }
+    requires bounded { IsBoundedBesides command.now }
     requires early { now ≤ 10000000 }
     requires can { CanAlter (setup_with rules.now tables.now) now course.now command.now }
     ensures { IsAlterationBy (setup_with rules.now tables.now) who command.now course.now result }

@@ -11,17 +11,22 @@ use Rattle.mt_change.specs.Altered.{CanAlter, altered_path, path_after}
 use Rattle.mt_change.specs.Sound.{IsSoundState}
 use Rattle.mt_change.proofs.Alterations.{can_alter, records_are}
 use Rattle.mt_change.proofs.Changed.{changed_alike, changed_state}
+use Rattle.mt_change.proofs.Filling.{bounded_besides}
 use Rattle.mt_machine.proofs.Clearances.{sound_path}
 use Rattle.mt_machine.proofs.plain.Plain.alter.Goals as goal
+use Rattle.mt_machine.proofs.plain.Plain.alter.Goals.{After-drop-strand-inside}
 
-pub alteration_by-requires-clause-sound : goal.alteration_by-requires-clause-sound
-alteration_by-requires-clause-sound c =
+pub alteration_by-alteration-requires-clause-sound : goal.alteration_by-alteration-requires-clause-sound
+alteration_by-alteration-requires-clause-sound c =
     let setup : Setup = setup_with c.args.rules.now c.args.tables.now in
     rw c.in-Planned.is at (sound_path setup c.args.self.now c.in-Some.call c.in-Some-flight.flight.now c.requires.sound
     (sym c.flight.ensures ∙ ap option_copied c.in-Some-flight.is))
 
-pub alteration_by-requires-clause-can : goal.alteration_by-requires-clause-can
-alteration_by-requires-clause-can c =
+pub alteration_by-alteration-requires-clause-bounded : goal.alteration_by-alteration-requires-clause-bounded
+alteration_by-alteration-requires-clause-bounded c = bounded_besides c.args.command.now c.requires.bounded
+
+pub alteration_by-alteration-requires-clause-can : goal.alteration_by-alteration-requires-clause-can
+alteration_by-alteration-requires-clause-can c =
     let setup : Setup = setup_with c.args.rules.now c.args.tables.now in
     subst (λ (now : ℕ). CanAlter setup now c.in-Planned.course c.args.command.now) (sym (ap (λ (s : State). s.now) c.self.view_is))
     (can_alter setup (look_at c.args.self.now c.args.command.now) c.args.who c.args.command.now c.in-Some-flight.flight.now c.in-Planned.course
@@ -30,7 +35,7 @@ alteration_by-requires-clause-can c =
     c.in-Planned.is)
 
 -- the flights are those that were written
-written : (c : goal.After-verdict) → (with_items c.self.inside.flights c.alter_each.new.flights).items ≡ c.alter_each.new.flights
+written : (c : After-drop-strand-inside) → (with_items c.self.inside.flights c.alter_each.new.flights).items ≡ c.alter_each.new.flights
 written c = with_items_is c.self.inside.flights c.alter_each.new.flights (c.alter_each.auto.flights ∙ ap length c.deref_mut.ensures.value ∙ sym c.self.inside.flights.ok.0)
 
 pub returns-clause-ok : goal.returns-clause-ok
