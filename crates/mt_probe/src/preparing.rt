@@ -55,9 +55,13 @@ fn look<'a>(snapshot: &'a Snapshot, command: &Command) -> Looked<'a>
         Some(call) => snapshot.find(call),
         None => None,
     };
-    let (flight, strand) = match slot {
-        Some(slot) => (snapshot.flight(slot), snapshot.path(slot, Kind::Actual)),
-        None => (None, None),
+    let flight = match slot {
+        Some(slot) => snapshot.flight(slot),
+        None => None,
+    };
+    let strand = match slot {
+        Some(slot) => snapshot.path(slot, Kind::Actual),
+        None => None,
     };
     Looked {
         now: snapshot.now(),

@@ -5,13 +5,14 @@ use Rattle.mt_cover.specs.Cells.{cover_of}
 use Rattle.mt_probe.specs.Finds.{FindsMore}
 use Rattle.mt_probe.specs.Items.{AreNearItems, other_at, others_among}
 use Rattle.mt_probe.proofs.Gathered.{both_more, none_more}
+use Rattle.mt_probe.proofs.Members.{ok_alike}
 use Rattle.mt_probe.proofs.Nearby.{fewer, found_near, near_once, one_item_more}
 use Rattle.mt_probe.proofs.finding.find_all.Goals as goal
 
 pub loop-item-init : goal.loop-item-init
 loop-item-init c =
     let shot = c.args.snapshot.now in
-    let empty : c.in_ok-finds.finds ≡ [] = cc in
+    let empty = ok_alike _ _ c.in_ok-finds.ensures in
     record { found = rw empty (none_more shot.setup.rules shot.now c.args.strand.now []); counted = omega arith }
 
 pub loop-item-preserved : goal.loop-item-preserved
