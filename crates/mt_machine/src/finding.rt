@@ -11,8 +11,8 @@ ghost use Rattle.mt_base.specs.Tables.{setup_with};
 
 use crate::plain::Plain;
 use mt_base::{Callsign, Hit, Hits, Memory, Record, Rules, Second, Tally};
-use mt_pair::lose;
 use mt_change::strand_of;
+use mt_pair::lose;
 use mt_tables::Tables;
 use mt_track::Strand;
 use std::alloc::Global;

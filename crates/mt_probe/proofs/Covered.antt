@@ -119,7 +119,7 @@ module _ (rules : Rules) (item : ℕ) (grid : List (List Placed)) (stays : ℕ �
         → IsPutBy p.item (stays p.item) cell p → IsPutBy p.item (at_item item [] stays p.item) cell p
     left cell p gone by = ⊎_elim
         (λ own. absurd (let at : IsPutBy p.item (cover_of rules t) cell p = by_same p.item cell p (stays p.item) (cover_of rules t) (ap stays own ∙ own_is) by in
-            gone at.stay at.of at.there own))
+        gone at.stay at.of at.there own))
         (λ other. by_same p.item cell p (stays p.item) (at_item item [] stays p.item) (sym (at_other item [] stays p.item other)) by) (decide p.item item)
 
     by_own : (cell : ℕ) (p : Placed) → p.item ≡ item → IsPutBy p.item (at_item item [] stays p.item) cell p → IsPutBy p.item [] cell p
@@ -183,11 +183,11 @@ module _ (rules : Rules) (slots : List (Option Flight)) (i : ℕ) (below : i < l
     own : k / 2 ≡ i → at_item (2 * i + 1) b (at_item (2 * i) a (stays_at rules slots)) k ≡ stays_at rules (set slots i x) k
     own half = ⊎_elim
         (λ even. subst (λ (n : ℕ). at_item (2 * i + 1) b (at_item (2 * i) a (stays_at rules slots)) n ≡ stays_at rules (set slots i x) n) (sym even)
-            (at_other (2 * i + 1) b (at_item (2 * i) a (stays_at rules slots)) (2 * i) (λ same. omega (arith, same))
-            ∙ at_own (2 * i) a (stays_at rules slots) ∙ a_is ∙ sym (at_even rules (set slots i x) i ∙ ap (stays_by rules Actual) there)))
+        (at_other (2 * i + 1) b (at_item (2 * i) a (stays_at rules slots)) (2 * i) (λ same. omega (arith, same))
+        ∙ at_own (2 * i) a (stays_at rules slots) ∙ a_is ∙ sym (at_even rules (set slots i x) i ∙ ap (stays_by rules Actual) there)))
         (λ uneven. let odd : k ≡ 2 * i + 1 = omega (arith, half, uneven) in
-            subst (λ (n : ℕ). at_item (2 * i + 1) b (at_item (2 * i) a (stays_at rules slots)) n ≡ stays_at rules (set slots i x) n) (sym odd)
-            (at_own (2 * i + 1) b (at_item (2 * i) a (stays_at rules slots)) ∙ b_is ∙ sym (at_odd rules (set slots i x) i ∙ ap (stays_by rules Tentative) there)))
+        subst (λ (n : ℕ). at_item (2 * i + 1) b (at_item (2 * i) a (stays_at rules slots)) n ≡ stays_at rules (set slots i x) n) (sym odd)
+        (at_own (2 * i + 1) b (at_item (2 * i) a (stays_at rules slots)) ∙ b_is ∙ sym (at_odd rules (set slots i x) i ∙ ap (stays_by rules Tentative) there)))
         (decide k (2 * i))
 
     other : k / 2 ≢ i → at_item (2 * i + 1) b (at_item (2 * i) a (stays_at rules slots)) k ≡ stays_at rules (set slots i x) k

@@ -47,8 +47,8 @@ module _ (rules : Rules) (now : ℕ) (t : Trajectory) where
     kept = λ found held. second.kept found (first.kept found held);
     exact = λ found held. ⊎_elim
         (λ before. ⊎_elim inl
-            (λ one. inr (record { other = one.other; among = Contains-append_left xs ys one.other one.among; is = one.is }))
-            (first.exact found before))
+        (λ one. inr (record { other = one.other; among = Contains-append_left xs ys one.other one.among; is = one.is }))
+        (first.exact found before))
         (λ one. inr (record { other = one.other; among = Contains-append_right xs ys one.other one.among; is = one.is }))
         (second.exact found held);
     listed = λ other held. ⊎_elim
@@ -99,17 +99,21 @@ kept_once f a b a_in b_in kinds = ⊎_elim
     (front_or_rest actual rest a a_in) where
       actual : NamedTrajectory
       actual = record { call = f.card.call; kind = Actual; path = arc_value f.actual.strand }
+
       rest : List NamedTrajectory
       rest = made_named f.card.call Tentative (option_map (λ m. arc_value m.strand) f.mark)
+
       kind_of : (made : Option Trajectory) (o : NamedTrajectory) → Contains (made_named f.card.call Tentative made) o → o.kind ≡ Tentative
       kind_of None o held = absurd (none_in o held)
       kind_of (Some path) o held = ⊎_elim (λ e. sym (ap (λ (p : NamedTrajectory). p.kind) e)) (λ none. absurd (none_in o none))
           (front_or_rest (record { call = f.card.call; kind = Tentative; path = path }) [] o held)
+
       apart : (x y : NamedTrajectory) → actual ≡ x → Contains rest y → x.kind ≡ y.kind → ⊥
       apart x y first later e =
           let x_kind : Actual ≡ x.kind = ap (λ (p : NamedTrajectory). p.kind) first in
           let y_kind = kind_of (option_map (λ m. arc_value m.strand) f.mark) y later in
           let both : Actual ≡ Tentative = x_kind ∙ e ∙ y_kind in cc
+
       same : (made : Option Trajectory) → Contains (made_named f.card.call Tentative made) a → Contains (made_named f.card.call Tentative made) b → a ≡ b
       same None a_held b_held = absurd (none_in a a_held)
       same (Some path) a_held b_held =
@@ -156,6 +160,6 @@ found_or_quiet setup s own t finds call kind (Some found) early are each is othe
     subst (λ (o : NamedTrajectory). IsFound setup.rules s.now t o found) same it.is
 found_or_quiet setup s own t finds call kind None early are each none other of call_is kind_is =
     let quiet : (k : ℕ) → k < all_end → ¬ IsLossSecond setup.rules t other.path k = λ k below loss.
-        (let it = are.complete other of k below loss in
-        none it.found it.held (record { call_is = it.is.call_is ∙ call_is; kind_is = it.is.kind_is ∙ kind_is })) in
+    (let it = are.complete other of k below loss in
+    none it.found it.held (record { call_is = it.is.call_is ∙ call_is; kind_is = it.is.kind_is ∙ kind_is })) in
     ((λ k low high. quiet k high), (λ k low high. quiet k (omega (arith, early))))

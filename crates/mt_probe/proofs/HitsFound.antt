@@ -115,7 +115,7 @@ hits_found setup s call t finds hits early finds_are members sorted = record {
       let flown = flown_of setup at.of it.other at.within (sym it.is.kind_is ∙ by.kind_is) in
       let named = ap (λ (o : NamedTrajectory). o.call) flown in
       let window : IsConflict setup.rules t it.other.path s.now (window_end s.now) (Some (hit.first, hit.last)) =
-          subst (λ (w : Option (ℕ × ℕ)). IsConflict setup.rules t it.other.path s.now (window_end s.now) w) by.window_is it.is.window in
+      subst (λ (w : Option (ℕ × ℕ)). IsConflict setup.rules t it.other.path s.now (window_end s.now) w) by.window_is it.is.window in
       record {
         flight = at.of;
         flies = at.there;
@@ -123,6 +123,7 @@ hits_found setup s call t finds hits early finds_are members sorted = record {
         with_is = by.with_is ∙ it.is.call_is ∙ named;
         span = subst (λ (o : NamedTrajectory). IsSpanOfLoss setup.rules t o.path s.now (window_end s.now) hit.first hit.last) flown window;
       }
+
   from : (hit : Hit) → IsHit setup s call t hit → IsHitOfOne finds hit
   from hit is =
       let other : NamedTrajectory = record { call = is.flight.call; kind = Actual; path = trajectory_of setup is.flight.path } in

@@ -1,5 +1,5 @@
 -- Members of lists.
-use Rattle.std.proofs.Common.{Ok, ◌≡◌, ◌⊎◌, inl, inr, ⊎_elim, List, [], ◌∷◌, ◌++◌, All, Contains, get_or, refl, sym, ap, subst, arith}
+use Rattle.std.proofs.Common.{Result, Ok, ◌∙◌, ◌≡◌, ◌⊎◌, inl, inr, ⊎_elim, List, [], ◌∷◌, ◌++◌, All, Contains, get_or, refl, sym, ap, subst, arith}
 use Rattle.std.proofs.lemmas.List.Elements.{All-contains, Contains-append_cases, Contains-append_left, Contains-append_right, Contains-push_cases}
 use Rattle.std.proofs.lemmas.List.{get_or_default}
 use Rattle.std.specs.List.{flat_map}
@@ -39,5 +39,5 @@ pub all_among : {X : Type 0} (P : X → Type 0) (xs ys : List X) → All P xs �
 all_among P xs ys all among = λ k d below.
     All-contains P xs (get_or ys k d) all (among (get_or ys k d) (k, below, get_or_default ys k (get_or ys k d) d below))
 
-pub ok_alike : {X E : Type 0} (x y : X) → Ok {E = E} x ≡ Ok y → x ≡ y
-ok_alike x y same = cc
+pub ok_alike : {X E : Type 0} (x y : X) (one other : Result X E) → one ≡ Ok x → other ≡ Ok y → one ≡ other → x ≡ y
+ok_alike x y one other x_is y_is same = let both = sym x_is ∙ same ∙ y_is in cc

@@ -94,14 +94,14 @@ module _ (rules : Rules) (slots : List (Option Flight)) (call : List ℕ) (i : �
   pub named_by : (other : NamedTrajectory) → Contains (kept_of f) other → IsNamed rules slots call other
   named_by other kept = ⊎_elim
       (λ same.
-          let held : Contains (made_named f.card.call Actual (path_of Actual f)) other =
-              subst (Contains (made_named f.card.call Actual (path_of Actual f))) same
-              (in_front (record { call = f.card.call; kind = Actual; path = arc_value f.actual.strand }) []) in
-          record {
-            item = 2 * i;
-            among = subst (λ (os : List NamedTrajectory). Contains os other) (sym even_other) held;
-            stays = at_even rules slots i ∙ ap (stays_by rules Actual) at ∙ path_named Actual (path_of Actual f) other held;
-          })
+      let held : Contains (made_named f.card.call Actual (path_of Actual f)) other =
+      subst (Contains (made_named f.card.call Actual (path_of Actual f))) same
+      (in_front (record { call = f.card.call; kind = Actual; path = arc_value f.actual.strand }) []) in
+      record {
+        item = 2 * i;
+        among = subst (λ (os : List NamedTrajectory). Contains os other) (sym even_other) held;
+        stays = at_even rules slots i ∙ ap (stays_by rules Actual) at ∙ path_named Actual (path_of Actual f) other held;
+      })
       (λ held. record {
         item = 2 * i + 1;
         among = subst (λ (os : List NamedTrajectory). Contains os other) (sym odd_other) held;
@@ -136,15 +136,15 @@ found_near shot call t items finds sound laid near found = record {
   exact = λ one held. ⊎_elim
       (λ before. absurd (none_in one before))
       (λ by. let named = in_one (other_at call shot.slots) items by.other by.among in
-          let it = other_is shot.slots call named.of by.other named.within in
-          record {
-            other = by.other;
-            of = record {
-              there = at_kept shot (named.of / 2) it.flight by.other sound it.at it.kept;
-              apart = λ same. it.apart (sym (kept_call it.flight by.other it.kept) ∙ same);
-            };
-            is = by.is;
-          })
+      let it = other_is shot.slots call named.of by.other named.within in
+      record {
+        other = by.other;
+        of = record {
+          there = at_kept shot (named.of / 2) it.flight by.other sound it.at it.kept;
+          apart = λ same. it.apart (sym (kept_call it.flight by.other it.kept) ∙ same);
+        };
+        is = by.is;
+      })
       (found.exact one held);
   complete = λ other of k early loss.
       let it = kept_at shot other sound of.there in

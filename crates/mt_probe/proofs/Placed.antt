@@ -142,11 +142,11 @@ module _ (shot : Shot) (i : ℕ) (inside : i < length shot.slots) (sound : IsSou
     laid = λ j f t is held. ⊎_elim (λ here. laid_one new f laid here.1 t held) (λ there. sound.laid j f t there.1 held) (at_new new j f is);
     apart = λ j k f g differ f_is g_is. ⊎_elim
         (λ here. ⊎_elim
-            (λ also. absurd (differ (here.0 ∙ sym also.0)))
-            (λ there. fits_apart f (fits_one new f fits here.1) k g there.0 there.1) (at_new new k g g_is))
+        (λ also. absurd (differ (here.0 ∙ sym also.0)))
+        (λ there. fits_apart f (fits_one new f fits here.1) k g there.0 there.1) (at_new new k g g_is))
         (λ there. ⊎_elim
-            (λ here. apart_back (fits_apart g (fits_one new g fits here.1) j f there.0 there.1))
-            (λ also. sound.apart j k f g differ there.1 also.1) (at_new new k g g_is))
+        (λ here. apart_back (fits_apart g (fits_one new g fits here.1) j f there.0 there.1))
+        (λ also. sound.apart j k f g differ there.1 also.1) (at_new new k g g_is))
         (at_new new j f f_is);
     early = sound.early;
   } where

@@ -47,9 +47,9 @@ same_call : (rs : List Record) (f g : Record) → HaveOwnCalls rs → Contains r
 same_call rs f g own (i, i_below, f_is) (j, j_below, g_is) same = ⊎_elim
     (λ before. absurd (own i j g before j_below (ap (λ (r : Record). r.call) (get_or_default rs i g f i_below ∙ f_is) ∙ same ∙ sym (ap (λ (r : Record). r.call) g_is))))
     (λ rest. ⊎_elim
-        (λ after. absurd (own j i f after i_below (ap (λ (r : Record). r.call) (get_or_default rs j f g j_below ∙ g_is) ∙ sym same ∙ sym (ap (λ (r : Record). r.call) f_is))))
-        (λ not. let at : i ≡ j = omega (arith, rest, not) in
-            sym f_is ∙ ap (λ (k : ℕ). get_or rs k f) at ∙ get_or_default rs j f g j_below ∙ g_is) (cases_lt j i))
+    (λ after. absurd (own j i f after i_below (ap (λ (r : Record). r.call) (get_or_default rs j f g j_below ∙ g_is) ∙ sym same ∙ sym (ap (λ (r : Record). r.call) f_is))))
+    (λ not. let at : i ≡ j = omega (arith, rest, not) in
+    sym f_is ∙ ap (λ (k : ℕ). get_or rs k f) at ∙ get_or_default rs j f g j_below ∙ g_is) (cases_lt j i))
     (cases_lt i j)
 
 module _ (setup : Setup) (s : State) (call : List ℕ) (t : Trajectory) (own : HaveOwnCalls s.records) where
@@ -58,7 +58,7 @@ module _ (setup : Setup) (s : State) (call : List ℕ) (t : Trajectory) (own : H
   one_with h g is also same =
       let flight = same_call s.records is.flight also.flight own is.flies also.flies (sym is.with_is ∙ same ∙ also.with_is) in
       let span : IsConflict setup.rules t (trajectory_of setup is.flight.path) s.now (window_end s.now) (Some (g.first, g.last)) =
-          subst (λ (f : Record). IsConflict setup.rules t (trajectory_of setup f.path) s.now (window_end s.now) (Some (g.first, g.last))) (sym flight) also.span in
+      subst (λ (f : Record). IsConflict setup.rules t (trajectory_of setup f.path) s.now (window_end s.now) (Some (g.first, g.last))) (sym flight) also.span in
       let spans = one_conflict setup.rules t (trajectory_of setup is.flight.path) s.now (window_end s.now) (Some (h.first, h.last)) (Some (g.first, g.last)) is.span span in
       let pair : (h.first, h.last) ≡ (g.first, g.last) = cc in
       let first : h.first ≡ g.first = ap (λ (p : ℕ × ℕ). p.0) pair in
@@ -71,12 +71,12 @@ module _ (setup : Setup) (s : State) (call : List ℕ) (t : Trajectory) (own : H
   calls_apart [] sorted are = λ i j d before below. absurd (omega arith)
   calls_apart (h ∷ hits) sorted are = AllPairs-cons (λ a b. a ≢ b) h.with (map (λ (g : Hit). g.with) hits)
       (All-map (λ a. h.with ≢ a) (λ (g : Hit). g.with) hits (λ k d below same.
-          let later = All-after_first hit_cmp h hits sorted k d below in
-          let there : Contains hits (get_or hits k d) = (k, below, get_or_default hits k (get_or hits k d) d below) in
-          let one = one_with h (get_or hits k d) (are h (in_front h hits)) (are (get_or hits k d) (Contains-append_right (h ∷ []) hits (get_or hits k d) there)) same in
-          let tied = tied_itself total h in
-          let less : hit_cmp h h ≡ Less = subst (λ (g : Hit). hit_cmp h g ≡ Less) (sym one) later in
-          cc))
+      let later = All-after_first hit_cmp h hits sorted k d below in
+      let there : Contains hits (get_or hits k d) = (k, below, get_or_default hits k (get_or hits k d) d below) in
+      let one = one_with h (get_or hits k d) (are h (in_front h hits)) (are (get_or hits k d) (Contains-append_right (h ∷ []) hits (get_or hits k d) there)) same in
+      let tied = tied_itself total h in
+      let less : hit_cmp h h ≡ Less = subst (λ (g : Hit). hit_cmp h g ≡ Less) (sym one) later in
+      cc))
       (calls_apart hits sorted.1 (λ g held. are g (Contains-append_right (h ∷ []) hits g held)))
 
   -- so there are fewer than flights
@@ -86,12 +86,12 @@ module _ (setup : Setup) (s : State) (call : List ℕ) (t : Trajectory) (own : H
       let withs = map (λ (h : Hit). h.with) hits in
       let calls = map (λ (r : Record). r.call) s.records in
       let others : All (λ a. call ≢ a) withs = All-map (λ a. call ≢ a) (λ (h : Hit). h.with) hits (λ k d below same.
-          let is = (are.exact (get_or hits k d)).0 (k, below, get_or_default hits k (get_or hits k d) d below) in
-          is.other (sym is.with_is ∙ sym same)) in
+      let is = (are.exact (get_or hits k d)).0 (k, below, get_or_default hits k (get_or hits k d) d below) in
+      is.other (sym is.with_is ∙ sym same)) in
       let apart = AllPairs-cons (λ a b. a ≢ b) call withs others (calls_apart hits are.sorted (λ h held. (are.exact h).0 held)) in
       let distinct = IsDistinct-from_AllPairs bytes_eq-Decides (call ∷ withs) apart in
       let fewer = length-le_from_is_member laws (call ∷ withs) calls distinct (λ q member.
-          (is_member-Decides bytes_eq-Decides calls q).1 (among q ((is_member-Decides bytes_eq-Decides (call ∷ withs) q).0 member))) in
+      (is_member-Decides bytes_eq-Decides calls q).1 (among q ((is_member-Decides bytes_eq-Decides (call ∷ withs) q).0 member))) in
       omega (arith, fewer, length-map hits (λ (h : Hit). h.with), length-map s.records (λ (r : Record). r.call)) where
         call_of : (r : Record) (rs : List Record) → Contains rs r → Contains (map (λ (q : Record). q.call) rs) r.call
         call_of r [] held = absurd (none_in r held)
@@ -104,7 +104,7 @@ module _ (setup : Setup) (s : State) (call : List ℕ) (t : Trajectory) (own : H
         with_of q [] are held = absurd (none_in q held)
         with_of q (h ∷ hs) are held = ⊎_elim
             (λ same. let is = are h (in_front h hs) in
-                subst (Contains (map (λ (r : Record). r.call) s.records)) (sym is.with_is ∙ same) (call_of is.flight s.records is.flies))
+            subst (Contains (map (λ (r : Record). r.call) s.records)) (sym is.with_is ∙ same) (call_of is.flight s.records is.flies))
             (λ rest. with_of q hs (λ g there. are g (Contains-append_right (h ∷ []) hs g there)) rest) (front_or_rest h.with (map (λ (g : Hit). g.with) hs) q held)
 
         among : (q : List ℕ) → Contains (call ∷ map (λ (h : Hit). h.with) hits) q → Contains (map (λ (r : Record). r.call) s.records) q

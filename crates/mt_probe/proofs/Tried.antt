@@ -39,10 +39,10 @@ module _ (setup : Setup) (s : State) (call : List ℕ) (clearance : Clearance) (
   with_flight flight (Outer stretch) is path = tt
   with_flight flight (Planned course) is path =
       let cleared : Some (record { call = flight.call; path = cleared_path setup clearance eff flight.path }) ≡ Some card =
-          sym (found_changed call (cleared_path setup clearance eff) s.records flight is) ∙ left in
+      sym (found_changed call (cleared_path setup clearance eff) s.records flight is) ∙ left in
       let one : record { call = flight.call; path = cleared_path setup clearance eff flight.path } ≡ card = cc in
       let card_path : card.path ≡ cleared_path setup clearance eff (Planned course) =
-          sym (ap (λ (r : Record). r.path) one) ∙ ap (cleared_path setup clearance eff) path in
+      sym (ap (λ (r : Record). r.path) one) ∙ ap (cleared_path setup clearance eff) path in
       let same : t ≡ trajectory_cleared setup course clearance eff = sym path_is ∙ ap (trajectory_of setup) card_path in
       subst (λ (u : Trajectory). AreHitsOf setup s call u hits) same (subst (λ (c : List ℕ). AreHitsOf setup s c t hits) call_is are)
 

@@ -40,10 +40,14 @@ filed_apart f (g ∷ gs) all apart = by_test (nat_lt f.filed g.filed) (filed_apa
   back : (hs : List Flight) → AllByRecursion (λ q. g.card.call ≢ q.call) (map card_of hs) → AllByRecursion (λ h. g.card.call ≢ h.card.call) hs
   back [] all = tt
   back (h ∷ hs) all = (all.0, back hs all.1)
+
   by_test : (b : Bool) → Apart (map card_of (filed_among f gs)) → Apart (map card_of (if b then f ∷ g ∷ gs else g ∷ filed_among f gs))
   by_test true rest = ((all.0, all_cards (λ q. f.card.call ≢ q.call) gs all.1), apart)
-  by_test false rest = (all_cards (λ q. g.card.call ≢ q.call) (filed_among f gs)
-      (all_filed (λ h. g.card.call ≢ h.card.call) f gs (λ same. all.0 (sym same)) (back gs apart.0)), rest)
+  by_test false rest = (
+    all_cards (λ q. g.card.call ≢ q.call) (filed_among f gs)
+        (all_filed (λ h. g.card.call ≢ h.card.call) f gs (λ same. all.0 (sym same)) (back gs apart.0)),
+    rest,
+  )
 
 ordered_apart : (slots : List (Option Flight)) → ((i j : ℕ) (f g : Flight) → i ≢ j → get_or slots i None ≡ Some f → get_or slots j None ≡ Some g → f.card.call ≢ g.card.call)
     → Apart (map card_of (in_order (flights_in slots)))

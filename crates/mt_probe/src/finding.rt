@@ -88,7 +88,11 @@ fn find_one(
 fn kind_of(item: u32) -> Kind
     ensures { result ≡ kind_at item }
 {
-    if item.is_multiple_of(2) { Kind::Actual } else { Kind::Tentative }
+    if item.is_multiple_of(2) {
+        Kind::Actual
+    } else {
+        Kind::Tentative
+    }
 }
 
 // What is found with the trajectory that an item names, where it is that of a flight of another callsign.

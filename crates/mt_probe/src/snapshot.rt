@@ -236,7 +236,14 @@ impl Snapshot {
     {
         let body = &*self.body;
         let old = self.at_place(slot);
-        let grid = moved(body.alloc, &body.rules, &body.grid, slot, old, flight.as_ref())?;
+        let grid = moved(
+            body.alloc,
+            &body.rules,
+            &body.grid,
+            slot,
+            old,
+            flight.as_ref(),
+        )?;
         let slots = body.slots.set(slot, shared(body.alloc, flight)?)?;
         changed(body, body.moment, slots, grid)
     }

@@ -59,7 +59,7 @@ pub returns : goal.returns
 returns c =
     let shot = c.args.snapshot.now in
     let by : IsAlterationBy shot.setup c.args.who (filled shot.now c.args.command.now) c.in-Planned.course c.alteration_by-alteration.result =
-        rw (c.rules.ensures.rules, c.tables.ensures, c.in_ok-filled.ensures, c.now-now.ensures.now) at c.alteration_by-alteration.ensures in
+    rw (c.rules.ensures.rules, c.tables.ensures, c.in_ok-filled.ensures, c.now-now.ensures.now) at c.alteration_by-alteration.ensures in
     rw (c.alter.ensures, c.in_ok-altered.ensures)
     (left_altered shot.setup (state_of shot) c.args.who c.args.command.now c.in-Some.call c.in-Some-flight.flight.now c.in-Planned.course
     (Planned (altered c.alteration_by-alteration.result c.in-Planned.course)) c.requires.alters c.requires.passed (sym c.call.ensures ∙ c.in-Some.is)

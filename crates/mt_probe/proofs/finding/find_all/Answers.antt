@@ -1,4 +1,4 @@
-use Rattle.std.proofs.Common.{◌≡◌, ◌∙◌, ◌≤◌, ◌+◌, ◌*◌, List, ℕ, [], ap, get_or, length, length-append, subst, sym, take, arith}
+use Rattle.std.proofs.Common.{◌≡◌, ◌∙◌, ◌≤◌, ◌+◌, ◌*◌, List, ℕ, [], ap, get_or, length, length-append, refl, subst, sym, take, arith}
 use Rattle.std.proofs.lemmas.List.{get_or_default, take_all}
 use Rattle.mt_base.specs.Picture.{NamedTrajectory}
 use Rattle.mt_cover.specs.Cells.{cover_of}
@@ -12,7 +12,7 @@ use Rattle.mt_probe.proofs.finding.find_all.Goals as goal
 pub loop-item-init : goal.loop-item-init
 loop-item-init c =
     let shot = c.args.snapshot.now in
-    let empty = ok_alike _ _ c.in_ok-finds.ensures in
+    let empty = ok_alike c.in_ok-finds.finds [] _ _ refl refl c.in_ok-finds.ensures in
     record { found = rw empty (none_more shot.setup.rules shot.now c.args.strand.now []); counted = omega arith }
 
 pub loop-item-preserved : goal.loop-item-preserved
@@ -26,8 +26,13 @@ loop-item-preserved c =
       found = subst (λ (others : List NamedTrajectory). FindsMore shot.setup.rules shot.now c.args.strand.now others [] c.find_item.new.finds) (sym more)
           (both_more shot.setup.rules shot.now c.args.strand.now (others_among c.args.call shot.slots (take i xs)) (other_at c.args.call shot.slots item) []
           c.loop-item.finds c.find_item.new.finds c.loop-item.invariant.found c.in_ok-find_item.ensures.found);
-      counted = omega (arith, c.loop-item.invariant.counted, c.find_item.ensures.counted, ap length more,
-          length-append (others_among c.args.call shot.slots (take i xs)) (other_at c.args.call shot.slots item));
+      counted = omega (
+        arith,
+        c.loop-item.invariant.counted,
+        c.find_item.ensures.counted,
+        ap length more,
+        length-append (others_among c.args.call shot.slots (take i xs)) (other_at c.args.call shot.slots item),
+      );
     }
 
 pub returns-in_err-find_item-clause-counted : goal.returns-in_err-find_item-clause-counted
@@ -41,8 +46,14 @@ returns-in_err-find_item-clause-counted c = λ items all.
     let more = one_item_more c.args.call shot.slots xs i item c.loop-item-test.true (get_or_default xs i 0 item c.loop-item-test.true) in
     let few = fewer (other_at c.args.call shot.slots) (i + 1) xs in
     subst (λ (ys : List ℕ). c.find_item.new.tests ≤ c.args.tests.now + 2 * length (others_among c.args.call shot.slots ys)) same
-    (omega (arith, c.loop-item.invariant.counted, c.find_item.ensures.counted, ap length more, few,
-    length-append (others_among c.args.call shot.slots (take i xs)) (other_at c.args.call shot.slots item)))
+    (omega (
+      arith,
+      c.loop-item.invariant.counted,
+      c.find_item.ensures.counted,
+      ap length more,
+      few,
+      length-append (others_among c.args.call shot.slots (take i xs)) (other_at c.args.call shot.slots item),
+    ))
 
 pub returns-clause-finds : goal.returns-clause-finds
 returns-clause-finds c =

@@ -9,7 +9,7 @@ invariant_of-result c =
     let kept = c.version-version.ensures.kept in
     let members = rw c.finds.ensures at c.in_ok-found.ensures.members in
     let are : AreHitsOf p.setup p.state p.card.call p.strand c.in_ok-found.found =
-        hits_found p.setup p.state p.card.call p.strand p.finds c.in_ok-found.found kept.early kept.finds_are members c.in_ok-found.ensures.sorted in
+    hits_found p.setup p.state p.card.call p.strand p.finds c.in_ok-found.found kept.early kept.finds_are members c.in_ok-found.ensures.sorted in
     record {
       kept = kept;
       who_is = c.requires.who;

@@ -28,6 +28,6 @@ returns-clause-records c =
     let fits = subst (λ (s : Shot). IfSome c.args.flight (Fits s c.args.slot)) (sym c.self.view_is) c.requires.fits in
     let inside = subst (λ (s : Shot). c.args.slot < length s.slots) (sym c.self.view_is) c.requires.place in
     IfOk-weaker c.changed.result _ _ (λ after is. ap (λ (s : Shot). records_in s.slots) is
-        ∙ rw (c.in_ok-slots.ensures, c.in_ok-shared.ensures, c.deref-body.ensures)
-        (put_records shot c.args.slot inside c.self.invariant.sound (flight_at shot c.args.slot) c.args.flight refl fits)
-        ∙ ap (λ (s : Shot). records_put (flight_at s c.args.slot) c.args.flight (records_in s.slots)) c.self.view_is) c.changed.ensures
+    ∙ rw (c.in_ok-slots.ensures, c.in_ok-shared.ensures, c.deref-body.ensures)
+    (put_records shot c.args.slot inside c.self.invariant.sound (flight_at shot c.args.slot) c.args.flight refl fits)
+    ∙ ap (λ (s : Shot). records_put (flight_at s c.args.slot) c.args.flight (records_in s.slots)) c.self.view_is) c.changed.ensures
