@@ -1,16 +1,16 @@
 //! A picture as it was at one version.
-ghost use Rattle.std.specs.Prelude.{◌≡◌, ◌<◌, ◌≤◌, ◌^◌, ◌+◌, None, Ok, pos, length, replicate, IfOk, IfSome, option_copied, option_map, option_and_then};
+ghost use Rattle.std.specs.Prelude.{◌≡◌, ◌<◌, ◌≤◌, ◌^◌, ◌+◌, None, Ok, pos, length, replicate, IfOk, IfSome, is_some, true, option_copied, option_map, option_and_then};
 ghost use Rattle.std.specs.Arc.{arc_value};
 ghost use Rattle.mt_base.specs.Bounds.{AreWithinBounds};
 ghost use Rattle.mt_base.specs.Picture.{flight_of, opening};
-ghost use Rattle.mt_probe.specs.Shot.{flight_at, made_of, state_of};
 ghost use Rattle.mt_change.specs.Sound.{IsSoundState};
-ghost use Rattle.mt_probe.specs.Body.{shot_of};
 ghost use Rattle.mt_grid.specs.Lists.{AreInGrid};
+ghost use Rattle.mt_probe.specs.Body.{shot_of};
 ghost use Rattle.mt_probe.specs.Gridded.{IsKept};
 ghost use Rattle.mt_probe.specs.Items.{AreNearItems, path_of};
-ghost use Rattle.mt_probe.specs.Standing.{IsSoundShot};
 ghost use Rattle.mt_probe.specs.Putting.{Fits, records_put, with_flight, with_moment};
+ghost use Rattle.mt_probe.specs.Shot.{flight_at, made_of, state_of};
+ghost use Rattle.mt_probe.specs.Standing.{IsSoundShot};
 
 use crate::flight::{Flight, Made};
 use crate::placing::moved;
@@ -196,9 +196,10 @@ impl Snapshot {
         Some(&self.made(slot, kind)?.strand)
     }
 
-    /// The place of the flight of that callsign.
+    /// The place of the flight of that callsign; `None` exactly where there is none.
     pub fn find(&self, call: Callsign) -> Option<u32>
-        ensures { flight_of (state_of self.now).records call ≡ option_map (λ f. f.card) (option_and_then (flight_at self.now) result) }
+        ensures there { IfSome result (λ slot. is_some (flight_at self.now slot) ≡ true) }
+        ensures flight { flight_of (state_of self.now).records call ≡ option_map (λ f. f.card) (option_and_then (flight_at self.now) result) }
     {
         let _version = self.version();
         let count = self.slots();

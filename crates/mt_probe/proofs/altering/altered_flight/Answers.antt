@@ -15,14 +15,14 @@ unreachable-requires-in_default-find c =
     let shot = c.args.snapshot.now in
     let at = planned_flight shot.setup (state_of shot) c.args.who c.args.command.now c.in-Some.call c.requires.alters c.requires.passed
     (sym c.call.ensures ∙ c.in-Some.is) in
-    not_there (flight_of (state_of shot).records c.in-Some.call) c.in_default-find.ensures at
+    not_there (flight_of (state_of shot).records c.in-Some.call) c.in_default-find.ensures.flight at
 
 pub unreachable-requires-in_default-flight : goal.unreachable-requires-in_default-flight
 unreachable-requires-in_default-flight c =
     let shot = c.args.snapshot.now in
     let at = planned_flight shot.setup (state_of shot) c.args.who c.args.command.now c.in-Some.call c.requires.alters c.requires.passed
     (sym c.call.ensures ∙ c.in-Some.is) in
-    not_there (flight_of (state_of shot).records c.in-Some.call) (c.in-Some-find.ensures ∙ sym c.in_default-flight.ensures) at
+    not_there (flight_of (state_of shot).records c.in-Some.call) (c.in-Some-find.ensures.flight ∙ sym c.in_default-flight.ensures) at
 
 pub unreachable-requires-in_default-path : goal.unreachable-requires-in_default-path
 unreachable-requires-in_default-path c =
@@ -30,7 +30,7 @@ unreachable-requires-in_default-path c =
     let at = planned_flight shot.setup (state_of shot) c.args.who c.args.command.now c.in-Some.call c.requires.alters c.requires.passed
     (sym c.call.ensures ∙ c.in-Some.is) in
     not_planned (flight_of (state_of shot).records c.in-Some.call) c.in-Some-flight.flight.now c.in_default-path.field-0
-    (c.in-Some-find.ensures ∙ sym c.in-Some-flight.ensures) c.in_default-path.is at
+    (c.in-Some-find.ensures.flight ∙ sym c.in-Some-flight.ensures) c.in_default-path.is at
 
 pub alteration_by-alteration-requires-clause-sound : goal.alteration_by-alteration-requires-clause-sound
 alteration_by-alteration-requires-clause-sound c =
@@ -53,7 +53,7 @@ alteration_by-alteration-requires-clause-can c =
     let shot = c.args.snapshot.now in
     rw (c.rules.ensures.rules, c.tables.ensures, c.in_ok-filled.ensures, c.now-now.ensures.now)
     (can_alter_filled shot.setup (state_of shot) c.args.who c.args.command.now c.in-Some.call c.in-Some-flight.flight.now c.in-Planned.course
-    c.requires.alters c.requires.passed (sym c.call.ensures ∙ c.in-Some.is) (c.in-Some-find.ensures ∙ sym c.in-Some-flight.ensures) c.in-Planned.is)
+    c.requires.alters c.requires.passed (sym c.call.ensures ∙ c.in-Some.is) (c.in-Some-find.ensures.flight ∙ sym c.in-Some-flight.ensures) c.in-Planned.is)
 
 pub returns : goal.returns
 returns c =
@@ -63,4 +63,4 @@ returns c =
     rw (c.alter.ensures, c.in_ok-altered.ensures)
     (left_altered shot.setup (state_of shot) c.args.who c.args.command.now c.in-Some.call c.in-Some-flight.flight.now c.in-Planned.course
     (Planned (altered c.alteration_by-alteration.result c.in-Planned.course)) c.requires.alters c.requires.passed (sym c.call.ensures ∙ c.in-Some.is)
-    (c.in-Some-find.ensures ∙ sym c.in-Some-flight.ensures) c.in-Planned.is by.path by.sound)
+    (c.in-Some-find.ensures.flight ∙ sym c.in-Some-flight.ensures) c.in-Planned.is by.path by.sound)

@@ -16,6 +16,12 @@ use Rattle.mt_machine.proofs.Clearances.{sound_path}
 use Rattle.mt_machine.proofs.plain.Plain.alter.Goals as goal
 use Rattle.mt_machine.proofs.plain.Plain.alter.Goals.{After-drop-strand-inside}
 
+pub predict-requires-clause-sound : goal.predict-requires-clause-sound
+predict-requires-clause-sound c =
+    let setup : Setup = setup_with c.args.rules.now c.args.tables.now in
+    rw c.in-Planned.is at (sound_path setup c.args.self.now c.in-Some.call c.in-Some-flight.flight.now c.requires.sound
+    (sym c.flight.ensures ∙ ap option_copied c.in-Some-flight.is))
+
 pub alteration_by-alteration-requires-clause-sound : goal.alteration_by-alteration-requires-clause-sound
 alteration_by-alteration-requires-clause-sound c =
     let setup : Setup = setup_with c.args.rules.now c.args.tables.now in
