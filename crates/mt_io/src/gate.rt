@@ -1,18 +1,18 @@
-//! A gate: a place where a caller can be held back.
+//! A place between two turns.
 
-/// Is told of each call that changes or tries something, between its snapshot and its turn. A test's gate holds callers there, so that
-/// it can say which of them comes first. No contract speaks of what it does.
+/// A place that a seat comes to between the turn in which it takes a snapshot, if it takes one, and the turn in which it enters something,
+/// if it does: in each change before the turn that decides it, in each probe and advice behind its snapshot. The turn isn't held there.
+///
+/// A test's gate can hold a caller there. No answer depends on a gate.
 pub trait Gate {
-    /// Called with the number of the caller's seat, while the turn isn't held.
+    /// Called with the number of the caller's seat.
     fn between(&self, who: u32);
 }
 
-/// Holds nobody back.
-#[derive(Clone, Copy, Debug, PartialEq, Eq)]
-pub struct NoGate;
+/// The gate that holds nobody.
+#[derive(Clone, Copy)]
+pub struct OpenGate;
 
-impl Gate for NoGate {
-    fn between(&self, who: u32) {
-        let _who = who;
-    }
+impl Gate for OpenGate {
+    fn between(&self, _who: u32) {}
 }

@@ -1,4 +1,5 @@
-//! Lines in, bytes out: sources, sinks, links and doors that count their faults, a reader of lines, and a whole write.
+//! Lines in, bytes out: sources, sinks, links and doors that count their faults, a reader of lines, a whole
+//! write; and the gate between two turns.
 #![tactic(auto)]
 
 mod ahead;
@@ -22,7 +23,7 @@ mod whole_write;
 
 pub use door::Door;
 pub use duplex::Duplex;
-pub use gate::{Gate, NoGate};
+pub use gate::{Gate, OpenGate};
 pub use laws::laws_of_lines;
 pub use line::{Line, LineFault};
 pub use line_reader::LineReader;

@@ -1,0 +1,112 @@
+use Rattle.std.proofs.Common.{◌≡◌, ◌+◌, ℕ, List, [], ◌∷◌, ◌++◌, length, Result, Ok, Err, refl, sym, ap, ◌∙◌, arith}
+use Rattle.std.proofs.lemmas.List.{append_assoc, append-nil, length-append, take-append-le}
+use Rattle.mt_base.proofs.HistoryLemmas.{version_is}
+use Rattle.mt_base.specs.declared.command.Command.{Command}
+use Rattle.mt_base.specs.declared.command.Command.TheVariants.{Renew}
+use Rattle.mt_base.specs.declared.command.Entered.{Entered}
+use Rattle.mt_base.specs.declared.command.Entry.{Entry}
+use Rattle.mt_base.specs.declared.command.Refusal.{Refusal}
+use Rattle.mt_base.specs.Picture.{State}
+use Rattle.mt_base.specs.Tables.{Setup}
+use Rattle.mt_board.specs.declared.ask.Answer.{Answer}
+use Rattle.mt_board.specs.declared.ask.Ask.{Ask}
+use Rattle.mt_board.specs.declared.no.No.{No}
+use Rattle.mt_board.specs.declared.no.No.TheVariants.{Memory, Refused}
+use Rattle.mt_board.specs.Asking.{IsNotTold, IsRead}
+use Rattle.mt_board.specs.Changing.{HasEntered, IsChanged, IsDenied}
+use Rattle.mt_board.specs.Probing.{IsPast}
+use Rattle.mt_board.specs.Seat.{GoesOn, HasLooked, HasSeen, IsSameSeat, Seat}
+use Rattle.mt_board.specs.Settling.{AreRenewed}
+
+-- a history that goes on from one that goes on, and one that stays
+pub goes_on : (a b c : List Entry) → GoesOn a b → GoesOn b c → GoesOn a c
+goes_on a b c (x, bx) (y, cy) = (x ++ y, cy ∙ ap (λ l. l ++ y) bx ∙ append_assoc a x y)
+
+pub goes_on_itself : (a : List Entry) → GoesOn a a
+goes_on_itself a = ([], sym (append-nil a))
+
+pub same_on : (s t u : Seat) → IsSameSeat s t → IsSameSeat t u → IsSameSeat s u
+same_on s t u a b = record { number = b.number ∙ a.number; fixed = b.fixed ∙ a.fixed }
+
+pub same_itself : (s : Seat) → IsSameSeat s s
+same_itself s = record { number = refl; fixed = refl }
+
+-- looks
+pub looked_itself : (s : Seat) → HasLooked s s
+looked_itself s = record { same = same_itself s; begins = goes_on_itself s.seen; mine = refl }
+
+pub looks_on : (s t u : Seat) → HasLooked s t → HasLooked t u → HasLooked s u
+looks_on s t u a b = record {
+  same = same_on s t u a.same b.same;
+  begins = goes_on s.seen t.seen u.seen a.begins b.begins;
+  mine = b.mine ∙ a.mine;
+}
+
+pub sees_on : (s t u : Seat) (version : ℕ) → HasLooked s t → HasSeen t u version → HasSeen s u version
+sees_on s t u version a b = record { looked = looks_on s t u a b.looked; version_is = b.version_is; sound = b.sound }
+
+-- an answer after a look
+pub denied_on : (s t u : Seat) (why : Refusal → Type 0) (denied : No) → HasLooked s t → IsDenied t why denied u → IsDenied s why denied u
+denied_on s t u why (Refused refusal version) a d = (sees_on s t u version a d.0, d.1)
+denied_on s t u why Memory a d = looks_on s t u a d
+
+pub change_on : (s t u : Seat) (command : Command) (result : Result Entered No) → HasLooked s t → IsChanged t command result u → IsChanged s command result u
+change_on s t u command (Ok entered) a e = record {
+  same = same_on s t u a.same e.same;
+  front = e.front;
+  entry = e.entry;
+  begins = goes_on s.seen t.seen e.front a.begins e.begins;
+  decided = rw (a.same.number, a.same.fixed) at e.decided;
+  entered_is = rw a.same.fixed at e.entered_is;
+  seen = e.seen;
+  mine = rw a.mine at e.mine;
+  sound = e.sound;
+}
+change_on s t u command (Err denied) a d = denied_on s t u _ denied a d
+
+-- whatever is answered, the same seat has seen all that it had seen
+pub denied_goes_on : (s t : Seat) (why : Refusal → Type 0) (denied : No) → IsDenied s why denied t → IsSameSeat s t × GoesOn s.seen t.seen
+denied_goes_on s t why (Refused refusal version) d = (d.0.looked.same, d.0.looked.begins)
+denied_goes_on s t why Memory d = (d.same, d.begins)
+
+pub read_goes_on : (s t : Seat) (asked : Ask) (result : Result Answer No) → IsRead s asked result t → IsSameSeat s t × GoesOn s.seen t.seen
+read_goes_on s t asked (Ok answer) r = (r.0.looked.same, r.0.looked.begins)
+read_goes_on s t asked (Err denied) d = denied_goes_on s t (IsNotTold t.fixed t.seen asked) denied d
+
+pub change_goes_on : (s t : Seat) (command : Command) (result : Result Entered No) → IsChanged s command result t → IsSameSeat s t × GoesOn s.seen t.seen
+change_goes_on s t command (Ok entered) e = (e.same, goes_on s.seen e.front t.seen e.begins (e.entry ∷ [], e.seen))
+change_goes_on s t command (Err denied) d = denied_goes_on s t _ denied d
+
+pub renewals_go_on : (s t : Seat) (calls : List (List ℕ)) (results : List (Result Entered No)) → AreRenewed s calls results t
+    → IsSameSeat s t × GoesOn s.seen t.seen
+renewals_go_on s t [] [] is = rw is (same_itself s, goes_on_itself s.seen)
+renewals_go_on s t [] (r ∷ rs) never = absurd never
+renewals_go_on s t (call ∷ calls) [] never = absurd never
+renewals_go_on s t (call ∷ calls) (r ∷ rs) (next, changed, rest) =
+    let one = change_goes_on s next (Renew call) r changed in
+    let others = renewals_go_on next t calls rs rest in
+    (same_on s next t one.0 others.0, goes_on s.seen next.seen t.seen one.1 others.1)
+
+-- renewals after renewals
+pub renewals_add : (s t u : Seat) (calls more : List (List ℕ)) (results others : List (Result Entered No)) → AreRenewed s calls results t
+    → AreRenewed t more others u → AreRenewed s (calls ++ more) (results ++ others) u
+renewals_add s t u [] more [] others is later = rw is at later
+renewals_add s t u [] more (r ∷ rs) others never later = absurd never
+renewals_add s t u (call ∷ calls) more [] others never later = absurd never
+renewals_add s t u (call ∷ calls) more (r ∷ rs) others (next, changed, rest) later =
+    (next, changed, renewals_add next t u calls more rs others rest later)
+
+-- what is past stays past
+pub past_on : (s t : Seat) (fixed : Setup) (state : State) (version : ℕ) → IsPast s fixed state version → IsSameSeat s t → GoesOn s.seen t.seen
+    → IsPast t fixed state version
+past_on s t fixed state version p same (later, is) = record {
+  same = p.same ∙ sym same.fixed;
+  past = omega (arith, p.past, ap length is, length-append s.seen later);
+  state_is = rw (same.fixed, is, take-append-le version s.seen later p.past) p.state_is;
+}
+
+-- what is entered has the version of all that is seen
+pub version_entered : (s t : Seat) (command : Command) (entered : Entered) → HasEntered s t command entered → entered.version ≡ length t.seen
+version_entered s t command entered e =
+    ap (λ (x : Entered). x.version) e.entered_is ∙ ap (λ n. n + 1) (version_is s.fixed e.front)
+    ∙ sym (ap length e.seen ∙ length-append e.front (e.entry ∷ []))

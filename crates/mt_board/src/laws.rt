@@ -1,0 +1,33 @@
+//! How the answers of a seat follow each other.
+ghost use Rattle.std.specs.Prelude.{◌≡◌, ◌++◌, ℕ, List, Result, length};
+ghost use Rattle.mt_base.specs.declared.command.Command.{Command};
+ghost use Rattle.mt_base.specs.declared.command.Entered.{Entered};
+ghost use Rattle.mt_base.specs.Picture.{State};
+ghost use Rattle.mt_base.specs.Tables.{Setup};
+ghost use Rattle.mt_board.specs.declared.ask.Answer.{Answer};
+ghost use Rattle.mt_board.specs.declared.ask.Ask.{Ask};
+ghost use Rattle.mt_board.specs.declared.no.No.{No};
+ghost use Rattle.mt_board.specs.Asking.{IsRead};
+ghost use Rattle.mt_board.specs.Changing.{HasEntered, IsChanged};
+ghost use Rattle.mt_board.specs.Probing.{IsPast};
+ghost use Rattle.mt_board.specs.Seat.{GoesOn, HasLooked, IsSameSeat, Seat};
+ghost use Rattle.mt_board.specs.Settling.{AreRenewed};
+
+/// A command's answer after a look is its answer. Whatever it is answered, it is the same seat, and what it has seen
+/// goes on from what it had seen; so what is past for a seat stays past. What is entered has the version of all that the seat has seen then.
+/// Renewals after renewals are renewals.
+pub fn seat_laws()
+    ensures look_on { (s t u : Seat) → HasLooked s t → HasLooked t u → HasLooked s u }
+    ensures change_on { (s t u : Seat) (command : Command) (result : Result Entered No) → HasLooked s t → IsChanged t command result u
+        → IsChanged s command result u }
+    ensures read_goes_on { (s t : Seat) (asked : Ask) (result : Result Answer No) → IsRead s asked result t → IsSameSeat s t × GoesOn s.seen t.seen }
+    ensures change_goes_on { (s t : Seat) (command : Command) (result : Result Entered No) → IsChanged s command result t
+        → IsSameSeat s t × GoesOn s.seen t.seen }
+    ensures renewals_go_on { (s t : Seat) (calls : List (List ℕ)) (results : List (Result Entered No)) → AreRenewed s calls results t
+        → IsSameSeat s t × GoesOn s.seen t.seen }
+    ensures renewals_add { (s t u : Seat) (calls more : List (List ℕ)) (results others : List (Result Entered No)) → AreRenewed s calls results t
+        → AreRenewed t more others u → AreRenewed s (calls ++ more) (results ++ others) u }
+    ensures past { (s t : Seat) (fixed : Setup) (state : State) (version : ℕ) → IsPast s fixed state version → IsSameSeat s t → GoesOn s.seen t.seen
+        → IsPast t fixed state version }
+    ensures version { (s t : Seat) (command : Command) (entered : Entered) → HasEntered s t command entered → entered.version ≡ length t.seen }
+{}
