@@ -1,4 +1,5 @@
 pub mod Causes
+pub mod Door
 pub mod Lines
 pub mod Reading
 pub mod Gathering

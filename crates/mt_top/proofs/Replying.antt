@@ -1,4 +1,4 @@
-use Rattle.std.proofs.Common.{◌≡◌, ◌<◌, ◌≤◌, inl, inr, ⊎_elim, ℕ, Bool, true, false, List, [], ◌∷◌, ◌++◌, length, Option, Some, None, Result, Ok, Err, refl, sym, ◌∙◌, ap, subst, append_assoc, append-nil, true≢false}
+use Rattle.std.proofs.Common.{◌≡◌, ◌<◌, ◌≤◌, inl, inr, ⊎_elim, ℕ, Bool, true, false, List, length, Option, Some, None, Result, Ok, Err, refl, sym, ◌∙◌, ap, true≢false}
 use Rattle.std.proofs.lemmas.Bool.{lt-ltb}
 use Rattle.std.specs.Prelude.{MatchBool, ⊤}
 use Rattle.mt_base.specs.declared.command.Entry.{Entry}
@@ -14,28 +14,11 @@ use Rattle.mt_read.specs.declared.request.Request.{Request}
 use Rattle.mt_read.specs.declared.request.Request.TheVariants as requests
 use Rattle.mt_write.specs.declared.reply.Reply.{Reply}
 use Rattle.mt_write.specs.declared.reply.Reply.TheVariants as replies
-use Rattle.mt_write.specs.Reply.{reply_text}
-use Rattle.mt_top.specs.Given.{IsGivenFor, is_brief, is_farewell}
-use Rattle.mt_top.specs.Script.{AreReplied, IsLeftBy, IsReplied}
+use Rattle.mt_lines.specs.Given.{IsGivenFor, is_brief}
+use Rattle.mt_top.specs.Script.{IsLeftBy, IsReplied}
 use Rattle.mt_machine.specs.Book.{probe_at}
 use Rattle.mt_top.specs.declared.actor.Probe.{Probe}
 use Rattle.mt_top.specs.World.{IsAcceptedOf, IsAdded, IsAdvisedAs, IsAnswered, IsLeft, IsOutcome, IsServed, IsTold, IsTried, World, actor_of, asked, is_empty, picture_of}
-
--- one line more
-pub replied_push : (w : World) (lines : List (List ℕ)) (bytes : List ℕ) (middle : World) (line : List ℕ) (reply : Reply) (next : World)
-    → AreReplied w lines bytes middle → IsReplied middle line reply next → is_farewell reply ≡ false
-    → AreReplied w (lines ++ line ∷ []) (bytes ++ reply_text reply) next
-replied_push w [] bytes middle line reply next (none, same) replied goes =
-    (reply, [], next, subst (λ (v : World). IsReplied v line reply next) same replied, goes, rw none (sym (append-nil (reply_text reply))), (refl, refl))
-replied_push w (first ∷ lines) bytes middle line reply next (r, rest, v, replied_first, goes_first, bytes_are, replied_rest) replied goes = (
-  r,
-  rest ++ reply_text reply,
-  v,
-  replied_first,
-  goes_first,
-  rw bytes_are (append_assoc (reply_text r) rest (reply_text reply)),
-  replied_push v lines rest middle line reply next replied_rest replied goes,
-)
 
 -- a brief reply is none of those that are not brief
 not_given : (given reply : Reply) (P : Type 0) → reply ≡ given → is_brief given ≡ true → is_brief reply ≡ false → P

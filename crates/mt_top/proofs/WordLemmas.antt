@@ -8,7 +8,8 @@ use Rattle.mt_io.proofs.HasRead.{told}
 use Rattle.mt_io.proofs.Known.{consumes_none}
 use Rattle.mt_top.specs.declared.status.Status.{Status}
 use Rattle.mt_top.specs.declared.status.Status.TheVariants.{Done, Usage, ReadFault, WriteFault, Spent, Memory}
-use Rattle.mt_top.specs.Run.{Explains, IsReplay, RunMeans, SaysUsage, usage_line}
+use Rattle.mt_lines.specs.Answering.{Explains}
+use Rattle.mt_top.specs.Run.{IsReplay, RunMeans, SaysUsage, usage_line}
 
 -- a list of one word
 one_word : (words : List (List ℕ)) (w : List ℕ) → length words ≡ 1 → slice_get words 0 ≡ Some w → words ≡ w ∷ []

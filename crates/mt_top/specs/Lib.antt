@@ -1,5 +1,3 @@
-pub mod Fit
-pub mod Given
 pub mod Run
 pub mod Script
 pub mod SoFar

@@ -1,46 +1,37 @@
-use Rattle.std.specs.Prelude.{◌≡◌, ◌<◌, ◌≤◌, ◌^◌, ◌⊎◌, ℕ, List, [], ◌∷◌, ◌++◌, length, codes}
+use Rattle.std.specs.Prelude.{◌≡◌, ◌^◌, ◌⊎◌, ℕ, List, [], ◌∷◌, ◌++◌, length, codes}
 use Rattle.std.specs.declared.option.Option.{Option}
 use Rattle.std.specs.Io.KnownBytes.{Appends}
-use Rattle.mt_io.specs.HasRead.{Tells}
-use Rattle.mt_io.specs.Lines.{lines_of, whole_lines_of}
 use Rattle.mt_io.specs.Writing.{AppendsFront}
+use Rattle.mt_lines.specs.Answering as answering
+use Rattle.mt_lines.specs.Given.{is_farewell}
+use Rattle.mt_write.specs.Reply.{reply_text}
 use Rattle.mt_top.specs.declared.status.Status.{Status}
 use Rattle.mt_top.specs.declared.status.Status.TheVariants.{Done, Usage, ReadFault, WriteFault, Spent, Memory}
-use Rattle.mt_top.specs.Script.{AreAnswered, AreReplied, EndsScript}
+use Rattle.mt_top.specs.Script.{IsFollowed, IsReplied}
 use Rattle.mt_top.specs.World.{World, opening_world}
 
--- The input was read to its end, and these bytes answer all its lines.
-pub record AnswersAll (input left written : List ℕ) : Type 0 where
-  pub at_end : left ≡ []
-  pub few : length input < 2 ^ 32
-  pub end : World
-  pub replied : AreReplied opening_world (lines_of input) written end
+-- A script is lines answered one by one, from the opening world on, up to the one that is answered with a farewell. At its end there is
+-- some world.
 
--- The input was read to the line that ends the script, and these bytes answer the lines up to it.
-pub record AnswersToBye (input left written : List ℕ) : Type 0 where
-  pub taken : List ℕ
-  pub input_is : input ≡ taken ++ left
-  pub lines : List (List ℕ)
-  pub unread : List (List ℕ)
-  pub lines_are : lines_of input ≡ lines ++ unread
-  pub ended : EndsScript opening_world lines written
+-- The input was read to its end, and the bytes written answer all its lines.
+abbrev pub AnswersAll : List ℕ → List ℕ → List ℕ → Type 0
+AnswersAll input left written = (end : World)
+    × answering.AnswersAll reply_text is_farewell IsReplied IsFollowed opening_world input left written end
+
+-- The input was read to the line that ends the script, and the bytes written answer the lines up to it.
+abbrev pub AnswersToBye : List ℕ → List ℕ → List ℕ → Type 0
+AnswersToBye input left written = (end : World)
+    × answering.AnswersToLast reply_text is_farewell IsReplied IsFollowed opening_world input left written end
 
 -- Of the input these bytes were taken, and the bytes written answer the lines that are whole in them.
-pub record AnswersWhole (input left taken written : List ℕ) : Type 0 where
-  pub input_is : input ≡ taken ++ left
-  pub limit : length taken ≤ 2 ^ 32
-  pub end : World
-  pub replied : AreReplied opening_world (whole_lines_of taken) written end
+abbrev pub AnswersWhole : List ℕ → List ℕ → List ℕ → List ℕ → Type 0
+AnswersWhole input left taken written = (end : World)
+    × answering.AnswersWhole reply_text is_farewell IsReplied IsFollowed opening_world input left taken written end
 
--- The bytes written are a front of those that answer the first lines of the input.
-pub record AnswersFront (input written : List ℕ) : Type 0 where
-  pub lines : List (List ℕ)
-  pub unread : List (List ℕ)
-  pub lines_are : lines_of input ≡ lines ++ unread
-  pub bytes : List ℕ
-  pub answered : AreAnswered opening_world lines bytes
-  pub unwritten : List ℕ
-  pub bytes_are : bytes ≡ written ++ unwritten
+-- The bytes written answer the first lines of the input, but that the last reply is cut short.
+abbrev pub AnswersFront : List ℕ → List ℕ → Type 0
+AnswersFront input written = (end : World)
+    × answering.AnswersFront reply_text is_farewell IsReplied IsFollowed opening_world input written end
 
 -- What a replay's status says of its whole input, of what it left of it, and of the bytes that it wrote. Memory is wanted only before the
 -- first line: then nothing was read and nothing written.
@@ -82,17 +73,6 @@ SaysUsage Memory before after = ⊥
 abbrev pub RunMeans : List (List ℕ) → Status → List ℕ → List ℕ → List ℕ → Type 0
 RunMeans words status input left written =
     (IsReplay words × ReplayMeans status input left written) ⊎ (¬ IsReplay words × UsageMeans status input left written)
-
--- The meaning, of an input and an output as far as they tell their bytes: `before` and `after` are what the input has left,
--- `held_before` and `held_after` what the output holds.
-pub record Explains (Means : List ℕ → List ℕ → List ℕ → Type 0) (before after held_before held_after : Option (List ℕ)) : Type 0 where
-  pub input : List ℕ
-  pub left : List ℕ
-  pub written : List ℕ
-  pub told : Tells before input
-  pub told_after : Tells after left
-  pub appended : Appends held_before held_after written
-  pub means : Means input left written
 
 -- no fault of the outside
 abbrev pub IsNoFault : Status → Type 0

@@ -1,4 +1,5 @@
-use Rattle.std.specs.Prelude.{ℕ}
+use Rattle.std.specs.Prelude.{ℕ, Bool, true, false, Option, Some, None, Result, Ok, Err}
+use Rattle.mt_io.specs.declared.whole_write.WriteFault.{WriteFault as Failed}
 use Rattle.mt_top.specs.declared.status.Status.{Status}
 use Rattle.mt_top.specs.declared.status.Status.TheVariants.{Done, Usage, ReadFault, WriteFault, Spent, Memory}
 
@@ -10,3 +11,9 @@ exit_status ReadFault = 4
 exit_status WriteFault = 5
 exit_status Spent = 7
 exit_status Memory = 8
+
+-- the status with which a script ends once a reply was given, where it does: the reply was the last one, or the output failed
+abbrev pub ending : Result Bool Failed → Option Status
+ending (Ok true) = Some Done
+ending (Ok false) = None
+ending (Err failed) = Some WriteFault

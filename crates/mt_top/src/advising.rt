@@ -3,7 +3,7 @@ ghost use Rattle.std.specs.Prelude.{◌≡◌, ◌⊎◌, ◌≤◌, All, length
 ghost use Rattle.mt_base.specs.Bounds.{IsBoundedClearance};
 ghost use Rattle.mt_write.specs.Short.{IsShortAdvised};
 ghost use Rattle.mt_write.specs.declared.reply.Reply.TheVariants as replies;
-ghost use Rattle.mt_top.specs.Fit.{IsFit};
+ghost use Rattle.mt_lines.specs.Fit.{IsFit};
 ghost use Rattle.mt_top.specs.Sound.{IsKept};
 ghost use Rattle.mt_top.specs.World.{IsAdvised, IsRefused, actor_of, free_probe, items_from, setup_of, with_book, with_probes};
 

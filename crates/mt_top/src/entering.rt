@@ -3,7 +3,7 @@ ghost use Rattle.std.specs.Prelude.{◌≡◌, ◌⊎◌, ◌≤◌, ◌++◌, �
 ghost use Rattle.mt_base.specs.Bounds.{IsBoundedCommand};
 ghost use Rattle.mt_base.specs.History.{IsDecided, IsInTime, WasFree, entered_by};
 ghost use Rattle.mt_write.specs.declared.reply.Reply.TheVariants as replies;
-ghost use Rattle.mt_top.specs.Fit.{IsFit};
+ghost use Rattle.mt_lines.specs.Fit.{IsFit};
 ghost use Rattle.mt_top.specs.World.{IsAccepted, IsChanged, IsRefused, picture_of, setup_of};
 
 use crate::world::World;

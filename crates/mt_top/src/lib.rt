@@ -8,7 +8,6 @@ mod laws;
 mod probing;
 mod reading;
 mod replay;
-mod reply_out;
 mod setting;
 mod settling;
 mod status;

@@ -2,7 +2,7 @@
 ghost use Rattle.std.specs.Prelude.{◌≡◌, ◌⊎◌, ◌-◌, take, drop, length, IfOk, MatchBool};
 ghost use Rattle.mt_base.specs.Picture.{IsPublished, flight_of};
 ghost use Rattle.mt_write.specs.declared.reply.Reply.TheVariants as replies;
-ghost use Rattle.mt_top.specs.Fit.{IsFit};
+ghost use Rattle.mt_lines.specs.Fit.{IsFit};
 ghost use Rattle.mt_top.specs.World.{IsGiven, IsListed, IsRefused, IsTold, picture_of, setup_of};
 
 use crate::world::World;

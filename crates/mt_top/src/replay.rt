@@ -2,14 +2,15 @@
 ghost use Rattle.std.specs.Prelude.{◌≡◌, ◌≤◌, ◌^◌, ◌+◌, ℕ, List, None, Some, IfNone, vec_capacity};
 ghost use Rattle.std.specs.declared.option.Option.{Option};
 ghost use Rattle.mt_io.specs.Causes.{Rose};
-ghost use Rattle.mt_top.specs.Run.{Explains, ReplayMeans};
+ghost use Rattle.mt_lines.specs.Answering.{Explains};
+ghost use Rattle.mt_top.specs.Run.{ReplayMeans};
 ghost use Rattle.mt_top.specs.SoFar.{SoFar, Turned};
 ghost use Rattle.mt_top.specs.declared.status.Status.TheVariants.{ReadFault, WriteFault};
 
-use crate::reply_out::give;
-use crate::status::Status;
+use crate::status::{Status, ending};
 use crate::world::World;
 use mt_io::{Line, LineFault, LineReader, Sink, Source};
+use mt_lines::give;
 use mt_wire::Reply;
 use std::alloc::Global;
 use std::thread::Threads;
@@ -72,9 +73,9 @@ fn turn<R: Threads + Sync, S: Source, K: Sink>(
     match reader.next(input) {
         Ok(Line::Text(line)) => {
             let reply = world.answer(rt, alloc, line);
-            give(alloc, &reply, room, output)
+            ending(give(alloc, &reply, room, output))
         }
-        Ok(Line::Long) => give(alloc, &Reply::Long, room, output),
+        Ok(Line::Long) => ending(give(alloc, &Reply::Long, room, output)),
         Ok(Line::End) => Some(Status::Done),
         Err(LineFault::ReadFault) => Some(Status::ReadFault),
         Err(LineFault::Spent) => Some(Status::Spent),

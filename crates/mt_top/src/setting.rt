@@ -6,7 +6,7 @@ ghost use Rattle.mt_tables.specs.Adding.{fix_adding, type_adding, with_fix, with
 ghost use Rattle.mt_write.specs.declared.reply.DoneWord.TheVariants as done;
 ghost use Rattle.mt_write.specs.declared.reply.Reply.TheVariants as replies;
 ghost use Rattle.mt_read.specs.Rules.{rules_with};
-ghost use Rattle.mt_top.specs.Fit.{IsFit};
+ghost use Rattle.mt_lines.specs.Fit.{IsFit};
 ghost use Rattle.mt_top.specs.World.{IsAdded, IsGiven, IsRefused, new_actor, not_added};
 
 use crate::world::World;

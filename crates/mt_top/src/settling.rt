@@ -3,7 +3,7 @@ ghost use Rattle.std.specs.Prelude.{◌≡◌, ◌⊎◌, ◌≤◌, ◌++◌, �
 ghost use Rattle.mt_base.specs.Settled.{AreRenewed, IsPassedOver, IsRenewed, due_calls};
 ghost use Rattle.mt_read.specs.declared.request.Request.TheVariants as requests;
 ghost use Rattle.mt_write.specs.declared.reply.Reply.TheVariants as replies;
-ghost use Rattle.mt_top.specs.Fit.{IsFit};
+ghost use Rattle.mt_lines.specs.Fit.{IsFit};
 ghost use Rattle.mt_top.specs.World.{IsGiven, IsRefused, IsSettling, IsStarved, picture_of, setup_of};
 
 use crate::world::World;

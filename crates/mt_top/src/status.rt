@@ -1,5 +1,7 @@
 ghost use Rattle.std.specs.Prelude.{◌≡◌};
-ghost use Rattle.mt_top.specs.Status.{exit_status};
+ghost use Rattle.mt_top.specs.Status.{ending, exit_status};
+
+use mt_io::WriteFault;
 
 /// How a run ended, and so the program's exit status.
 #[derive(Clone, Copy, Debug, PartialEq, Eq)]
@@ -31,5 +33,16 @@ impl Status {
             Status::Spent => 7,
             Status::Memory => 8,
         }
+    }
+}
+
+/// The status with which a script ends once a reply was given, where it does.
+pub(crate) fn ending(given: Result<bool, WriteFault>) -> Option<Status>
+    ensures { result ≡ ending given }
+{
+    match given {
+        Ok(true) => Some(Status::Done),
+        Ok(false) => None,
+        Err(_) => Some(Status::WriteFault),
     }
 }

@@ -1,7 +1,8 @@
 //! The top call.
 ghost use Rattle.std.specs.Prelude.{◌≡◌, ◌↔◌, IsTrue};
 ghost use Rattle.mt_io.specs.Causes.{Rose};
-ghost use Rattle.mt_top.specs.Run.{Explains, IsNoFault, IsReplay, RunMeans, SaysUsage};
+ghost use Rattle.mt_lines.specs.Answering.{Explains};
+ghost use Rattle.mt_top.specs.Run.{IsNoFault, IsReplay, RunMeans, SaysUsage};
 ghost use Rattle.mt_top.specs.declared.status.Status.TheVariants.{ReadFault, WriteFault};
 
 use crate::replay::replay;

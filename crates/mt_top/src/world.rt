@@ -1,7 +1,7 @@
 //! The world of a script: what each line is answered, and what it leaves.
 ghost use Rattle.std.specs.Prelude.{◌≡◌, ◌⊎◌, ◌≤◌, length, IfOk, All};
 ghost use Rattle.mt_read.specs.Bounded.{IsBoundedRequest};
-ghost use Rattle.mt_top.specs.Fit.{IsFit};
+ghost use Rattle.mt_lines.specs.Fit.{IsFit};
 ghost use Rattle.mt_top.specs.Script.{IsReplied};
 ghost use Rattle.mt_top.specs.Sound.{fresh};
 ghost use Rattle.mt_top.specs.World.{IsServed, IsStarved, opening_world};

@@ -7,14 +7,14 @@ use Rattle.mt_top.proofs.replay.turn.Goals as goal
 pub returns-in-Ok-Text-clause-turned : goal.returns-in-Ok-Text-clause-turned
 returns-in-Ok-Text-clause-turned g c =
     let line = rw (c.in-Ok-Text.is, c.in-Ok-Text.field-0-is) at c.next.follows.holds-at-none in
-    λ before held so_far. turned before _ _ held _ _ _ _ _ _ c.in-Ok-Text.line.now c.answer-reply.result c.give.result so_far line.1
-    c.answer-reply.ensures.replied (λ _. line.0) c.give.ensures.given
+    λ before held so_far. rw c.ending.ensures (turned before _ _ held _ _ _ _ _ _ c.in-Ok-Text.line.now c.answer-reply.result c.give.result so_far line.1
+    c.answer-reply.ensures.replied (λ _. line.0) c.give.ensures.given)
 
 pub returns-in-Ok-Long-clause-turned : goal.returns-in-Ok-Long-clause-turned
 returns-in-Ok-Long-clause-turned g c =
     let (line, long, takes) = rw (c.in-Ok-Long.is, c.in-Ok-Long.field-0-is) at c.next.follows.holds-at-none in
-    λ before held so_far. turned before _ _ held _ _ _ _ _ _ line replies.Long c.give-in-Ok-Long.result so_far takes
-    (long_replied _ line long) (λ not_brief. cc) c.give-in-Ok-Long.ensures.given
+    λ before held so_far. rw c.ending-in-Ok-Long.ensures (turned before _ _ held _ _ _ _ _ _ line replies.Long c.give-in-Ok-Long.result so_far takes
+    (long_replied c.args.world.now line long) (λ not_brief. cc) c.give-in-Ok-Long.ensures.given)
 
 pub returns-in-Ok-End-clause-turned : goal.returns-in-Ok-End-clause-turned
 returns-in-Ok-End-clause-turned g c =

@@ -1,31 +1,31 @@
 //! Replies on their way out.
 ghost use Rattle.std.specs.Prelude.{◌≡◌, ◌≤◌, vec_capacity, true};
-ghost use Rattle.mt_io.specs.Causes.{Rose};
+ghost use Rattle.mt_io.specs.Causes.{HasCause};
 ghost use Rattle.mt_write.specs.Short.{AreShortCalls, IsShort, IsShortAdvice, IsShortProbe};
-ghost use Rattle.mt_top.specs.Fit.{AreBrief, AreBriefCalls, IsBriefAdvice, IsFit};
-ghost use Rattle.mt_top.specs.Given.{Gives, Sends, is_brief, is_farewell};
-ghost use Rattle.mt_top.specs.declared.status.Status.TheVariants.{WriteFault};
+ghost use Rattle.mt_lines.specs.Fit.{AreBrief, AreBriefCalls, IsBriefAdvice, IsFit};
+ghost use Rattle.mt_lines.specs.Given.{Gives, Sends, is_brief, is_farewell};
 
-use crate::status::Status;
 use mt_base::{Callsign, Hit, Second};
-use mt_io::{Sink, put_all};
-use mt_wire::{AdviceItem, DoneWord, Reply, write_reply, write_short};
+use mt_io::{Sink, WriteFault, put_all};
+use mt_write::{AdviceItem, DoneWord, Reply, write_reply, write_short};
 use std::alloc::Global;
 
-/// Gives a reply: writes its text, or that of `memory` where a text that isn't brief finds none. A status where the script ends with it
-/// or the output failed.
+/// Gives a reply: writes its text, or that of `memory` where a text that isn't brief finds none. Says whether it was the last one.
+/// `WriteFault` comes only where the output's count of faults rose in this call, or stands at its last value; then a front of the text
+/// was written.
+///
+/// A reply that is brief is written in the room, which is to have 65,536 bytes: it wants no memory.
 pub fn give<K: Sink>(
     alloc: Global,
     reply: &Reply,
     room: &mut Vec<u8>,
     output: &mut K,
-) -> Option<Status>
+) -> Result<bool, WriteFault>
     requires room { 65536 ≤ vec_capacity room.old }
     requires fit { IsFit reply.now }
     ensures given { Gives reply.now result (K.held output.old) (K.held output.new) }
     ensures room { 65536 ≤ vec_capacity room.new }
-    ensures later { K.faults output.old ≤ K.faults output.new }
-    ensures cause { result ≡ Some WriteFault → Rose (K.faults output.old) (K.faults output.new) }
+    ensures cause { HasCause (K.faults output.old) (K.faults output.new) result }
     ensures kept { K.writes_to output.old output.new }
 {
     room.clear();
@@ -115,18 +115,14 @@ fn is_farewell(reply: &Reply) -> bool
     }
 }
 
-// Writes a text; then, where it is the last one, the script is done.
-fn send<K: Sink>(text: &[u8], is_last: bool, output: &mut K) -> Option<Status>
+// Writes a text, and says whether it was the last one.
+fn send<K: Sink>(text: &[u8], is_last: bool, output: &mut K) -> Result<bool, WriteFault>
     ensures sent { Sends text.now is_last result (K.held output.old) (K.held output.new) }
-    ensures later { K.faults output.old ≤ K.faults output.new }
-    ensures cause { result ≡ Some WriteFault → Rose (K.faults output.old) (K.faults output.new) }
+    ensures cause { HasCause (K.faults output.old) (K.faults output.new) result }
     ensures kept { K.writes_to output.old output.new }
 {
-    if put_all(output, text).is_err() {
-        return Some(Status::WriteFault);
+    match put_all(output, text) {
+        Ok(()) => Ok(is_last),
+        Err(fault) => Err(fault),
     }
-    if is_last {
-        return Some(Status::Done);
-    }
-    None
 }

@@ -1,7 +1,7 @@
 use Rattle.std.proofs.Common.{◌∙◌, sym, inr, refl}
 use Rattle.mt_write.proofs.Lengths.{short_text}
 use Rattle.mt_write.specs.declared.reply.Reply.TheVariants as replies
-use Rattle.mt_top.proofs.reply_out.give.Goals as goal
+use Rattle.mt_lines.proofs.reply_out.give.Goals as goal
 
 pub write_short-requires-clause-fits : goal.write_short-requires-clause-fits
 write_short-requires-clause-fits g c = short_text c.args.reply.now (c.is_brief.ensures.short c.if-is_brief.true)

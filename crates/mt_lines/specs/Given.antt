@@ -1,14 +1,13 @@
-use Rattle.std.specs.Prelude.{◌≡◌, ◌⊎◌, ℕ, List, Bool, true, false}
+-- Which reply is given, and what the output holds then.
+use Rattle.std.specs.Prelude.{◌≡◌, ◌⊎◌, ℕ, List, Bool, true, false, Result, Ok, Err}
 use Rattle.std.specs.Io.KnownBytes.{Appends}
 use Rattle.std.specs.declared.option.Option.{Option}
-use Rattle.std.specs.declared.option.Option.TheVariants.{None, Some}
+use Rattle.mt_io.specs.declared.whole_write.WriteFault.{WriteFault}
 use Rattle.mt_io.specs.Writing.{AppendsFront}
 use Rattle.mt_write.specs.declared.reply.DoneWord.TheVariants as done
 use Rattle.mt_write.specs.declared.reply.Reply.{Reply}
 use Rattle.mt_write.specs.declared.reply.Reply.TheVariants as replies
 use Rattle.mt_write.specs.Reply.{reply_text}
-use Rattle.mt_top.specs.declared.status.Status.{Status}
-use Rattle.mt_top.specs.declared.status.Status.TheVariants.{Done, Usage, ReadFault, WriteFault, Spent, Memory}
 
 -- A reply that is written in the room that was taken before the first line, and so never wants memory. Each reply that follows a change is one.
 abbrev pub is_brief : Reply → Bool
@@ -23,7 +22,7 @@ is_brief (replies.TakenType name) = false
 is_brief (replies.Refused refusal version) = false
 is_brief reply = true
 
--- the reply after which a script ends
+-- the reply after which no line is answered
 abbrev pub is_farewell : Reply → Bool
 is_farewell (replies.Done done.Bye) = true
 is_farewell reply = false
@@ -32,19 +31,13 @@ is_farewell reply = false
 abbrev pub IsGivenFor : Reply → Reply → Type 0
 IsGivenFor reply given = (given ≡ reply) ⊎ ((given ≡ replies.Memory) × (is_brief reply ≡ false))
 
--- What the output holds after a text was sent: it and no status; it and Done, where the script ends with it; or a front of it, where the
--- output failed.
-abbrev pub Sends : List ℕ → Bool → Option Status → Option (List ℕ) → Option (List ℕ) → Type 0
-Sends text is_last None before after = Appends before after text × (is_last ≡ false)
-Sends text is_last (Some Done) before after = Appends before after text × (is_last ≡ true)
-Sends text is_last (Some WriteFault) before after = AppendsFront before after text
-Sends text is_last (Some Usage) before after = ⊥
-Sends text is_last (Some ReadFault) before after = ⊥
-Sends text is_last (Some Spent) before after = ⊥
-Sends text is_last (Some Memory) before after = ⊥
+-- What the output holds after a text was sent: it, and whether it was the last one is answered; or a front of it, where the output failed.
+abbrev pub Sends : List ℕ → Bool → Result Bool WriteFault → Option (List ℕ) → Option (List ℕ) → Type 0
+Sends text is_last (Ok ends) before after = Appends before after text × (is_last ≡ ends)
+Sends text is_last (Err fault) before after = AppendsFront before after text
 
 -- a reply was given and sent
-pub record Gives (reply : Reply) (status : Option Status) (before after : Option (List ℕ)) : Type 0 where
+pub record Gives (reply : Reply) (result : Result Bool WriteFault) (before after : Option (List ℕ)) : Type 0 where
   pub given : Reply
   pub given_for : IsGivenFor reply given
-  pub sent : Sends (reply_text given) (is_farewell given) status before after
+  pub sent : Sends (reply_text given) (is_farewell given) result before after

@@ -1,0 +1,5 @@
+use Rattle.std.proofs.Common.{◌≡◌, length}
+use Rattle.mt_io.proofs.tcp.TcpLinkSource.read_some.Given as goal
+
+abbrev pub invariant-loop : goal.invariant-loop
+invariant-loop l = (l.self.reads ≡ l.fn.self.reads) × (l.self.writes ≡ l.fn.self.writes) × (length l.buf ≡ length l.fn.buf)

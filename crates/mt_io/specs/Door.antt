@@ -1,0 +1,45 @@
+-- What a door gives and takes back.
+use Rattle.std.specs.Prelude.{◌≡◌, ◌<◌, ℕ, ◌+◌, ⊤, List, [], ◌∷◌, ◌++◌, MatchResult, MatchOption}
+use Rattle.std.specs.declared.option.Option.{Option}
+use Rattle.std.specs.declared.option.Option.TheVariants.{None, Some}
+use Rattle.std.specs.declared.result.Result.{Result}
+
+-- a list that is told begins with these items, and loses them
+abbrev pub Loses : {A : Type 0} → Option (List A) → Option (List A) → List A → Type 0
+Loses None new items = ⊤
+Loses (Some xs) None items = ⊥
+Loses (Some xs) (Some ys) items = xs ≡ items ++ ys
+
+-- a list that is told gains these items at its end
+abbrev pub Gains : {A : Type 0} → Option (List A) → Option (List A) → List A → Type 0
+Gains None new items = ⊤
+Gains (Some xs) None items = ⊥
+Gains (Some xs) (Some ys) items = ys ≡ xs ++ items
+
+-- what a door tells of its last `listen` and since: the port, the sessions, how many links were given and how many are back
+pub record Count : Type 0 where
+  pub port : ℕ
+  pub sessions : ℕ
+  pub given : ℕ
+  pub back : ℕ
+
+-- right after `listen`
+abbrev pub listened : ℕ → ℕ → Count
+listened port sessions = record { port = port; sessions = sessions; given = 0; back = 0 }
+
+-- with one link given more, or one back more
+abbrev pub gave_one : Count → Count
+gave_one count = record count { given = count.given + 1 }
+
+abbrev pub took_one : Count → Count
+took_one count = record count { back = count.back + 1 }
+
+-- None, where as many links were given as there are sessions; or a link, the first of those still to give, where fewer were; or a
+-- failure. But for the link nothing changes.
+abbrev pub GivesLink : {L E : Type 0} → Count → Count → Option (List L) → Option (List L) → Result (Option L) E → Type 0
+GivesLink {L} old new still left result =
+    MatchResult result
+    (λ found. MatchOption found
+    ((old.given ≡ old.sessions) × (new ≡ old) × (left ≡ still))
+    (λ link. (old.given < old.sessions) × (new ≡ gave_one old) × Loses still left (link ∷ [])))
+    (λ _. (new ≡ old) × (left ≡ still))

@@ -1,0 +1,9 @@
+//! Lines answered one by one: what a run of them means, whatever answers them, and replies on their way out.
+//!
+//! The definitions of `specs/` speak of any state, any reply, any way in which a line is replied to and any work that follows a reply.
+//! A script and a session are instances; their runs are put together by the lemmas of `proofs/`, which speak of the same.
+#![tactic(auto)]
+
+mod reply_out;
+
+pub use reply_out::give;
