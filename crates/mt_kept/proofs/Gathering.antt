@@ -15,8 +15,10 @@ use Rattle.mt_kept.specs.declared.finds.Candidate.{Candidate}
 use Rattle.mt_kept.specs.declared.open_pair.OpenPair.{OpenPair}
 use Rattle.mt_kept.specs.Places.{at, horizon, seen}
 use Rattle.mt_kept.specs.Made.{IsAddedAt, IsEdgeBetween, IsFind}
-use Rattle.mt_kept.specs.Finds.{AreCandidates, IsOther, IsRight}
-use Rattle.mt_kept.proofs.Elements.{Contains-none, take_push}
+use Rattle.mt_kept.specs.Finds.{AreCandidates, IsOther, IsRight, place_of}
+use Rattle.std.specs.List.Sorted.{IsStrictlyIncreasing}
+use Rattle.std.proofs.lemmas.List.Kept.{AllPairs-from_increasing}
+use Rattle.mt_kept.proofs.Elements.{distinct_of, Contains-none, take_push}
 use Rattle.mt_kept.proofs.Keeping.{at_inside}
 
 -- where a find came from
@@ -159,3 +161,8 @@ module _ (places : List (Option Item)) (place j : ℕ) (mine : NamedTrajectory) 
 
   pub other_read : j ≢ place → item.call ≢ mine.call → IsOther (map seen places) place mine j (named item)
   other_read away apart = record { is = there; elsewhere = away; apart = λ same. apart (sym same) }
+
+-- candidates whose places rise
+pub rising_once : (xs : List Candidate) → IsStrictlyIncreasing (map place_of xs) → AllPairs (λ x y. x.place ≢ y.place) xs
+rising_once xs rising = distinct_of (λ i j. i ≢ j) place_of xs
+    (λ i j d before below. let less = AllPairs-from_increasing (map place_of xs) rising i j d before below in λ same. absurd (omega arith))

@@ -217,11 +217,11 @@ impl Kept {
         let mut edges = lasting(alloc, &self.open_pairs, now)?;
         let due = self.pairs.due(self.moment + WINDOW, now + WINDOW)?;
         add_lasting(&mut edges, &due, now)?;
-        let open_pairs = opened(alloc, &self.places, &edges, &self.rules, now, tests)?;
-        let list = published(alloc, &open_pairs)?;
+        let opened_pairs = opened(alloc, &self.places, &edges, &self.rules, now, tests)?;
+        let listed = published(alloc, &opened_pairs)?;
         self.moment = now;
-        self.open_pairs = open_pairs;
-        self.published = list;
+        self.open_pairs = opened_pairs;
+        self.published = listed;
         Ok(())
     }
 }
