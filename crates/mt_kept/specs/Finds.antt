@@ -27,9 +27,12 @@ pub record IsOther (places : List (Option NamedTrajectory)) (place : ℕ) (mine 
 abbrev pub place_of : Candidate → ℕ
 place_of x = x.place
 
--- Each place is listed once at most. Each where a trajectory of another flight stands that has a loss second with the new one is listed, and what is known of the listed ones is right.
-pub record AreCandidates (rules : Rules) (places : List (Option NamedTrajectory)) (place : ℕ) (mine : NamedTrajectory) (xs : List Candidate) : Type 0 where
-  pub right : (x : Candidate) (other : NamedTrajectory) → Contains xs x → IsOther places place mine x.place other → IsRight rules mine other x.verdict
+-- Each place is listed once at most. Each where a trajectory of another flight stands that has a loss second with the new one is listed, and
+-- what is known of the listed ones is right.
+pub record AreCandidates (rules : Rules) (places : List (Option NamedTrajectory)) (place : ℕ) (mine : NamedTrajectory)
+    (xs : List Candidate) : Type 0 where
+  pub right : (x : Candidate) (other : NamedTrajectory) → Contains xs x → IsOther places place mine x.place other
+      → IsRight rules mine other x.verdict
   pub complete : (j k : ℕ) (other : NamedTrajectory) → IsOther places place mine j other → k < horizon
       → IsLossSecond rules mine.path other.path k → Contains (map place_of xs) j
   pub once : AllPairs (λ x y. x.place ≢ y.place) xs

@@ -24,7 +24,8 @@ EmptyFindsNone = (rules : Rules) (after : List (Option NamedTrajectory)) (now pl
 -- What was found for a place that keeps its trajectory stays so, where the others change only as far as its own flight goes.
 abbrev pub FindsStay : Type 0
 FindsStay = (rules : Rules) (places after : List (Option NamedTrajectory)) (now place : ℕ) (mine : NamedTrajectory) (finds : List OpenPair)
-    → at places place ≡ Some mine → Agree places after place mine → AreFindsAt rules places now place finds → AreFindsAt rules after now place finds
+    → at places place ≡ Some mine → Agree places after place mine → AreFindsAt rules places now place finds
+    → AreFindsAt rules after now place finds
 
 -- Candidates whose places rise are listed once each.
 abbrev pub RisingIsOnce : Type 0

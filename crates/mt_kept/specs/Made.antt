@@ -98,7 +98,8 @@ IsAdded rules now place other_place mine other old new =
     ⊎ ((o : OpenPair) × IsFind rules now place other_place mine other o × (new ≡ old ++ o ∷ []))
 
 -- The same of a candidate, where a trajectory of another flight stands in its place; else nothing is added.
-abbrev pub IsAddedAt : Rules → ℕ → List (Option NamedTrajectory) → ℕ → NamedTrajectory → Candidate → List OpenPair → List OpenPair → Type 0
+abbrev pub IsAddedAt : Rules → ℕ → List (Option NamedTrajectory) → ℕ → NamedTrajectory → Candidate → List OpenPair → List OpenPair
+    → Type 0
 IsAddedAt rules now places place mine x old new =
     ((new ≡ old) × ((other : NamedTrajectory) → ¬ IsOther places place mine x.place other))
     ⊎ ((other : NamedTrajectory) × IsOther places place mine x.place other × IsAdded rules now place x.place mine other old new)

@@ -42,8 +42,10 @@ abbrev pub edge_of : OpenPair → Edge
 edge_of o = o.edge
 
 -- The open pairs: exactly the kept pairs that are open, each once, each with what it shows.
-pub record AreOpen (rules : Rules) (places : List (Option NamedTrajectory)) (now : ℕ) (edges : List Edge) (open_pairs : List OpenPair) : Type 0 where
-  pub sound : (o : OpenPair) → Contains open_pairs o → Contains edges o.edge × IsOpen now o.edge × IsShown rules places now o.edge o.conflict
+pub record AreOpen (rules : Rules) (places : List (Option NamedTrajectory)) (now : ℕ) (edges : List Edge)
+    (open_pairs : List OpenPair) : Type 0 where
+  pub sound : (o : OpenPair) → Contains open_pairs o
+      → Contains edges o.edge × IsOpen now o.edge × IsShown rules places now o.edge o.conflict
   pub complete : (e : Edge) → Contains edges e → IsOpen now e → Contains (map edge_of open_pairs) e
   pub distinct : AllPairs (λ o p. o.edge ≢ p.edge) open_pairs
 
