@@ -1,10 +1,8 @@
-use Rattle.std.specs.Prelude.{◌≡◌, ◌≤◌, ℕ, true, List, length, All}
+use Rattle.std.specs.Prelude.{◌≡◌, ◌≤◌, ℕ, true, length, All}
 use Rattle.std.specs.List.{AllByRecursion}
 use Rattle.mt_base.specs.declared.command.Command.{Command}
-use Rattle.mt_base.specs.declared.hit.Hit.{Hit}
 use Rattle.mt_base.specs.Bounds.{IsSoundFlight}
 use Rattle.mt_base.specs.History.{checks, look_at}
-use Rattle.mt_base.specs.Name.{is_name}
 use Rattle.mt_base.specs.Picture.{HaveOwnCalls, State}
 use Rattle.mt_base.specs.Tables.{Setup}
 
@@ -20,8 +18,3 @@ pub record IsSoundState (setup : Setup) (s : State) : Type 0 where
 -- each check of an actor's command is passed in a state
 abbrev pub Passes : Setup → State → ℕ → Command → Type 0
 Passes setup s who command = AllByRecursion (λ c. c.1 ≡ true) (checks setup (look_at s command) who command)
-
--- hits that a reply carries in the room that was taken for it: at most 1,023, of callsigns
-pub record AreShortHits (hits : List Hit) : Type 0 where
-  pub few : length hits ≤ 1023
-  pub named : All (λ (hit : Hit). is_name 1 7 hit.with ≡ true) hits

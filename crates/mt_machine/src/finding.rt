@@ -6,7 +6,8 @@ ghost use Rattle.mt_base.specs.Name.{is_name};
 ghost use Rattle.mt_base.specs.Picture.{flight_of};
 ghost use Rattle.mt_base.specs.WhatIf.{AreHitsOf};
 ghost use Rattle.mt_machine.specs.Hits.{IsHitWith};
-ghost use Rattle.mt_change.specs.Sound.{AreShortHits, IsSoundState};
+ghost use Rattle.mt_board.specs.Short.{AreShortHits};
+ghost use Rattle.mt_change.specs.Sound.{IsSoundState};
 ghost use Rattle.mt_base.specs.Tables.{setup_with};
 
 use crate::plain::Plain;

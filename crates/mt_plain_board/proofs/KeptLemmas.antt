@@ -30,7 +30,7 @@ use Rattle.mt_board.specs.Changing.{HasEntered}
 use Rattle.mt_board.specs.Probing.{IsAdvised, IsPast, IsProbed, Probe, free_probe}
 use Rattle.mt_board.specs.Seat.{HasSeen, Seat, state_seen}
 use Rattle.mt_board.proofs.SeatLemmas.{goes_on_itself, looked_itself}
-use Rattle.mt_machine.specs.Sound.{IsSoundState}
+use Rattle.mt_change.specs.Sound.{IsSoundState}
 use Rattle.mt_plain_board.specs.Kept.{IsKept, IsNotToldOf, IsToldOf}
 
 -- its version is the number of entries

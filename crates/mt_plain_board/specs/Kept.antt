@@ -13,7 +13,7 @@ use Rattle.mt_board.specs.declared.no.No.TheVariants.{Memory, Refused}
 use Rattle.mt_board.specs.Asking.{IsNotTold, IsShortAnswer, IsTold, version_of}
 use Rattle.mt_board.specs.Probing.{Probe}
 use Rattle.mt_board.specs.Short.{AreShortHits}
-use Rattle.mt_machine.specs.Sound.{IsSoundState}
+use Rattle.mt_change.specs.Sound.{IsSoundState}
 
 -- The state is that of the history, which is legal, and sound for the rules and tables; the rules are within their bounds.
 pub record IsKept (fixed : Setup) (history : List Entry) (state : State) : Type 0 where
