@@ -1,5 +1,5 @@
 -- A grid that holds the covers of the trajectories of a snapshot.
-use Rattle.std.proofs.Common.{◌≡◌, ◌≢◌, ◌↔◌, ◌⊎◌, inl, inr, ⊎_elim, Bool, true, false, ℕ, zero, suc, ◌+◌, ◌*◌, ◌/◌, ◌%◌, ◌<◌, ◌≤◌, List, [], ◌∷◌, Option, Some, None, Contains, All, length, get_or, nat_eq, replicate, refl, sym, ◌∙◌, ap, subst, if◌then◌else◌, length-set, arith}
+use Rattle.std.proofs.Common.{◌≡◌, ◌≢◌, ◌⊎◌, inl, inr, ⊎_elim, Bool, true, false, ℕ, zero, suc, ◌+◌, ◌*◌, ◌/◌, ◌%◌, ◌<◌, List, [], ◌∷◌, Option, Some, None, Contains, All, length, get_or, nat_eq, replicate, refl, sym, ◌∙◌, ap, subst, if◌then◌else◌, length-set, arith}
 use Rattle.std.proofs.Math.ListN.{set}
 use Rattle.std.proofs.lemmas.List.{get_or-set_same, get_or-set_other, length-replicate, set-get_or, set-set}
 use Rattle.std.proofs.lemmas.Bool.Decides.{nat_tests}

@@ -1,5 +1,5 @@
 -- The order of filing is one.
-use Rattle.std.proofs.Common.{◌≡◌, ◌≢◌, ◌⊎◌, ⊎_elim, Bool, true, false, ℕ, zero, suc, ◌+◌, ◌<◌, List, [], ◌∷◌, ◌++◌, Option, Some, None, Contains, length, map, get_or, nat_lt, refl, sym, ◌∙◌, ap, subst, if◌then◌else◌, arith}
+use Rattle.std.proofs.Common.{◌≡◌, ◌≢◌, ⊎_elim, Bool, true, false, ℕ, suc, ◌<◌, List, [], ◌∷◌, Option, Some, None, Contains, map, get_or, nat_lt, refl, sym, ap, subst, if◌then◌else◌, arith}
 use Rattle.std.proofs.lemmas.Bool.Decides.{nat_tests}
 use Rattle.std.proofs.lemmas.Cmp.{nat_cmp_total}
 use Rattle.std.proofs.lemmas.List.Elements.{All-contains, All-contains_itself, All-from_recursion, Contains-append_right, recursion_from_All}
@@ -10,9 +10,8 @@ use Rattle.std.specs.Ordering.{nat_cmp}
 use Rattle.std.specs.declared.cmp.Ordering.TheVariants.{Less}
 use Rattle.mt_base.proofs.OneOrder.{one_order}
 use Rattle.mt_probe.specs.declared.flight.Flight.{Flight}
-use Rattle.mt_probe.specs.Filing.{AreFiled, FilingOrderLaw, filed_cmp}
-use Rattle.mt_probe.specs.Shot.{Shot, filed_among, flights_in, in_order, records_in}
-use Rattle.mt_probe.specs.Standing.{IsSoundShot}
+use Rattle.mt_probe.specs.Filing.{FilingOrderLaw, filed_cmp}
+use Rattle.mt_probe.specs.Shot.{filed_among, flights_in, in_order, records_in}
 use Rattle.mt_probe.proofs.Members.{front_or_rest, in_front, none_in}
 use Rattle.mt_probe.proofs.Order.{all_filed, all_ordered, all_placed}
 

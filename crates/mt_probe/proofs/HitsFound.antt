@@ -1,5 +1,5 @@
 -- The hits among what is found.
-use Rattle.std.proofs.Common.{Result, Ok, Err, IfOk, ◌≡◌, ◌≢◌, ◌↔◌, ◌⊎◌, inl, inr, ⊎_elim, ℕ, ◌+◌, ◌<◌, ◌≤◌, List, [], ◌∷◌, ◌++◌, Option, Some, None, Contains, length, take, get_or, refl, sym, ◌∙◌, ap, subst, arith}
+use Rattle.std.proofs.Common.{Result, Ok, Err, IfOk, ◌≡◌, ◌↔◌, ◌⊎◌, inl, inr, ⊎_elim, ℕ, ◌+◌, ◌<◌, ◌≤◌, List, [], ◌∷◌, ◌++◌, Option, Some, None, Contains, length, take, get_or, refl, sym, ◌∙◌, ap, subst, arith}
 use Rattle.std.proofs.lemmas.List.{take_all, take_more}
 use Rattle.std.proofs.lemmas.List.Elements.{Contains-append_left, Contains-push, Contains-push_cases}
 use Rattle.std.specs.List.Sorted.{IsStrictlySortedBy}
@@ -11,12 +11,12 @@ use Rattle.mt_base.specs.declared.flight.Path.TheVariants.{Outer, Planned}
 use Rattle.mt_base.specs.declared.flight.Record.{Record}
 use Rattle.mt_base.specs.declared.hit.Hit.{Hit}
 use Rattle.mt_base.specs.Conflict.{IsConflict, IsSpanOfLoss}
-use Rattle.mt_base.specs.Picture.{NamedTrajectory, State, trajectories, trajectories_of, tentative_of, trajectory_marked, trajectory_of, window_end}
+use Rattle.mt_base.specs.Picture.{NamedTrajectory, State, trajectories_of, tentative_of, trajectory_marked, trajectory_of, window_end}
 use Rattle.mt_base.specs.Tables.{Setup}
 use Rattle.mt_base.specs.Trajectory.{Trajectory}
 use Rattle.mt_base.specs.WhatIf.{AreHitsOf, IsHit, hit_cmp}
 use Rattle.mt_probe.specs.declared.finding.Found.{Found}
-use Rattle.mt_probe.specs.Finds.{AreFinds, IsFound}
+use Rattle.mt_probe.specs.Finds.{AreFinds}
 use Rattle.mt_probe.specs.Hits.{IsHitOfOne, hit_by, hit_of}
 use Rattle.mt_probe.specs.Narrow.{all_end}
 use Rattle.mt_probe.proofs.Members.{front_or_rest, in_joined, in_one, none_in}

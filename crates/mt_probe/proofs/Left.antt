@@ -1,5 +1,5 @@
 -- What the entry of a command leaves of the flight that it names.
-use Rattle.std.proofs.Common.{◌≡◌, ◌≢◌, ◌≤◌, Bool, true, false, not, ℕ, ℤ, pos, ◌≤ℤ◌, List, [], ◌∷◌, ◌++◌, Option, Some, None, Result, Ok, Err, IsOk, map, refl, sym, ◌∙◌, ap, subst, if◌then◌else◌, arith}
+use Rattle.std.proofs.Common.{◌≡◌, ◌≤◌, Bool, true, false, not, ℕ, ℤ, pos, ◌≤ℤ◌, List, [], ◌∷◌, ◌++◌, Option, Some, None, Ok, IsOk, map, refl, sym, ◌∙◌, ap, subst, if◌then◌else◌, arith}
 use Rattle.std.proofs.lemmas.Int.{ints}
 use Rattle.std.proofs.lemmas.List.Folds.{find-append}
 use Rattle.std.proofs.lemmas.Slice.Eq.{bytes_eq-Decides}
@@ -10,7 +10,6 @@ use Rattle.mt_base.specs.declared.clearance.Clearance.{Clearance}
 use Rattle.mt_base.specs.declared.command.Command.{Command}
 use Rattle.mt_base.specs.declared.command.Command.TheVariants.{Accept, Clear, Commit, Drop, External, Plan, Renew, Tentative, Tick, Withdraw}
 use Rattle.mt_base.specs.declared.command.Command.TheVariants as commands
-use Rattle.mt_base.specs.declared.command.Refusal.{Refusal}
 use Rattle.mt_base.specs.declared.command.Refusal.TheVariants.{HistoryFull}
 use Rattle.mt_base.specs.declared.flight.Course.{Course}
 use Rattle.mt_base.specs.declared.flight.Path.{Path}
@@ -33,7 +32,7 @@ use Rattle.mt_change.proofs.Filling.{filled_alters, filled_call, filled_passes, 
 use Rattle.mt_change.proofs.Passed.{halves}
 use Rattle.mt_change.proofs.Plans.{sound_course}
 use Rattle.mt_probe.specs.Items.{WasTestedNear}
-use Rattle.mt_probe.specs.Prepared.{IsLeft, MakesStrand, WasTestedFor, WereFew, flight_left, judged_aside, kind_made, left_made, named, path_made, roomy}
+use Rattle.mt_probe.specs.Prepared.{IsLeft, MakesStrand, WasTestedFor, WereFew, judged_aside, kind_made, left_made, named, path_made, roomy}
 use Rattle.mt_probe.specs.Shot.{Shot, state_of}
 
 -- a flight that is found has the callsign
@@ -80,12 +79,12 @@ accept_is setup s who call clearance eff probed rules =
 
 -- ---- what is filed
 
-is_none : {X : Type 0} (at : Option X) → not (is_some at) ≡ true → at ≡ None
+pub is_none : {X : Type 0} (at : Option X) → not (is_some at) ≡ true → at ≡ None
 is_none None none = refl
 is_none (Some x) none = cc
 
 -- a flight that is filed behind others, of which none has its callsign, is the one of its callsign
-filed_is : (call : List ℕ) (path : Path) (rs : List Record) → flight_of rs call ≡ None
+pub filed_is : (call : List ℕ) (path : Path) (rs : List Record) → flight_of rs call ≡ None
     → flight_of (rs ++ (record { call = call; path = path }) ∷ []) call ≡ Some (record { call = call; path = path })
 filed_is call path rs none =
     let own : bytes_eq call call ≡ true = (bytes_eq-Decides call call).1 refl in

@@ -1,5 +1,5 @@
 -- What a decision on a snapshot has at hand.
-use Rattle.std.proofs.Common.{◌≡◌, ℕ, ◌≤◌, List, ◌∷◌, Option, Some, None, length, option_copied, option_map, refl, sym, ◌∙◌, ap, subst}
+use Rattle.std.proofs.Common.{◌≡◌, ℕ, Option, Some, None, option_copied, option_map, refl, sym, ◌∙◌, ap, subst}
 use Rattle.std.specs.Arc.{arc_value}
 use Rattle.std.specs.Prelude.{IfSome, option_and_then}
 use Rattle.mt_base.specs.declared.command.Command.{Command}
@@ -10,7 +10,7 @@ use Rattle.mt_base.specs.declared.flight.Course.{Course}
 use Rattle.mt_base.specs.declared.flight.Path.{Path}
 use Rattle.mt_base.specs.declared.flight.Path.TheVariants.{Outer, Planned}
 use Rattle.mt_base.specs.declared.flight.Record.{Record}
-use Rattle.mt_base.specs.Bounds.{IsSoundCourse, IsSoundFlight, IsSoundPath}
+use Rattle.mt_base.specs.Bounds.{IsSoundCourse, IsSoundPath}
 use Rattle.mt_base.specs.Picture.{NamedTrajectory, trajectories_of, trajectory_of}
 use Rattle.mt_base.specs.Tables.{Setup}
 use Rattle.mt_base.specs.Trajectory.{Trajectory}
@@ -21,7 +21,7 @@ use Rattle.mt_predict.specs.Looking.{HasStrand, HasStrandOf, HasStrandOfPlanned}
 use Rattle.mt_probe.specs.declared.flight.Flight.{Flight}
 use Rattle.mt_probe.specs.Items.{path_of}
 use Rattle.mt_probe.specs.Shot.{Shot, flight_at, kept_of}
-use Rattle.mt_probe.specs.Standing.{IsSoundEntry, IsSoundShot}
+use Rattle.mt_probe.specs.Standing.{IsSoundShot}
 
 -- the trajectory that is kept of a flight is the one that it flies
 flown_is : (setup : Setup) (f : Flight) → kept_of f ≡ trajectories_of setup f.card → arc_value f.actual.strand ≡ trajectory_of setup f.card.path

@@ -1,5 +1,5 @@
 -- Members of lists.
-use Rattle.std.proofs.Common.{Result, Ok, ◌∙◌, ◌≡◌, ◌⊎◌, inl, inr, ⊎_elim, List, [], ◌∷◌, ◌++◌, All, Contains, get_or, refl, sym, ap, subst, arith}
+use Rattle.std.proofs.Common.{Result, Ok, ◌∙◌, ◌≡◌, ◌⊎◌, inl, inr, ⊎_elim, List, [], ◌∷◌, All, Contains, get_or, refl, sym, subst, arith}
 use Rattle.std.proofs.lemmas.List.Elements.{All-contains, Contains-append_cases, Contains-append_left, Contains-append_right, Contains-push_cases}
 use Rattle.std.proofs.lemmas.List.{get_or_default}
 use Rattle.std.specs.List.{flat_map}

@@ -1,5 +1,5 @@
 -- What is found with the trajectories near a new one is what is found with all.
-use Rattle.std.proofs.Common.{◌≡◌, ◌≢◌, ℕ, zero, suc, ◌+◌, ◌*◌, ◌/◌, ◌<◌, ◌≤◌, ◌⊎◌, inl, inr, ⊎_elim, List, [], ◌∷◌, ◌++◌, Option, Some, None, Contains, length, get_or, take, option_map, Bool, true, false, refl, sym, ◌∙◌, ap, subst, true≢false, if◌then◌else◌, length-append, arith}
+use Rattle.std.proofs.Common.{◌≡◌, ◌≢◌, ℕ, zero, suc, ◌+◌, ◌*◌, ◌/◌, ◌<◌, ◌≤◌, ⊎_elim, List, [], ◌∷◌, ◌++◌, Option, Some, None, Contains, length, get_or, take, option_map, Bool, true, false, refl, sym, ◌∙◌, ap, subst, true≢false, if◌then◌else◌, length-append, arith}
 use Rattle.std.proofs.lemmas.Cmp.{nat_cmp_total}
 use Rattle.std.proofs.lemmas.List.{flat_map_more, take_more}
 use Rattle.std.proofs.lemmas.Map.Keys.{sorted_from_strictly_increasing}
@@ -25,7 +25,7 @@ use Rattle.mt_probe.specs.declared.finding.Found.{Found}
 use Rattle.mt_probe.specs.declared.flight.Flight.{Flight}
 use Rattle.mt_probe.specs.Finds.{AreFinds, FindsMore}
 use Rattle.mt_probe.specs.Items.{AreNearItems, IsNearItem, kind_at, other_at, other_of, others_among, path_of, stays_at, stays_by, stays_of}
-use Rattle.mt_probe.specs.Shot.{Shot, flight_at, kept_of, made_named, state_of}
+use Rattle.mt_probe.specs.Shot.{Shot, kept_of, made_named, state_of}
 use Rattle.mt_probe.specs.Standing.{IsSoundShot}
 use Rattle.mt_probe.proofs.Covered.{at_even, at_odd, even_half, even_kind, odd_half, odd_kind}
 use Rattle.mt_probe.proofs.Gathered.{at_kept, kept_at, kept_call}

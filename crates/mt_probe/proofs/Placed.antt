@@ -1,5 +1,5 @@
 -- The state of a snapshot, by its places.
-use Rattle.std.proofs.Common.{◌≡◌, ◌≢◌, Bool, true, false, not, ℕ, zero, suc, ◌+◌, ◌<◌, ◌≤◌, ◌⊎◌, inl, inr, ⊎_elim, IfSome, pos, List, [], ◌∷◌, ◌++◌, Option, Some, None, Contains, length, map, filter, get_or, nat_eq, option_map, replicate, refl, sym, ◌∙◌, ap, subst, arith}
+use Rattle.std.proofs.Common.{◌≡◌, ◌≢◌, Bool, true, false, not, ℕ, zero, suc, ◌<◌, ◌≤◌, ◌⊎◌, inl, inr, ⊎_elim, IfSome, pos, List, [], ◌∷◌, ◌++◌, Option, Some, None, Contains, length, map, filter, get_or, nat_eq, option_map, replicate, refl, sym, ◌∙◌, ap, subst, arith}
 use Rattle.std.proofs.Math.ListN.{set}
 use Rattle.std.proofs.lemmas.List.{get_or-set_same, get_or-set_other, length-replicate, length-set, map-append, set-get_or, set-set}
 use Rattle.std.proofs.lemmas.List.Elements.{All-contains, All-from_recursion, All-map}
@@ -103,7 +103,7 @@ module _ (shot : Shot) (i : ℕ) (inside : i < length shot.slots) (sound : IsSou
       ∙ ap (map (replaced_if old.card.call f.card)) (sym (old_records old at))
 
   -- what is at a place after it: what was put there, or what was at another place
-  at_new : (new : Option Flight) (j : ℕ) (f : Flight) → get_or (set shot.slots i new) j None ≡ Some f
+  pub at_new : (new : Option Flight) (j : ℕ) (f : Flight) → get_or (set shot.slots i new) j None ≡ Some f
       → ((j ≡ i) × (new ≡ Some f)) ⊎ ((j ≢ i) × (flight_at shot j ≡ Some f))
   at_new new j f is = by_test (nat_eq j i) refl where
     by_test : (b : Bool) → nat_eq j i ≡ b → ((j ≡ i) × (new ≡ Some f)) ⊎ ((j ≢ i) × (flight_at shot j ≡ Some f))

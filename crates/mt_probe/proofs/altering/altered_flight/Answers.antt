@@ -1,11 +1,10 @@
-use Rattle.std.proofs.Common.{◌≡◌, ◌∙◌, Some, ap, subst, sym}
+use Rattle.std.proofs.Common.{◌∙◌, sym}
 use Rattle.mt_base.specs.declared.flight.Path.TheVariants.{Planned}
-use Rattle.mt_base.specs.Bounds.{IsSoundCourse}
 use Rattle.mt_base.specs.History.{filled}
-use Rattle.mt_base.specs.Picture.{flight_of, trajectory_of}
-use Rattle.mt_change.specs.Altered.{CanAlter, IsAlterationBy, IsBoundedBesides, altered}
+use Rattle.mt_base.specs.Picture.{flight_of}
+use Rattle.mt_change.specs.Altered.{IsAlterationBy, altered}
 use Rattle.mt_change.proofs.Filling.{filled_bounded_besides}
-use Rattle.mt_probe.specs.Shot.{flight_at, state_of}
+use Rattle.mt_probe.specs.Shot.{state_of}
 use Rattle.mt_probe.proofs.Left.{can_alter_filled, left_altered, not_planned, not_there, planned_flight}
 use Rattle.mt_probe.proofs.Looking.{planned_at}
 use Rattle.mt_probe.proofs.altering.altered_flight.Goals as goal

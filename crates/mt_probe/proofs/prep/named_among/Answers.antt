@@ -1,6 +1,5 @@
 use Rattle.std.proofs.Common.{IsTrue, false, rules}
 use Rattle.std.proofs.lemmas.List.{take_all}
-use Rattle.mt_probe.specs.Finds.{HasName}
 use Rattle.mt_probe.proofs.Gathered.{named_more}
 use Rattle.mt_probe.proofs.prep.named_among.Goals as goal
 

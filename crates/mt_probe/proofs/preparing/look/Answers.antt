@@ -1,4 +1,4 @@
-use Rattle.std.proofs.Common.{◌≡◌, ◌∙◌, None, ℕ, option_copied, refl, subst, sym}
+use Rattle.std.proofs.Common.{◌≡◌, None, ℕ, option_copied, refl, subst}
 use Rattle.std.specs.Prelude.{option_and_then}
 use Rattle.mt_base.specs.declared.conflict.Kind.TheVariants.{Actual}
 use Rattle.mt_predict.specs.declared.judging.Looked.{Looked}

@@ -1,7 +1,4 @@
-use Rattle.std.proofs.Common.{◌≡◌, Some, subst, sym}
-use Rattle.mt_base.specs.declared.conflict.Kind.{Kind}
-use Rattle.std.specs.Arc.{arc_value}
-use Rattle.mt_probe.specs.Prepared.{path_made}
+use Rattle.std.proofs.Common.{sym}
 use Rattle.mt_probe.proofs.Gathered.{one_each}
 use Rattle.mt_probe.proofs.Whole.{few_flights, own_calls}
 use Rattle.mt_probe.proofs.preparing.prep_of.Goals as goal

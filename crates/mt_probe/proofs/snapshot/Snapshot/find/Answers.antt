@@ -1,4 +1,4 @@
-use Rattle.std.proofs.Common.{◌≡◌, ◌∙◌, ◌<◌, ap, length, option_map, refl, sym, arith}
+use Rattle.std.proofs.Common.{◌∙◌, ◌<◌, ap, option_map, refl, sym, arith}
 use Rattle.std.proofs.lemmas.Slice.Eq.{bytes_eq-Decides}
 use Rattle.mt_probe.specs.Shot.{flight_at}
 use Rattle.mt_probe.proofs.Placed.{filled_inside, found_nowhere, found_there, placed}

@@ -1,4 +1,4 @@
-use Rattle.std.proofs.Common.{◌≡◌, ◌∙◌, ◌+◌, ◌<◌, Option, IfSome, ap, length, refl, sym, subst}
+use Rattle.std.proofs.Common.{◌∙◌, ◌+◌, ◌<◌, IfSome, ap, length, refl, sym, subst}
 use Rattle.std.proofs.lemmas.Result.{IfOk-weaker}
 use Rattle.std.specs.Arc.{arc_value}
 use Rattle.mt_probe.specs.Body.{shot_of}
