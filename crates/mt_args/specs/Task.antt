@@ -1,0 +1,113 @@
+-- What the words of a command line ask for.
+use Rattle.std.specs.Prelude.{ℕ, ◌==◌, Bool, true, false, ◌&&◌, if◌then◌else◌, nat_lt, List, [], ◌∷◌, length, codes, Option, Some, None, option_map, unwrap_or, is_some}
+use Rattle.std.specs.Int.{is_in_range}
+use Rattle.std.specs.List.{after_first, before_first, position_or_len}
+use Rattle.std.specs.Str.{all_ascii_digits, bytes_eq}
+use Rattle.std.specs.Str.Parse.{digits_value}
+use Rattle.mt_args.specs.declared.task.Task.{Task}
+use Rattle.mt_args.specs.declared.task.Task.TheVariants.{Load, Replay, Serve}
+
+-- A number: 1 to 10 ASCII digits, whose number is within these bounds.
+abbrev pub number_in : ℕ → ℕ → List ℕ → Option ℕ
+number_in low high text =
+    if is_in_range 1 10 (length text) && (all_ascii_digits text && is_in_range low high (digits_value 10 text))
+    then Some (digits_value 10 text) else None
+
+-- An option, as it is spelled: its name, with the dashes, and its value.
+pub record Setting : Type 0 where
+  pub name : List ℕ
+  pub value : List ℕ
+
+-- whether a word has a sign =, and what stands before its first one and after it
+abbrev pub is_sign : ℕ → Bool
+is_sign byte = byte == 61
+
+abbrev pub is_whole : List ℕ → Bool
+is_whole word = nat_lt (position_or_len is_sign word) (length word)
+
+abbrev pub parted : List ℕ → Setting
+parted word = record { name = before_first is_sign word; value = after_first is_sign word }
+
+-- an option before others, where these are well spelled
+abbrev pub before : Setting → Option (List Setting) → Option (List Setting)
+before setting others = option_map (λ more. setting ∷ more) others
+
+-- Words as options, in order: an option is one word `name=value`, or two, the name and the value. Nothing, where a value is missing.
+abbrev pub settings_of : List (List ℕ) → Option (List Setting)
+settings_of [] = Some []
+settings_of (word ∷ []) = if is_whole word then Some (parted word ∷ []) else None
+settings_of (word ∷ next ∷ words) =
+    if is_whole word then before (parted word) (settings_of (next ∷ words))
+    else before (record { name = word; value = next }) (settings_of words)
+
+-- The number of an option that is set at most once.
+abbrev pub once : Bool → ℕ → ℕ → List ℕ → Option ℕ
+once true low high value = None
+once false low high value = number_in low high value
+
+-- what is set for `serve`, and for `load`
+pub record Serving : Type 0 where
+  pub port : Option ℕ
+  pub sessions : Option ℕ
+  pub workers : Option ℕ
+
+pub record Loading : Type 0 where
+  pub flights : Option ℕ
+  pub number : Option ℕ
+
+-- The options of `serve`: the port, 1 to 65,535; the sessions, 1 to 64; the workers, 0 to 8. There is no other.
+abbrev pub serving_with : Serving → Setting → Option Serving
+serving_with set s =
+    if bytes_eq s.name (codes "--port")
+    then option_map (λ port. record set { port = Some port }) (once (is_some set.port) 1 65535 s.value)
+    else (if bytes_eq s.name (codes "--sessions")
+    then option_map (λ sessions. record set { sessions = Some sessions }) (once (is_some set.sessions) 1 64 s.value)
+    else (if bytes_eq s.name (codes "--workers")
+    then option_map (λ workers. record set { workers = Some workers }) (once (is_some set.workers) 0 8 s.value)
+    else None))
+
+-- The options of `load`: the flights, 1 to 1,024; the number that its input is made from, of 32 bits. There is no other.
+abbrev pub loading_with : Loading → Setting → Option Loading
+loading_with set s =
+    if bytes_eq s.name (codes "--flights")
+    then option_map (λ flights. record set { flights = Some flights }) (once (is_some set.flights) 1 1024 s.value)
+    else (if bytes_eq s.name (codes "--number")
+    then option_map (λ number. record set { number = Some number }) (once (is_some set.number) 0 4294967295 s.value)
+    else None)
+
+-- with what is there, where it is there
+abbrev pub and_then : {A B : Type 0} → Option A → (A → Option B) → Option B
+and_then None next = None
+and_then (Some x) next = next x
+
+-- all options set, in any order
+module _ {S : Type 0} (with : S → Setting → Option S) where
+  abbrev pub all_set : S → List Setting → Option S
+  all_set set [] = Some set
+  all_set set (s ∷ more) = and_then (with set s) (λ next. all_set next more)
+
+  abbrev pub set_by : S → List (List ℕ) → Option S
+  set_by set words = and_then (settings_of words) (all_set set)
+
+-- what is not set is usual: port 7700, 16 sessions, 2 workers; 40 flights, number 1
+abbrev pub serve_task : Serving → Task
+serve_task set = Serve (unwrap_or set.port 7700) (unwrap_or set.sessions 16) (unwrap_or set.workers 2)
+
+abbrev pub load_task : Loading → Task
+load_task set = Load (unwrap_or set.flights 40) (unwrap_or set.number 1)
+
+-- nothing is set at first
+abbrev pub no_serving : Serving
+no_serving = record { port = None; sessions = None; workers = None }
+
+abbrev pub no_loading : Loading
+no_loading = record { flights = None; number = None }
+
+-- Words are read so: `replay` alone; `serve` or `load` and its options. Nothing else is.
+abbrev pub task_of : List (List ℕ) → Option Task
+task_of [] = None
+task_of (command ∷ words) =
+    if bytes_eq command (codes "replay") then (if length words == 0 then Some Replay else None)
+    else (if bytes_eq command (codes "serve") then option_map serve_task (set_by serving_with no_serving words)
+    else (if bytes_eq command (codes "load") then option_map load_task (set_by loading_with no_loading words)
+    else None))

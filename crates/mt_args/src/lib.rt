@@ -1,0 +1,12 @@
+//! The words of the command line, read as what the program is to do.
+#![tactic(auto)]
+
+mod loading;
+mod number;
+mod serving;
+mod setting;
+mod table;
+mod task;
+
+pub use table::read_words;
+pub use task::{Task, Usage};
