@@ -20,8 +20,9 @@ use Rattle.mt_base.specs.Trajectory.{Trajectory}
 use Rattle.mt_base.specs.WhatIf.{AreHits, AreHitsOf, aimed, trajectory_cleared, what_if_checks}
 use Rattle.mt_base.proofs.CheckLemmas.{all_pass, answer_is}
 use Rattle.mt_predict.proofs.Refusing.{check-false, check-true, passed_alike, refused_alike}
-use Rattle.mt_machine.specs.Sound.{IsSoundState}
-use Rattle.mt_machine.proofs.Effects.{halves, ok_is}
+use Rattle.mt_change.specs.Sound.{IsSoundState}
+use Rattle.mt_change.proofs.Passed.{halves, ok_is}
+use Rattle.mt_change.proofs.Aims.{aim_is}
 use Rattle.mt_machine.proofs.Found.{found}
 
 -- a flight that is found is sound
@@ -53,14 +54,6 @@ not_cleared setup now at flight course call clearance eff refusal is planned ref
     let t : Trajectory = trajectory_of setup (Planned course) in
     planned_flight setup now at flight course call clearance eff is planned
     ∙ sym (refused_alike (clearance_checks setup.tables course t clearance eff now) (aim_of course t clearance eff) refusal refused)
-
--- what is left by one that isn't
-pub aim_is : (setup : Setup) (now : ℕ) (course : Course) (clearance : Clearance) (eff : ℕ) (aim : Aim)
-    → Ok aim ≡ cleared setup.tables course (trajectory_of setup (Planned course)) clearance eff now
-    → aim ≡ aim_of course (trajectory_of setup (Planned course)) clearance eff
-aim_is setup now course clearance eff aim exact =
-    let t : Trajectory = trajectory_of setup (Planned course) in
-    sym (answer_is (clearance_checks setup.tables course t clearance eff now) (aim_of course t clearance eff) aim (sym exact))
 
 -- the hits of one that isn't
 pub tried : (setup : Setup) (s : State) (call : List ℕ) (flight : Record) (course : Course) (clearance : Clearance) (eff : ℕ) (aim : Aim) (t : Trajectory)

@@ -30,7 +30,9 @@ use Rattle.mt_base.specs.Predictor.{points_of}
 use Rattle.mt_base.specs.Tables.{Setup, Tables, bands_of, fix_checks, length_checks}
 use Rattle.mt_base.specs.WhatIf.{course_in, what_if_checks}
 use Rattle.mt_base.proofs.CheckLemmas.{all_pass, all_passed, answer_is}
-use Rattle.mt_machine.specs.Sound.{IsSoundState, Passes}
+use Rattle.mt_change.specs.Sound.{IsSoundState, Passes}
+use Rattle.mt_change.proofs.Passed.{halves}
+use Rattle.mt_change.proofs.Plans.{sound_course}
 use Rattle.mt_machine.proofs.Found.{none_found}
 
 -- the opening state is sound
@@ -55,33 +57,6 @@ filled_is setup s e decided =
     let entry : Entry = record { who = e.who; command = filled s.now e.command } in
     sym (ap (λ (x : Entry). x.command) (answer_is (checks setup (look_at s e.command) e.who e.command) entry e decided.0))
 
--- both halves of a list of which all holds
-pub halves : {X : Type 0} (P : X → Type 0) (xs ys : List X) → AllByRecursion P (xs ++ ys) → AllByRecursion P xs × AllByRecursion P ys
-halves P [] ys all = (tt, all)
-halves P (x ∷ xs) ys all = let h = halves P xs ys all.1 in ((all.0, h.0), h.1)
-
--- a check that passes answers the one thing that it can
-pub ok_is : {F : Type 0} (r : Result ⊤ F) → IsOk r → r ≡ Ok (tt {0})
-ok_is (Ok _) ok = refl
-ok_is (Err f) ok = cc
-
--- a route whose checks are passed has 2 to 64 names
-names_of_route : (tables : Tables) (route : List (List ℕ)) → AllByRecursion (λ c. c.1 ≡ true) (route_checks tables route)
-    → (2 ≤ length route) × (length route ≤ 64)
-names_of_route tables route tests =
-    let split : AllByRecursion (λ (c : Refusal × Bool). c.1 ≡ true) (map (λ (c : RouteNo × Bool). (refusal_of c.0, c.1)) (fix_checks tables route)
-    ++ map (λ (c : RouteNo × Bool). (refusal_of c.0, c.1)) (length_checks route))
-    = rw (← map-append {B = Refusal × Bool} (λ c. (refusal_of c.0, c.1)) (fix_checks tables route) (length_checks route)) tests in
-    let lengths = (halves (λ (c : Refusal × Bool). c.1 ≡ true) (map (λ (c : RouteNo × Bool). (refusal_of c.0, c.1)) (fix_checks tables route)) _ split).1 in
-    let enough : nat_le 2 (length route) ≡ true = lengths.0 in
-    let few : nat_le (length route) 64 ≡ true = lengths.1.0 in
-    (grind (arith, nat_tests), grind (arith, nat_tests))
-
--- a sound course has at most 64 names
-pub few_names : (setup : Setup) (course : Course) → IsSoundCourse setup course → length course.route ≤ 64
-few_names setup course sound =
-    (names_of_route setup.tables course.route (all_passed (route_checks setup.tables course.route) (tt {0}) (rw sound.route refl))).1
-
 -- a flight of a new callsign behind the others
 filed : (setup : Setup) (s : State) (call : List ℕ) (path : Path) → IsSoundState setup s → IsSoundPath setup path
     → not (is_some (flight_of s.records call)) ≡ true → int_lt (pos (length s.records)) setup.rules.flights ≡ true → setup.rules.flights ≤ℤ pos 1024
@@ -101,28 +76,6 @@ filed setup s call path sound within free room most = record {
   few_enough = let fewer = below (length s.records) setup.rules.flights room most in
       rw (length-append s.records ((record { call = call; path = path }) ∷ [])) (omega arith)
 
--- the course of a plan that passed its checks is sound
-planned : (setup : Setup) (kind : List ℕ) (route : List (List ℕ)) (at from level : ℕ) → AreWithinBounds setup.rules
-    → at ≤ 10000000 → from ≤ 600 → level ≤ 600 → IsInPlane (first_of (points_of setup.tables route)).x (first_of (points_of setup.tables route)).y
-    → is_some (bands_of setup.tables kind) ≡ true → AllByRecursion (λ c. c.1 ≡ true) (route_checks setup.tables route)
-    → IsSoundCourse setup (course_of setup kind route at from level)
-planned setup kind route at from level rules at_early from_low level_low plane known tests = record {
-  kind = known;
-  route = ok_is (judged (route_checks setup.tables route) (tt {0})) (all_pass (route_checks setup.tables route) (tt {0}) tests);
-  level = level_low;
-  base = record {
-    early = at_early;
-    plane = plane;
-    height = record { least = omega (arith, ints); most = omega (arith, ints) };
-    r = rules.r0;
-    w = rules.w0;
-    next = let enough = (names_of_route setup.tables route tests).0 in omega arith;
-  };
-  mark = tt;
-  last = tt;
-  due = λ due. cc;
-}
-
 pub sound_plan : (setup : Setup) (s : State) (who : ℕ) (call kind : List ℕ) (route : List (List ℕ)) (at from level : ℕ) → AreWithinBounds setup.rules
     → IsSoundState setup s → Passes setup s who (Plan call kind route at from level) → IsBoundedCommand (Plan call kind route at from level)
     → IsInPlane (first_of (points_of setup.tables route)).x (first_of (points_of setup.tables route)).y
@@ -130,7 +83,7 @@ pub sound_plan : (setup : Setup) (s : State) (who : ℕ) (call kind : List ℕ) 
 sound_plan setup s who call kind route at from level rules sound tests within plane =
     let split = halves (λ c. c.1 ≡ true) (route_checks setup.tables route) _ tests.1.1 in
     filed setup s call (Planned (course_of setup kind route at from level)) sound
-    (planned setup kind route at from level rules within.0 within.1 within.2 plane tests.1.0 split.0) tests.0 split.1.1.1.0 rules.flights.most
+    (sound_course setup kind route at from level rules within.0 within.1 within.2 plane tests.1.0 split.0) tests.0 split.1.1.1.0 rules.flights.most
 
 pub sound_external : (setup : Setup) (s : State) (who : ℕ) (call : List ℕ) (stretch : Straight) → AreWithinBounds setup.rules → IsSoundState setup s
     → Passes setup s who (External call stretch) → IsBoundedCommand (External call stretch)

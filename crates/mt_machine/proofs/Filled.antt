@@ -10,6 +10,7 @@ use Rattle.mt_base.specs.History.{HasHits, IsDecided, IsInTime, WasFree, checks,
 use Rattle.mt_base.specs.Picture.{State}
 use Rattle.mt_base.specs.Tables.{Setup}
 use Rattle.mt_base.proofs.CheckLemmas.{answer_is}
+use Rattle.mt_change.proofs.Filling.{filled_twice}
 
 -- a command whose second is filled is judged as it was
 filled_checks : (setup : Setup) (s : State) (who : ℕ) (c : Command)
@@ -25,19 +26,6 @@ filled_checks setup s who (Accept call clearance eff probed) = refl
 filled_checks setup s who (Tentative call clearance eff) = refl
 filled_checks setup s who (Withdraw call force) = refl
 filled_checks setup s who (Commit call) = refl
-
-filled_twice : (now : ℕ) (c : Command) → filled now (filled now c) ≡ filled now c
-filled_twice now (Plan call kind route at from level) = refl
-filled_twice now (External call straight) = refl
-filled_twice now (Drop call) = refl
-filled_twice now (commands.Report call report) = refl
-filled_twice now (Tick next) = refl
-filled_twice now (Renew call) = refl
-filled_twice now (Clear call clearance eff) = refl
-filled_twice now (Accept call clearance eff probed) = refl
-filled_twice now (Tentative call clearance eff) = refl
-filled_twice now (Withdraw call force) = refl
-filled_twice now (Commit call) = refl
 
 filled_hits : (setup : Setup) (s : State) (c : Command) (hits : List Hit) → HasHits setup s c hits → HasHits setup s (filled s.now c) hits
 filled_hits setup s (Plan call kind route at from level) hits has = has

@@ -1,6 +1,4 @@
 pub mod Advised
-pub mod Alterations
-pub mod Changed
 pub mod Clearances
 pub mod Decisions
 pub mod Effects

@@ -8,7 +8,7 @@ use Rattle.mt_base.specs.declared.flight.Path.TheVariants.{Planned, Outer}
 use Rattle.mt_base.specs.declared.flight.Record.{Record}
 use Rattle.mt_base.specs.Picture.{HaveOwnCalls, tentative_of, trajectories_of}
 use Rattle.mt_base.specs.Tables.{Setup}
-use Rattle.mt_machine.specs.Sound.{AreOfOthers}
+use Rattle.mt_machine.specs.Others.{AreOfOthers}
 
 -- what holds of all of two lists holds of all of both
 joined : {X : Type 0} (P : X → Type 0) (xs ys : List X) → AllByRecursion P xs → AllByRecursion P ys → AllByRecursion P (xs ++ ys)

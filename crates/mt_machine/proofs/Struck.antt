@@ -15,7 +15,7 @@ use Rattle.mt_base.specs.Tables.{Setup}
 use Rattle.mt_base.specs.Trajectory.{Trajectory}
 use Rattle.mt_base.specs.WhatIf.{AreHitsOf, hit_cmp}
 use Rattle.mt_machine.specs.Hits.{IsHitWith}
-use Rattle.mt_machine.specs.Sound.{AreShortHits}
+use Rattle.mt_board.specs.Short.{AreShortHits}
 
 -- the pair test found nothing, or this hit and no other
 pub no_hit : (setup : Setup) (now : ℕ) (t : Trajectory) (flight : Record) → IsConflict setup.rules t (trajectory_of setup flight.path) now (window_end now) None

@@ -1,6 +1,5 @@
 pub mod Advising
-pub mod Altered
 pub mod Book
 pub mod Deciding
 pub mod Hits
-pub mod Sound
+pub mod Others

@@ -5,7 +5,7 @@ ghost use Rattle.mt_base.specs.Advice.{IsAdvice};
 ghost use Rattle.mt_base.specs.Bounds.{AreWithinBounds};
 ghost use Rattle.mt_base.specs.Tables.{setup_with};
 ghost use Rattle.mt_machine.specs.Advising.{AreAsked, AreFreeAmong, IsFree, WasTried};
-ghost use Rattle.mt_machine.specs.Sound.{IsSoundState};
+ghost use Rattle.mt_change.specs.Sound.{IsSoundState};
 
 use crate::plain::Plain;
 use crate::what_if::hits;

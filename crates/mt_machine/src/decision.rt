@@ -4,7 +4,7 @@ ghost use Rattle.mt_base.specs.Bounds.{AreWithinBounds, IsBoundedCommand};
 ghost use Rattle.mt_base.specs.History.{IsDecided, look_at};
 ghost use Rattle.mt_base.specs.Picture.{flight_of};
 ghost use Rattle.mt_machine.specs.Deciding.{IsFirstHit, IsPlannedStrand, IsStrandFor};
-ghost use Rattle.mt_machine.specs.Sound.{IsSoundState, Passes};
+ghost use Rattle.mt_change.specs.Sound.{IsSoundState, Passes};
 ghost use Rattle.mt_predict.specs.Looking.{look_of};
 ghost use Rattle.mt_base.specs.Tables.{setup_with};
 

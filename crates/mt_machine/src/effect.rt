@@ -1,50 +1,16 @@
 //! What an entry leaves.
 ghost use Rattle.std.specs.Prelude.{◌≡◌, ◌≤◌, ◌∷◌, ◌++◌, [], IfOk, OnOk, OnErr, Ok};
-ghost use Rattle.mt_base.specs.Bounds.{AreWithinBounds, IsBoundedCommand, IsInPlane};
-ghost use Rattle.mt_base.specs.History.{IsDecided, base_of, course_of, effect, entered_by, filled, first_of, now_after, records_after, verdict_in};
-ghost use Rattle.mt_base.specs.Predictor.{points_of};
-ghost use Rattle.mt_machine.specs.Altered.{Alters};
-ghost use Rattle.mt_machine.specs.Sound.{IsSoundState, Passes};
+ghost use Rattle.mt_base.specs.Bounds.{AreWithinBounds, IsBoundedCommand};
+ghost use Rattle.mt_base.specs.History.{IsDecided, effect, entered_by, filled, now_after, records_after, verdict_in};
+ghost use Rattle.mt_change.specs.Altered.{Alters};
+ghost use Rattle.mt_change.specs.Sound.{IsSoundState, Passes};
 ghost use Rattle.mt_base.specs.Tables.{setup_with};
 
-use crate::altering::alteration_by;
 use crate::plain::Plain;
-use mt_base::{
-    Base, Command, Course, Entered, Entry, Memory, Path, Point, Record, Route, Rules, Second,
-    Verdict,
-};
+use mt_base::{Command, Entered, Entry, Kind, Memory, Path, Record, Rules, Verdict};
+use mt_change::{alteration_by, planned_course};
+use mt_predict::predict;
 use mt_tables::Tables;
-use std::alloc::Global;
-
-/// Where a route begins whose first name is no fix's.
-const ORIGIN: Point = Point { x: 0, y: 0 };
-
-// Where a route begins.
-fn first_point(tables: &Tables, route: &Route) -> Point
-    ensures exact { result ≡ first_of (points_of tables.now route.now) }
-    ensures bounded { IsInPlane result.x result.y }
-{
-    match route.items().first() {
-        Some(name) => tables.fix(*name).unwrap_or(ORIGIN),
-        None => ORIGIN,
-    }
-}
-
-// Where a plan begins.
-fn base_of(rules: &Rules, fix: Point, at: Second, from: u32) -> Base
-    requires { from ≤ 600 }
-    ensures { result ≡ base_of rules.now fix at from }
-{
-    Base {
-        at,
-        x: fix.x,
-        y: fix.y,
-        z: i64::from(6_000 * from),
-        r: rules.r0,
-        w: rules.w0,
-        next: 1,
-    }
-}
 
 impl Plain {
     /// The effect of an entry, and what it is answered: the version with it, and of a report the verdict on it in the state before. On an
@@ -104,16 +70,9 @@ impl Plain {
                 from,
                 level,
             } => {
-                let fix = first_point(tables, route);
-                let course = Course {
-                    kind: *kind,
-                    route: route.copy(self.alloc)?,
-                    base: base_of(rules, fix, *at, *from),
-                    level: *level,
-                    last: None,
-                    due: false,
-                    mark: None,
-                };
+                let course = planned_course(
+                    self.alloc, tables, rules, *kind, route, *at, *from, *level,
+                )?;
                 let path = Path::Planned(course);
                 self.file(Record { call: *call, path })?;
                 Ok(None)
@@ -166,7 +125,8 @@ impl Plain {
             unreachable!()
         };
         let now = self.moment;
-        let alteration = alteration_by(self.alloc, tables, rules, who, command, course, now)?;
+        let strand = predict(self.alloc, tables, rules, course, Kind::Actual)?;
+        let alteration = alteration_by(tables, rules, who, command, course, &strand, now);
         alteration.alter_each(&mut self.flights, call);
         Ok(alteration.verdict())
     }

@@ -6,12 +6,13 @@ ghost use Rattle.mt_base.specs.Name.{is_name};
 ghost use Rattle.mt_base.specs.Picture.{flight_of};
 ghost use Rattle.mt_base.specs.WhatIf.{AreHitsOf};
 ghost use Rattle.mt_machine.specs.Hits.{IsHitWith};
-ghost use Rattle.mt_machine.specs.Sound.{AreShortHits, IsSoundState};
+ghost use Rattle.mt_board.specs.Short.{AreShortHits};
+ghost use Rattle.mt_change.specs.Sound.{IsSoundState};
 ghost use Rattle.mt_base.specs.Tables.{setup_with};
 
 use crate::plain::Plain;
-use crate::strands::strand_of;
 use mt_base::{Callsign, Hit, Hits, Memory, Record, Rules, Second, Tally};
+use mt_change::strand_of;
 use mt_pair::lose;
 use mt_tables::Tables;
 use mt_track::Strand;

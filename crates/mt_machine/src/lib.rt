@@ -4,7 +4,6 @@
 
 mod advising;
 mod aiming;
-mod altering;
 mod book;
 mod decision;
 mod due;

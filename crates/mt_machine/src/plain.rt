@@ -2,7 +2,7 @@
 ghost use Rattle.std.specs.Prelude.{◌≡◌, IfOk, option_copied};
 ghost use Rattle.mt_base.specs.Picture.{flight_of, opening};
 ghost use Rattle.mt_base.specs.Tables.{Setup};
-ghost use Rattle.mt_machine.specs.Sound.{IsSoundState};
+ghost use Rattle.mt_change.specs.Sound.{IsSoundState};
 
 use mt_base::{Callsign, Memory, Record, Second};
 use std::alloc::Global;

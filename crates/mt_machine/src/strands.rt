@@ -1,35 +1,20 @@
 //! The trajectories of a state.
 ghost use Rattle.std.specs.Prelude.{◌≡◌, ◌++◌, All, IfOk, OnOk};
 ghost use Rattle.std.specs.List.{flat_map};
-ghost use Rattle.mt_base.specs.Bounds.{AreWithinBounds, IsSoundFlight, IsSoundPath};
-ghost use Rattle.mt_base.specs.Picture.{HaveOwnCalls, trajectories, trajectories_of, trajectory_of};
-ghost use Rattle.mt_machine.specs.Sound.{AreOfOthers, IsSoundState};
+ghost use Rattle.mt_base.specs.Bounds.{AreWithinBounds, IsSoundFlight};
+ghost use Rattle.mt_base.specs.Picture.{HaveOwnCalls, trajectories, trajectories_of};
+ghost use Rattle.mt_change.specs.Sound.{IsSoundState};
+ghost use Rattle.mt_machine.specs.Others.{AreOfOthers};
 ghost use Rattle.mt_base.specs.Tables.{setup_with};
 
 use crate::plain::Plain;
 use mt_base::{Kind, Memory, Path, Record, Rules};
+use mt_change::strand_of;
 use mt_predict::predict;
 use mt_tables::Tables;
-use mt_track::{Roster, Strand};
+use mt_track::Roster;
 use std::alloc::Global;
 use std::sync::Arc;
-
-/// The trajectory that a path flies.
-pub(crate) fn strand_of(
-    alloc: Global,
-    tables: &Tables,
-    rules: &Rules,
-    path: &Path,
-) -> Result<Strand, Memory>
-    requires rules { AreWithinBounds rules.now }
-    requires sound { IsSoundPath (setup_with rules.now tables.now) path.now }
-    ensures { IfOk result (λ strand. strand ≡ trajectory_of (setup_with rules.now tables.now) path.now) }
-{
-    match path {
-        Path::Planned(course) => predict(alloc, tables, rules, course, Kind::Actual),
-        Path::Outer(stretch) => Strand::straight(alloc, stretch),
-    }
-}
 
 // Puts the trajectories of a flight behind those of others.
 fn add_flight(

@@ -3,12 +3,12 @@ ghost use Rattle.std.specs.Prelude.{◌≡◌, IfOk, option_map};
 ghost use Rattle.mt_base.specs.Bounds.{AreWithinBounds};
 ghost use Rattle.mt_base.specs.Picture.{flight_of};
 ghost use Rattle.mt_base.specs.View.{tent_of, view_of, view_of_path};
-ghost use Rattle.mt_machine.specs.Sound.{IsSoundState};
+ghost use Rattle.mt_change.specs.Sound.{IsSoundState};
 ghost use Rattle.mt_base.specs.Tables.{setup_with};
 
 use crate::plain::Plain;
-use crate::strands::strand_of;
 use mt_base::{Callsign, FlightView, Mark, Memory, Path, Record, Rules, Second, Tent};
+use mt_change::strand_of;
 use mt_tables::Tables;
 use mt_track::Strand;
 use std::alloc::Global;

@@ -3,7 +3,8 @@ ghost use Rattle.std.specs.Prelude.{◌≡◌, ◌≤◌, length, IfOk, IfSome};
 ghost use Rattle.mt_base.specs.Bounds.{AreWithinBounds, IsBoundedClearance, IsRightAim, IsSoundCourse};
 ghost use Rattle.mt_base.specs.History.{with_aim};
 ghost use Rattle.mt_base.specs.WhatIf.{IsWhatIf, aimed};
-ghost use Rattle.mt_machine.specs.Sound.{AreShortHits, IsSoundState};
+ghost use Rattle.mt_board.specs.Short.{AreShortHits};
+ghost use Rattle.mt_change.specs.Sound.{IsSoundState};
 ghost use Rattle.mt_base.specs.Tables.{setup_with};
 
 use crate::aiming::aim;

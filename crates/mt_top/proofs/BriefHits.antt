@@ -9,7 +9,7 @@ use Rattle.mt_base.specs.Picture.{State, flight_of}
 use Rattle.mt_base.specs.Tables.{Setup}
 use Rattle.mt_base.specs.Trajectory.{Trajectory}
 use Rattle.mt_base.specs.WhatIf.{AreHitsOf, IsWhatIf, course_in, trajectory_cleared}
-use Rattle.mt_machine.specs.Sound.{AreShortHits}
+use Rattle.mt_board.specs.Short.{AreShortHits}
 use Rattle.mt_write.specs.Short.{IsShortHit}
 use Rattle.mt_lines.specs.Fit.{AreBrief}
 use Rattle.mt_top.proofs.OneSolution.{planned_if}

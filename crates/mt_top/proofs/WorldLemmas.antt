@@ -15,7 +15,7 @@ use Rattle.mt_base.specs.Tables.{Setup, Tables}
 use Rattle.mt_base.specs.WhatIf.{IsWhatIf}
 use Rattle.mt_base.proofs.HistoryLemmas.{legal_push, state_of-push, version_is}
 use Rattle.mt_machine.specs.Book.{probe_at, with_probe}
-use Rattle.mt_machine.specs.Sound.{IsSoundState}
+use Rattle.mt_change.specs.Sound.{IsSoundState}
 use Rattle.mt_machine.proofs.Effects.{opening_sound}
 use Rattle.mt_tables.specs.declared.add_no.AddNo.{AddNo}
 use Rattle.mt_tables.specs.declared.add_no.AddNo.TheVariants as add

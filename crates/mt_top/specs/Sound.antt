@@ -6,7 +6,7 @@ use Rattle.mt_base.specs.Picture.{State, opening}
 use Rattle.mt_base.specs.Tables.{Setup}
 use Rattle.mt_base.specs.WhatIf.{IsWhatIf}
 use Rattle.mt_machine.specs.Book.{empty_book}
-use Rattle.mt_machine.specs.Sound.{IsSoundState}
+use Rattle.mt_change.specs.Sound.{IsSoundState}
 use Rattle.mt_top.specs.declared.actor.Actor.{Actor}
 use Rattle.mt_top.specs.declared.actor.Probe.{Probe}
 use Rattle.mt_top.specs.World as world

@@ -1,5 +1,5 @@
 use Rattle.mt_base.specs.Tables.{setup_with}
-use Rattle.mt_machine.proofs.Effects.{few_names}
+use Rattle.mt_change.proofs.Plans.{few_names}
 use Rattle.mt_machine.proofs.aiming.aim.Goals as goal
 
 pub cleared-requires : goal.cleared-requires

@@ -2,7 +2,7 @@ use Rattle.std.proofs.Common.{Some, option_copied, sym, ap, ◌∙◌}
 use Rattle.mt_base.specs.Bounds.{IsSoundCourse}
 use Rattle.mt_base.specs.Tables.{Setup, setup_with}
 use Rattle.mt_machine.proofs.Clearances.{sound_path}
-use Rattle.mt_machine.proofs.Effects.{few_names}
+use Rattle.mt_change.proofs.Plans.{few_names}
 use Rattle.mt_machine.proofs.decision.planned_strand.Goals as goal
 
 pub predict-requires-clause-sound : goal.predict-requires-clause-sound

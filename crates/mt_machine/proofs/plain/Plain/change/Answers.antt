@@ -10,8 +10,8 @@ pub returns-in_ok-file-in-Plan-clause-sound : goal.returns-in_ok-file-in-Plan-cl
 returns-in_ok-file-in-Plan-clause-sound c =
     let passed = rw c.in-Plan.is at c.requires.passed in
     let within = rw c.in-Plan.is at c.requires.bounded in
-    let plane = rw c.first_point-fix.ensures.exact at c.first_point-fix.ensures.bounded in
-    rw (c.in_ok-file-in-Plan.ensures.ok, c.in_ok-copy-in-Plan.ensures, c.base_of.ensures, c.first_point-fix.ensures.exact)
+    let plane = c.planned_course.ensures.plane in
+    rw (c.in_ok-file-in-Plan.ensures.ok, c.in_ok-course-in-Plan.ensures.course)
     (sound_plan (setup_with c.args.rules.now c.args.tables.now) c.args.self.now c.args.who c.in-Plan.call c.in-Plan.kind
     c.in-Plan.route c.in-Plan.at c.in-Plan.from c.in-Plan.level c.requires.rules c.requires.sound passed within plane)
 

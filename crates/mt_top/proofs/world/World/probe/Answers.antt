@@ -3,7 +3,7 @@ use Rattle.mt_base.specs.declared.command.Refusal.{Refusal}
 use Rattle.mt_base.specs.declared.hit.Hit.{Hit}
 use Rattle.mt_base.specs.Tables.{Setup}
 use Rattle.mt_base.specs.WhatIf.{IsWhatIf}
-use Rattle.mt_machine.specs.Sound.{AreShortHits}
+use Rattle.mt_board.specs.Short.{AreShortHits}
 use Rattle.mt_top.specs.Sound.{IsSoundActor}
 use Rattle.mt_top.proofs.BriefHits.{brief_hits}
 use Rattle.mt_top.proofs.world.World.probe.Goals as goal

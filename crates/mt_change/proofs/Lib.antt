@@ -1,0 +1,6 @@
+pub mod Aims
+pub mod Alterations
+pub mod Changed
+pub mod Filling
+pub mod Passed
+pub mod Plans

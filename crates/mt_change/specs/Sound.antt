@@ -1,0 +1,20 @@
+use Rattle.std.specs.Prelude.{◌≡◌, ◌≤◌, ℕ, true, length, All}
+use Rattle.std.specs.List.{AllByRecursion}
+use Rattle.mt_base.specs.declared.command.Command.{Command}
+use Rattle.mt_base.specs.Bounds.{IsSoundFlight}
+use Rattle.mt_base.specs.History.{checks, look_at}
+use Rattle.mt_base.specs.Picture.{HaveOwnCalls, State}
+use Rattle.mt_base.specs.Tables.{Setup}
+
+-- What every state that can be reached keeps: each flight is sound for the rules and tables, no two have one callsign, there are at most
+-- 1,024, and the moment is within its bound.
+pub record IsSoundState (setup : Setup) (s : State) : Type 0 where
+  pub sound : All (IsSoundFlight setup) s.records
+  pub own_calls : HaveOwnCalls s.records
+  pub few : length s.records ≤ 1024
+  pub early : s.now ≤ 10000000
+  pub counted : s.version ≤ 4194304
+
+-- each check of an actor's command is passed in a state
+abbrev pub Passes : Setup → State → ℕ → Command → Type 0
+Passes setup s who command = AllByRecursion (λ c. c.1 ≡ true) (checks setup (look_at s command) who command)

@@ -1,0 +1,151 @@
+-- The pairs of a place, as finds.
+use Rattle.std.proofs.Common.{◌≡◌, ◌≢◌, ℕ, ◌<◌, ◌⊎◌, inl, inr, ⊎_elim, true, true≢false, not, List, ◌++◌, map, Contains, Option, Some, sym, ◌∙◌, ap, subst, arith}
+use Rattle.std.specs.List.{filter}
+use Rattle.std.proofs.lemmas.Bool.{cases_Bool}
+use Rattle.std.proofs.lemmas.List.{map-append}
+use Rattle.std.proofs.lemmas.List.Elements.{Contains-append_cases, Contains-append_left, Contains-append_right}
+use Rattle.std.proofs.lemmas.List.Kept.{AllPairs-filter}
+use Rattle.mt_base.specs.declared.rules.Rules.{Rules}
+use Rattle.mt_base.specs.Conflict.{IsSpanOfLoss}
+use Rattle.mt_base.specs.Picture.{NamedTrajectory}
+use Rattle.mt_edges.specs.declared.edge.Edge.{Edge}
+use Rattle.mt_edges.specs.Pairs.{AreSame, IsEach, touches}
+use Rattle.mt_kept.specs.declared.open_pair.OpenPair.{OpenPair}
+use Rattle.mt_kept.specs.Places.{at, horizon}
+use Rattle.mt_kept.specs.Losing.{AreKept, IsPair, Loses, Touches}
+use Rattle.mt_kept.specs.Window.{AreOpen, IsOpen, edge_of}
+use Rattle.mt_kept.specs.Made.{is_closed, is_open, quiet, touches_place}
+use Rattle.mt_kept.specs.Finds.{Agree, AreFindsAt}
+use Rattle.mt_kept.proofs.Keeping.{is_open_is, touches_is}
+use Rattle.mt_kept.proofs.Elements.{Contains-filter, Contains-map, Contains-map_cases, distinct_append, distinct_held, distinct_map}
+use Rattle.mt_kept.proofs.Moving.{apart_distinct}
+use Rattle.mt_kept.proofs.Windows.{one_span}
+
+-- two pairs of the same places are one
+pub same_pair : (rules : Rules) (places : List (Option NamedTrajectory)) (e f : Edge) → IsPair rules places e → IsPair rules places f → AreSame e f → e ≡ f
+same_pair rules places e f p q ends =
+    let l : q.left ≡ p.left = let x = p.left_is in let y = ap (at places) ends.0 ∙ q.left_is in cc in
+    let r : q.right ≡ p.right = let x = p.right_is in let y = ap (at places) ends.1 ∙ q.right_is in cc in
+    let span : IsSpanOfLoss rules p.left.path p.right.path 0 horizon f.first f.last =
+    subst (λ (y : NamedTrajectory). IsSpanOfLoss rules p.left.path y.path 0 horizon f.first f.last) r
+    (subst (λ (x : NamedTrajectory). IsSpanOfLoss rules x.path q.right.path 0 horizon f.first f.last) l q.span) in
+    let one = one_span rules p.left.path p.right.path 0 horizon e.first e.last f.first f.last p.span span in
+    λ i. record { a = ends.0 i; b = ends.1 i; first = one.0 i; last = one.1 i }
+
+not_open : (now : ℕ) (e : Edge) → is_closed now e ≡ true → ¬ IsOpen now e
+not_open now e shut = λ meets. let t = (is_open_is now e).1 meets in true≢false (sym shut ∙ ap not t)
+
+pub finds_again : (rules : Rules) (places : List (Option NamedTrajectory)) (now place : ℕ) (edges near : List Edge) (pairs : List OpenPair) → AreKept rules places edges
+    → AreOpen rules places now edges pairs → IsEach (λ e. touches place e ≡ true) edges near
+    → AreFindsAt rules places now place (filter (touches_place place) pairs ++ map quiet (filter (is_closed now) near))
+finds_again rules places now place edges near pairs kept opened each =
+    let first = filter (touches_place place) pairs in
+    let shut = filter (is_closed now) near in
+    let second = map quiet shut in
+    let from_first : (o : OpenPair) → Contains first o → Contains pairs o × Touches place o.edge = λ o held.
+    let h = (Contains-filter (touches_place place) pairs o).0 held in (h.0, (touches_is place o.edge).0 h.1) in
+    let from_second : (o : OpenPair) → Contains second o → Contains edges o.edge × Touches place o.edge × (¬ IsOpen now o.edge) = λ o held.
+    let x = Contains-map_cases quiet shut o held in
+    let s = (Contains-filter (is_closed now) near x.of).0 x.held in
+    let n = (each.exact x.of).0 s.0 in
+    let e : x.of ≡ o.edge = ap (λ (p : OpenPair). p.edge) x.is in
+    (subst (Contains edges) e n.0, subst (Touches place) e ((touches_is place x.of).0 n.1), subst (λ (f : Edge). ¬ IsOpen now f) e (not_open now x.of s.1)) in
+    let pair_of : (o : OpenPair) → Contains (first ++ second) o → IsPair rules places o.edge = λ o held. ⊎_elim
+    (λ early. kept.sound o.edge (opened.sound o (from_first o early).0).0)
+    (λ late. kept.sound o.edge (from_second o late).0) (Contains-append_cases first second o held) in
+    record {
+      sound = λ o held. ⊎_elim
+          (λ early. let h = from_first o early in (h.1, pair_of o held, λ meets. (opened.sound o h.0).2))
+          (λ late. let h = from_second o late in (h.1, pair_of o held, λ meets. absurd (h.2 meets))) (Contains-append_cases first second o held);
+      complete = λ a b k before here loses.
+          let j = kept.complete a b k before loses in
+          let touches : Touches place j.edge = ⊎_elim (λ x. inl (j.ends.0 ∙ x)) (λ y. inr (j.ends.1 ∙ y)) here in
+          let near_e = (each.exact j.edge).1 (j.held, (touches_is place j.edge).1 touches) in
+          record {
+            edge = j.edge;
+            held = subst (λ (es : List Edge). Contains es j.edge) (sym (map-append edge_of first second)) (⊎_elim
+                (λ meets.
+                let x = Contains-map_cases edge_of pairs j.edge (opened.complete j.edge j.held ((is_open_is now j.edge).0 meets)) in
+                let t : touches_place place x.of ≡ true = (touches_is place x.of.edge).1 (subst (Touches place) (sym x.is) touches) in
+                let in_first = Contains-map edge_of first x.of ((Contains-filter (touches_place place) pairs x.of).1 (x.held, t)) in
+                Contains-append_left (map edge_of first) (map edge_of second) j.edge (subst (Contains (map edge_of first)) x.is in_first))
+                (λ none.
+                let in_shut = (Contains-filter (is_closed now) near j.edge).1 (near_e, ap not none) in
+                Contains-append_right (map edge_of first) (map edge_of second) j.edge
+                (Contains-map edge_of second (quiet j.edge) (Contains-map quiet shut j.edge in_shut)))
+                (cases_Bool (is_open now j.edge)));
+            ends = j.ends;
+          };
+      distinct = distinct_held (λ o p. o.edge ≢ p.edge) (λ o p. ¬ AreSame o.edge p.edge) (first ++ second)
+          (λ o p in_o in_p differ. λ ends. differ (same_pair rules places o.edge p.edge (pair_of o in_o) (pair_of p in_p) ends))
+          (distinct_append (λ o p. o.edge ≢ p.edge) first second (AllPairs-filter (λ o p. o.edge ≢ p.edge) (touches_place place) pairs opened.distinct)
+          (distinct_map (λ o p. o.edge ≢ p.edge) quiet shut (AllPairs-filter (λ e f. e ≢ f) (is_closed now) near (apart_distinct near each.apart)))
+          (λ o p early late. λ same. (from_second p late).2 (subst (IsOpen now) same (opened.sound o (from_first o early).0).1)));
+    }
+
+-- they stay its finds where places change, as far as other flights go, in no other way
+ends_agree : (rules : Rules) (places after : List (Option NamedTrajectory)) (place : ℕ) (mine : NamedTrajectory) (e : Edge) → at places place ≡ Some mine
+    → Agree places after place mine → IsPair rules places e → Touches place e → (at after e.a ≡ at places e.a) × (at after e.b ≡ at places e.b)
+ends_agree rules places after place mine e was agree pair touches = ⊎_elim
+    (λ a.
+    let l : pair.left ≡ mine = let x = pair.left_is in let y = ap (at places) a ∙ was in cc in
+    let away : e.b ≢ place = λ b. absurd (let x = pair.before in omega arith) in
+    let apart : mine.call ≢ pair.right.call = λ same. pair.apart (ap (λ (t : NamedTrajectory). t.call) l ∙ same) in
+    (ap (at after) a ∙ agree.here ∙ sym (ap (at places) a ∙ was), (agree.there e.b pair.right away apart).1 pair.right_is ∙ sym pair.right_is))
+    (λ b.
+    let r : pair.right ≡ mine = let x = pair.right_is in let y = ap (at places) b ∙ was in cc in
+    let away : e.a ≢ place = λ a. absurd (let x = pair.before in omega arith) in
+    let apart : mine.call ≢ pair.left.call = λ same. pair.apart (sym same ∙ sym (ap (λ (t : NamedTrajectory). t.call) r)) in
+    ((agree.there e.a pair.left away apart).1 pair.left_is ∙ sym pair.left_is, ap (at after) b ∙ agree.here ∙ sym (ap (at places) b ∙ was))) touches
+
+loses_agree : (rules : Rules) (places after : List (Option NamedTrajectory)) (place : ℕ) (mine : NamedTrajectory) (a b k : ℕ) → a < b → at places place ≡ Some mine
+    → Agree places after place mine → (a ≡ place) ⊎ (b ≡ place) → Loses rules after a b k → Loses rules places a b k
+loses_agree rules places after place mine a b k before was agree touches h = ⊎_elim
+    (λ x.
+    let l : h.left ≡ mine = let p = h.left_is in let q = ap (at after) x ∙ agree.here in cc in
+    let away : b ≢ place = λ y. absurd (omega arith) in
+    let apart : mine.call ≢ h.right.call = λ same. h.apart (ap (λ (t : NamedTrajectory). t.call) l ∙ same) in
+    record {
+      left = h.left;
+      right = h.right;
+      left_is = ap (at places) x ∙ was ∙ ap Some (sym l);
+      right_is = (agree.there b h.right away apart).0 h.right_is;
+      apart = h.apart;
+      loss = h.loss;
+      early = h.early;
+    })
+    (λ y.
+    let r : h.right ≡ mine = let p = h.right_is in let q = ap (at after) y ∙ agree.here in cc in
+    let away : a ≢ place = λ x. absurd (omega arith) in
+    let apart : mine.call ≢ h.left.call = λ same. h.apart (sym same ∙ sym (ap (λ (t : NamedTrajectory). t.call) r)) in
+    record {
+      left = h.left;
+      right = h.right;
+      left_is = (agree.there a h.left away apart).0 h.left_is;
+      right_is = ap (at places) y ∙ was ∙ ap Some (sym r);
+      apart = h.apart;
+      loss = h.loss;
+      early = h.early;
+    }) touches
+
+pub finds_agree : (rules : Rules) (places after : List (Option NamedTrajectory)) (now place : ℕ) (mine : NamedTrajectory) (finds : List OpenPair)
+    → at places place ≡ Some mine → Agree places after place mine → AreFindsAt rules places now place finds → AreFindsAt rules after now place finds
+finds_agree rules places after now place mine finds was agree found = record {
+  sound = λ o held.
+      let h = found.sound o held in
+      let ends = ends_agree rules places after place mine o.edge was agree h.1 h.0 in (
+        h.0,
+        record {
+          left = h.1.left;
+          right = h.1.right;
+          left_is = ends.0 ∙ h.1.left_is;
+          right_is = ends.1 ∙ h.1.right_is;
+          before = h.1.before;
+          apart = h.1.apart;
+          span = h.1.span;
+        },
+        λ meets. let s = h.2 meets in record { left = s.left; right = s.right; left_is = ends.0 ∙ s.left_is; right_is = ends.1 ∙ s.right_is; found = s.found },
+      );
+  complete = λ a b k before touches loses. found.complete a b k before touches (loses_agree rules places after place mine a b k before was agree touches loses);
+  distinct = found.distinct;
+}

@@ -1,0 +1,161 @@
+-- What was found for a place, and for the two places of a slot.
+use Rattle.std.proofs.Common.{◌≡◌, ◌≢◌, ℕ, ◌+◌, ◌*◌, ◌<◌, ◌⊎◌, inl, inr, ⊎_elim, List, [], ◌++◌, map, Contains, Option, Some, None, refl, sym, ◌∙◌, ap, subst, arith}
+use Rattle.std.proofs.lemmas.List.{map-append}
+use Rattle.std.proofs.lemmas.List.Elements.{Contains-append_cases, Contains-append_left, Contains-append_right}
+use Rattle.mt_base.specs.declared.conflict.Conflict.{Conflict}
+use Rattle.mt_base.specs.declared.rules.Rules.{Rules}
+use Rattle.mt_base.specs.Conflict.{IsLossSecond}
+use Rattle.mt_base.specs.Picture.{NamedTrajectory}
+use Rattle.mt_edges.specs.declared.edge.Edge.{Edge}
+use Rattle.mt_edges.specs.Pairs.{AreSame}
+use Rattle.mt_kept.specs.declared.finds.Candidate.{Candidate}
+use Rattle.mt_kept.specs.declared.open_pair.OpenPair.{OpenPair}
+use Rattle.mt_kept.specs.Places.{at, horizon, slot_of}
+use Rattle.mt_kept.specs.Losing.{IsPair, Joins, Touches, TouchesSlot}
+use Rattle.mt_kept.specs.Window.{IsFoundOf, edge_of}
+use Rattle.mt_kept.specs.Finds.{Agree, AreCandidates, AreFinds, AreFindsAt, IsOther, place_of}
+use Rattle.mt_kept.proofs.Elements.{Contains-map, Contains-map_cases, Contains-none, distinct_append}
+use Rattle.mt_kept.proofs.Gathering.{AreGathered}
+use Rattle.mt_kept.proofs.Keeping.{even_half, halves, odd_half}
+use Rattle.mt_kept.proofs.Windows.{IsLossSecond-sym, IsSpanOfLoss-sym}
+
+-- what was found among all candidates
+found_swap : (rules : Rules) (now : ℕ) (mine other : NamedTrajectory) (c : Option Conflict) → IsFoundOf rules now mine other c → IsFoundOf rules now other mine c
+found_swap rules now mine other None found = λ k low high loss. found k low high (IsLossSecond-sym rules other.path mine.path k loss)
+found_swap rules now mine other (Some c) found = ⊎_elim (λ a. inr a) (λ b. inl b) found
+
+pub finds_are : (rules : Rules) (places after : List (Option NamedTrajectory)) (now place : ℕ) (mine : NamedTrajectory) (xs : List Candidate)
+    (finds : List OpenPair) → Agree places after place mine → AreCandidates rules places place mine xs → AreGathered rules places now place mine xs finds
+    → AreFindsAt rules after now place finds
+finds_are rules places after now place mine xs finds agree candidates gathered =
+    let here : at after place ≡ Some mine = agree.here in
+    record {
+      sound = λ o held.
+          let h = gathered.sound o held in
+          let apart = h.is.apart in
+          let other_is : at after h.of.place ≡ Some h.other = (agree.there h.of.place h.other h.is.elsewhere apart).1 h.is.is in
+          ⊎_elim
+          (λ e.
+          let left_is : at after o.edge.a ≡ Some mine = ap (at after) e.0 ∙ here in
+          let right_is : at after o.edge.b ≡ Some h.other = ap (at after) e.1 ∙ other_is in (
+            inl e.0,
+            record { left = mine; right = h.other; left_is = left_is; right_is = right_is; before = (let p = e.0 in let q = e.1 in let r = e.2 in omega arith); apart = apart; span = h.find.span },
+            λ meets. record { left = mine; right = h.other; left_is = left_is; right_is = right_is; found = h.find.shown meets },
+          ))
+          (λ e.
+          let left_is : at after o.edge.a ≡ Some h.other = ap (at after) e.0 ∙ other_is in
+          let right_is : at after o.edge.b ≡ Some mine = ap (at after) e.1 ∙ here in (
+            inr e.1,
+            record {
+              left = h.other;
+              right = mine;
+              left_is = left_is;
+              right_is = right_is;
+              before = (let p = e.0 in let q = e.1 in let r = e.2 in omega arith);
+              apart = λ eq. apart (sym eq);
+              span = IsSpanOfLoss-sym rules mine.path h.other.path 0 horizon o.edge.first o.edge.last h.find.span;
+            },
+            λ meets. record {
+              left = h.other;
+              right = mine;
+              left_is = left_is;
+              right_is = right_is;
+              found = found_swap rules now mine h.other o.conflict (h.find.shown meets);
+            },
+          )) h.find.ends;
+      complete = λ a b k before touches loses. ⊎_elim
+          (λ e.
+          let b_else : b ≢ place = λ same. absurd (let p : a ≡ b = e ∙ sym same in omega arith) in
+          let mine_is : loses.left ≡ mine = let p = loses.left_is in let q = ap (at after) e ∙ here in cc in
+          let loss : IsLossSecond rules mine.path loses.right.path k =
+          subst (λ (t : NamedTrajectory). IsLossSecond rules t.path loses.right.path k) mine_is loses.loss in
+          let apart : mine.call ≢ loses.right.call = λ eq. loses.apart (ap (λ (t : NamedTrajectory). t.call) mine_is ∙ eq) in
+          let other_is : at places b ≡ Some loses.right = (agree.there b loses.right b_else apart).0 loses.right_is in
+          joined a b b k loses.right b_else other_is apart loses.early loss (inl (e, refl, before)))
+          (λ e.
+          let a_else : a ≢ place = λ same. absurd (let p : a ≡ b = same ∙ sym e in omega arith) in
+          let mine_is : loses.right ≡ mine = let p = loses.right_is in let q = ap (at after) e ∙ here in cc in
+          let loss : IsLossSecond rules mine.path loses.left.path k =
+          subst (λ (t : NamedTrajectory). IsLossSecond rules t.path loses.left.path k) mine_is (IsLossSecond-sym rules loses.left.path loses.right.path k loses.loss) in
+          let apart : mine.call ≢ loses.left.call = λ eq. loses.apart (sym eq ∙ sym (ap (λ (t : NamedTrajectory). t.call) mine_is)) in
+          let other_is : at places a ≡ Some loses.left = (agree.there a loses.left a_else apart).0 loses.left_is in
+          joined a b a k loses.left a_else other_is apart loses.early loss (inr (refl, e, before))) touches;
+      distinct = gathered.distinct;
+    } where
+      joined : (a b j k : ℕ) (other : NamedTrajectory) → j ≢ place → at places j ≡ Some other → mine.call ≢ other.call → k < horizon
+          → IsLossSecond rules mine.path other.path k → ((a ≡ place) × (b ≡ j) × (a < b)) ⊎ ((a ≡ j) × (b ≡ place) × (a < b)) → Joins (map edge_of finds) a b
+      joined a b j k other else other_is apart early loss ends =
+          let there : IsOther places place mine j other = record { is = other_is; elsewhere = else; apart = apart } in
+          let c = Contains-map_cases place_of xs j (candidates.complete j k other there early loss) in
+          let found = gathered.complete c.of k other c.held (subst (λ (i : ℕ). IsOther places place mine i other) (sym c.is) there) early loss in
+          record {
+            edge = found.find.edge;
+            held = Contains-map edge_of finds found.find found.held;
+            ends = ⊎_elim
+                (λ p. ⊎_elim
+                (λ q. (q.0 ∙ sym p.0, q.1 ∙ c.is ∙ sym p.1))
+                (λ q. absurd (let r = c.is in omega (arith, p.0, p.1, p.2, q.2))) found.ends)
+                (λ p. ⊎_elim
+                (λ q. absurd (let r = c.is in omega (arith, p.0, p.1, p.2, q.2)))
+                (λ q. (q.0 ∙ c.is ∙ sym p.0, q.1 ∙ sym p.1)) found.ends) ends;
+          }
+
+-- what was found for the two places of a slot is what was found for the slot
+both_ends : (rules : Rules) (after : List (Option NamedTrajectory)) (slot : ℕ) (e : Edge)
+    → ((s t : NamedTrajectory) → at after (2 * slot) ≡ Some s → at after (2 * slot + 1) ≡ Some t → s.call ≡ t.call)
+    → IsPair rules after e → Touches (2 * slot) e → Touches (2 * slot + 1) e → ⊥
+both_ends rules after slot e one pair first second =
+    let l = pair.left_is in
+    let r = pair.right_is in
+    let before = pair.before in
+    ⊎_elim
+    (λ a. ⊎_elim (λ b. absurd (omega arith))
+    (λ b. pair.apart (one pair.left pair.right (sym (ap (at after) a) ∙ l) (sym (ap (at after) b) ∙ r))) second)
+    (λ a. ⊎_elim (λ b. pair.apart (sym (one pair.right pair.left (sym (ap (at after) a) ∙ r) (sym (ap (at after) b) ∙ l))))
+    (λ b. absurd (omega arith)) second) first
+
+touches_slot : (slot place : ℕ) (e : Edge) → slot_of place ≡ slot → Touches place e → TouchesSlot slot e
+touches_slot slot place e half touches = ⊎_elim (λ a. inl (ap slot_of a ∙ half)) (λ b. inr (ap slot_of b ∙ half)) touches
+
+moved_touch : (place : ℕ) (e f : Edge) → AreSame e f → Touches place f → Touches place e
+moved_touch place e f same touches = ⊎_elim (λ a. inl (same.0 ∙ a)) (λ b. inr (same.1 ∙ b)) touches
+
+pub finds_join : (rules : Rules) (after : List (Option NamedTrajectory)) (now slot : ℕ) (first second : List OpenPair)
+    → ((s t : NamedTrajectory) → at after (2 * slot) ≡ Some s → at after (2 * slot + 1) ≡ Some t → s.call ≡ t.call)
+    → AreFindsAt rules after now (2 * slot) first → AreFindsAt rules after now (2 * slot + 1) second → AreFinds rules after now slot (first ++ second)
+finds_join rules after now slot first second one f g = record {
+  sound = λ o held. ⊎_elim
+      (λ early. let h = f.sound o early in (touches_slot slot (2 * slot) o.edge (even_half slot) h.0, h.1, h.2))
+      (λ late. let h = g.sound o late in (touches_slot slot (2 * slot + 1) o.edge (odd_half slot) h.0, h.1, h.2))
+      (Contains-append_cases first second o held);
+  complete = λ a b k before here loses. ⊎_elim
+      (λ x. ⊎_elim (λ even. joined_first a b (f.complete a b k before (inl even) loses)) (λ odd. joined_second a b (g.complete a b k before (inl odd) loses))
+      (halves a slot x))
+      (λ x. ⊎_elim (λ even. joined_first a b (f.complete a b k before (inr even) loses)) (λ odd. joined_second a b (g.complete a b k before (inr odd) loses))
+      (halves b slot x)) here;
+  distinct = distinct_append (λ o p. ¬ AreSame o.edge p.edge) first second f.distinct g.distinct (λ o p early late. λ same.
+      both_ends rules after slot o.edge one (f.sound o early).1 (f.sound o early).0 (moved_touch (2 * slot + 1) o.edge p.edge same (g.sound p late).0));
+} where
+  joined_first : (a b : ℕ) → Joins (map edge_of first) a b → Joins (map edge_of (first ++ second)) a b
+  joined_first a b j = record {
+    edge = j.edge;
+    held = subst (λ (es : List Edge). Contains es j.edge) (sym (map-append edge_of first second)) (Contains-append_left (map edge_of first) (map edge_of second) j.edge j.held);
+    ends = j.ends;
+  }
+
+  joined_second : (a b : ℕ) → Joins (map edge_of second) a b → Joins (map edge_of (first ++ second)) a b
+  joined_second a b j = record {
+    edge = j.edge;
+    held = subst (λ (es : List Edge). Contains es j.edge) (sym (map-append edge_of first second)) (Contains-append_right (map edge_of first) (map edge_of second) j.edge j.held);
+    ends = j.ends;
+  }
+
+-- an empty place has no finds
+pub finds_empty : (rules : Rules) (after : List (Option NamedTrajectory)) (now place : ℕ) → at after place ≡ None → AreFindsAt rules after now place []
+finds_empty rules after now place none = record {
+  sound = λ o held. absurd (Contains-none o held);
+  complete = λ a b k before here loses. absurd (⊎_elim
+      (λ e. let some = sym (ap (at after) e) ∙ loses.left_is in cc)
+      (λ e. let some = sym (ap (at after) e) ∙ loses.right_is in cc) here);
+  distinct = λ i j d before below. absurd (omega arith);
+}

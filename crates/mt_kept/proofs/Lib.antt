@@ -1,0 +1,10 @@
+pub mod Elements
+pub mod Windows
+pub mod Publishing
+pub mod Keeping
+pub mod Replacing
+pub mod Moving
+pub mod Gathering
+pub mod Joining
+pub mod Again
+pub mod Costs

@@ -1,0 +1,140 @@
+-- The open pairs of a later moment, and the tests made for them.
+use Rattle.std.proofs.Common.{◌≡◌, ◌≢◌, ℕ, zero, suc, cond, get_or, ◌+◌, ◌<◌, ◌≤◌, ⊎_elim, ◌↔◌, true, List, ◌++◌, map, length, take, Contains, Option, refl, sym, ◌∙◌, ap, subst, arith}
+use Rattle.std.specs.List.{All, AllPairs, count_by, filter}
+use Rattle.std.proofs.lemmas.Bool.{cases_lt}
+use Rattle.std.proofs.lemmas.Bool.Decides.{nat_tests}
+use Rattle.std.proofs.lemmas.List.Elements.{All-contains, Contains-append_cases, Contains-append_left, Contains-append_right}
+use Rattle.std.proofs.lemmas.List.Kept.{AllPairs-filter}
+use Rattle.std.proofs.lemmas.List.Sums.{length-filter}
+use Rattle.std.proofs.lemmas.List.Filters.{length-filter_more}
+use Rattle.mt_base.specs.Tally.{raised}
+use Rattle.mt_base.specs.declared.rules.Rules.{Rules}
+use Rattle.mt_base.specs.Picture.{NamedTrajectory, window_end}
+use Rattle.mt_edges.specs.declared.edge.Edge.{Edge}
+use Rattle.mt_edges.specs.Pairs.{AreApart, IsEach}
+use Rattle.mt_kept.specs.declared.open_pair.OpenPair.{OpenPair}
+use Rattle.mt_kept.specs.Losing.{AreKept, IsPair}
+use Rattle.mt_kept.specs.Window.{AreOpen, IsOpen, IsShown, WasTestedOnce, edge_of, straddles}
+use Rattle.mt_kept.specs.Made.{WereTested, is_lasting}
+use Rattle.mt_kept.specs.Tests.{raised_by}
+use Rattle.mt_kept.proofs.Elements.{All-from_held, Contains-filter, Contains-map, Contains-map_cases, distinct_append, distinct_map, distinct_of, distinct_take, Contains-take}
+
+-- pairs with different ends are different
+pub apart_distinct : (edges : List Edge) → AreApart edges → AllPairs (λ e f. e ≢ f) edges
+apart_distinct edges apart = λ i j d before below. λ same. apart i j d before below (ap (λ (e : Edge). e.a) same, ap (λ (e : Edge). e.b) same)
+
+-- the kept pairs that begin in the seconds by which the window's end moves
+abbrev pub AreDue : ℕ → ℕ → List Edge → List Edge → Type 0
+AreDue old now edges due = IsEach (λ e. (window_end old ≤ e.first) × (e.first < window_end now)) edges due
+
+-- those that are open at the later moment
+abbrev pub reaching : ℕ → List OpenPair → List Edge → List Edge
+reaching now pairs due = filter (is_lasting now) (map edge_of pairs) ++ filter (is_lasting now) due
+
+lasts : (now : ℕ) (e : Edge) → (is_lasting now e ≡ true) ↔ (now ≤ e.last)
+lasts now e = ((λ t. grind (arith, nat_tests)), (λ h. grind (arith, nat_tests)))
+
+pub reaching_is : (rules : Rules) (places : List (Option NamedTrajectory)) (old now : ℕ) (edges due : List Edge) (pairs : List OpenPair) → old ≤ now
+    → AreOpen rules places old edges pairs → AreDue old now edges due → (e : Edge) → Contains (reaching now pairs due) e ↔ (Contains edges e × IsOpen now e)
+reaching_is rules places old now edges due pairs later opened is_due e =
+    let stay = filter (is_lasting now) (map edge_of pairs) in
+    let come = filter (is_lasting now) due in (
+      (λ held. ⊎_elim
+          (λ first.
+          let h = (Contains-filter (is_lasting now) (map edge_of pairs) e).0 first in
+          let was = Contains-map_cases edge_of pairs e h.0 in
+          let o = opened.sound was.of was.held in
+          let lasting = (lasts now e).0 h.1 in
+          let begun : e.first < window_end old = subst (λ (f : Edge). f.first < window_end old) was.is o.1.0 in
+          (subst (Contains edges) was.is o.0, (omega arith, lasting)))
+          (λ second.
+          let h = (Contains-filter (is_lasting now) due e).0 second in
+          let d = (is_due.exact e).0 h.0 in
+          (d.0, (d.1.1, (lasts now e).0 h.1))) (Contains-append_cases stay come e held)),
+      (λ h.
+          let meets = h.1 in
+          let lasting = (lasts now e).1 meets.1 in
+          ⊎_elim
+          (λ begun. Contains-append_left stay come e ((Contains-filter (is_lasting now) (map edge_of pairs) e).1 (opened.complete e h.0 (begun, omega arith), lasting)))
+          (λ ahead. Contains-append_right stay come e ((Contains-filter (is_lasting now) due e).1 ((is_due.exact e).1 (h.0, (ahead, meets.0)), lasting)))
+          (cases_lt e.first (window_end old))),
+    )
+
+pub reaching_distinct : (rules : Rules) (places : List (Option NamedTrajectory)) (old now : ℕ) (edges due : List Edge) (pairs : List OpenPair)
+    → AreOpen rules places old edges pairs → AreDue old now edges due → AllPairs (λ e f. e ≢ f) (reaching now pairs due)
+reaching_distinct rules places old now edges due pairs opened is_due =
+    distinct_append (λ e f. e ≢ f) (filter (is_lasting now) (map edge_of pairs)) (filter (is_lasting now) due)
+    (AllPairs-filter (λ e f. e ≢ f) (is_lasting now) (map edge_of pairs) (distinct_map (λ e f. e ≢ f) edge_of pairs opened.distinct))
+    (AllPairs-filter (λ e f. e ≢ f) (is_lasting now) due (apart_distinct due is_due.apart))
+    (λ e f first second same.
+    let h = (Contains-filter (is_lasting now) (map edge_of pairs) e).0 first in
+    let was = Contains-map_cases edge_of pairs e h.0 in
+    let o = opened.sound was.of was.held in
+    let begun : e.first < window_end old = subst (λ (g : Edge). g.first < window_end old) was.is o.1.0 in
+    let d = (is_due.exact f).0 ((Contains-filter (is_lasting now) due f).0 second).0 in
+    let equal : e.first ≡ f.first = ap (λ (g : Edge). g.first) same in
+    absurd (omega (arith, d.1.0)))
+
+-- what the test of these needs
+pub reaching_pairs : (rules : Rules) (places : List (Option NamedTrajectory)) (old now : ℕ) (edges due : List Edge) (pairs : List OpenPair) → old ≤ now
+    → AreKept rules places edges → AreOpen rules places old edges pairs → AreDue old now edges due
+    → All (λ e. IsPair rules places e × IsOpen now e) (reaching now pairs due)
+reaching_pairs rules places old now edges due pairs later kept opened is_due =
+    All-from_held (λ e. IsPair rules places e × IsOpen now e) (reaching now pairs due) (λ e held.
+    let h = (reaching_is rules places old now edges due pairs later opened is_due e).0 held in (kept.sound e h.0, h.1))
+
+-- the open pairs at the later moment
+pub open_moved : (rules : Rules) (places : List (Option NamedTrajectory)) (old now : ℕ) (edges due : List Edge) (pairs after : List OpenPair) → old ≤ now
+    → AreOpen rules places old edges pairs → AreDue old now edges due → map edge_of after ≡ reaching now pairs due
+    → All (λ o. IsShown rules places now o.edge o.conflict) after → AreOpen rules places now edges after
+open_moved rules places old now edges due pairs after later opened is_due same shown = record {
+  sound = λ o held.
+      let listed : Contains (reaching now pairs due) o.edge = subst (λ (es : List Edge). Contains es o.edge) same (Contains-map edge_of after o held) in
+      let h = (reaching_is rules places old now edges due pairs later opened is_due o.edge).0 listed in
+      (h.0, h.1, All-contains (λ p. IsShown rules places now p.edge p.conflict) after o shown held);
+  complete = λ e held meets. subst (λ (es : List Edge). Contains es e) (sym same)
+      ((reaching_is rules places old now edges due pairs later opened is_due e).1 (held, meets));
+  distinct = distinct_of (λ e f. e ≢ f) edge_of after
+      (subst (λ (es : List Edge). AllPairs (λ e f. e ≢ f) es) (sym same) (reaching_distinct rules places old now edges due pairs opened is_due));
+}
+
+-- at most one test for each pair that straddles an edge of the window
+pub tested_once : (rules : Rules) (places : List (Option NamedTrajectory)) (old_moment now : ℕ) (edges due : List Edge) (pairs : List OpenPair) (old new : ℕ)
+    → old_moment ≤ now → AreKept rules places edges → AreOpen rules places old_moment edges pairs → AreDue old_moment now edges due
+    → WereTested now (reaching now pairs due) old new → WasTestedOnce rules places now old new
+tested_once rules places old_moment now edges due pairs old new later kept opened is_due tested =
+    let all = reaching now pairs due in
+    let first = take tested.first all in
+    record {
+      edges = filter (straddles now) first;
+      distinct = AllPairs-filter (λ e f. e ≢ f) (straddles now) first
+          (distinct_take (λ e f. e ≢ f) tested.first all (reaching_distinct rules places old_moment now edges due pairs opened is_due));
+      each = All-from_held (λ e. IsPair rules places e × (straddles now e ≡ true)) (filter (straddles now) first) (λ e held.
+          let h = (Contains-filter (straddles now) first e).0 held in
+          let listed = Contains-take tested.first all e h.0 in
+          (kept.sound e ((reaching_is rules places old_moment now edges due pairs later opened is_due e).0 listed).0, h.1));
+      is = tested.is ∙ ap (λ (n : ℕ). raised_by n old) (sym (length-filter (straddles now) first));
+    }
+
+pub raised_by-add : (m n count : ℕ) → raised_by n (raised_by m count) ≡ raised_by (m + n) count
+raised_by-add m zero count = let e : m + 0 ≡ m = omega arith in rw e refl
+raised_by-add m (suc n) count = let e : m + suc n ≡ suc (m + n) = omega arith in rw e (ap raised (raised_by-add m n count))
+
+-- the tests so far, and that of one more edge
+pub tested_more : (now : ℕ) (edges : List Edge) (i : ℕ) (old mid new : ℕ) → (d : Edge) → i < length edges
+    → mid ≡ raised_by (count_by (straddles now) (take i edges)) old → new ≡ raised_by (cond (straddles now (get_or edges i d)) 1 0) mid
+    → new ≡ raised_by (count_by (straddles now) (take (i + 1) edges)) old
+tested_more now edges i old mid new d below so_far one =
+    let more = count_by_more now edges i d below in
+    rw more (rw (one, so_far) (raised_by-add (count_by (straddles now) (take i edges)) (cond (straddles now (get_or edges i d)) 1 0) old)) where
+      count_by_more : (now : ℕ) (edges : List Edge) (i : ℕ) (d : Edge) → i < length edges
+          → count_by (straddles now) (take (i + 1) edges) ≡ count_by (straddles now) (take i edges) + cond (straddles now (get_or edges i d)) 1 0
+      count_by_more now edges i d below =
+          let a = length-filter (straddles now) (take (i + 1) edges) in
+          let b = length-filter (straddles now) (take i edges) in
+          sym a ∙ length-filter_more (straddles now) edges i d below ∙ ap (λ (n : ℕ). n + cond (straddles now (get_or edges i d)) 1 0) b
+
+-- the list of edges, as the code makes it
+pub listed : (now : ℕ) (pairs seen_pairs : List OpenPair) (due seen_due first all : List Edge) → seen_pairs ≡ pairs → seen_due ≡ due
+    → first ≡ filter (is_lasting now) (map edge_of seen_pairs) → all ≡ first ++ filter (is_lasting now) seen_due → all ≡ reaching now pairs due
+listed now pairs seen_pairs due seen_due first all e f g h = rw (← e, ← f, ← g) h

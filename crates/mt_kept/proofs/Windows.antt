@@ -1,0 +1,83 @@
+-- A conflict over all seconds, and the one in a window; and that a loss doesn't tell which of the two comes first.
+use Rattle.std.proofs.Common.{◌≡◌, ℕ, ◌<◌, ◌≤◌, ℤ, ◌+ℤ◌, ◌-ℤ◌, ◌*ℤ◌, ◌<ℤ◌, neg_ℤ, false, arith}
+use Rattle.std.proofs.lemmas.Bool.Decides.{nat_tests}
+use Rattle.mt_ring.proofs.Ring.{lin, spread}
+use Rattle.mt_base.specs.declared.row.Row.{Row}
+use Rattle.mt_base.specs.declared.rules.Rules.{Rules}
+use Rattle.mt_base.specs.Conflict.{IsLossSecond, IsSpanOfLoss}
+use Rattle.mt_base.specs.Instant.{value_at}
+use Rattle.mt_base.specs.Loss.{LosesAt}
+use Rattle.mt_base.specs.Picture.{window_end}
+use Rattle.mt_base.specs.Trajectory.{Trajectory}
+use Rattle.mt_edges.specs.declared.edge.Edge.{Edge}
+use Rattle.mt_kept.specs.Places.{horizon}
+use Rattle.mt_kept.specs.Window.{IsOpen, straddles}
+
+-- the loss of two rows at an instant, over plain numbers
+across : (p q r s w v z : ℤ) → ((q -ℤ p) *ℤ (q -ℤ p) +ℤ (s -ℤ r) *ℤ (s -ℤ r)) <ℤ ((w +ℤ v +ℤ z) *ℤ (w +ℤ v +ℤ z))
+    → ((p -ℤ q) *ℤ (p -ℤ q) +ℤ (r -ℤ s) *ℤ (r -ℤ s)) <ℤ ((w +ℤ z +ℤ v) *ℤ (w +ℤ z +ℤ v))
+across p q r s w v z h = simp spread (omega (arith, lin, simp spread at h))
+
+above : (p q w v z : ℤ) → neg_ℤ (q -ℤ p) <ℤ (w +ℤ v +ℤ z) → (p -ℤ q) <ℤ (w +ℤ z +ℤ v)
+above p q w v z h = omega (arith, lin)
+
+below : (p q w v z : ℤ) → (q -ℤ p) <ℤ (w +ℤ v +ℤ z) → neg_ℤ (p -ℤ q) <ℤ (w +ℤ z +ℤ v)
+below p q w v z h = omega (arith, lin)
+
+pub LosesAt-sym : (rules : Rules) (a b : Row) (n d : ℤ) → LosesAt rules a b n d → LosesAt rules b a n d
+LosesAt-sym rules a b n d loss = record {
+  horizontal = across (value_at a.x a.vx n d) (value_at b.x b.vx n d) (value_at a.y a.vy n d) (value_at b.y b.vy n d)
+      (rules.sh *ℤ d) (value_at a.r a.gr n d) (value_at b.r b.gr n d) loss.horizontal;
+  above = below (value_at a.z a.vz n d) (value_at b.z b.vz n d) (rules.sv *ℤ d) (value_at a.w a.gw n d) (value_at b.w b.gw n d) loss.below;
+  below = above (value_at a.z a.vz n d) (value_at b.z b.vz n d) (rules.sv *ℤ d) (value_at a.w a.gw n d) (value_at b.w b.gw n d) loss.above;
+}
+
+pub IsLossSecond-sym : (rules : Rules) (a b : Trajectory) (k : ℕ) → IsLossSecond rules a b k → IsLossSecond rules b a k
+IsLossSecond-sym rules a b k h = record {
+  left = h.right;
+  right = h.left;
+  left_is = h.right_is;
+  right_is = h.left_is;
+  loss = record { n = h.loss.n; d = h.loss.d; begun = h.loss.begun; within = h.loss.within; loss = LosesAt-sym rules h.left h.right h.loss.n h.loss.d h.loss.loss };
+}
+
+pub IsSpanOfLoss-sym : (rules : Rules) (a b : Trajectory) (from to first last : ℕ) → IsSpanOfLoss rules a b from to first last
+    → IsSpanOfLoss rules b a from to first last
+IsSpanOfLoss-sym rules a b from to first last h = record {
+  inside = h.inside;
+  first_is = IsLossSecond-sym rules a b first h.first_is;
+  last_is = IsLossSecond-sym rules a b last h.last_is;
+  none_outside = λ k low high loss. h.none_outside k low high (IsLossSecond-sym rules b a k loss);
+}
+
+-- an open pair that straddles no edge of the window lies inside it
+within_window : (now : ℕ) (e : Edge) → IsOpen now e → straddles now e ≡ false → (now ≤ e.first) × (e.last < window_end now)
+within_window now e is_open none = grind (arith, nat_tests)
+
+-- so its conflict in the window is the one over all seconds
+pub span_in_window : (rules : Rules) (a b : Trajectory) (now : ℕ) (e : Edge) → now ≤ 10000000 → IsOpen now e → straddles now e ≡ false
+    → IsSpanOfLoss rules a b 0 horizon e.first e.last → IsSpanOfLoss rules a b now (window_end now) e.first e.last
+span_in_window rules a b now e early is_open none whole =
+    let h = within_window now e is_open none in
+    record {
+      inside = (h.0, whole.inside.1, h.1);
+      first_is = whole.first_is;
+      last_is = whole.last_is;
+      none_outside = λ k low high loss. whole.none_outside k (omega arith) (omega arith) loss;
+    }
+
+-- a pair with a loss second in the window is open
+pub is_open_at : (rules : Rules) (a b : Trajectory) (now k : ℕ) (e : Edge) → now ≤ 10000000 → IsSpanOfLoss rules a b 0 horizon e.first e.last
+    → now ≤ k → k < window_end now → IsLossSecond rules a b k → IsOpen now e
+is_open_at rules a b now k e early whole low high loss =
+    let h = whole.none_outside k (omega arith) (omega arith) loss in (omega arith, omega arith)
+
+-- there is one span
+pub one_span : (rules : Rules) (a b : Trajectory) (from to first last first' last' : ℕ) → IsSpanOfLoss rules a b from to first last
+    → IsSpanOfLoss rules a b from to first' last' → (first ≡ first') × (last ≡ last')
+one_span rules a b from to first last first' last' s t =
+    let h1 = t.none_outside first s.inside.0 (omega (arith, s.inside.1, s.inside.2)) s.first_is in
+    let h2 = s.none_outside first' t.inside.0 (omega (arith, t.inside.1, t.inside.2)) t.first_is in
+    let h3 = t.none_outside last (omega (arith, s.inside.0, s.inside.1)) s.inside.2 s.last_is in
+    let h4 = s.none_outside last' (omega (arith, t.inside.0, t.inside.1)) t.inside.2 t.last_is in
+    (omega arith, omega arith)

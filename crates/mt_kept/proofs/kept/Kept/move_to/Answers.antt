@@ -1,0 +1,77 @@
+use Rattle.std.proofs.Common.{map, ◌∙◌, ◌≤◌}
+use Rattle.std.specs.List.{All}
+use Rattle.mt_kept.specs.Places.{seen}
+use Rattle.mt_kept.specs.Window.{IsShown}
+use Rattle.mt_kept.proofs.Moving.{listed, open_moved, reaching_pairs, tested_once}
+use Rattle.mt_kept.proofs.kept.Kept.move_to.Goals as goal
+
+pub opened-requires-clause-pairs : goal.opened-requires-clause-pairs
+opened-requires-clause-pairs c =
+    let k = c.self.invariant in
+    let places = map seen c.self.inside.places.items in
+    let pairs = c.self.inside.open_pairs.items in
+    let due = c.in_ok-due.due.items in
+    let all = listed c.args.now pairs c.deref.result.now due c.deref-2.result.now c.in_ok-edges.edges.items c.add_lasting.new.edges.items
+    c.deref.ensures.value c.deref-2.ensures.value c.in_ok-edges.ensures c.in_ok-add_lasting.ensures in
+    let later : c.self.inside.moment ≤ c.args.now = rw (← c.self.view_is) at c.requires.later in
+    rw (c.deref-3.ensures.value, c.deref-4.ensures.value, all)
+    (reaching_pairs c.self.inside.rules places c.self.inside.moment c.args.now c.self.inside.pairs.edges due pairs later k.kept k.opened c.in_ok-due.ensures)
+
+pub returns-in_err-opened_pairs-clause-counted : goal.returns-in_err-opened_pairs-clause-counted
+returns-in_err-opened_pairs-clause-counted c =
+    let k = c.self.invariant in
+    let places = map seen c.self.inside.places.items in
+    let pairs = c.self.inside.open_pairs.items in
+    let due = c.in_ok-due.due.items in
+    let all = c.deref-4.ensures.value ∙ listed c.args.now pairs c.deref.result.now due c.deref-2.result.now c.in_ok-edges.edges.items c.add_lasting.new.edges.items
+    c.deref.ensures.value c.deref-2.ensures.value c.in_ok-edges.ensures c.in_ok-add_lasting.ensures in
+    let later : c.self.inside.moment ≤ c.args.now = rw (← c.self.view_is) at c.requires.later in
+    rw (← c.self.view_is) (tested_once c.self.inside.rules places c.self.inside.moment c.args.now c.self.inside.pairs.edges due pairs c.args.tests.now
+    c.opened.new.tests later k.kept k.opened c.in_ok-due.ensures (rw all at c.opened.ensures.counted))
+
+pub returns-in_err-listed-clause-counted : goal.returns-in_err-listed-clause-counted
+returns-in_err-listed-clause-counted c =
+    let k = c.self.invariant in
+    let places = map seen c.self.inside.places.items in
+    let pairs = c.self.inside.open_pairs.items in
+    let due = c.in_ok-due.due.items in
+    let all = c.deref-4.ensures.value ∙ listed c.args.now pairs c.deref.result.now due c.deref-2.result.now c.in_ok-edges.edges.items c.add_lasting.new.edges.items
+    c.deref.ensures.value c.deref-2.ensures.value c.in_ok-edges.ensures c.in_ok-add_lasting.ensures in
+    let later : c.self.inside.moment ≤ c.args.now = rw (← c.self.view_is) at c.requires.later in
+    rw (← c.self.view_is) (tested_once c.self.inside.rules places c.self.inside.moment c.args.now c.self.inside.pairs.edges due pairs c.args.tests.now
+    c.opened.new.tests later k.kept k.opened c.in_ok-due.ensures (rw all at c.opened.ensures.counted))
+
+pub returns-clause-counted : goal.returns-clause-counted
+returns-clause-counted c =
+    let k = c.self.invariant in
+    let places = map seen c.self.inside.places.items in
+    let pairs = c.self.inside.open_pairs.items in
+    let due = c.in_ok-due.due.items in
+    let all = c.deref-4.ensures.value ∙ listed c.args.now pairs c.deref.result.now due c.deref-2.result.now c.in_ok-edges.edges.items c.add_lasting.new.edges.items
+    c.deref.ensures.value c.deref-2.ensures.value c.in_ok-edges.ensures c.in_ok-add_lasting.ensures in
+    let later : c.self.inside.moment ≤ c.args.now = rw (← c.self.view_is) at c.requires.later in
+    rw (← c.self.view_is) (tested_once c.self.inside.rules places c.self.inside.moment c.args.now c.self.inside.pairs.edges due pairs c.args.tests.now
+    c.opened.new.tests later k.kept k.opened c.in_ok-due.ensures (rw all at c.opened.ensures.counted))
+
+pub invariant_of-self : goal.invariant_of-self
+invariant_of-self c =
+    let k = c.self.invariant in
+    let places = map seen c.self.inside.places.items in
+    let pairs = c.self.inside.open_pairs.items in
+    let due = c.in_ok-due.due.items in
+    let all = c.deref-4.ensures.value ∙ listed c.args.now pairs c.deref.result.now due c.deref-2.result.now c.in_ok-edges.edges.items c.add_lasting.new.edges.items
+    c.deref.ensures.value c.deref-2.ensures.value c.in_ok-edges.ensures c.in_ok-add_lasting.ensures in
+    let later : c.self.inside.moment ≤ c.args.now = rw (← c.self.view_is) at c.requires.later in
+    let shown : All (λ o. IsShown c.self.inside.rules places c.args.now o.edge o.conflict) c.in_ok-opened_pairs.opened_pairs.items =
+    rw c.deref-3.ensures.value at c.in_ok-opened_pairs.ensures.shown in
+    record {
+      bounds = k.bounds;
+      few = k.few;
+      all = k.all;
+      early = c.requires.early;
+      kept = k.kept;
+      opened = open_moved c.self.inside.rules places c.self.inside.moment c.args.now c.self.inside.pairs.edges due pairs c.in_ok-opened_pairs.opened_pairs.items later k.opened
+          c.in_ok-due.ensures (c.in_ok-opened_pairs.ensures.same ∙ all) shown;
+      exact = rw c.deref-5.ensures.value at c.in_ok-listed.ensures.exact;
+      sorted = c.in_ok-listed.ensures.sorted;
+    }

@@ -1,0 +1,97 @@
+-- What is found for a trajectory among those of other flights.
+use Rattle.std.specs.Prelude.{◌≡◌, ◌≢◌, ℕ, ◌<◌, ◌⊎◌, ◌↔◌, List, map, Contains, AllPairs, Option, Some, None, Bool, true, false, ⊤, if◌then◌else◌, not, ◌==◌, ◌&&◌}
+use Rattle.std.specs.Str.{bytes_eq}
+use Rattle.mt_base.specs.declared.rules.Rules.{Rules}
+use Rattle.mt_base.specs.Conflict.{IsConflict, IsLossSecond}
+use Rattle.mt_base.specs.Picture.{NamedTrajectory}
+use Rattle.mt_edges.specs.Pairs.{AreSame}
+use Rattle.mt_kept.specs.declared.finds.Candidate.{Candidate}
+use Rattle.mt_kept.specs.declared.finds.Verdict.{Verdict}
+use Rattle.mt_kept.specs.declared.finds.Verdict.TheVariants.{Unknown, Known}
+use Rattle.mt_kept.specs.declared.open_pair.OpenPair.{OpenPair}
+use Rattle.mt_kept.specs.Losing.{IsPair, Joins, Loses, Touches, TouchesSlot}
+use Rattle.mt_kept.specs.Places.{at, horizon, slot_of}
+use Rattle.mt_kept.specs.Window.{IsOpen, IsShown, edge_of, is_straddling}
+
+-- what is known of two trajectories is right: it is their conflict over all seconds
+abbrev pub IsRight : Rules → NamedTrajectory → NamedTrajectory → Verdict → Type 0
+IsRight rules mine other Unknown = ⊤
+IsRight rules mine other (Known span) = IsConflict rules mine.path other.path 0 horizon span
+
+-- In another place than its own stands that trajectory, of another flight.
+pub record IsOther (places : List (Option NamedTrajectory)) (place : ℕ) (mine : NamedTrajectory) (j : ℕ) (other : NamedTrajectory) : Type 0 where
+  pub is : at places j ≡ Some other
+  pub elsewhere : j ≢ place
+  pub apart : mine.call ≢ other.call
+
+abbrev pub place_of : Candidate → ℕ
+place_of x = x.place
+
+-- Each place is listed once at most. Each where a trajectory of another flight stands that has a loss second with the new one is listed, and
+-- what is known of the listed ones is right.
+pub record AreCandidates (rules : Rules) (places : List (Option NamedTrajectory)) (place : ℕ) (mine : NamedTrajectory)
+    (xs : List Candidate) : Type 0 where
+  pub right : (x : Candidate) (other : NamedTrajectory) → Contains xs x → IsOther places place mine x.place other
+      → IsRight rules mine other x.verdict
+  pub complete : (j k : ℕ) (other : NamedTrajectory) → IsOther places place mine j other → k < horizon
+      → IsLossSecond rules mine.path other.path k → Contains (map place_of xs) j
+  pub once : AllPairs (λ x y. x.place ≢ y.place) xs
+
+-- After a change the place has the new trajectory, and each other place has what it had, as far as other flights go.
+pub record Agree (places after : List (Option NamedTrajectory)) (place : ℕ) (mine : NamedTrajectory) : Type 0 where
+  pub here : at after place ≡ Some mine
+  pub there : (i : ℕ) (t : NamedTrajectory) → i ≢ place → mine.call ≢ t.call → (at after i ≡ Some t) ↔ (at places i ≡ Some t)
+
+-- What was found for one place: its pairs, each once, with what each that is open shows.
+pub record AreFindsAt (rules : Rules) (places : List (Option NamedTrajectory)) (now place : ℕ) (finds : List OpenPair) : Type 0 where
+  pub sound : (o : OpenPair) → Contains finds o
+      → Touches place o.edge × IsPair rules places o.edge × (IsOpen now o.edge → IsShown rules places now o.edge o.conflict)
+  pub complete : (a b k : ℕ) → a < b → (a ≡ place) ⊎ (b ≡ place) → Loses rules places a b k → Joins (map edge_of finds) a b
+  pub distinct : AllPairs (λ o p. ¬ AreSame o.edge p.edge) finds
+
+-- The same for both places of a slot.
+pub record AreFinds (rules : Rules) (places : List (Option NamedTrajectory)) (now slot : ℕ) (finds : List OpenPair) : Type 0 where
+  pub sound : (o : OpenPair) → Contains finds o
+      → TouchesSlot slot o.edge × IsPair rules places o.edge × (IsOpen now o.edge → IsShown rules places now o.edge o.conflict)
+  pub complete : (a b k : ℕ) → a < b → (slot_of a ≡ slot) ⊎ (slot_of b ≡ slot) → Loses rules places a b k → Joins (map edge_of finds) a b
+  pub distinct : AllPairs (λ o p. ¬ AreSame o.edge p.edge) finds
+
+-- a trajectory of another callsign
+abbrev pub is_other : Option NamedTrajectory → List ℕ → Bool
+is_other None call = false
+is_other (Some t) call = not (bytes_eq t.call call)
+
+-- a candidate in another place, where a trajectory of another flight stands
+abbrev pub is_listed : List (Option NamedTrajectory) → ℕ → List ℕ → Candidate → Bool
+is_listed places place call x = not (x.place == place) && is_other (at places x.place) call
+
+-- how many tests a pair asks for whose conflict over all seconds is known: one where it straddles an edge of the window
+abbrev pub cost_known : ℕ → Option (ℕ × ℕ) → ℕ
+cost_known now None = 0
+cost_known now (Some span) = if is_straddling now span.0 span.1 then 1 else 0
+
+-- two where nothing is known
+abbrev pub cost_of : ℕ → Verdict → ℕ
+cost_of now Unknown = 2
+cost_of now (Known span) = cost_known now span
+
+-- how many a candidate asks for: none where no trajectory of another flight stands
+abbrev pub cost : List (Option NamedTrajectory) → ℕ → List ℕ → ℕ → Candidate → ℕ
+cost places place call now x = if is_listed places place call x then cost_of now x.verdict else 0
+
+-- whether nothing is known of a candidate, and whether what is known straddles an edge of the window
+abbrev pub is_unknown : Verdict → Bool
+is_unknown Unknown = true
+is_unknown (Known span) = false
+
+abbrev pub is_crossing : ℕ → Verdict → Bool
+is_crossing now Unknown = false
+is_crossing now (Known None) = false
+is_crossing now (Known (Some span)) = is_straddling now span.0 span.1
+
+-- the candidates that ask for two tests, and those that ask for one
+abbrev pub asks_two : List (Option NamedTrajectory) → ℕ → List ℕ → Candidate → Bool
+asks_two places place call x = is_listed places place call x && is_unknown x.verdict
+
+abbrev pub asks_one : List (Option NamedTrajectory) → ℕ → List ℕ → ℕ → Candidate → Bool
+asks_one places place call now x = is_listed places place call x && is_crossing now x.verdict

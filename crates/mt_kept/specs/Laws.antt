@@ -1,0 +1,38 @@
+-- What callers know of finds, besides what the calls say.
+use Rattle.std.specs.Prelude.{◌≡◌, ◌≢◌, ℕ, ◌+◌, ◌*◌, List, [], ◌++◌, length, map, filter, AllPairs, Option, Some, None}
+use Rattle.std.specs.List.{sum_by}
+use Rattle.std.specs.List.Sorted.{IsStrictlyIncreasing}
+use Rattle.mt_base.specs.declared.rules.Rules.{Rules}
+use Rattle.mt_base.specs.Picture.{NamedTrajectory}
+use Rattle.mt_kept.specs.declared.finds.Candidate.{Candidate}
+use Rattle.mt_kept.specs.declared.open_pair.OpenPair.{OpenPair}
+use Rattle.mt_kept.specs.Finds.{Agree, AreFinds, AreFindsAt, asks_one, asks_two, cost, place_of}
+use Rattle.mt_kept.specs.Places.{at}
+
+-- What was found for the two places of a slot, which are of one flight, is together what was found for the slot.
+abbrev pub FindsJoin : Type 0
+FindsJoin = (rules : Rules) (after : List (Option NamedTrajectory)) (now slot : ℕ) (first second : List OpenPair)
+    → ((s t : NamedTrajectory) → at after (2 * slot) ≡ Some s → at after (2 * slot + 1) ≡ Some t → s.call ≡ t.call)
+    → AreFindsAt rules after now (2 * slot) first → AreFindsAt rules after now (2 * slot + 1) second
+    → AreFinds rules after now slot (first ++ second)
+
+-- For an empty place nothing is found.
+abbrev pub EmptyFindsNone : Type 0
+EmptyFindsNone = (rules : Rules) (after : List (Option NamedTrajectory)) (now place : ℕ) → at after place ≡ None
+    → AreFindsAt rules after now place []
+
+-- What was found for a place that keeps its trajectory stays so, where the others change only as far as its own flight goes.
+abbrev pub FindsStay : Type 0
+FindsStay = (rules : Rules) (places after : List (Option NamedTrajectory)) (now place : ℕ) (mine : NamedTrajectory) (finds : List OpenPair)
+    → at places place ≡ Some mine → Agree places after place mine → AreFindsAt rules places now place finds
+    → AreFindsAt rules after now place finds
+
+-- Candidates whose places rise are listed once each.
+abbrev pub RisingIsOnce : Type 0
+RisingIsOnce = (xs : List Candidate) → IsStrictlyIncreasing (map place_of xs) → AllPairs (λ x y. x.place ≢ y.place) xs
+
+-- Candidates cost two tests each where nothing is known of them, and one each where what is known straddles an edge of the window.
+abbrev pub CostsAdd : Type 0
+CostsAdd = (places : List (Option NamedTrajectory)) (place : ℕ) (call : List ℕ) (now : ℕ) (xs : List Candidate)
+    → sum_by (cost places place call now) xs
+    ≡ 2 * length (filter (asks_two places place call) xs) + length (filter (asks_one places place call now) xs)

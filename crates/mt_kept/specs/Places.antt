@@ -1,0 +1,31 @@
+-- Places, two for each slot, and the trajectories that stand in them.
+use Rattle.std.specs.Prelude.{ℕ, ◌+◌, ◌*◌, ◌/◌, List, set, slice_index_or, Option, None}
+use Rattle.std.specs.List.{flat_map}
+use Rattle.std.specs.Option.{option_map, option_to_list}
+use Rattle.mt_base.specs.Picture.{NamedTrajectory}
+use Rattle.mt_track.specs.declared.roster.Item.{Item}
+use Rattle.mt_track.specs.Named.{named}
+
+-- all seconds that a trajectory can cover lie before this one
+abbrev pub horizon : ℕ
+horizon = 10014400
+
+-- the trajectory of an item, where there is one
+abbrev pub seen : Option Item → Option NamedTrajectory
+seen place = option_map named place
+
+-- what stands in a place; nothing stands past the last one
+abbrev pub at : List (Option NamedTrajectory) → ℕ → Option NamedTrajectory
+at places i = slice_index_or places i None
+
+-- the trajectories in the places
+abbrev pub held : List (Option NamedTrajectory) → List NamedTrajectory
+held places = flat_map option_to_list places
+
+-- A slot has two places: the one with twice its number, and the next.
+abbrev pub slot_of : ℕ → ℕ
+slot_of place = place / 2
+
+-- the places, with these two in those of a slot
+abbrev pub with_slot : List (Option NamedTrajectory) → ℕ → Option NamedTrajectory → Option NamedTrajectory → List (Option NamedTrajectory)
+with_slot places slot first second = set (set places (2 * slot) first) (2 * slot + 1) second

@@ -1,0 +1,14 @@
+-- How many pair tests there are.
+use Rattle.std.specs.Prelude.{◌≡◌, ℕ, zero, suc, ◌≤◌}
+use Rattle.mt_base.specs.Tally.{raised}
+
+-- a number of tests raised that many times by one, up to the type's end
+abbrev pub raised_by : ℕ → ℕ → ℕ
+raised_by zero count = count
+raised_by (suc more) count = raised (raised_by more count)
+
+-- it was raised at most that many times
+pub record RoseUpTo (most old new : ℕ) : Type 0 where
+  pub more : ℕ
+  pub within : more ≤ most
+  pub is : new ≡ raised_by more old

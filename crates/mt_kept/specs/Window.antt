@@ -1,0 +1,63 @@
+-- The pairs that are open in the window from a moment, and what they show in it.
+use Rattle.std.specs.Prelude.{◌≡◌, ◌≢◌, ℕ, ◌<◌, ◌≤◌, ◌⊎◌, List, map, length, Contains, All, AllPairs, Option, Some, None, Bool, true, ◌&&◌, ◌||◌, nat_lt, nat_le}
+use Rattle.mt_base.specs.declared.conflict.Conflict.{Conflict}
+use Rattle.mt_base.specs.declared.rules.Rules.{Rules}
+use Rattle.mt_base.specs.Conflict.{IsLossSecond}
+use Rattle.mt_base.specs.Picture.{NamedTrajectory, IsOf, window_end}
+use Rattle.mt_edges.specs.declared.edge.Edge.{Edge}
+use Rattle.mt_kept.specs.declared.open_pair.OpenPair.{OpenPair}
+use Rattle.mt_kept.specs.Losing.{IsPair}
+use Rattle.mt_kept.specs.Places.{at}
+use Rattle.mt_kept.specs.Tests.{raised_by}
+
+-- A pair is open where its span over all seconds meets the window: it begins before the window's end and doesn't end before the moment.
+abbrev pub IsOpen : ℕ → Edge → Type 0
+IsOpen now e = (e.first < window_end now) × (now ≤ e.last)
+
+-- A span of seconds straddles an edge of the window: it begins before the moment, or before the window's end, and goes on at it.
+abbrev pub crosses : ℕ → ℕ → ℕ → Bool
+crosses first last second = nat_lt first second && nat_le second last
+
+abbrev pub is_straddling : ℕ → ℕ → ℕ → Bool
+is_straddling now first last = crosses first last now || crosses first last (window_end now)
+
+-- the span of a pair does
+abbrev pub straddles : ℕ → Edge → Bool
+straddles now e = is_straddling now e.first e.last
+
+-- In the window the two trajectories, either of which may have the lesser callsign, have that conflict, or none.
+abbrev pub IsFoundOf : Rules → ℕ → NamedTrajectory → NamedTrajectory → Option Conflict → Type 0
+IsFoundOf rules now left right (Some c) = IsOf rules now left right c ⊎ IsOf rules now right left c
+IsFoundOf rules now left right None = (k : ℕ) → now ≤ k → k < window_end now → ¬ IsLossSecond rules left.path right.path k
+
+-- what the two places of a pair show in the window
+pub record IsShown (rules : Rules) (places : List (Option NamedTrajectory)) (now : ℕ) (e : Edge) (shown : Option Conflict) : Type 0 where
+  pub left : NamedTrajectory
+  pub right : NamedTrajectory
+  pub left_is : at places e.a ≡ Some left
+  pub right_is : at places e.b ≡ Some right
+  pub found : IsFoundOf rules now left right shown
+
+abbrev pub edge_of : OpenPair → Edge
+edge_of o = o.edge
+
+-- The open pairs: exactly the kept pairs that are open, each once, each with what it shows.
+pub record AreOpen (rules : Rules) (places : List (Option NamedTrajectory)) (now : ℕ) (edges : List Edge)
+    (open_pairs : List OpenPair) : Type 0 where
+  pub sound : (o : OpenPair) → Contains open_pairs o
+      → Contains edges o.edge × IsOpen now o.edge × IsShown rules places now o.edge o.conflict
+  pub complete : (e : Edge) → Contains edges e → IsOpen now e → Contains (map edge_of open_pairs) e
+  pub distinct : AllPairs (λ o p. o.edge ≢ p.edge) open_pairs
+
+-- some open pair shows that conflict
+pub record Shows (open_pairs : List OpenPair) (c : Conflict) : Type 0 where
+  pub pair : OpenPair
+  pub held : Contains open_pairs pair
+  pub shown : pair.conflict ≡ Some c
+
+-- At most one test was made for each pair of the places that straddles an edge of the window, and no other test.
+pub record WasTestedOnce (rules : Rules) (places : List (Option NamedTrajectory)) (now old new : ℕ) : Type 0 where
+  pub edges : List Edge
+  pub distinct : AllPairs (λ e f. e ≢ f) edges
+  pub each : All (λ e. IsPair rules places e × (straddles now e ≡ true)) edges
+  pub is : new ≡ raised_by (length edges) old

@@ -1,0 +1,182 @@
+//! The pairs of a trajectory with those of other flights.
+ghost use Rattle.std.specs.Prelude.{◌≡◌, ◌≢◌, ◌≤◌, List, Option, map, IfOk, OnOk, if◌then◌else◌};
+ghost use Rattle.std.specs.List.{sum_by};
+ghost use Rattle.mt_base.specs.Bounds.{AreWithinBounds};
+ghost use Rattle.mt_base.specs.Conflict.{IsConflict, IsSpanOfLoss};
+ghost use Rattle.mt_base.specs.Picture.{NamedTrajectory};
+ghost use Rattle.mt_track.specs.Named.{named};
+ghost use Rattle.mt_kept.specs.Finds.{Agree, AreCandidates, AreFindsAt, IsOther, IsRight, cost, cost_of};
+ghost use Rattle.mt_kept.specs.Made.{IsAdded, IsAddedAt, IsEdgeOf, IsKnownAs, unknown};
+ghost use Rattle.mt_kept.specs.Places.{horizon, seen};
+ghost use Rattle.mt_kept.specs.Tests.{RoseUpTo, raised_by};
+ghost use Rattle.mt_kept.specs.Window.{IsFoundOf, IsOpen, straddles};
+
+use crate::open_pair::{OpenPair, is_open, push_pair};
+use crate::showing::shown_pair;
+use mt_base::{Conflict, Memory, Rules, Second, Tally};
+use mt_edges::Edge;
+use mt_pair::lose;
+use mt_track::Item;
+use std::alloc::Global;
+
+/// The second before which all trajectories end.
+const HORIZON: Second = 10_014_400;
+
+/// What is known of two trajectories: nothing, or their conflict over all seconds.
+#[derive(Clone, Copy)]
+pub enum Verdict {
+    /// They have to be tested.
+    Unknown,
+    /// They have this conflict, its first and its last second, or none.
+    Known(Option<(Second, Second)>),
+}
+
+/// A place whose trajectory a new one may lose separation from, and what is known of the two.
+#[derive(Clone, Copy)]
+pub struct Candidate {
+    /// The place.
+    pub place: u32,
+    /// What is known.
+    pub verdict: Verdict,
+}
+
+/// The conflict over all seconds of a new item and another, by a test where it isn't known.
+fn whole(
+    item: &Item,
+    other: &Item,
+    verdict: Verdict,
+    rules: &Rules,
+    tests: &mut Tally,
+) -> Option<(Second, Second)>
+    requires rules_kept { AreWithinBounds rules.now }
+    requires known { IsRight rules.now (named item.now) (named other.now) verdict }
+    ensures is { IsConflict rules.now (named item.now).path (named other.now).path 0 horizon result }
+    ensures same { IsKnownAs verdict result }
+    ensures counted { tests.new ≡ raised_by (unknown verdict) tests.old }
+{
+    match verdict {
+        Verdict::Unknown => lose(&item.strand, &other.strand, rules, 0, HORIZON, tests),
+        Verdict::Known(span) => span,
+    }
+}
+
+/// The pair of two places with that span.
+fn edge_between(place: u32, other: u32, span: (Second, Second)) -> Edge
+    requires { place ≢ other }
+    ensures { IsEdgeOf place other span result }
+{
+    Edge {
+        a: place.min(other),
+        b: place.max(other),
+        first: span.0,
+        last: span.1,
+    }
+}
+
+/// What a pair shows where it is open.
+fn shown_if_open(
+    item: &Item,
+    other: &Item,
+    edge: &Edge,
+    rules: &Rules,
+    now: Second,
+    tests: &mut Tally,
+) -> Option<Conflict>
+    requires rules_kept { AreWithinBounds rules.now }
+    requires early { now ≤ 10000000 }
+    requires apart { item.now.call ≢ other.now.call }
+    requires span { IsSpanOfLoss rules.now (named item.now).path (named other.now).path 0 horizon edge.now.first edge.now.last }
+    ensures found { IsOpen now edge.now → IsFoundOf rules.now now (named item.now) (named other.now) result }
+    ensures counted { RoseUpTo (if straddles now edge.now then 1 else 0) tests.old tests.new }
+{
+    if is_open(edge, now) {
+        shown_pair(item, other, edge, rules, now, tests)
+    } else {
+        None
+    }
+}
+
+/// Puts behind the finds what is found for a new item and one of another flight.
+fn add_find(
+    finds: &mut Vec<OpenPair>,
+    place: u32,
+    item: &Item,
+    candidate: Candidate,
+    other: &Item,
+    rules: &Rules,
+    now: Second,
+    tests: &mut Tally,
+) -> Result<(), Memory>
+    requires rules_kept { AreWithinBounds rules.now }
+    requires early { now ≤ 10000000 }
+    requires elsewhere { candidate.place ≢ place }
+    requires apart { item.now.call ≢ other.now.call }
+    requires known { IsRight rules.now (named item.now) (named other.now) candidate.verdict }
+    ensures added { OnOk result (IsAdded rules.now now place candidate.place (named item.now) (named other.now) finds.old.items finds.new.items) }
+    ensures counted { RoseUpTo (cost_of now candidate.verdict) tests.old tests.new }
+{
+    let Some(span) = whole(item, other, candidate.verdict, rules, tests) else {
+        return Ok(());
+    };
+    let edge = edge_between(place, candidate.place, span);
+    let conflict = shown_if_open(item, other, &edge, rules, now, tests);
+    push_pair(finds, edge, conflict)
+}
+
+/// Does so for a candidate, where a trajectory of another flight stands in its place.
+fn add_candidate(
+    finds: &mut Vec<OpenPair>,
+    places: &[Option<Item>],
+    place: u32,
+    item: &Item,
+    candidate: Candidate,
+    rules: &Rules,
+    now: Second,
+    tests: &mut Tally,
+) -> Result<(), Memory>
+    requires rules_kept { AreWithinBounds rules.now }
+    requires early { now ≤ 10000000 }
+    requires right { (other : NamedTrajectory) → IsOther (map seen places.now) place (named item.now) candidate.place other
+        → IsRight rules.now (named item.now) other candidate.verdict }
+    ensures added { OnOk result (IsAddedAt rules.now now (map seen places.now) place (named item.now) candidate finds.old.items finds.new.items) }
+    ensures counted { RoseUpTo (cost (map seen places.now) place item.now.call now candidate) tests.old tests.new }
+{
+    let there = candidate.place as usize;
+    if candidate.place == place || there >= places.len() {
+        return Ok(());
+    }
+    let Some(other) = &places[there] else {
+        return Ok(());
+    };
+    if other.call == item.call {
+        return Ok(());
+    }
+    add_find(finds, place, item, candidate, other, rules, now, tests)
+}
+
+/// The pairs of an item that is to stand in a place, with the trajectories of other flights.
+pub(crate) fn gather(
+    alloc: Global,
+    places: &[Option<Item>],
+    place: u32,
+    item: &Item,
+    candidates: &[Candidate],
+    rules: &Rules,
+    now: Second,
+    tests: &mut Tally,
+) -> Result<Vec<OpenPair>, Memory>
+    requires rules_kept { AreWithinBounds rules.now }
+    requires early { now ≤ 10000000 }
+    requires candidates { AreCandidates rules.now (map seen places.now) place (named item.now) candidates.now }
+    ensures finds { IfOk result (λ finds. (after : List (Option NamedTrajectory)) → Agree (map seen places.now) after place (named item.now)
+        → AreFindsAt rules.now after now place finds.items) }
+    ensures counted { RoseUpTo (sum_by (cost (map seen places.now) place item.now.call now) candidates.now) tests.old tests.new }
+{
+    let mut finds = Vec::new(alloc);
+    for candidate in candidates {
+        add_candidate(
+            &mut finds, places, place, item, *candidate, rules, now, tests,
+        )?;
+    }
+    Ok(finds)
+}

@@ -1,0 +1,227 @@
+ghost use Rattle.std.specs.Prelude.{◌≡◌, ◌+◌, ◌*◌, ◌<◌, ◌≤◌, [], All, AllPairs, IfOk, List, None, OnErr, OnOk, Option, length, map, replicate};
+ghost use Rattle.std.specs.List.{sum_by};
+ghost use Rattle.mt_base.specs.Bounds.{AreWithinBounds};
+ghost use Rattle.mt_base.specs.Picture.{IsPublishedOf, NamedTrajectory};
+ghost use Rattle.mt_edges.specs.Pairs.{AreApart, AreSame, IsEdge};
+ghost use Rattle.mt_track.specs.Named.{named};
+ghost use Rattle.mt_kept.specs.Dropped.{WereStepsOf};
+ghost use Rattle.mt_kept.specs.Finds.{Agree, AreCandidates, AreFinds, AreFindsAt, cost};
+ghost use Rattle.mt_kept.specs.Losing.{TouchesSlot};
+ghost use Rattle.mt_kept.specs.Made.{AreReplaced, WereDropped};
+ghost use Rattle.mt_kept.specs.Places.{held, seen, with_slot};
+ghost use Rattle.mt_kept.specs.Tests.{RoseUpTo};
+ghost use Rattle.mt_kept.specs.Window.{WasTestedOnce};
+
+use crate::finds::{Candidate, gather};
+use crate::lists::{add_closed, add_lasting, add_open, at_place, elsewhere, lasting};
+use crate::open_pair::{OpenPair, WINDOW};
+use crate::showing::{opened, published};
+use mt_base::{Conflict, Conflicts, Memory, Rules, Second, Steps, Tally};
+use mt_edges::Edges;
+use mt_track::Item;
+use std::alloc::Global;
+use std::marker::Model;
+
+/// The conflicts of the trajectories in some places, kept while these change: the pairs of places that lose separation over all
+/// seconds, those of them that are open, and what is published. Slot s has the places 2 s and 2 s + 1.
+#[derive(Drop)]
+pub struct Kept {
+    rules: Rules,
+    moment: Second,
+    places: Vec<Option<Item>>,
+    pairs: Edges,
+    open_pairs: Vec<OpenPair>,
+    published: Conflicts,
+}
+
+impl Model for Kept {
+    ghost use Rattle.std.specs.Prelude.{map};
+    ghost use Rattle.mt_kept.specs.Kept.{IsKept, Watched};
+    ghost use Rattle.mt_kept.specs.Places.{seen};
+
+    ghost Value = { Watched };
+
+    ghost view = { λ k. record { rules = k.rules; moment = k.moment; places = map seen k.places.items; published = k.published } };
+
+    ghost invariant = { λ k. IsKept k.rules k.moment (map seen k.places.items) k.pairs.edges k.pairs.ends k.open_pairs.items k.published };
+}
+
+/// Takes the pairs of a slot out and puts the found ones in. It takes no memory.
+fn replace_pairs(pairs: &mut Edges, slot: u32, finds: &[OpenPair], steps: &mut Steps)
+    requires slot { 2 * slot + 1 < pairs.old.ends }
+    requires few { pairs.old.ends ≤ 4294967296 }
+    requires room { length finds.now ≤ pairs.old.spare }
+    requires touching { All (λ o. TouchesSlot slot o.edge) finds.now }
+    requires sound { All (λ o. IsEdge pairs.old.ends o.edge) finds.now }
+    requires distinct { AllPairs (λ o p. ¬ AreSame o.edge p.edge) finds.now }
+    ensures replaced { AreReplaced slot finds.now pairs.old.edges pairs.new.edges }
+    ensures once { AreApart pairs.new.edges }
+    ensures ends { pairs.new.ends ≡ pairs.old.ends }
+    ensures steps { WereDropped slot pairs.old.edges steps.old steps.new }
+{
+    pairs.drop_all(2 * slot, steps);
+    pairs.drop_all(2 * slot + 1, steps);
+    for find in finds {
+        pairs.add(find.edge);
+    }
+}
+
+impl Kept {
+    /// So many slots of empty places, at moment 0.
+    pub fn make(alloc: Global, rules: &Rules, slots: u32) -> Result<Kept, Memory>
+        requires bounds { AreWithinBounds rules.now }
+        requires few { slots < 2147483648 }
+        ensures { IfOk result (λ kept. kept ≡ record { rules = rules.now; moment = 0; places = replicate (2 * slots) None; published = [] }) }
+    {
+        let count = 2 * slots;
+        let mut places = Vec::new(alloc);
+        for _ in 0..count {
+            places.push(None)?;
+        }
+        Ok(Kept {
+            rules: *rules,
+            moment: 0,
+            places,
+            pairs: Edges::make(alloc, count)?,
+            open_pairs: Vec::new(alloc),
+            published: Conflicts::make(alloc)?,
+        })
+    }
+
+    /// The moment from which the window lasts.
+    pub fn moment(&self) -> Second
+        ensures { result ≡ self.now.moment }
+    {
+        self.moment
+    }
+
+    /// What stands in the places.
+    pub fn places(&self) -> &[Option<Item>]
+        ensures { map seen result.now ≡ self.now.places }
+    {
+        &self.places
+    }
+
+    /// The conflicts of the trajectories in the window of 1,200 seconds from the moment: of every two of different flights their
+    /// conflict, where they have one, and no other, once, in the order of publishing.
+    pub fn published(&self) -> &[Conflict]
+        ensures same { result.now ≡ self.now.published }
+        ensures published { IsPublishedOf self.now.rules self.now.moment (held self.now.places) self.now.published }
+    {
+        self.published.items()
+    }
+
+    /// The pairs of an item that is to stand in a place, with the trajectories of other flights in the other places. They are those of
+    /// that place after each change that puts the item there and leaves the places of other flights as they are.
+    ///
+    /// It asks that each place is listed once at most, that each whose trajectory loses separation from the item is listed, and that
+    /// what is known of the listed ones is right. Listed places that are empty, the place itself and places of the item's own flight are
+    /// passed over. A pair of which nothing is known is tested at most twice, one that is known at most once and only where its span
+    /// straddles an edge of the window.
+    pub fn gather(
+        &self,
+        alloc: Global,
+        place: u32,
+        item: &Item,
+        candidates: &[Candidate],
+        tests: &mut Tally,
+    ) -> Result<Vec<OpenPair>, Memory>
+        requires { AreCandidates self.now.rules self.now.places place (named item.now) candidates.now }
+        ensures finds { IfOk result (λ finds. (after : List (Option NamedTrajectory)) → Agree self.now.places after place (named item.now)
+            → AreFindsAt self.now.rules after self.now.moment place finds.items) }
+        ensures counted { RoseUpTo (sum_by (cost self.now.places place item.now.call self.now.moment) candidates.now) tests.old tests.new }
+    {
+        gather(
+            alloc,
+            &self.places,
+            place,
+            item,
+            candidates,
+            &self.rules,
+            self.moment,
+            tests,
+        )
+    }
+
+    /// The pairs of a place, each with what it shows where it is open, as if they were found for it. It makes no test.
+    pub fn of(&self, alloc: Global, place: u32) -> Result<Vec<OpenPair>, Memory>
+        requires { place < length self.now.places }
+        ensures { IfOk result (λ finds. AreFindsAt self.now.rules self.now.places self.now.moment place finds.items) }
+    {
+        let mut finds = at_place(alloc, &self.open_pairs, place)?;
+        let edges = self.pairs.of(place)?;
+        add_closed(&mut finds, &edges, self.moment)?;
+        Ok(finds)
+    }
+
+    /// Puts two items, or nothing, into the places of a slot, with the pairs that were found for them. It makes no test, and takes all
+    /// its memory before it changes anything, so on an error all stays as it was.
+    ///
+    /// It makes at most six steps for each pair that the slot had, and two. A caller that bounds no steps hands in a `Steps::new()` and
+    /// forgets it.
+    pub fn change(
+        &mut self,
+        alloc: Global,
+        slot: u32,
+        first: Option<Item>,
+        second: Option<Item>,
+        finds: &[OpenPair],
+        steps: &mut Steps,
+    ) -> Result<(), Memory>
+        requires slot { 2 * slot + 1 < length self.old.places }
+        requires finds { AreFinds self.old.rules (with_slot self.old.places slot (seen first) (seen second)) self.old.moment slot finds.now }
+        ensures rules { self.new.rules ≡ self.old.rules }
+        ensures moment { self.new.moment ≡ self.old.moment }
+        ensures ok { OnOk result (self.new.places ≡ with_slot self.old.places slot (seen first) (seen second)) }
+        ensures err { OnErr result (self.new ≡ self.old) }
+        ensures steps { WereStepsOf self.old.rules self.old.places slot steps.old steps.new }
+    {
+        let Ok(count) = u32::try_from(finds.len()) else {
+            return Err(Memory);
+        };
+        self.pairs.reserve(count)?;
+        let mut open_pairs = elsewhere(alloc, &self.open_pairs, slot)?;
+        add_open(&mut open_pairs, finds, self.moment)?;
+        let list = published(alloc, &open_pairs)?;
+        replace_pairs(&mut self.pairs, slot, finds, steps);
+        self.places[2 * slot as usize] = first;
+        self.places[2 * slot as usize + 1] = second;
+        self.open_pairs = open_pairs;
+        self.published = list;
+        Ok(())
+    }
+
+    /// Empties a slot, as `change` does. It makes no test.
+    pub fn remove(&mut self, alloc: Global, slot: u32, steps: &mut Steps) -> Result<(), Memory>
+        requires slot { 2 * slot + 1 < length self.old.places }
+        ensures rules { self.new.rules ≡ self.old.rules }
+        ensures moment { self.new.moment ≡ self.old.moment }
+        ensures ok { OnOk result (self.new.places ≡ with_slot self.old.places slot None None) }
+        ensures err { OnErr result (self.new ≡ self.old) }
+        ensures steps { WereStepsOf self.old.rules self.old.places slot steps.old steps.new }
+    {
+        self.change(alloc, slot, None, None, &[], steps)
+    }
+
+    /// Moves the window to a later moment, or to the same. Of the pairs it tests only those that straddle an edge of the new window, each
+    /// once. It takes all its memory before it changes anything, so on an error all stays as it was.
+    pub fn move_to(&mut self, alloc: Global, now: Second, tests: &mut Tally) -> Result<(), Memory>
+        requires later { self.old.moment ≤ now }
+        requires early { now ≤ 10000000 }
+        ensures rules { self.new.rules ≡ self.old.rules }
+        ensures places { self.new.places ≡ self.old.places }
+        ensures ok { OnOk result (self.new.moment ≡ now) }
+        ensures err { OnErr result (self.new ≡ self.old) }
+        ensures counted { WasTestedOnce self.old.rules self.old.places now tests.old tests.new }
+    {
+        let mut edges = lasting(alloc, &self.open_pairs, now)?;
+        let due = self.pairs.due(self.moment + WINDOW, now + WINDOW)?;
+        add_lasting(&mut edges, &due, now)?;
+        let opened_pairs = opened(alloc, &self.places, &edges, &self.rules, now, tests)?;
+        let listed = published(alloc, &opened_pairs)?;
+        self.moment = now;
+        self.open_pairs = opened_pairs;
+        self.published = listed;
+        Ok(())
+    }
+}

@@ -1,0 +1,17 @@
+//! The conflicts of some trajectories, kept while these change: what stands in places, the pairs of places that lose separation over all
+//! seconds, those that are open, and what is published. It knows nothing of commands.
+#![tactic(auto)]
+
+mod finds;
+mod kept;
+mod laws;
+mod lists;
+mod open_pair;
+mod showing;
+
+pub use finds::{Candidate, Verdict};
+pub use kept::Kept;
+pub use laws::finds_laws;
+pub use mt_edges::Edge;
+pub use mt_memory::Memory;
+pub use open_pair::OpenPair;

@@ -1,0 +1,48 @@
+//! A pair of places, and whether it is open.
+ghost use Rattle.std.specs.Prelude.{◌≡◌, ◌++◌, ◌∷◌, [], ◌≤◌, OnOk};
+ghost use Rattle.mt_kept.specs.Made.{is_open};
+ghost use Rattle.mt_kept.specs.Window.{straddles};
+
+use mt_base::{Conflict, Memory, Second};
+use mt_edges::Edge;
+
+/// The seconds of the window.
+pub(crate) const WINDOW: Second = 1200;
+
+/// A pair of places, the lesser first, with the conflict that their trajectories have in the window.
+#[derive(Clone, Copy)]
+pub struct OpenPair {
+    /// The two places, and the conflict of their trajectories over all seconds.
+    pub edge: Edge,
+    /// Their conflict in the window, where they have one there.
+    pub conflict: Option<Conflict>,
+}
+
+/// Whether the pair's span meets the window from `now`.
+pub(crate) fn is_open(edge: &Edge, now: Second) -> bool
+    requires { now ≤ 10000000 }
+    ensures { result ≡ is_open now edge.now }
+{
+    edge.first < now + WINDOW && now <= edge.last
+}
+
+/// Whether an edge of the window from `now` lies inside the pair's span.
+pub(crate) fn is_straddling(edge: &Edge, now: Second) -> bool
+    requires { now ≤ 10000000 }
+    ensures { result ≡ straddles now edge.now }
+{
+    let end = now + WINDOW;
+    (edge.first < now && now <= edge.last) || (edge.first < end && end <= edge.last)
+}
+
+/// Puts a pair behind the others.
+pub(crate) fn push_pair(
+    pairs: &mut Vec<OpenPair>,
+    edge: Edge,
+    conflict: Option<Conflict>,
+) -> Result<(), Memory>
+    ensures { OnOk result (pairs.new.items ≡ pairs.old.items ++ record { edge = edge; conflict = conflict } ∷ []) }
+{
+    pairs.push(OpenPair { edge, conflict })?;
+    Ok(())
+}

@@ -1,0 +1,15 @@
+pub mod Covered
+pub mod Filing
+pub mod Gathered
+pub mod HitsFound
+pub mod Left
+pub mod Looking
+pub mod Members
+pub mod Nearby
+pub mod Order
+pub mod Placed
+pub mod Short
+pub mod Spans
+pub mod Strands
+pub mod Tried
+pub mod Whole

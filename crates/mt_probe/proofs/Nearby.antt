@@ -1,0 +1,193 @@
+-- What is found with the trajectories near a new one is what is found with all.
+use Rattle.std.proofs.Common.{◌≡◌, ◌≢◌, ℕ, zero, suc, ◌+◌, ◌*◌, ◌/◌, ◌<◌, ◌≤◌, ⊎_elim, List, [], ◌∷◌, ◌++◌, Option, Some, None, Contains, length, get_or, take, option_map, Bool, true, false, refl, sym, ◌∙◌, ap, subst, true≢false, if◌then◌else◌, length-append, arith}
+use Rattle.std.proofs.lemmas.Cmp.{nat_cmp_total}
+use Rattle.std.proofs.lemmas.List.{flat_map_more, take_more}
+use Rattle.std.proofs.lemmas.Map.Keys.{sorted_from_strictly_increasing}
+use Rattle.std.proofs.lemmas.Slice.Eq.{bytes_eq-Decides}
+use Rattle.std.specs.Arc.{arc_value}
+use Rattle.std.specs.List.{flat_map}
+use Rattle.std.specs.Prelude.{option_and_then}
+use Rattle.std.specs.Str.{bytes_eq}
+use Rattle.mt_base.specs.declared.conflict.Kind.{Kind}
+use Rattle.mt_base.specs.declared.conflict.Kind.TheVariants.{Actual, Tentative}
+use Rattle.mt_base.specs.declared.flight.Record.{Record}
+use Rattle.mt_base.specs.declared.rules.Rules.{Rules}
+use Rattle.mt_base.specs.Bounds.{AreWithinBounds}
+use Rattle.mt_base.specs.Conflict.{IsLossSecond}
+use Rattle.mt_base.specs.Picture.{NamedTrajectory}
+use Rattle.mt_base.specs.Trajectory.{Trajectory}
+use Rattle.mt_base.proofs.OneOrder.{one_order}
+use Rattle.mt_cover.specs.declared.stays.Stay.{Stay}
+use Rattle.mt_cover.specs.Cells.{cover_of}
+use Rattle.mt_cover.proofs.Law.{misses_none}
+use Rattle.mt_track.specs.Laid.{IsStrand}
+use Rattle.mt_probe.specs.declared.finding.Found.{Found}
+use Rattle.mt_probe.specs.declared.flight.Flight.{Flight}
+use Rattle.mt_probe.specs.Finds.{AreFinds, FindsMore}
+use Rattle.mt_probe.specs.Items.{AreNearItems, IsNearItem, kind_at, other_at, other_of, others_among, path_of, stays_at, stays_by, stays_of}
+use Rattle.mt_probe.specs.Shot.{Shot, kept_of, made_named, state_of}
+use Rattle.mt_probe.specs.Standing.{IsSoundShot}
+use Rattle.mt_probe.proofs.Covered.{at_even, at_odd, even_half, even_kind, odd_half, odd_kind}
+use Rattle.mt_probe.proofs.Gathered.{at_kept, kept_at, kept_call}
+use Rattle.mt_probe.proofs.Members.{front_or_rest, in_front, in_joined, in_one, none_in}
+
+-- what an item names of another flight is kept of that flight
+pub record IsOther (slots : List (Option Flight)) (call : List ℕ) (item : ℕ) (other : NamedTrajectory) : Type 0 where
+  pub flight : Flight
+  pub at : get_or slots (item / 2) None ≡ Some flight
+  pub apart : flight.card.call ≢ call
+  pub kept : Contains (kept_of flight) other
+
+kept_by : (f : Flight) (kind : Kind) (other : NamedTrajectory) → Contains (made_named f.card.call kind (path_of kind f)) other → Contains (kept_of f) other
+kept_by f Actual other held =
+    let actual : NamedTrajectory = record { call = f.card.call; kind = Actual; path = arc_value f.actual.strand } in
+    ⊎_elim (λ same. subst (λ (o : NamedTrajectory). Contains (kept_of f) o) same (in_front actual (made_named f.card.call Tentative (path_of Tentative f))))
+    (λ none. absurd (none_in other none)) (front_or_rest actual [] other held)
+kept_by f Tentative other held = (suc held.0, omega (arith, held.1), held.2)
+
+other_is : (slots : List (Option Flight)) (call : List ℕ) (item : ℕ) (other : NamedTrajectory) → Contains (other_at call slots item) other
+    → IsOther slots call item other
+other_is slots call item other held = by_flight (get_or slots (item / 2) None) refl held where
+  by_call : (f : Flight) → get_or slots (item / 2) None ≡ Some f → (b : Bool) → bytes_eq f.card.call call ≡ b
+      → Contains (if b then [] else made_named f.card.call (kind_at item) (path_of (kind_at item) f)) other → IsOther slots call item other
+  by_call f at true e held = absurd (none_in other held)
+  by_call f at false e held = record {
+    flight = f;
+    at = at;
+    apart = λ same. true≢false (sym ((bytes_eq-Decides f.card.call call).1 same) ∙ e);
+    kept = kept_by f (kind_at item) other held;
+  }
+
+  by_flight : (at : Option Flight) → get_or slots (item / 2) None ≡ at → Contains (other_of call (kind_at item) at) other → IsOther slots call item other
+  by_flight None is held = absurd (none_in other held)
+  by_flight (Some f) is held = by_call f is (bytes_eq f.card.call call) refl held
+
+-- and each trajectory that is kept of a flight of another callsign is named by an item of its place
+pub record IsNamed (rules : Rules) (slots : List (Option Flight)) (call : List ℕ) (other : NamedTrajectory) : Type 0 where
+  pub item : ℕ
+  pub among : Contains (other_at call slots item) other
+  pub stays : stays_at rules slots item ≡ cover_of rules other.path
+
+other_by : (call : List ℕ) (kind : Kind) (f : Flight) → f.card.call ≢ call → other_of call kind (Some f) ≡ made_named f.card.call kind (path_of kind f)
+other_by call kind f apart = by_test (bytes_eq f.card.call call) refl where
+  by_test : (b : Bool) → bytes_eq f.card.call call ≡ b
+      → (if b then [] else made_named f.card.call kind (path_of kind f)) ≡ made_named f.card.call kind (path_of kind f)
+  by_test true e = absurd (apart ((bytes_eq-Decides f.card.call call).0 e))
+  by_test false e = refl
+
+module _ (rules : Rules) (slots : List (Option Flight)) (call : List ℕ) (i : ℕ) (f : Flight) (at : get_or slots i None ≡ Some f) (apart : f.card.call ≢ call) where
+  even_other : other_at call slots (2 * i) ≡ made_named f.card.call Actual (path_of Actual f)
+  even_other = ap (λ (kind : Kind). other_of call kind (get_or slots ((2 * i) / 2) None)) (even_kind i)
+      ∙ ap (λ (j : ℕ). other_of call Actual (get_or slots j None)) (even_half i) ∙ ap (other_of call Actual) at ∙ other_by call Actual f apart
+
+  odd_other : other_at call slots (2 * i + 1) ≡ made_named f.card.call Tentative (path_of Tentative f)
+  odd_other = ap (λ (kind : Kind). other_of call kind (get_or slots ((2 * i + 1) / 2) None)) (odd_kind i)
+      ∙ ap (λ (j : ℕ). other_of call Tentative (get_or slots j None)) (odd_half i) ∙ ap (other_of call Tentative) at ∙ other_by call Tentative f apart
+
+  path_named : (kind : Kind) (path : Option Trajectory) (other : NamedTrajectory) → Contains (made_named f.card.call kind path) other
+      → stays_of rules path ≡ cover_of rules other.path
+  path_named kind None other held = absurd (none_in other held)
+  path_named kind (Some t) other held = ⊎_elim
+      (λ same. ap (λ (o : NamedTrajectory). cover_of rules o.path) same) (λ none. absurd (none_in other none))
+      (front_or_rest (record { call = f.card.call; kind = kind; path = t }) [] other held)
+
+  pub named_by : (other : NamedTrajectory) → Contains (kept_of f) other → IsNamed rules slots call other
+  named_by other kept = ⊎_elim
+      (λ same.
+      let held : Contains (made_named f.card.call Actual (path_of Actual f)) other =
+      subst (Contains (made_named f.card.call Actual (path_of Actual f))) same
+      (in_front (record { call = f.card.call; kind = Actual; path = arc_value f.actual.strand }) []) in
+      record {
+        item = 2 * i;
+        among = subst (λ (os : List NamedTrajectory). Contains os other) (sym even_other) held;
+        stays = at_even rules slots i ∙ ap (stays_by rules Actual) at ∙ path_named Actual (path_of Actual f) other held;
+      })
+      (λ held. record {
+        item = 2 * i + 1;
+        among = subst (λ (os : List NamedTrajectory). Contains os other) (sym odd_other) held;
+        stays = at_odd rules slots i ∙ ap (stays_by rules Tentative) at ∙ path_named Tentative (path_of Tentative f) other held;
+      })
+      (front_or_rest (record { call = f.card.call; kind = Actual; path = arc_value f.actual.strand })
+      (made_named f.card.call Tentative (path_of Tentative f)) other kept)
+
+-- a trajectory that has a loss second with another is near it
+pub near_by_loss : (shot : Shot) (t other : Trajectory) (item k : ℕ) → AreWithinBounds shot.setup.rules → IsStrand t → IsStrand other
+    → IsLossSecond shot.setup.rules t other k → stays_at shot.setup.rules shot.slots item ≡ cover_of shot.setup.rules other
+    → IsNearItem shot (cover_of shot.setup.rules t) item
+near_by_loss shot t other item k rules mine theirs loss stays =
+    let share = misses_none shot.setup.rules t other k rules mine theirs loss in
+    record {
+      mine = share.left.stay;
+      of = share.left.of;
+      theirs = share.right.stay;
+      there = subst (λ (list : List Stay). Contains list share.right.stay) (sym stays) share.right.of;
+      meet = record {
+        cell = share.right.there ∙ sym share.left.there;
+        left = omega (arith, share.left.begun, share.right.within);
+        right = omega (arith, share.right.begun, share.left.within);
+      };
+    }
+
+-- all that is near
+pub found_near : (shot : Shot) (call : List ℕ) (t : Trajectory) (items : List ℕ) (finds : List Found) → IsSoundShot shot → IsStrand t
+    → AreNearItems shot (cover_of shot.setup.rules t) items
+    → FindsMore shot.setup.rules shot.now t (others_among call shot.slots items) [] finds → AreFinds shot.setup (state_of shot) call t finds
+found_near shot call t items finds sound laid near found = record {
+  exact = λ one held. ⊎_elim
+      (λ before. absurd (none_in one before))
+      (λ by. let named = in_one (other_at call shot.slots) items by.other by.among in
+      let it = other_is shot.slots call named.of by.other named.within in
+      record {
+        other = by.other;
+        of = record {
+          there = at_kept shot (named.of / 2) it.flight by.other sound it.at it.kept;
+          apart = λ same. it.apart (sym (kept_call it.flight by.other it.kept) ∙ same);
+        };
+        is = by.is;
+      })
+      (found.exact one held);
+  complete = λ other of k early loss.
+      let it = kept_at shot other sound of.there in
+      let named = named_by shot.setup.rules shot.slots call it.place it.flight it.at (λ same. of.apart (it.call_is ∙ same)) other it.kept in
+      let item = near_by_loss shot t other.path named.item k sound.rules laid (sound.laid it.place it.flight other it.at it.kept) loss named.stays in
+      found.listed other (in_joined (other_at call shot.slots) items named.item other ((near.same named.item).1 item) named.among);
+}
+
+-- the items near a cover are one list
+pub near_once : (shot : Shot) (cover : List Stay) (some others : List ℕ) → AreNearItems shot cover some → AreNearItems shot cover others → some ≡ others
+near_once shot cover some others one also = one_order nat_cmp_total some others (sorted_from_strictly_increasing some one.rising)
+    (sorted_from_strictly_increasing others also.rising) (λ item held. (also.same item).1 ((one.same item).0 held))
+    (λ item held. (one.same item).1 ((also.same item).0 held))
+
+-- with one item more
+pub one_item_more : (call : List ℕ) (slots : List (Option Flight)) (items : List ℕ) (i item : ℕ) → i < length items → item ≡ get_or items i item
+    → others_among call slots (take (i + 1) items) ≡ others_among call slots (take i items) ++ other_at call slots item
+one_item_more call slots items i item below is =
+    ap (others_among call slots) (take_more items i item below ∙ ap (λ (k : ℕ). take i items ++ k ∷ []) (sym is))
+    ∙ sym (flat_map_more (other_at call slots) [] (take i items) item)
+
+-- the first items name no more than all
+pub fewer : {X Y : Type 0} (f : X → List Y) (n : ℕ) (xs : List X) → length (flat_map f (take n xs)) ≤ length (flat_map f xs)
+fewer f zero xs = omega arith
+fewer f (suc n) [] = omega arith
+fewer f (suc n) (x ∷ xs) = let rest = fewer f n xs in omega (arith, rest, length-append (f x) (flat_map f (take n xs)), length-append (f x) (flat_map f xs))
+
+-- an item of another flight names one trajectory
+pub other_one : (slots : List (Option Flight)) (call : List ℕ) (item : ℕ) (kind : Kind) (card : Record) (path : Trajectory) → kind ≡ kind_at item
+    → Some card ≡ option_map (λ f. f.card) (get_or slots (item / 2) None) → bytes_eq card.call call ≡ false
+    → Some path ≡ option_and_then (path_of kind) (get_or slots (item / 2) None)
+    → other_at call slots item ≡ record { call = card.call; kind = kind; path = path } ∷ []
+other_one slots call item kind card path kind_is card_is apart path_is =
+    ap (λ (k : Kind). other_of call k (get_or slots (item / 2) None)) (sym kind_is) ∙ by_flight (get_or slots (item / 2) None) card_is path_is where
+      by_path : (f : Flight) → card ≡ f.card → (found : Option Trajectory) → Some path ≡ found
+          → (if bytes_eq f.card.call call then [] else made_named f.card.call kind found) ≡ record { call = card.call; kind = kind; path = path } ∷ []
+      by_path f same None is = absurd (cc)
+      by_path f same (Some t) is =
+          let one : path ≡ t = cc in
+          let test : bytes_eq f.card.call call ≡ false = subst (λ (r : Record). bytes_eq r.call call ≡ false) same apart in
+          rw (test, ← one, ← same) refl
+
+      by_flight : (at : Option Flight) → Some card ≡ option_map (λ f. f.card) at → Some path ≡ option_and_then (path_of kind) at
+          → other_of call kind at ≡ record { call = card.call; kind = kind; path = path } ∷ []
+      by_flight None is found = absurd (cc)
+      by_flight (Some f) is found = let same : card ≡ f.card = cc in by_path f same (path_of kind f) found

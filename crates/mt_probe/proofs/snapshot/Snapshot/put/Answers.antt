@@ -1,0 +1,33 @@
+use Rattle.std.proofs.Common.{◌∙◌, ◌+◌, ◌<◌, IfSome, ap, length, refl, sym, subst}
+use Rattle.std.proofs.lemmas.Result.{IfOk-weaker}
+use Rattle.std.specs.Arc.{arc_value}
+use Rattle.mt_probe.specs.Body.{shot_of}
+use Rattle.mt_probe.specs.Putting.{Fits, records_put}
+use Rattle.mt_probe.specs.Shot.{Shot, flight_at, records_in}
+use Rattle.mt_probe.proofs.Covered.{moved_holds}
+use Rattle.mt_probe.proofs.Placed.{put_records, put_sound}
+use Rattle.mt_probe.proofs.snapshot.Snapshot.put.Goals as goal
+
+pub changed-requires-clause-kept : goal.changed-requires-clause-kept
+changed-requires-clause-kept c =
+    let shot : Shot = shot_of (arc_value c.self.inside.body) in
+    let fits = subst (λ (s : Shot). IfSome c.args.flight (Fits s c.args.slot)) (sym c.self.view_is) c.requires.fits in
+    let inside = subst (λ (s : Shot). c.args.slot < length s.slots) (sym c.self.view_is) c.requires.place in
+    let laid = rw c.as_ref.ensures.value at c.in_ok-grid.ensures.laid in
+    let old = c.at_place-old.ensures ∙ sym (ap (λ (s : Shot). flight_at s c.args.slot) c.self.view_is) in
+    let grid = rw (c.as_ref.ensures.value, old, c.deref-body.ensures) at c.in_ok-grid.ensures.grid in
+    rw (c.in_ok-slots.ensures, c.in_ok-shared.ensures, c.deref-body.ensures, grid) (record {
+      sound = put_sound shot c.args.slot inside c.self.invariant.sound c.args.flight (shot.version + 1) fits laid;
+      holds = moved_holds shot.setup.rules shot.slots c.args.slot (arc_value c.self.inside.body).grid (flight_at shot c.args.slot) c.args.flight inside refl
+          c.self.invariant.holds;
+    })
+
+pub returns-clause-records : goal.returns-clause-records
+returns-clause-records c =
+    let shot : Shot = shot_of (arc_value c.self.inside.body) in
+    let fits = subst (λ (s : Shot). IfSome c.args.flight (Fits s c.args.slot)) (sym c.self.view_is) c.requires.fits in
+    let inside = subst (λ (s : Shot). c.args.slot < length s.slots) (sym c.self.view_is) c.requires.place in
+    IfOk-weaker c.changed.result _ _ (λ after is. ap (λ (s : Shot). records_in s.slots) is
+    ∙ rw (c.in_ok-slots.ensures, c.in_ok-shared.ensures, c.deref-body.ensures)
+    (put_records shot c.args.slot inside c.self.invariant.sound (flight_at shot c.args.slot) c.args.flight refl fits)
+    ∙ ap (λ (s : Shot). records_put (flight_at s c.args.slot) c.args.flight (records_in s.slots)) c.self.view_is) c.changed.ensures

@@ -1,0 +1,20 @@
+-- The order of filing.
+use Rattle.std.specs.Prelude.{◌≡◌, ◌↔◌, List, Option, Contains, map}
+use Rattle.std.specs.List.Sorted.{IsStrictlySortedBy}
+use Rattle.std.specs.Ordering.{nat_cmp}
+use Rattle.std.specs.declared.cmp.Ordering.{Ordering}
+use Rattle.mt_probe.specs.declared.flight.Flight.{Flight}
+use Rattle.mt_probe.specs.Shot.{Shot, flights_in, records_in}
+use Rattle.mt_probe.specs.Standing.{IsSoundShot}
+
+abbrev pub filed_cmp : Flight → Flight → Ordering
+filed_cmp f g = nat_cmp f.filed g.filed
+
+-- these are the flights of some places, and no other, once, in rising order of filing
+pub record AreFiled (slots : List (Option Flight)) (flights : List Flight) : Type 0 where
+  pub sorted : IsStrictlySortedBy filed_cmp flights
+  pub members : (f : Flight) → Contains flights f ↔ Contains (flights_in slots) f
+
+-- The records of a snapshot's state are those of its flights in rising order of filing, however these were found.
+abbrev pub FilingOrderLaw : Type 0
+FilingOrderLaw = (shot : Shot) (flights : List Flight) → IsSoundShot shot → AreFiled shot.slots flights → map (λ f. f.card) flights ≡ records_in shot.slots

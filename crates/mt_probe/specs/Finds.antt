@@ -1,0 +1,71 @@
+-- What is found with a new trajectory.
+use Rattle.std.specs.Prelude.{◌≡◌, ◌≢◌, ◌<◌, ◌⊎◌, ℕ, List, Contains, Option, Some, None}
+use Rattle.mt_base.specs.declared.conflict.Kind.{Kind}
+use Rattle.mt_base.specs.declared.rules.Rules.{Rules}
+use Rattle.mt_base.specs.Conflict.{IsConflict, IsLossSecond}
+use Rattle.mt_base.specs.Picture.{NamedTrajectory, State, trajectories, window_end}
+use Rattle.mt_base.specs.Tables.{Setup}
+use Rattle.mt_base.specs.Trajectory.{Trajectory}
+use Rattle.mt_probe.specs.declared.finding.Found.{Found}
+use Rattle.mt_probe.specs.Narrow.{all_end}
+
+-- What is found with another trajectory: its name, and its conflict with the new one over all seconds and in the window.
+pub record IsFound (rules : Rules) (now : ℕ) (t : Trajectory) (other : NamedTrajectory) (found : Found) : Type 0 where
+  pub call_is : found.call ≡ other.call
+  pub kind_is : found.kind ≡ other.kind
+  pub whole : IsConflict rules t other.path 0 all_end found.whole
+  pub window : IsConflict rules t other.path now (window_end now) found.window
+
+-- a trajectory of another flight
+pub record IsOfAnother (setup : Setup) (s : State) (call : List ℕ) (other : NamedTrajectory) : Type 0 where
+  pub there : Contains (trajectories setup s) other
+  pub apart : other.call ≢ call
+
+pub record IsFoundOfAnother (setup : Setup) (s : State) (call : List ℕ) (t : Trajectory) (found : Found) : Type 0 where
+  pub other : NamedTrajectory
+  pub of : IsOfAnother setup s call other
+  pub is : IsFound setup.rules s.now t other found
+
+-- one of some finds is what is found with another trajectory
+pub record IsListed (rules : Rules) (now : ℕ) (t : Trajectory) (finds : List Found) (other : NamedTrajectory) : Type 0 where
+  pub found : Found
+  pub held : Contains finds found
+  pub is : IsFound rules now t other found
+
+-- it is what is found with one of these trajectories
+pub record IsFoundAmong (rules : Rules) (now : ℕ) (t : Trajectory) (others : List NamedTrajectory) (found : Found) : Type 0 where
+  pub other : NamedTrajectory
+  pub among : Contains others other
+  pub is : IsFound rules now t other found
+
+-- What is found with a new trajectory of a flight in a state: each find is exact, and each trajectory of another flight that has a loss second
+-- with the new one is listed. Of a trajectory that has none, it is not said whether it is listed.
+pub record AreFinds (setup : Setup) (s : State) (call : List ℕ) (t : Trajectory) (finds : List Found) : Type 0 where
+  pub exact : (found : Found) → Contains finds found → IsFoundOfAnother setup s call t found
+  pub complete : (other : NamedTrajectory) → IsOfAnother setup s call other → (k : ℕ) → k < all_end → IsLossSecond setup.rules t other.path k
+      → IsListed setup.rules s.now t finds other
+
+-- no two of these trajectories have one callsign and one kind
+abbrev pub AreOneEach : List NamedTrajectory → Type 0
+AreOneEach all = (a b : NamedTrajectory) → Contains all a → Contains all b → a.call ≡ b.call → a.kind ≡ b.kind → a ≡ b
+
+-- a find has that callsign and that kind
+pub record HasName (call : List ℕ) (kind : Kind) (found : Found) : Type 0 where
+  pub call_is : found.call ≡ call
+  pub kind_is : found.kind ≡ kind
+
+-- the find of that name, where there is one
+abbrev pub IsNamedAmong : List Found → List ℕ → Kind → Option Found → Type 0
+IsNamedAmong finds call kind (Some found) = Contains finds found × HasName call kind found
+IsNamedAmong finds call kind None = (found : Found) → Contains finds found → ¬ HasName call kind found
+
+-- What is found with another trajectory; or it is not listed, and then the two have no loss second.
+abbrev pub IsFoundOrQuiet : Rules → ℕ → Trajectory → NamedTrajectory → Option Found → Type 0
+IsFoundOrQuiet rules now t other (Some found) = IsFound rules now t other found
+IsFoundOrQuiet rules now t other None = IsConflict rules t other.path 0 all_end None × IsConflict rules t other.path now (window_end now) None
+
+-- Some finds have more than some others: exactly what is found with these trajectories.
+pub record FindsMore (rules : Rules) (now : ℕ) (t : Trajectory) (others : List NamedTrajectory) (old new : List Found) : Type 0 where
+  pub kept : (found : Found) → Contains old found → Contains new found
+  pub exact : (found : Found) → Contains new found → Contains old found ⊎ IsFoundAmong rules now t others found
+  pub listed : (other : NamedTrajectory) → Contains others other → IsListed rules now t new other

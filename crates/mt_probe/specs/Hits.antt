@@ -1,0 +1,64 @@
+-- A probe, and its hits among what was found.
+use Rattle.std.specs.Prelude.{◌≡◌, ℕ, List, Contains, Option, Some, None, Ok, Err, ⊤, unwrap_or}
+use Rattle.mt_base.specs.declared.clearance.Clearance.{Clearance}
+use Rattle.mt_base.specs.declared.command.Command.TheVariants.{Accept}
+use Rattle.mt_base.specs.declared.conflict.Kind.{Kind}
+use Rattle.mt_base.specs.declared.conflict.Kind.TheVariants.{Actual, Tentative}
+use Rattle.mt_base.specs.declared.hit.Hit.{Hit}
+use Rattle.mt_base.specs.WhatIf.{IsWhatIf}
+use Rattle.mt_board.specs.declared.no.No.{No}
+use Rattle.mt_board.specs.declared.no.No.TheVariants as nos
+use Rattle.mt_board.specs.Probing.{Probe}
+use Rattle.mt_board.specs.Short.{AreShortHits}
+use Rattle.mt_probe.specs.declared.finding.Found.{Found}
+use Rattle.mt_probe.specs.Prepared.{IsPrepOf, IsPrepared, Prepared}
+use Rattle.mt_probe.specs.Shot.{Shot, state_of}
+
+-- the hit with a trajectory that is flown, where it has a conflict in the window
+abbrev pub hit_by : List ℕ → Kind → Option (ℕ × ℕ) → Option Hit
+hit_by call Actual (Some span) = Some (record { first = span.0; with = call; last = span.1 })
+hit_by call Actual None = None
+hit_by call Tentative window = None
+
+abbrev pub hit_of : Found → Option Hit
+hit_of found = hit_by found.call found.kind found.window
+
+-- a hit of one of some finds
+pub record IsHitOfOne (finds : List Found) (hit : Hit) : Type 0 where
+  pub found : Found
+  pub held : Contains finds found
+  pub is : hit_of found ≡ Some hit
+
+-- A clearance that was tried: what was prepared for its acceptance, and the hits.
+pub record Tried : Type 0 where
+  pub prep : Prepared
+  pub call : List ℕ
+  pub clearance : Clearance
+  pub eff : ℕ
+  pub hits : List Hit
+
+-- What every probe keeps: it was prepared for the acceptance of its clearance, and its hits are what would follow in its state; there are few
+-- enough of them for a reply.
+pub record IsTried (p : Tried) : Type 0 where
+  pub kept : IsPrepared p.prep
+  pub who_is : p.prep.who ≡ 0
+  pub command_is : p.prep.command ≡ Accept p.call p.clearance p.eff p.prep.state.version
+  pub follows : IsWhatIf p.prep.setup p.prep.state p.call p.clearance (Some p.eff) (Ok p.hits)
+  pub short : AreShortHits p.hits
+
+-- what a board is told of it
+abbrev pub told_of : Tried → Probe
+told_of p = record { call = p.call; clearance = p.clearance; eff = p.eff; version = p.prep.state.version; hits = p.hits }
+
+-- What is answered of a what-if on a snapshot: the probe, whose hits are those of the clearance, or the first refusal, at the snapshot's version.
+pub record IsProbe (shot : Shot) (call : List ℕ) (clearance : Clearance) (eff : Option ℕ) (p : Tried) : Type 0 where
+  pub call_is : p.call ≡ call
+  pub clearance_is : p.clearance ≡ clearance
+  pub eff_is : p.eff ≡ unwrap_or eff shot.now
+  pub prep_of : IsPrepOf shot 0 (Accept call clearance (unwrap_or eff shot.now) shot.version) p.prep
+  pub hits_are : IsWhatIf shot.setup (state_of shot) call clearance eff (Ok p.hits)
+
+abbrev pub IsUnprobed : Shot → List ℕ → Clearance → Option ℕ → No → Type 0
+IsUnprobed shot call clearance eff (nos.Refused refusal version) =
+    IsWhatIf shot.setup (state_of shot) call clearance eff (Err refusal) × (version ≡ shot.version)
+IsUnprobed shot call clearance eff nos.Memory = ⊤

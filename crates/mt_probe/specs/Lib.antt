@@ -1,0 +1,11 @@
+pub mod Body
+pub mod Filing
+pub mod Finds
+pub mod Gridded
+pub mod Hits
+pub mod Items
+pub mod Narrow
+pub mod Prepared
+pub mod Putting
+pub mod Shot
+pub mod Standing

@@ -1,0 +1,141 @@
+-- What is prepared for a command that makes a trajectory.
+use Rattle.std.specs.Prelude.{◌≡◌, ◌≤◌, ℕ, List, Option, Some, None, Result, Ok, Err, length, is_some, option_and_then, option_map, true, ⊤}
+use Rattle.mt_base.specs.declared.command.Command.{Command}
+use Rattle.mt_base.specs.declared.command.Command.TheVariants.{Plan, External, Renew, Clear, Accept, Tentative, Commit}
+use Rattle.mt_base.specs.declared.command.Refusal.{Refusal}
+use Rattle.mt_base.specs.declared.conflict.Kind.{Kind}
+use Rattle.mt_base.specs.declared.conflict.Kind.TheVariants as kinds
+use Rattle.mt_base.specs.declared.flight.Path.{Path}
+use Rattle.mt_base.specs.declared.flight.Path.TheVariants.{Outer, Planned}
+use Rattle.mt_base.specs.declared.flight.Record.{Record}
+use Rattle.mt_base.specs.Bounds.{AreWithinBounds, IsSoundFlight}
+use Rattle.mt_base.specs.Checks.{judged}
+use Rattle.mt_base.specs.History.{Look, call_of, checks, effect, filled, look_at}
+use Rattle.mt_base.specs.Picture.{HaveOwnCalls, NamedTrajectory, State, flight_of, trajectories, trajectory_marked, trajectory_of}
+use Rattle.mt_base.specs.Tables.{Setup}
+use Rattle.mt_base.specs.Trajectory.{Trajectory}
+use Rattle.mt_board.specs.declared.no.No.{No}
+use Rattle.mt_board.specs.declared.no.No.TheVariants as nos
+use Rattle.mt_track.specs.Laid.{IsStrand}
+use Rattle.mt_probe.specs.declared.finding.Found.{Found}
+use Rattle.mt_probe.specs.Finds.{AreFinds, AreOneEach}
+use Rattle.mt_probe.specs.Items.{WasTestedNear}
+use Rattle.mt_probe.specs.Shot.{Shot, state_of}
+
+-- what a decision looks at, as if there were room for a flight and an entry
+abbrev pub roomy : State → Command → Look
+roomy s command = record (look_at s command) { held = 0; entries = 0 }
+
+-- the first refusal of an actor's command in a state, but for the want of room
+abbrev pub judged_aside : Setup → State → ℕ → Command → Result ⊤ Refusal
+judged_aside setup s who command = judged (checks setup (roomy s command) who command) (tt {0})
+
+-- the flight that a command names, as its entry leaves it
+abbrev pub flight_left : Setup → State → ℕ → Command → Option Record
+flight_left setup s who command =
+    option_and_then (flight_of (effect setup s (record { who = who; command = filled s.now command })).records) (call_of command)
+
+-- the commands that make a trajectory, and its kind: a tentative clearance makes a tentative one
+abbrev pub MakesStrand : Command → Type 0
+MakesStrand (Plan call kind route at from level) = ⊤
+MakesStrand (External call straight) = ⊤
+MakesStrand (Renew call) = ⊤
+MakesStrand (Clear call clearance eff) = ⊤
+MakesStrand (Accept call clearance eff probed) = ⊤
+MakesStrand (Tentative call clearance eff) = ⊤
+MakesStrand (Commit call) = ⊤
+MakesStrand command = ⊥
+
+abbrev pub kind_made : Command → Kind
+kind_made (Tentative call clearance eff) = kinds.Tentative
+kind_made command = kinds.Actual
+
+-- the trajectory of a kind of a flight, where it has one
+abbrev pub marked_of : Setup → Path → Option Trajectory
+marked_of setup (Planned course) = option_map (trajectory_marked setup course) course.mark
+marked_of setup (Outer stretch) = None
+
+abbrev pub path_made : Setup → Record → Kind → Option Trajectory
+path_made setup flight kinds.Actual = Some (trajectory_of setup flight.path)
+path_made setup flight kinds.Tentative = marked_of setup flight.path
+
+abbrev pub named : Record → Kind → Trajectory → NamedTrajectory
+named flight kind path = record { call = flight.call; kind = kind; path = path }
+
+-- What is prepared for a command of an actor in a state: the flight as the entry leaves it, the trajectory that the command makes, and what is
+-- found with it.
+pub record Prepared : Type 0 where
+  pub setup : Setup
+  pub state : State
+  pub who : ℕ
+  pub command : Command
+  pub card : Record
+  pub strand : Trajectory
+  pub finds : List Found
+
+-- What every prep keeps: its command passes in its state, room aside; the flight is the one that the entry leaves, and the trajectory is
+-- the one that the command makes of it; the finds are what is found with it. Of its state, what every snapshot keeps.
+pub record IsPrepared (p : Prepared) : Type 0 where
+  pub passed : judged_aside p.setup p.state p.who p.command ≡ Ok (tt {0})
+  pub card_is : flight_left p.setup p.state p.who p.command ≡ Some p.card
+  pub call_is : call_of p.command ≡ Some p.card.call
+  pub sound : IsSoundFlight p.setup p.card
+  pub strand_is : path_made p.setup p.card (kind_made p.command) ≡ Some p.strand
+  pub laid : IsStrand p.strand
+  pub finds_are : AreFinds p.setup p.state p.card.call p.strand p.finds
+  pub rules : AreWithinBounds p.setup.rules
+  pub early : p.state.now ≤ 10000000
+  pub own_calls : HaveOwnCalls p.state.records
+  pub few : length p.state.records ≤ 1024
+  pub one_each : AreOneEach (trajectories p.setup p.state)
+
+-- the flight as the entry of a command leaves it, or the first refusal of the command
+pub record IsLeft (setup : Setup) (s : State) (who : ℕ) (command : Command) (card : Record) : Type 0 where
+  pub passed : judged_aside setup s who command ≡ Ok (tt {0})
+  pub card_is : flight_left setup s who command ≡ Some card
+  pub call_is : call_of command ≡ Some card.call
+  pub sound : IsSoundFlight setup card
+  pub makes : is_some (path_made setup card (kind_made command)) ≡ true
+
+abbrev pub IsLeftOr : Setup → State → ℕ → Command → Result Record Refusal → Type 0
+IsLeftOr setup s who command (Ok card) = IsLeft setup s who command card
+IsLeftOr setup s who command (Err refusal) = judged_aside setup s who command ≡ Err refusal
+
+-- it was prepared on that snapshot, for that command of that actor
+pub record IsPrepOf (shot : Shot) (who : ℕ) (command : Command) (p : Prepared) : Type 0 where
+  pub setup_is : p.setup ≡ shot.setup
+  pub state_is : p.state ≡ state_of shot
+  pub who_is : p.who ≡ who
+  pub command_is : p.command ≡ command
+
+-- it is refused on that snapshot, whose version is named
+abbrev pub IsRefusedOn : Shot → ℕ → Command → No → Type 0
+IsRefusedOn shot who command (nos.Refused refusal version) =
+    (judged_aside shot.setup (state_of shot) who command ≡ Err refusal) × (version ≡ shot.version)
+IsRefusedOn shot who command nos.Memory = ⊤
+
+-- the trajectory that a command makes on a state, with its name
+abbrev pub left_made : Setup → State → ℕ → Command → Option NamedTrajectory
+left_made setup s who command = option_and_then (λ card. option_map (named card (kind_made command)) (path_made setup card (kind_made command)))
+    (flight_left setup s who command)
+
+-- the tests for a trajectory that may be there; none are made where there is none
+abbrev pub WereFew : Shot → Option NamedTrajectory → ℕ → ℕ → Type 0
+WereFew shot None old new = new ≡ old
+WereFew shot (Some mine) old new = WasTestedNear shot mine.call mine.path old new
+
+-- At most two tests were made for each trajectory of another flight that is near the one that the command makes on the snapshot.
+abbrev pub WasTestedFor : Shot → ℕ → Command → ℕ → ℕ → Type 0
+WasTestedFor shot who command old new = WereFew shot (left_made shot.setup (state_of shot) who command) old new
+
+-- as contracts see it
+abbrev pub prepared_of : Shot → ℕ → Command → Record → Trajectory → List Found → Prepared
+prepared_of shot who command card strand finds = record {
+  setup = shot.setup;
+  state = state_of shot;
+  who = who;
+  command = command;
+  card = card;
+  strand = strand;
+  finds = finds;
+}

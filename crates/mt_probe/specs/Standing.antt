@@ -1,0 +1,29 @@
+-- What every snapshot keeps.
+use Rattle.std.specs.Prelude.{◌≡◌, ◌≢◌, ◌≤◌, ℕ, pos, Some, Contains, length}
+use Rattle.mt_base.specs.Bounds.{AreWithinBounds, IsSoundFlight}
+use Rattle.mt_base.specs.Picture.{NamedTrajectory, trajectories_of}
+use Rattle.mt_base.specs.Tables.{Setup}
+use Rattle.mt_track.specs.Laid.{IsStrand}
+use Rattle.mt_probe.specs.declared.flight.Flight.{Flight}
+use Rattle.mt_probe.specs.Shot.{Shot, flight_at, kept_of}
+
+-- A flight is sound for the rules and tables, and the trajectories that are kept of it are its own: the one that it flies, and its tentative
+-- one where it has one.
+pub record IsSoundEntry (setup : Setup) (f : Flight) : Type 0 where
+  pub sound : IsSoundFlight setup f.card
+  pub kept : kept_of f ≡ trajectories_of setup f.card
+
+-- two flights have different callsigns and were filed at different versions
+pub record AreApart (f g : Flight) : Type 0 where
+  pub calls : f.card.call ≢ g.card.call
+  pub filings : f.filed ≢ g.filed
+
+-- The rules are within their bounds, there are as many places as the rules allow flights, each flight is sound and each trajectory that is
+-- kept of it is one of segments, no two flights have one callsign or were filed at one version, and the moment is within its bound.
+pub record IsSoundShot (shot : Shot) : Type 0 where
+  pub rules : AreWithinBounds shot.setup.rules
+  pub places : pos (length shot.slots) ≡ shot.setup.rules.flights
+  pub sound : (i : ℕ) (f : Flight) → flight_at shot i ≡ Some f → IsSoundEntry shot.setup f
+  pub laid : (i : ℕ) (f : Flight) (t : NamedTrajectory) → flight_at shot i ≡ Some f → Contains (kept_of f) t → IsStrand t.path
+  pub apart : (i j : ℕ) (f g : Flight) → i ≢ j → flight_at shot i ≡ Some f → flight_at shot j ≡ Some g → AreApart f g
+  pub early : shot.now ≤ 10000000

@@ -1,0 +1,57 @@
+//! What a command leaves of the planned flight that it names.
+ghost use Rattle.std.specs.Prelude.{◌≡◌, Ok, IfOk};
+ghost use Rattle.mt_change.specs.Altered.{Alters, IsBoundedBesides};
+ghost use Rattle.mt_probe.specs.Prepared.{IsLeft, judged_aside};
+ghost use Rattle.mt_probe.specs.Shot.{state_of};
+
+use crate::snapshot::Snapshot;
+use mt_base::{Command, Kind, Memory, Path, Record};
+use mt_change::alteration_by;
+use std::alloc::Global;
+
+/// The planned flight that a command names, as the entry of the command leaves it. It asks that no check of the command fails.
+pub(crate) fn altered_flight(
+    alloc: Global,
+    snapshot: &Snapshot,
+    who: u32,
+    command: &Command,
+) -> Result<Record, Memory>
+    requires alters { Alters command.now }
+    requires bounded { IsBoundedBesides command.now }
+    requires passed { judged_aside snapshot.now.setup (state_of snapshot.now) who command.now ≡ Ok (tt {0}) }
+    ensures { IfOk result (IsLeft snapshot.now.setup (state_of snapshot.now) who command.now) }
+{
+    let _version = snapshot.version();
+    let Some(call) = command.call() else {
+        unreachable!()
+    };
+    let Some(slot) = snapshot.find(call) else {
+        unreachable!()
+    };
+    let Some(flight) = snapshot.flight(slot) else {
+        unreachable!()
+    };
+    let Path::Planned(course) = &flight.path else {
+        unreachable!()
+    };
+    let Some(strand) = snapshot.path(slot, Kind::Actual) else {
+        unreachable!()
+    };
+    let now = snapshot.now();
+    let filled = command.filled(alloc, now)?;
+    let alteration = alteration_by(
+        snapshot.tables(),
+        snapshot.rules(),
+        who,
+        &filled,
+        course,
+        strand,
+        now,
+    );
+    let mut altered = course.copy(alloc)?;
+    alteration.alter(&mut altered);
+    Ok(Record {
+        call: flight.call,
+        path: Path::Planned(altered),
+    })
+}

@@ -1,0 +1,25 @@
+//! Snapshots of a picture, and what is prepared and tried on one, with no lock held.
+#![tactic(auto)]
+
+mod altering;
+mod finding;
+mod flight;
+mod laws;
+mod narrow;
+mod placing;
+mod prep;
+mod preparing;
+mod probe;
+mod snapshot;
+mod trying;
+
+pub use finding::{Finds, Found};
+pub use flight::{Flight, Made};
+pub use laws::filing_order_law;
+pub use mt_memory::Memory;
+pub use narrow::narrowed;
+pub use prep::Prep;
+pub use preparing::{left_of, prepare, strand_of};
+pub use probe::Probe;
+pub use snapshot::Snapshot;
+pub use trying::what_if;

@@ -1,0 +1,104 @@
+//! What is prepared for a command that makes a trajectory.
+ghost use Rattle.std.specs.Prelude.{◌≡◌, ◌↔◌, IsTrue, option_copied};
+ghost use Rattle.std.specs.Arc.{arc_value};
+ghost use Rattle.mt_base.specs.Picture.{NamedTrajectory};
+ghost use Rattle.mt_probe.specs.Finds.{HasName, IsFoundOrQuiet, IsNamedAmong, IsOfAnother};
+ghost use Rattle.mt_probe.specs.Prepared.{IsPrepared};
+
+use crate::finding::{Finds, Found};
+use crate::snapshot::Snapshot;
+use mt_base::{Callsign, Command, Kind, Record, Second};
+use mt_track::Strand;
+use std::marker::Model;
+use std::sync::Arc;
+
+/// What is prepared on a snapshot for a command of an actor.
+#[derive(Drop)]
+pub struct Prep {
+    pub(crate) snapshot: Snapshot,
+    pub(crate) who: u32,
+    pub(crate) command: Command,
+    pub(crate) card: Record,
+    pub(crate) strand: Arc<Strand>,
+    pub(crate) finds: Finds,
+}
+
+impl Model for Prep {
+    ghost use Rattle.std.specs.Arc.{arc_value};
+    ghost use Rattle.mt_probe.specs.Prepared.{IsPrepared, Prepared, prepared_of};
+
+    ghost Value = { Prepared };
+
+    ghost view = { λ p. prepared_of p.snapshot p.who p.command p.card (arc_value p.strand) p.finds };
+
+    ghost invariant = { λ p. IsPrepared (prepared_of p.snapshot p.who p.command p.card (arc_value p.strand) p.finds) };
+}
+
+impl Prep {
+    /// The version of its snapshot. What every prep keeps is said here too.
+    pub fn version(&self) -> u64
+        ensures version { result ≡ self.now.state.version }
+        ensures kept { IsPrepared self.now }
+    {
+        let _who = self.who;
+        self.snapshot.version()
+    }
+
+    /// The moment of its snapshot.
+    pub fn now(&self) -> Second
+        ensures { result ≡ self.now.state.now }
+    {
+        self.snapshot.now()
+    }
+
+    /// The flight as the entry leaves it.
+    pub fn card(&self) -> &Record
+        ensures { result.now ≡ self.now.card }
+    {
+        &self.card
+    }
+
+    /// The trajectory that the command makes.
+    pub fn strand(&self) -> &Arc<Strand>
+        ensures { arc_value result.now ≡ self.now.strand }
+    {
+        &self.strand
+    }
+
+    /// What is found with it. A trajectory of another flight that has a loss second with it is listed; whether one that has none is, is not
+    /// said.
+    pub fn finds(&self) -> &[Found]
+        ensures { result.now ≡ self.now.finds }
+    {
+        self.finds.items()
+    }
+
+    /// What is found with the trajectory of that callsign and kind of another flight; where nothing is listed, it has no loss second with the
+    /// new one.
+    pub fn found(&self, call: Callsign, kind: Kind) -> Option<&Found>
+        ensures { (other : NamedTrajectory) → IsOfAnother self.now.setup self.now.state self.now.card.call other → other.call ≡ call → other.kind ≡ kind
+            → IsFoundOrQuiet self.now.setup.rules self.now.state.now self.now.strand other (option_copied result) }
+    {
+        let _version = self.version();
+        named_among(self.finds(), call, kind)
+    }
+}
+
+// Whether a find has that name.
+fn is_named(found: &Found, call: Callsign, kind: Kind) -> bool
+    ensures { IsTrue result ↔ HasName call kind found.now }
+{
+    found.call == call && found.kind == kind
+}
+
+// The find of that name.
+fn named_among(finds: &[Found], call: Callsign, kind: Kind) -> Option<&Found>
+    ensures { IsNamedAmong finds.now call kind (option_copied result) }
+{
+    for found in finds {
+        if is_named(found, call, kind) {
+            return Some(found);
+        }
+    }
+    None
+}

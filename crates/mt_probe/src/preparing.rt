@@ -1,0 +1,196 @@
+//! How a command that makes a trajectory is prepared.
+ghost use Rattle.std.specs.Prelude.{◌≡◌, Ok, Some, true, is_some, IfOk, IfErr};
+ghost use Rattle.std.specs.Arc.{arc_value};
+ghost use Rattle.mt_base.specs.Bounds.{IsSoundFlight};
+ghost use Rattle.mt_base.specs.Trajectory.{Trajectory};
+ghost use Rattle.mt_base.specs.Tables.{setup_with};
+ghost use Rattle.mt_change.specs.Altered.{IsBoundedBesides};
+ghost use Rattle.mt_predict.specs.Looking.{HasStrand, look_of};
+ghost use Rattle.mt_probe.specs.Items.{WasTestedNear};
+ghost use Rattle.mt_probe.specs.Prepared.{IsLeft, IsLeftOr, IsPrepOf, IsRefusedOn, MakesStrand, WasTestedFor, kind_made, path_made, roomy};
+ghost use Rattle.mt_probe.specs.Shot.{state_of};
+
+use crate::altering::altered_flight;
+use crate::finding::find_all;
+use crate::prep::Prep;
+use crate::snapshot::Snapshot;
+use mt_base::{Command, Kind, Memory, Path, Record, Refusal, Rules, Tally};
+use mt_board::No;
+use mt_change::planned_course;
+use mt_predict::{Looked, judge, predict};
+use mt_tables::Tables;
+use mt_track::Strand;
+use std::alloc::Global;
+use std::sync::Arc;
+
+/// The trajectory of a kind of a flight: the one that it flies, or that of its tentative clearance. It asks that the flight is sound, and that
+/// it has a trajectory of that kind.
+pub fn strand_of(
+    alloc: Global,
+    snapshot: &Snapshot,
+    card: &Record,
+    kind: Kind,
+) -> Result<Arc<Strand>, Memory>
+    requires sound { IsSoundFlight snapshot.now.setup card.now }
+    requires makes { is_some (path_made snapshot.now.setup card.now kind) ≡ true }
+    ensures { IfOk result (λ strand. path_made snapshot.now.setup card.now kind ≡ Some (arc_value strand)) }
+{
+    let _version = snapshot.version();
+    let strand = match &card.path {
+        Path::Planned(course) => {
+            predict(alloc, snapshot.tables(), snapshot.rules(), course, kind)?
+        }
+        Path::Outer(stretch) => Strand::straight(alloc, stretch)?,
+    };
+    Ok(Arc::new(alloc, strand)?)
+}
+
+// What a command looks at, as if there were room for a flight and an entry. The trajectory that the flight flies is at hand.
+fn look<'a>(snapshot: &'a Snapshot, command: &Command) -> Looked<'a>
+    ensures look { look_of result ≡ roomy (state_of snapshot.now) command.now }
+    ensures strand { HasStrand snapshot.now.setup result command.now }
+{
+    let _version = snapshot.version();
+    let slot = match command.call() {
+        Some(call) => snapshot.find(call),
+        None => None,
+    };
+    let flight = match slot {
+        Some(slot) => snapshot.flight(slot),
+        None => None,
+    };
+    let strand = match slot {
+        Some(slot) => snapshot.path(slot, Kind::Actual),
+        None => None,
+    };
+    Looked {
+        now: snapshot.now(),
+        held: 0,
+        entries: 0,
+        flight,
+        strand,
+    }
+}
+
+/// The flight that a command names as its entry leaves it, or the first refusal of the command, but for the want of room.
+///
+/// It asks that the command makes a trajectory, and that its numbers are within their bounds, whatever version the probe of an acceptance names.
+pub fn left_of(
+    alloc: Global,
+    snapshot: &Snapshot,
+    who: u32,
+    command: &Command,
+) -> Result<Result<Record, Refusal>, Memory>
+    requires makes { MakesStrand command.now }
+    requires bounded { IsBoundedBesides command.now }
+    ensures { IfOk result (IsLeftOr snapshot.now.setup (state_of snapshot.now) who command.now) }
+{
+    let _version = snapshot.version();
+    let looked = look(snapshot, command);
+    if let Err(refusal) = judge(snapshot.tables(), snapshot.rules(), &looked, who, command) {
+        return Ok(Err(refusal));
+    }
+    match command {
+        Command::Plan {
+            call,
+            kind,
+            route,
+            at,
+            from,
+            level,
+        } => {
+            let course = planned_course(
+                alloc,
+                snapshot.tables(),
+                snapshot.rules(),
+                *kind,
+                route,
+                *at,
+                *from,
+                *level,
+            )?;
+            Ok(Ok(Record {
+                call: *call,
+                path: Path::Planned(course),
+            }))
+        }
+        Command::External { call, straight } => Ok(Ok(Record {
+            call: *call,
+            path: Path::Outer(*straight),
+        })),
+        _ => Ok(Ok(altered_flight(alloc, snapshot, who, command)?)),
+    }
+}
+
+// The kind of the trajectory that a command makes.
+fn kind_made(command: &Command) -> Kind
+    ensures { result ≡ kind_made command.now }
+{
+    match command {
+        Command::Tentative { .. } => Kind::Tentative,
+        _ => Kind::Actual,
+    }
+}
+
+// What is prepared for a command that leaves this of the flight that it names.
+fn prep_of(
+    alloc: Global,
+    snapshot: &Snapshot,
+    who: u32,
+    command: Command,
+    card: Record,
+    tests: &mut Tally,
+) -> Result<Prep, Memory>
+    requires { IsLeft snapshot.now.setup (state_of snapshot.now) who command card }
+    ensures prep { IfOk result (IsPrepOf snapshot.now who command) }
+    ensures counted { (t : Trajectory) → path_made snapshot.now.setup card (kind_made command) ≡ Some t
+        → WasTestedNear snapshot.now card.call t tests.old tests.new }
+{
+    let _version = snapshot.version();
+    let _now = snapshot.now();
+    let strand = strand_of(alloc, snapshot, &card, kind_made(&command))?;
+    let _end = strand.end();
+    let finds = find_all(alloc, snapshot, card.call, &strand, tests)?;
+    Ok(Prep {
+        snapshot: snapshot.share()?,
+        who,
+        command,
+        card,
+        strand,
+        finds,
+    })
+}
+
+/// What is prepared on a snapshot for a command that makes a trajectory: the flight as the entry leaves it, that trajectory, and what is found
+/// with those of the other flights; or the first refusal of the command, at the snapshot's version. The want of room for a flight or an entry
+/// refuses nothing here.
+///
+/// It asks that the rules and tables are those of the snapshot, and that the numbers of the command are within their bounds, whatever version
+/// the probe of an acceptance names. At most two pairs are tested for each trajectory of another flight that is near the new one.
+pub fn prepare(
+    alloc: Global,
+    snapshot: &Snapshot,
+    _tables: &Tables,
+    _rules: &Rules,
+    who: u32,
+    command: &Command,
+    tests: &mut Tally,
+) -> Result<Prep, No>
+    requires same { setup_with _rules.now _tables.now ≡ snapshot.now.setup }
+    requires makes { MakesStrand command.now }
+    requires bounded { IsBoundedBesides command.now }
+    ensures prep { IfOk result (IsPrepOf snapshot.now who command.now) }
+    ensures refused { IfErr result (IsRefusedOn snapshot.now who command.now) }
+    ensures counted { WasTestedFor snapshot.now who command.now tests.old tests.new }
+{
+    match left_of(alloc, snapshot, who, command)? {
+        Ok(card) => {
+            let command = command.copy(alloc)?;
+            Ok(prep_of(alloc, snapshot, who, command, card, tests)?)
+        }
+        Err(refusal) => Err(No::Refused {
+            refusal,
+            version: snapshot.version(),
+        }),
+    }
+}

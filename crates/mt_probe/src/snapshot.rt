@@ -1,0 +1,306 @@
+//! A picture as it was at one version.
+ghost use Rattle.std.specs.Prelude.{◌≡◌, ◌<◌, ◌≤◌, ◌^◌, ◌+◌, None, Ok, pos, length, replicate, IfOk, IfSome, is_some, true, option_copied, option_map, option_and_then};
+ghost use Rattle.std.specs.Arc.{arc_value};
+ghost use Rattle.mt_base.specs.Bounds.{AreWithinBounds};
+ghost use Rattle.mt_base.specs.Picture.{flight_of, opening};
+ghost use Rattle.mt_change.specs.Sound.{IsSoundState};
+ghost use Rattle.mt_grid.specs.Lists.{AreInGrid};
+ghost use Rattle.mt_probe.specs.Body.{shot_of};
+ghost use Rattle.mt_probe.specs.Gridded.{IsKept};
+ghost use Rattle.mt_probe.specs.Items.{AreNearItems, path_of};
+ghost use Rattle.mt_probe.specs.Putting.{Fits, records_put, with_flight, with_moment};
+ghost use Rattle.mt_probe.specs.Shot.{flight_at, made_of, state_of};
+ghost use Rattle.mt_probe.specs.Standing.{IsSoundShot};
+
+use crate::flight::{Flight, Made};
+use crate::placing::moved;
+use mt_base::{Callsign, Kind, Memory, Record, Rules, Second};
+use mt_cover::Cover;
+use mt_grid::Grid;
+use mt_paged::Paged;
+use mt_tables::Tables;
+use mt_track::Strand;
+use std::alloc::Global;
+use std::marker::Model;
+use std::sync::Arc;
+
+/// What a snapshot holds.
+#[derive(Drop)]
+pub struct Body {
+    alloc: Global,
+    rules: Rules,
+    tables: Arc<Tables>,
+    version: u64,
+    moment: Second,
+    slots: Paged<Flight>,
+    grid: Grid,
+}
+
+/// A picture as it was at one version.
+#[derive(Drop)]
+pub struct Snapshot {
+    body: Arc<Body>,
+}
+
+impl Model for Snapshot {
+    ghost use Rattle.std.specs.Arc.{arc_value};
+    ghost use Rattle.mt_probe.specs.Shot.{Shot};
+    ghost use Rattle.mt_probe.specs.Body.{shot_of};
+    ghost use Rattle.mt_probe.specs.Gridded.{IsKept};
+
+    ghost Value = { Shot };
+
+    ghost view = { λ s. shot_of (arc_value s.body) };
+
+    ghost invariant = { λ s. IsKept (shot_of (arc_value s.body)) (arc_value s.body).grid };
+}
+
+impl Snapshot {
+    /// The opening state, with as many empty places as the rules allow flights.
+    pub fn opening(alloc: Global, rules: Rules, tables: Arc<Tables>) -> Result<Snapshot, Memory>
+        requires { AreWithinBounds rules }
+        ensures value { IfOk result (λ shot. shot ≡ record {
+          setup = record { rules = rules; tables = arc_value tables };
+          version = 0;
+          now = 0;
+          slots = replicate (length shot.slots) None;
+        }) }
+        ensures state { IfOk result (λ shot. state_of shot ≡ opening) }
+    {
+        let count = places(&rules);
+        Ok(Snapshot {
+            body: Arc::new(
+                alloc,
+                Body {
+                    alloc,
+                    rules,
+                    tables,
+                    version: 0,
+                    moment: 0,
+                    slots: Paged::make(alloc, count)?,
+                    grid: Grid::make(alloc)?,
+                },
+            )?,
+        })
+    }
+
+    /// The same snapshot once more. It copies no list.
+    pub fn share(&self) -> Result<Snapshot, Memory>
+        ensures { IfOk result (λ shot. shot ≡ self.now) }
+    {
+        Ok(Snapshot {
+            body: Arc::try_clone(&self.body)?,
+        })
+    }
+
+    /// The version. What every snapshot keeps is said here too; its state is sound, as long as the version is one that a history can have.
+    pub fn version(&self) -> u64
+        ensures version { result ≡ self.now.version }
+        ensures kept { IsSoundShot self.now }
+        ensures sound { self.now.version ≤ 4194304 → IsSoundState self.now.setup (state_of self.now) }
+    {
+        self.body.version
+    }
+
+    /// The moment.
+    pub fn now(&self) -> Second
+        ensures now { result ≡ self.now.now }
+        ensures early { result ≤ 10000000 }
+    {
+        self.body.moment
+    }
+
+    /// The rules.
+    pub fn rules(&self) -> &Rules
+        ensures rules { result.now ≡ self.now.setup.rules }
+        ensures kept { AreWithinBounds result.now }
+    {
+        &self.body.rules
+    }
+
+    /// The tables.
+    pub fn tables(&self) -> &Tables
+        ensures { result.now ≡ self.now.setup.tables }
+    {
+        &self.body.tables
+    }
+
+    /// How many places there are.
+    pub fn slots(&self) -> u32
+        ensures { result ≡ length self.now.slots }
+    {
+        places(&self.body.rules)
+    }
+
+    // What is at a place.
+    fn at_place(&self, slot: u32) -> Option<&Flight>
+        ensures { option_copied result ≡ flight_at self.now slot }
+    {
+        if slot < self.slots() {
+            self.body.slots.get(slot)
+        } else {
+            None
+        }
+    }
+
+    /// The flight at a place; `None` exactly where it is empty.
+    pub fn flight(&self, slot: u32) -> Option<&Record>
+        ensures { option_copied result ≡ option_map (λ f. f.card) (flight_at self.now slot) }
+    {
+        Some(&self.at_place(slot)?.card)
+    }
+
+    /// The version at which the flight at a place was filed.
+    pub fn filed(&self, slot: u32) -> Option<u64>
+        ensures { result ≡ option_map (λ f. f.filed) (flight_at self.now slot) }
+    {
+        Some(self.at_place(slot)?.filed)
+    }
+
+    // What the flight at a place has of a kind.
+    fn made(&self, slot: u32, kind: Kind) -> Option<&Made>
+        ensures { option_copied result ≡ option_and_then (λ f. made_of f kind) (flight_at self.now slot) }
+    {
+        let flight = self.at_place(slot)?;
+        match kind {
+            Kind::Actual => Some(&flight.actual),
+            Kind::Tentative => flight.mark.as_ref(),
+        }
+    }
+
+    /// The version of the last report of the flight at a place; 0 where it has none.
+    pub fn reported(&self, slot: u32) -> Option<u64>
+        ensures { result ≡ option_map (λ f. f.reported) (flight_at self.now slot) }
+    {
+        Some(self.at_place(slot)?.reported)
+    }
+
+    /// The trajectory of a kind of the flight at a place.
+    pub fn strand(&self, slot: u32, kind: Kind) -> Option<&Arc<Strand>>
+        ensures { option_copied result ≡ option_map (λ m. m.strand) (option_and_then (λ f. made_of f kind) (flight_at self.now slot)) }
+    {
+        Some(&self.made(slot, kind)?.strand)
+    }
+
+    /// The version at which that trajectory was made.
+    pub fn stamp(&self, slot: u32, kind: Kind) -> Option<u64>
+        ensures { result ≡ option_map (λ m. m.stamp) (option_and_then (λ f. made_of f kind) (flight_at self.now slot)) }
+    {
+        Some(self.made(slot, kind)?.stamp)
+    }
+
+    /// The trajectory of a kind of the flight at a place, to be looked at.
+    pub(crate) fn path(&self, slot: u32, kind: Kind) -> Option<&Strand>
+        ensures { option_copied result ≡ option_and_then (path_of kind) (flight_at self.now slot) }
+    {
+        Some(&self.made(slot, kind)?.strand)
+    }
+
+    /// The place of the flight of that callsign; `None` exactly where there is none.
+    pub fn find(&self, call: Callsign) -> Option<u32>
+        ensures there { IfSome result (λ slot. is_some (flight_at self.now slot) ≡ true) }
+        ensures flight { flight_of (state_of self.now).records call ≡ option_map (λ f. f.card) (option_and_then (flight_at self.now) result) }
+    {
+        let _version = self.version();
+        let count = self.slots();
+        for slot in 0..count {
+            if let Some(card) = self.flight(slot)
+                && card.call == call
+            {
+                return Some(slot);
+            }
+        }
+        None
+    }
+
+    /// The items whose trajectories are near a cover, rising, each once: they share a cell with it, with a second in common. The trajectory
+    /// that the flight at a place flies is item `2 * slot`, its tentative one item `2 * slot + 1`.
+    pub fn near(&self, cover: &Cover) -> Result<Vec<u32>, Memory>
+        requires { AreInGrid cover.now }
+        ensures { IfOk result (λ items. AreNearItems self.now cover.now items.items) }
+    {
+        self.body.grid.near(cover)
+    }
+
+    /// The picture with that flight at a place, or none, one version later. This snapshot stays as it is.
+    ///
+    /// It asks that the version is below 2^40 and the place is one. A flight that is put must be sound, and its trajectories its own; no other
+    /// place has its callsign; it keeps the filing of the flight that it replaces, or was filed after all others. Covers are not kept: those
+    /// of what was there are computed again, from its trajectories.
+    pub fn put(&self, slot: u32, flight: Option<Flight>) -> Result<Snapshot, Memory>
+        requires counted { self.now.version < 2 ^ 40 }
+        requires place { slot < length self.now.slots }
+        requires fits { IfSome flight (Fits self.now slot) }
+        ensures value { IfOk result (λ shot. shot ≡ with_flight self.now slot flight) }
+        ensures records { IfOk result (λ shot.
+            (state_of shot).records ≡ records_put (flight_at self.now slot) flight (state_of self.now).records) }
+    {
+        let body = &*self.body;
+        let old = self.at_place(slot);
+        let grid = moved(
+            body.alloc,
+            &body.rules,
+            &body.grid,
+            slot,
+            old,
+            flight.as_ref(),
+        )?;
+        let slots = body.slots.set(slot, shared(body.alloc, flight)?)?;
+        changed(body, body.moment, slots, grid)
+    }
+
+    /// The picture at that moment, one version later. This snapshot stays as it is. It asks that the version is below 2^40.
+    pub fn at(&self, now: Second) -> Result<Snapshot, Memory>
+        requires counted { self.now.version < 2 ^ 40 }
+        requires early { now ≤ 10000000 }
+        ensures { IfOk result (λ shot. shot ≡ with_moment self.now now) }
+    {
+        let body = &*self.body;
+        changed(body, now, body.slots.share()?, body.grid.share()?)
+    }
+}
+
+// How many places there are for the flights that the rules allow.
+fn places(rules: &Rules) -> u32
+    requires { AreWithinBounds rules.now }
+    ensures { pos result ≡ rules.now.flights }
+{
+    rules.flights as u32
+}
+
+// What is put at a place, to be shared.
+fn shared(alloc: Global, flight: Option<Flight>) -> Result<Option<Arc<Flight>>, Memory>
+    ensures { IfOk result (λ shared. option_map arc_value shared ≡ flight) }
+{
+    match flight {
+        Some(flight) => Ok(Some(Arc::new(alloc, flight)?)),
+        None => Ok(None),
+    }
+}
+
+// A snapshot with another moment and other places, one version later.
+fn changed(
+    body: &Body,
+    moment: Second,
+    slots: Paged<Flight>,
+    grid: Grid,
+) -> Result<Snapshot, Memory>
+    requires counted { body.now.version < 2 ^ 40 }
+    requires kept { IsKept (record (shot_of body.now) { version = body.now.version + 1; now = moment; slots = slots }) grid }
+    ensures { IfOk result (λ shot. shot ≡ record (shot_of body.now) { version = body.now.version + 1; now = moment; slots = slots }) }
+{
+    Ok(Snapshot {
+        body: Arc::new(
+            body.alloc,
+            Body {
+                alloc: body.alloc,
+                rules: body.rules,
+                tables: Arc::try_clone(&body.tables)?,
+                version: body.version + 1,
+                moment,
+                slots,
+                grid,
+            },
+        )?,
+    })
+}
