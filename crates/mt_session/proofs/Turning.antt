@@ -1,0 +1,87 @@
+-- One turn of a session: what its outcome means.
+use Rattle.std.proofs.Common.{◌≡◌, ◌≤◌, ◌^◌, inl, inr, ℕ, Bool, true, false, List, [], length, Option, Some, None, Result, Ok, Err, refl, ap, sym, ◌∙◌}
+use Rattle.std.specs.Io.KnownBytes.{Appends}
+use Rattle.mt_io.specs.Reading.{Reading, Takes, IsDone, IsStopped, IsFaultAt, fresh}
+use Rattle.mt_io.specs.declared.line.LineFault.{LineFault}
+use Rattle.mt_io.specs.declared.line.LineFault.TheVariants as faults
+use Rattle.mt_io.specs.declared.whole_write.WriteFault.{WriteFault}
+use Rattle.mt_write.specs.declared.reply.Reply.{Reply}
+use Rattle.mt_write.specs.Reply.{reply_text}
+use Rattle.mt_session.specs.declared.outcome.Outcome.{Outcome}
+use Rattle.mt_session.specs.declared.outcome.Outcome.TheVariants as outcomes
+use Rattle.mt_lines.specs.Answering.{AnswersAll, AnswersFront, AnswersToLast, AnswersWhole, Explains}
+use Rattle.mt_lines.specs.Given.{Gives, Sends, is_brief, is_farewell}
+use Rattle.mt_workers.specs.Jobs.{Jobs}
+use Rattle.mt_session.specs.Run.{IsSession, Link, SessionMeans}
+use Rattle.mt_board.specs.Seat.{Seat}
+use Rattle.mt_session.specs.Following.{IsDone as IsJobDone, IsFollowed, IsReplied, Standing, job_of}
+use Rattle.mt_session.specs.Served.{IsRepliedTo}
+use Rattle.mt_session.specs.Session.{Session, asked, new_session}
+use Rattle.mt_board.proofs.SeatLemmas.{goes_on_itself, same_itself}
+use Rattle.mt_session.specs.SoFar.{HasRun, Turned}
+use Rattle.mt_lines.proofs.Answering.{cut_at, ended, ends_at, explained_as, goes_on, nothing, starts, stopped}
+use Rattle.mt_session.proofs.Replying.{given_job, given_replied}
+
+pub begins : (start : Standing) (before held : Option (List ℕ)) → HasRun start before before held held fresh start
+begins start before held = starts reply_text is_farewell IsReplied IsFollowed start before held
+
+pub wanted : (start : Standing) (before held : Option (List ℕ)) → Explains (SessionMeans start start outcomes.Memory) before before held held
+wanted start before held = explained_as _ _ before before held held (λ input left written (none, empty). (none, empty, refl)) (nothing before held)
+
+module _ (start : Standing) (before now after held held_now : Option (List ℕ)) (reader new : Reading) (w : Standing) where
+  pub at_end : HasRun start before now held held_now reader w → IsDone reader new now after
+      → Explains (SessionMeans start w outcomes.Ended) before after held held_now
+  at_end so_far done = explained_as _ _ before after held held_now (λ input left written all. inl all)
+      (ended reply_text is_farewell IsReplied IsFollowed start before now after held held_now held_now reader new w so_far done)
+
+  abbrev outcome_of : LineFault → Outcome
+  outcome_of faults.ReadFault = outcomes.ReadFault
+  outcome_of faults.Spent = outcomes.Spent
+
+  whole : (fault : LineFault) (input left written : List ℕ)
+      → (taken : List ℕ) × IsFaultAt fault (length taken) × AnswersWhole reply_text is_farewell IsReplied IsFollowed start input left taken written w
+      → SessionMeans start w (outcome_of fault) input left written
+  whole faults.ReadFault input left written (taken, fewer, answers) = (taken, answers)
+  whole faults.Spent input left written (taken, all, answers) = (taken, all, answers)
+
+  pub at_fault : (fault : LineFault) → HasRun start before now held held_now reader w → IsStopped reader new now after fault
+      → Explains (SessionMeans start w (outcome_of fault)) before after held held_now
+  at_fault fault so_far stop = explained_as _ _ before after held held_now (whole fault)
+      (stopped reply_text is_farewell IsReplied IsFollowed start before now after held held_now held_now reader new w fault so_far stop)
+
+  -- a line was read and answered, and its reply given
+  module _ (held_after : Option (List ℕ)) (line : List ℕ) (reply : Reply) (answered : Session)
+      (so_far : HasRun start before now held held_now reader w) (takes : Takes reader new now after line)
+      (replied : IsRepliedTo w.session line reply answered) (short : is_brief reply ≡ false → length line ≤ 65536) where
+    abbrev middle : Standing
+    middle = record { session = answered; jobs = w.jobs }
+
+    one : (result : Result Bool WriteFault) (gives : Gives reply result held_now held_after) → IsReplied w line gives.given middle
+    one result gives = (given_replied w.session answered line reply gives.given replied gives.given_for short, refl)
+
+    pub at_last : Gives reply (Ok true) held_now held_after → Explains (SessionMeans start middle outcomes.Ended) before after held held_after
+    at_last gives = explained_as _ _ before after held held_after (λ input left written all. inr all)
+        (ends_at reply_text is_farewell IsReplied IsFollowed start before now after held held_now held_after reader new w middle line gives.given
+        so_far takes (one (Ok true) gives) gives.sent.1 gives.sent.0)
+
+    pub at_cut : (fault : WriteFault) → Gives reply (Err fault) held_now held_after → Explains (SessionMeans start middle outcomes.WriteFault) before after held held_after
+    at_cut fault gives = explained_as _ _ before after held held_after (λ input left written front. front)
+        (cut_at reply_text is_farewell IsReplied IsFollowed start before now after held held_now held_after reader new w middle line gives.given
+        so_far takes (one (Err fault) gives) gives.sent)
+
+    pub at_line : (next : Standing) → Gives reply (Ok false) held_now held_after → IsJobDone (job_of (asked w.session.role line) reply) middle next
+        → HasRun start before after held held_after new next
+    at_line next gives done = goes_on reply_text is_farewell IsReplied IsFollowed start before now after held held_now held_after reader new w middle line gives.given
+        next so_far takes (one (Ok false) gives) gives.sent.1 gives.sent.0 (rw (given_job (asked w.session.role line) reply gives.given gives.given_for) done)
+
+-- memory was wanted before the first line
+pub nothing_done : (seat : Seat) (link : Link) (jobs : Option Jobs) → IsSession seat seat link link (Some jobs) (Some jobs) outcomes.Memory
+nothing_done seat link jobs = record {
+  end = new_session seat;
+  seat_is = refl;
+  explained = wanted (record { session = new_session seat; jobs = jobs }) link.left link.held;
+  same = same_itself seat;
+  begins = goes_on_itself seat.seen;
+  read_cause = λ is. cc;
+  write_cause = λ is. cc;
+}

@@ -1,0 +1,69 @@
+-- What follows the reply to a report.
+use Rattle.std.specs.Prelude.{◌≡◌, ◌⊎◌, ℕ, List, Option, Some, None, Result, Ok, Err, if◌then◌else◌}
+use Rattle.mt_base.specs.Verdict.{is_flagged}
+use Rattle.mt_base.specs.declared.command.Command.{Command}
+use Rattle.mt_base.specs.declared.command.Command.TheVariants.{Renew, Report}
+use Rattle.mt_base.specs.declared.command.Entered.{Entered}
+use Rattle.mt_base.specs.declared.verdict.Verdict.{Verdict}
+use Rattle.mt_board.specs.declared.no.No.{No}
+use Rattle.mt_board.specs.Changing.{IsChanged}
+use Rattle.mt_board.specs.Seat.{Seat}
+use Rattle.mt_read.specs.declared.request.Request.{Request}
+use Rattle.mt_read.specs.declared.request.Request.TheVariants as requests
+use Rattle.mt_workers.specs.Jobs.{GivesBack, Jobs, Takes}
+use Rattle.mt_write.specs.declared.reply.Reply.{Reply}
+use Rattle.mt_write.specs.declared.reply.Reply.TheVariants as replies
+use Rattle.mt_session.specs.Served.{IsRepliedTo}
+use Rattle.mt_session.specs.Session.{Session, asked, with_seat}
+
+-- the flight that a command reports
+abbrev pub reported : Command → Option (List ℕ)
+reported (Report call report) = Some call
+reported command = None
+
+-- it, where the verdict has a flag
+abbrev pub due_if : Option (List ℕ) → Option Verdict → Option (List ℕ)
+due_if call None = None
+due_if call (Some verdict) = if is_flagged verdict then call else None
+
+-- The flight that is to be renewed once a request, or a line, is answered so: that of a report which is entered with a flag.
+abbrev pub job_by : Request → Entered → Option (List ℕ)
+job_by (requests.Change command) entered = due_if (reported command) entered.verdict
+job_by request entered = None
+
+abbrev pub job_if : Request → Reply → Option (List ℕ)
+job_if request (replies.Entered entered) = job_by request entered
+job_if request reply = None
+
+abbrev pub job_of : Result (ℕ × Request) Reply → Reply → Option (List ℕ)
+job_of (Ok asked) reply = job_if asked.1 reply
+job_of (Err refusal) reply = None
+
+-- A session, and the outbox beside it, as far as it tells its jobs.
+pub record Standing : Type 0 where
+  pub session : Session
+  pub jobs : Option Jobs
+
+-- a reply touches no job
+abbrev pub IsReplied : Standing → List ℕ → Reply → Standing → Type 0
+IsReplied w line reply next = IsRepliedTo w.session line reply next.session × (next.jobs ≡ w.jobs)
+
+-- the session asked to renew a flight, whatever it was answered
+pub record IsRenewed (s : Session) (call : List ℕ) (next : Session) : Type 0 where
+  pub result : Result Entered No
+  pub seat : Seat
+  pub changed : IsChanged s.seat (Renew call) result seat
+  pub next_is : next ≡ with_seat s seat
+
+-- The outbox took the job; or it gave it back, and the session renewed the flight itself.
+abbrev pub IsHanded : List ℕ → Standing → Standing → Type 0
+IsHanded call w next = (Takes w.jobs call next.jobs × (next.session ≡ w.session)) ⊎ (GivesBack w.jobs next.jobs × IsRenewed w.session call next.session)
+
+-- it is done where there is one
+abbrev pub IsDone : Option (List ℕ) → Standing → Standing → Type 0
+IsDone None w next = next ≡ w
+IsDone (Some call) w next = IsHanded call w next
+
+-- what follows once the reply is written
+abbrev pub IsFollowed : Standing → List ℕ → Reply → Standing → Standing → Type 0
+IsFollowed w line reply answered next = IsDone (job_of (asked w.session.role line) reply) answered next

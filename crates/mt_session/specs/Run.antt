@@ -1,0 +1,58 @@
+-- What a whole session means.
+use Rattle.std.specs.Prelude.{◌≡◌, ◌⊎◌, ◌^◌, ℕ, List, [], length, Option, Some, None}
+use Rattle.mt_board.specs.Seat.{GoesOn, IsSameSeat, Seat}
+use Rattle.mt_io.specs.Causes.{Rose}
+use Rattle.mt_lines.specs.Answering.{AnswersAll, AnswersFront, AnswersToLast, AnswersWhole, Explains}
+use Rattle.mt_lines.specs.Given.{is_farewell}
+use Rattle.mt_workers.specs.Jobs.{Jobs, no_jobs}
+use Rattle.mt_write.specs.Reply.{reply_text}
+use Rattle.mt_session.specs.declared.outcome.Outcome.{Outcome}
+use Rattle.mt_session.specs.declared.outcome.Outcome.TheVariants.{Ended, ReadFault, WriteFault, Spent, Memory}
+use Rattle.mt_session.specs.Following.{IsFollowed, IsReplied, Standing}
+use Rattle.mt_session.specs.Session.{Session, new_session}
+
+-- What an outcome says, by the session at first and at last, of the link's whole input, what was left of it, and what was written. A session
+-- is lines answered one by one, up to the one that is answered with a farewell. Memory is wanted only before the first line: then nothing
+-- was read and nothing written.
+abbrev pub SessionMeans : Standing → Standing → Outcome → List ℕ → List ℕ → List ℕ → Type 0
+SessionMeans start end Ended input left written = AnswersAll reply_text is_farewell IsReplied IsFollowed start input left written end
+    ⊎ AnswersToLast reply_text is_farewell IsReplied IsFollowed start input left written end
+SessionMeans start end ReadFault input left written =
+    (taken : List ℕ) × AnswersWhole reply_text is_farewell IsReplied IsFollowed start input left taken written end
+SessionMeans start end Spent input left written =
+    (taken : List ℕ) × (length taken ≡ 2 ^ 32) × AnswersWhole reply_text is_farewell IsReplied IsFollowed start input left taken written end
+SessionMeans start end WriteFault input left written = AnswersFront reply_text is_farewell IsReplied IsFollowed start input written end
+SessionMeans start end Memory input left written = (left ≡ input) × (written ≡ []) × (end ≡ start)
+
+-- What is known of a link: the bytes left to read and the bytes written, as far as it tells them, and the counts of its faults.
+pub record Link : Type 0 where
+  pub left : Option (List ℕ)
+  pub held : Option (List ℕ)
+  pub read_faults : ℕ
+  pub write_faults : ℕ
+
+-- the jobs of an outbox that may be there
+abbrev pub jobs_in : Option (Option Jobs) → Option Jobs
+jobs_in None = Some no_jobs
+jobs_in (Some jobs) = jobs
+
+-- The run of a session: of the seat, the link and the outbox, if there is one, before and after it, and its outcome. A fault of the link is
+-- the outcome only where its count rose, or stands at its last value.
+pub record IsSession (seat seat_after : Seat) (link link_after : Link) (outbox outbox_after : Option (Option Jobs)) (outcome : Outcome) : Type 0 where
+  pub end : Session
+  pub seat_is : end.seat ≡ seat_after
+  pub explained : Explains
+      (SessionMeans (record { session = new_session seat; jobs = jobs_in outbox }) (record { session = end; jobs = jobs_in outbox_after }) outcome)
+      link.left link_after.left link.held link_after.held
+  pub same : IsSameSeat seat seat_after
+  pub begins : GoesOn seat.seen seat_after.seen
+  pub read_cause : outcome ≡ ReadFault → Rose link.read_faults link_after.read_faults
+  pub write_cause : outcome ≡ WriteFault → Rose link.write_faults link_after.write_faults
+
+-- no fault of the outside
+abbrev pub IsNoFault : Outcome → Type 0
+IsNoFault Ended = Unit {0}
+IsNoFault Spent = Unit {0}
+IsNoFault Memory = Unit {0}
+IsNoFault ReadFault = ⊥
+IsNoFault WriteFault = ⊥

@@ -1,0 +1,153 @@
+//! What a line is answered.
+ghost use Rattle.std.specs.Prelude.{◌≡◌, ◌⊎◌, ◌≤◌, length, Option, Some, Err};
+ghost use Rattle.std.specs.Thread.{IsSync};
+ghost use Rattle.mt_base.specs.Bounds.{IsAskedFor, IsBoundedCommand};
+ghost use Rattle.mt_base.specs.Rules.{usual_rules};
+ghost use Rattle.mt_lines.specs.Fit.{IsFit};
+ghost use Rattle.mt_read.specs.Bounded.{IsBoundedRequest};
+ghost use Rattle.mt_read.specs.declared.request.Request.TheVariants.{Change};
+ghost use Rattle.mt_write.specs.declared.reply.Reply.TheVariants as replies;
+ghost use Rattle.mt_session.specs.Following.{job_if, job_of};
+ghost use Rattle.mt_session.specs.Keeping.{StaysOn};
+ghost use Rattle.mt_session.specs.Served.{IsCommanded, IsForeign, IsLooked, IsRepliedTo, IsServed, IsStarved};
+ghost use Rattle.mt_session.specs.Session.{Session, asked, or_reply, place_of};
+
+use crate::following::{due_if, reported};
+use crate::serving::Serving;
+use crate::telling::refused;
+use mt_base::{Callsign, Command, Memory, Role, Rules};
+use mt_board::{Ask, Board};
+use mt_io::Gate;
+use mt_wire::{DoneWord, FieldName, LineNo, Place, Reply, Request, read_line};
+use std::alloc::Global;
+use std::sync::Wait;
+use std::thread::Threads;
+
+// The refusal of a line, as a reply.
+fn unread(no: LineNo) -> Reply
+    ensures reply { Err result ≡ or_reply (Err no) }
+    ensures fit { IsFit result }
+{
+    match no {
+        LineNo::Json => Reply::Json,
+        LineNo::Form(name) => Reply::Form(name),
+        LineNo::Range(name) => Reply::Range(name),
+        LineNo::Memory => Reply::Memory,
+    }
+}
+
+// The refusal of a command that no session has.
+fn foreign(alloc: Global) -> Reply
+    ensures refused { (s : Session) → IsForeign s result s ⊎ IsLooked s result s }
+    ensures fit { IsFit result }
+{
+    match FieldName::of(alloc, b"do") {
+        Ok(name) => Reply::Form(name),
+        Err(Memory) => Reply::Memory,
+    }
+}
+
+impl<B: Board> Serving<B> {
+    // Where its lines come from.
+    fn place(&self) -> Place
+        ensures { result ≡ place_of self.now.session.role }
+    {
+        match self.role {
+            None => Place::Plain,
+            Some(Role::Feed) => Place::Feed,
+            Some(Role::Position) => Place::Position,
+        }
+    }
+
+    /// Answers a line of at most 65,536 bytes; and the flight that is to be renewed once the reply is written.
+    pub fn answer<R: Threads + Wait + Sync, G: Gate>(
+        &mut self,
+        rt: &R,
+        alloc: Global,
+        line: &[u8],
+        gate: &G,
+    ) -> (Reply, Option<Callsign>)
+        requires sync { IsSync R.row }
+        requires short { length line.now ≤ 65536 }
+        ensures replied { IsRepliedTo self.old.session line.now result.0 self.new.session }
+        ensures job { result.1 ≡ job_of (asked self.old.session.role line.now) result.0 }
+        ensures on { StaysOn self.old self.new }
+        ensures fit { IsFit result.0 }
+    {
+        match read_line(alloc, line, self.place(), &Rules::usual()) {
+            Ok((_, request)) => self.serve(rt, alloc, request, gate),
+            Err(no) => (unread(no), None),
+        }
+    }
+
+    // Serves a request; and the flight that is to be renewed then.
+    fn serve<R: Threads + Wait + Sync, G: Gate>(
+        &mut self,
+        rt: &R,
+        alloc: Global,
+        request: Request,
+        gate: &G,
+    ) -> (Reply, Option<Callsign>)
+        requires sync { IsSync R.row }
+        requires bounded { IsBoundedRequest usual_rules request }
+        ensures served { IsServed self.old.session request result.0 self.new.session ⊎ IsStarved self.old.session request result.0 self.new.session }
+        ensures job { result.1 ≡ job_if request result.0 }
+        ensures on { StaysOn self.old self.new }
+        ensures fit { IsFit result.0 }
+    {
+        match request {
+            Request::Change(command) => self.command(rt, command, gate),
+            Request::Hello(role) => (self.hello(role), None),
+            Request::Bye => (Reply::Done(DoneWord::Bye), None),
+            Request::List => (self.tell(rt, &Ask::List), None),
+            Request::Check => (self.tell(rt, &Ask::Check), None),
+            Request::Due => (self.tell(rt, &Ask::Due), None),
+            Request::Flight { call, sec } => (self.tell(rt, &Ask::Flight { call, sec }), None),
+            Request::History { from, to } => (self.tell(rt, &Ask::History { from, to }), None),
+            Request::Probe {
+                call,
+                clearance,
+                eff,
+            } => (self.probe(rt, alloc, call, clearance, eff, gate), None),
+            Request::Accept { probe } => (self.accept(rt, probe, gate), None),
+            Request::Advise { call } => (self.advise(rt, alloc, call, gate), None),
+            Request::Settle => (self.settle(rt, gate), None),
+            _ => (foreign(alloc), None),
+        }
+    }
+
+    // Takes a role.
+    fn hello(&mut self, role: Role) -> Reply
+        ensures replied { result ≡ replies.Hello role }
+        ensures taken { self.new.session ≡ record self.old.session { role = Some role } }
+        ensures on { StaysOn self.old self.new }
+    {
+        self.role = Some(role);
+        Reply::Hello(role)
+    }
+
+    // Asks for a command; and the flight that is to be renewed then, that of a report with a flag.
+    fn command<R: Threads + Wait + Sync, G: Gate>(
+        &mut self,
+        rt: &R,
+        command: Command,
+        gate: &G,
+    ) -> (Reply, Option<Callsign>)
+        requires sync { IsSync R.row }
+        requires bounded { IsBoundedCommand command }
+        requires asked_for { IsAskedFor command }
+        ensures commanded { IsCommanded self.old.session command result.0 self.new.session }
+        ensures job { result.1 ≡ job_if (Change command) result.0 }
+        ensures on { StaysOn self.old self.new }
+        ensures fit { IsFit result.0 }
+    {
+        let call = reported(&command);
+        match self.change(rt, command, gate) {
+            Ok(entered) => {
+                let job = due_if(call, entered.verdict);
+                (Reply::Entered(entered), job)
+            }
+            Err(no) => (refused(no), None),
+        }
+    }
+}

@@ -1,0 +1,145 @@
+//! A session, from its first line to its last.
+ghost use Rattle.std.specs.Prelude.{◌≡◌, ◌≤◌, ◌^◌, ◌+◌, ℕ, List, None, Some, IfNone, vec_capacity};
+ghost use Rattle.std.specs.declared.option.Option.{Option};
+ghost use Rattle.mt_io.specs.Causes.{Rose};
+ghost use Rattle.std.specs.Thread.{IsSync};
+ghost use Rattle.mt_session.specs.Following.{Standing};
+ghost use Rattle.mt_session.specs.Keeping.{StaysOn};
+ghost use Rattle.mt_session.specs.Outboxes.{outbox_after, outbox_before};
+ghost use Rattle.mt_session.specs.Run.{IsNoFault, IsSession};
+ghost use Rattle.mt_session.specs.SoFar.{HasRun, Turned};
+ghost use Rattle.mt_session.specs.declared.outcome.Outcome.TheVariants.{ReadFault, WriteFault};
+
+use crate::outcome::Outcome;
+use crate::serving::Serving;
+use mt_board::Board;
+use mt_io::{Duplex, Gate, Line, LineFault, LineReader};
+use mt_lines::give;
+use mt_machine::Book;
+use mt_wire::Reply;
+use mt_workers::{NoOutbox, Outbox};
+use std::alloc::Global;
+use std::sync::Wait;
+use std::thread::Threads;
+
+/// The room for a reply that follows a change, taken before the first line.
+const ROOM: usize = 65_536;
+
+/// Answers the lines of a link over a board, to its end or to the line that ends the session, and gives the board back. It takes its memory
+/// before the first line: the reader, the book, and the room for a reply that follows a change.
+///
+/// Once the reply to a report with a flag is written, the flight's job is handed to the outbox; where there is none, or the job comes back,
+/// the session renews the flight itself.
+///
+/// `session` is the whole promise, by the outcome; `complete`: an outcome that is a fault comes only where a count of the link rose.
+pub fn session<R: Threads + Wait + Sync, B: Board, L: Duplex, O: Outbox, G: Gate>(
+    rt: &R,
+    alloc: Global,
+    board: B,
+    link: &mut L,
+    jobs: Option<&mut O>,
+    gate: &G,
+) -> (B, Outcome)
+    requires sync { IsSync R.row }
+    ensures session { IsSession (B.seat board) (B.seat result.0)
+        (record { left = L.left link.old; held = L.held link.old; read_faults = L.Source.faults link.old; write_faults = L.Sink.faults link.old })
+        (record { left = L.left link.new; held = L.held link.new; read_faults = L.Source.faults link.new; write_faults = L.Sink.faults link.new })
+        (outbox_before O.jobs jobs.entry) (outbox_after O.jobs jobs.exit) result.1 }
+    ensures complete { ¬ Rose (L.Source.faults link.old) (L.Source.faults link.new) → ¬ Rose (L.Sink.faults link.old) (L.Sink.faults link.new)
+        → IsNoFault result.1 }
+    ensures home { B.home result.0 ≡ B.home board }
+{
+    match jobs {
+        Some(outbox) => serve_link(rt, alloc, board, link, outbox, gate),
+        None => serve_link(rt, alloc, board, link, &mut NoOutbox, gate),
+    }
+}
+
+// The same over an outbox.
+fn serve_link<R: Threads + Wait + Sync, B: Board, L: Duplex, O: Outbox, G: Gate>(
+    rt: &R,
+    alloc: Global,
+    board: B,
+    link: &mut L,
+    jobs: &mut O,
+    gate: &G,
+) -> (B, Outcome)
+    requires sync { IsSync R.row }
+    ensures session { IsSession (B.seat board) (B.seat result.0)
+        (record { left = L.left link.old; held = L.held link.old; read_faults = L.Source.faults link.old; write_faults = L.Sink.faults link.old })
+        (record { left = L.left link.new; held = L.held link.new; read_faults = L.Source.faults link.new; write_faults = L.Sink.faults link.new })
+        (Some (O.jobs jobs.old)) (Some (O.jobs jobs.new)) result.1 }
+    ensures home { B.home result.0 ≡ B.home board }
+{
+    let Ok(mut reader) = LineReader::make(alloc) else {
+        return (board, Outcome::Memory);
+    };
+    let Ok(book) = Book::make(alloc) else {
+        return (board, Outcome::Memory);
+    };
+    let Ok(mut room) = Vec::with_capacity(alloc, ROOM) else {
+        return (board, Outcome::Memory);
+    };
+    let mut serving = Serving::of(board, book);
+    loop {
+        if let Some(outcome) = turn(
+            rt,
+            alloc,
+            &mut reader,
+            &mut serving,
+            &mut room,
+            link,
+            jobs,
+            gate,
+        ) {
+            return (serving.board(), outcome);
+        }
+    }
+}
+
+// Reads one line and answers it; an outcome where the session ends with it.
+fn turn<R: Threads + Wait + Sync, B: Board, L: Duplex, O: Outbox, G: Gate>(
+    rt: &R,
+    alloc: Global,
+    reader: &mut LineReader,
+    serving: &mut Serving<B>,
+    room: &mut Vec<u8>,
+    link: &mut L,
+    jobs: &mut O,
+    gate: &G,
+) -> Option<Outcome>
+    requires sync { IsSync R.row }
+    requires sound { reader.old.fault ≡ None }
+    requires room { 65536 ≤ vec_capacity room.old }
+    ensures turned { (start : Standing) (before held : Option (List ℕ))
+        → HasRun start before (L.left link.old) held (L.held link.old) reader.old (record { session = serving.old.session; jobs = O.jobs jobs.old })
+        → Turned start result before (L.left link.new) held (L.held link.new) reader.new (record { session = serving.new.session; jobs = O.jobs jobs.new }) }
+    ensures rises { IfNone result ((reader.new.given ≡ reader.old.given + 1) × (reader.new.given ≤ 2 ^ 32) × (reader.new.fault ≡ None)) }
+    ensures room { 65536 ≤ vec_capacity room.new }
+    ensures on { StaysOn serving.old serving.new }
+    ensures read { result ≡ Some ReadFault → Rose (L.Source.faults link.old) (L.Source.faults link.new) }
+    ensures write { result ≡ Some WriteFault → Rose (L.Sink.faults link.old) (L.Sink.faults link.new) }
+    ensures later { (L.Source.faults link.old ≤ L.Source.faults link.new) × (L.Sink.faults link.old ≤ L.Sink.faults link.new) }
+{
+    match reader.next(link) {
+        Ok(Line::Text(line)) => {
+            let (reply, job) = serving.answer(rt, alloc, line, gate);
+            match give(alloc, &reply, room, link) {
+                Ok(true) => Some(Outcome::Ended),
+                Ok(false) => {
+                    serving.follow(rt, job, jobs, gate);
+                    None
+                }
+                Err(_) => Some(Outcome::WriteFault),
+            }
+        }
+        Ok(Line::Long) => match give(alloc, &Reply::Long, room, link) {
+            Ok(true) => Some(Outcome::Ended),
+            Ok(false) => None,
+            Err(_) => Some(Outcome::WriteFault),
+        },
+        Ok(Line::End) => Some(Outcome::Ended),
+        Err(LineFault::ReadFault) => Some(Outcome::ReadFault),
+        Err(LineFault::Spent) => Some(Outcome::Spent),
+    }
+}

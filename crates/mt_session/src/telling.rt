@@ -1,0 +1,79 @@
+//! What a board answers, as replies.
+ghost use Rattle.std.specs.Prelude.{◌≡◌, ◌⊎◌};
+ghost use Rattle.std.specs.Thread.{IsSync};
+ghost use Rattle.mt_lines.specs.Fit.{IsFit};
+ghost use Rattle.mt_session.specs.Keeping.{StaysOn};
+ghost use Rattle.mt_session.specs.Served.{IsLooked, IsNumberRefused, IsTold, entered_reply, no_reply, read_reply};
+
+use crate::serving::Serving;
+use mt_base::{Entered, Refusal};
+use mt_board::{Answer, Ask, Board, No};
+use mt_wire::Reply;
+use std::sync::Wait;
+use std::thread::Threads;
+
+/// Why a board gives nothing, as a reply.
+pub(crate) fn refused(no: No) -> Reply
+    ensures reply { result ≡ no_reply no }
+    ensures fit { IsFit result }
+{
+    match no {
+        No::Refused { refusal, version } => Reply::Refused { refusal, version },
+        No::Memory => Reply::Memory,
+    }
+}
+
+/// What a command is answered, as a reply.
+pub(crate) fn changed(outcome: Result<Entered, No>) -> Reply
+    ensures reply { result ≡ entered_reply outcome }
+    ensures fit { IsFit result }
+{
+    match outcome {
+        Ok(entered) => Reply::Entered(entered),
+        Err(no) => refused(no),
+    }
+}
+
+// What a read is answered, as a reply.
+fn told(outcome: Result<Answer, No>) -> Reply
+    ensures reply { result ≡ read_reply outcome }
+    ensures fit { IsFit result }
+{
+    match outcome {
+        Ok(Answer::List { conflicts, version }) => Reply::List { conflicts, version },
+        Ok(Answer::Check { conflicts, version }) => Reply::List { conflicts, version },
+        Ok(Answer::Due { calls, version }) => Reply::Due { calls, version },
+        Ok(Answer::Flight(view)) => Reply::Flight(view),
+        Ok(Answer::History { entries, version }) => Reply::History { entries, version },
+        Err(no) => refused(no),
+    }
+}
+
+impl<B: Board> Serving<B> {
+    // Tells what is asked for.
+    pub(crate) fn tell<R: Threads + Wait + Sync>(&mut self, rt: &R, ask: &Ask) -> Reply
+        requires sync { IsSync R.row }
+        ensures told { IsTold self.old.session ask.now result self.new.session }
+        ensures on { StaysOn self.old self.new }
+        ensures fit { IsFit result }
+    {
+        told(self.read(rt, ask))
+    }
+
+    // Refuses a number, at a version that is read for it.
+    pub(crate) fn refuse_number<R: Threads + Wait + Sync>(
+        &mut self,
+        rt: &R,
+        refusal: Refusal,
+    ) -> Reply
+        requires sync { IsSync R.row }
+        ensures refused { IsNumberRefused self.old.session refusal result self.new.session ⊎ IsLooked self.old.session result self.new.session }
+        ensures on { StaysOn self.old self.new }
+        ensures fit { IsFit result }
+    {
+        match self.read(rt, &Ask::History { from: 0, to: 0 }) {
+            Ok(Answer::History { version, .. }) => Reply::Refused { refusal, version },
+            _ => Reply::Memory,
+        }
+    }
+}

@@ -1,0 +1,30 @@
+-- What an outbox takes, and what an inbox gives.
+use Rattle.std.specs.Prelude.{◌≡◌, ◌<◌, ◌≤◌, ℕ, List, [], ◌∷◌, ◌++◌, length, Option, Some, None, IfSome, ⊤}
+
+-- the flights of the jobs that were taken, in order, and how many there is room for
+pub record Jobs : Type 0 where
+  pub taken : List (List ℕ)
+  pub room : ℕ
+
+-- no outbox takes no job
+abbrev pub no_jobs : Jobs
+no_jobs = record { taken = []; room = 0 }
+
+-- A job is taken: it stands behind the others, and there was room. What tells nothing tells nothing then.
+abbrev pub Takes : Option Jobs → List ℕ → Option Jobs → Type 0
+Takes None call after = after ≡ None
+Takes (Some jobs) call after = (length jobs.taken < jobs.room) × (after ≡ Some (record jobs { taken = jobs.taken ++ call ∷ [] }))
+
+-- A job is given back: nothing has changed, and there was no room.
+abbrev pub GivesBack : Option Jobs → Option Jobs → Type 0
+GivesBack before after = (after ≡ before) × IfSome before (λ jobs. jobs.room ≤ length jobs.taken)
+
+-- these jobs were taken from the front of those that were left, where they are told
+abbrev pub AreTaken : Option (List (List ℕ)) → Option (List (List ℕ)) → List (List ℕ) → Type 0
+AreTaken None after calls = ⊤
+AreTaken (Some left) None calls = ⊥
+AreTaken (Some left) (Some rest) calls = left ≡ calls ++ rest
+
+-- none is left, where they are told
+abbrev pub IsOver : Option (List (List ℕ)) → Type 0
+IsOver left = IfSome left (λ calls. calls ≡ [])

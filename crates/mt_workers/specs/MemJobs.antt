@@ -1,0 +1,8 @@
+-- Jobs in memory.
+use Rattle.std.specs.Prelude.{map}
+use Rattle.mt_workers.specs.declared.outbox.MemOutbox.{MemOutbox}
+use Rattle.mt_workers.specs.Jobs.{Jobs}
+
+-- what it tells
+abbrev pub jobs_of : MemOutbox → Jobs
+jobs_of outbox = record { taken = map (λ job. job.call) outbox.taken.items; room = outbox.room }
