@@ -1,5 +1,5 @@
 -- Advice, one probe more at a time.
-use Rattle.std.proofs.Common.{◌≡◌, ◌+◌, ℕ, List, [], ◌∷◌, ◌++◌, length, map, refl, ap, arith}
+use Rattle.std.proofs.Common.{◌≡◌, ℕ, List, [], ◌∷◌, ◌++◌, length, refl, ap, arith}
 use Rattle.mt_base.specs.Tally.{raised}
 use Rattle.mt_board.specs.Probing.{Probe}
 use Rattle.mt_write.specs.declared.reply.AdviceItem.{AdviceItem}

@@ -1,5 +1,5 @@
 -- Settling, one renewal more at a time.
-use Rattle.std.proofs.Common.{◌≡◌, ◌≢◌, ◌<◌, ◌≤◌, ◌+◌, inl, inr, ℕ, Bool, true, false, All, Option, Some, None, take, get_or, length, List, [], ◌∷◌, ◌++◌, Result, Ok, Err, refl, sym, ◌∙◌, ap, append-nil, drop, true≢false}
+use Rattle.std.proofs.Common.{◌≡◌, ◌≢◌, ◌<◌, ◌≤◌, ◌+◌, inl, inr, ℕ, true, false, Some, None, take, get_or, length, List, [], ◌∷◌, ◌++◌, Result, Ok, Err, refl, sym, ◌∙◌, ap, append-nil, drop, true≢false}
 use Rattle.std.proofs.lemmas.List.{take-append-drop, take_all, take_more}
 use Rattle.std.proofs.lemmas.List.Elements.{All-push, All-from_recursion}
 use Rattle.mt_base.specs.declared.command.Command.TheVariants.{Renew}
@@ -11,7 +11,7 @@ use Rattle.mt_board.specs.declared.no.No.{No}
 use Rattle.mt_board.specs.declared.no.No.TheVariants as no
 use Rattle.mt_board.specs.Asking.{IsRead}
 use Rattle.mt_board.specs.Changing.{IsChanged}
-use Rattle.mt_board.specs.Seat.{HasLooked, Seat}
+use Rattle.mt_board.specs.Seat.{Seat}
 use Rattle.mt_board.specs.Settling.{AreMade, AreRenewed}
 use Rattle.mt_board.proofs.SeatLemmas.{renewals_add}
 use Rattle.mt_session.specs.Settles.{Settles, is_starved, told_due}

@@ -1,11 +1,11 @@
 -- A seat stays on at every call of its board.
-use Rattle.std.proofs.Common.{◌≡◌, ◌∙◌, ℕ, List, Option, Result, Ok, Err, refl, All}
+use Rattle.std.proofs.Common.{◌∙◌, ℕ, List, Option, Result, Ok, Err, refl}
 use Rattle.std.specs.Prelude.{IfOk, IfErr}
 use Rattle.mt_base.specs.declared.clearance.Clearance.{Clearance}
 use Rattle.mt_board.specs.declared.no.No.{No}
 use Rattle.mt_base.specs.Picture.{State}
 use Rattle.mt_base.specs.Tables.{Setup}
-use Rattle.mt_board.specs.Probing.{IsAdvised, IsNotAdvised, IsNotProbed, IsPast, IsProbed, Probe}
+use Rattle.mt_board.specs.Probing.{IsAdvised, IsNotAdvised, IsNotProbed, IsProbed, Probe}
 use Rattle.mt_board.specs.Seat.{GoesOn, HasLooked, IsSameSeat, Seat}
 use Rattle.mt_board.proofs.SeatLemmas.{denied_goes_on, goes_on, goes_on_itself, past_on, same_itself, same_on}
 use Rattle.mt_session.specs.Keeping.{ArePast, Held, StaysOn}

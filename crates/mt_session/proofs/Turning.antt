@@ -1,6 +1,5 @@
 -- One turn of a session: what its outcome means.
-use Rattle.std.proofs.Common.{◌≡◌, ◌≤◌, ◌^◌, inl, inr, ℕ, Bool, true, false, List, [], length, Option, Some, None, Result, Ok, Err, refl, ap, sym, ◌∙◌}
-use Rattle.std.specs.Io.KnownBytes.{Appends}
+use Rattle.std.proofs.Common.{◌≡◌, ◌≤◌, inl, inr, ℕ, Bool, true, false, List, length, Option, Some, Result, Ok, Err, refl}
 use Rattle.mt_io.specs.Reading.{Reading, Takes, IsDone, IsStopped, IsFaultAt, fresh}
 use Rattle.mt_io.specs.declared.line.LineFault.{LineFault}
 use Rattle.mt_io.specs.declared.line.LineFault.TheVariants as faults
@@ -9,8 +8,8 @@ use Rattle.mt_write.specs.declared.reply.Reply.{Reply}
 use Rattle.mt_write.specs.Reply.{reply_text}
 use Rattle.mt_session.specs.declared.outcome.Outcome.{Outcome}
 use Rattle.mt_session.specs.declared.outcome.Outcome.TheVariants as outcomes
-use Rattle.mt_lines.specs.Answering.{AnswersAll, AnswersFront, AnswersToLast, AnswersWhole, Explains}
-use Rattle.mt_lines.specs.Given.{Gives, Sends, is_brief, is_farewell}
+use Rattle.mt_lines.specs.Answering.{AnswersWhole, Explains}
+use Rattle.mt_lines.specs.Given.{Gives, is_brief, is_farewell}
 use Rattle.mt_workers.specs.Jobs.{Jobs}
 use Rattle.mt_session.specs.Run.{IsSession, Link, SessionMeans}
 use Rattle.mt_board.specs.Seat.{Seat}
@@ -18,7 +17,7 @@ use Rattle.mt_session.specs.Following.{IsDone as IsJobDone, IsFollowed, IsReplie
 use Rattle.mt_session.specs.Served.{IsRepliedTo}
 use Rattle.mt_session.specs.Session.{Session, asked, new_session}
 use Rattle.mt_board.proofs.SeatLemmas.{goes_on_itself, same_itself}
-use Rattle.mt_session.specs.SoFar.{HasRun, Turned}
+use Rattle.mt_session.specs.SoFar.{HasRun}
 use Rattle.mt_lines.proofs.Answering.{cut_at, ended, ends_at, explained_as, goes_on, nothing, starts, stopped}
 use Rattle.mt_session.proofs.Replying.{given_job, given_replied}
 

@@ -1,4 +1,4 @@
-use Rattle.std.proofs.Common.{◌≡◌, ◌≤◌, ◌^◌, ◌-◌, None, Option, List, vec_capacity}
+use Rattle.std.proofs.Common.{◌≡◌, ◌≤◌, ◌^◌, ◌-◌, None, vec_capacity}
 use Rattle.mt_board.specs.Seat.{GoesOn, IsSameSeat}
 use Rattle.mt_session.specs.Session.{new_session}
 use Rattle.mt_session.specs.SoFar.{HasRun}

@@ -1,4 +1,4 @@
-use Rattle.std.proofs.Common.{refl, Ok, Err, true, false, sym}
+use Rattle.std.proofs.Common.{refl}
 use Rattle.mt_io.specs.declared.line.LineFault.TheVariants as faults
 use Rattle.mt_write.specs.declared.reply.Reply.TheVariants as replies
 use Rattle.mt_session.proofs.Replying.{long_job, long_replied}

@@ -1,16 +1,30 @@
-use Rattle.std.proofs.Common.{inl, inr, refl, Ok, Err}
+use Rattle.std.proofs.Common.{inl, refl, Ok, Err}
 use Rattle.mt_session.proofs.serving.Serving.probe.Goals as goal
 
 pub returns-in-Ok-copied-clause-probed : goal.returns-in-Ok-copied-clause-probed
 returns-in-Ok-copied-clause-probed g c =
-    inl (record { seat = c.what_if.new.self.session.seat; result = Ok (g.B.Probe.Probed.told c.in-Ok.probe); tried = (c.in-Ok.ensures.probed, record {
-      reply_is = rw (c.in-Ok-copied.ensures.same, c.hits.ensures.told, c.eff-eff.ensures, c.version-version.ensures, c.keep-number.ensures.number, c.in-Ok.ensures.kept) refl;
-      next_is = rw (c.keep-number.ensures.kept, c.in-Ok.ensures.kept) refl;
-    }) })
+    inl (record {
+      seat = c.what_if.new.self.session.seat;
+      result = Ok (g.B.Probe.Probed.told c.in-Ok.probe);
+      tried = (
+        c.in-Ok.ensures.probed,
+        record {
+          reply_is = rw (c.in-Ok-copied.ensures.same, c.hits.ensures.told, c.eff-eff.ensures, c.version-version.ensures, c.keep-number.ensures.number, c.in-Ok.ensures.kept) refl;
+          next_is = rw (c.keep-number.ensures.kept, c.in-Ok.ensures.kept) refl;
+        },
+      );
+    })
 
 pub returns-in-Err-clause-probed : goal.returns-in-Err-clause-probed
 returns-in-Err-clause-probed g c =
-    inl (record { seat = c.what_if.new.self.session.seat; result = Err c.in-Err.no; tried = (c.in-Err.ensures.denied, record {
-      reply_is = c.refused.ensures.reply;
-      next_is = c.in-Err.ensures.kept;
-    }) })
+    inl (record {
+      seat = c.what_if.new.self.session.seat;
+      result = Err c.in-Err.no;
+      tried = (
+        c.in-Err.ensures.denied,
+        record {
+          reply_is = c.refused.ensures.reply;
+          next_is = c.in-Err.ensures.kept;
+        },
+      );
+    })

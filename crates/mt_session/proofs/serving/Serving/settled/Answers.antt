@@ -1,4 +1,4 @@
-use Rattle.std.proofs.Common.{refl, sym, ◌∙◌, ap, subst, arith}
+use Rattle.std.proofs.Common.{sym, ◌∙◌, ap, subst, arith}
 use Rattle.mt_base.specs.declared.command.Command.TheVariants.{Renew}
 use Rattle.mt_board.specs.Changing.{IsChanged}
 use Rattle.mt_session.specs.Session.{with_seat}

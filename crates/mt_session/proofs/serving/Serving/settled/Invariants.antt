@@ -1,4 +1,4 @@
-use Rattle.std.proofs.Common.{◌≡◌, List, take}
+use Rattle.std.proofs.Common.{◌≡◌, take}
 use Rattle.mt_session.specs.Keeping.{StaysOn}
 use Rattle.mt_session.specs.Session.{with_seat}
 use Rattle.mt_session.proofs.Renewals.{HasRenewed}
