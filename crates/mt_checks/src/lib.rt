@@ -16,8 +16,6 @@ mod json_lines;
 #[cfg(test)]
 mod published;
 #[cfg(test)]
-mod sessions;
-#[cfg(test)]
 mod snapshots;
 #[cfg(test)]
 mod streams;
