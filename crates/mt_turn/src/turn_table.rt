@@ -12,8 +12,11 @@ use crate::view::View;
 use atomic_table::{Refused, Table};
 use mt_memory::Memory;
 use std::alloc::Global;
+use std::array;
+use std::hint::spin_loop;
 use std::snapshot::Snapshot;
 use std::sync::Wait;
+use std::sync::atomic::{AtomicU64, Ordering};
 
 /// A seat of the table behind a turn.
 pub(crate) type Token<T> = atomic_table::Seat<
@@ -36,7 +39,25 @@ const NUMBERS: usize = 3;
 /// The slot with the value.
 const SLOT: usize = 0;
 
-/// The table behind a turn: four words, and a slot with the value.
+/// How many words there are to sleep on.
+const BEDS: usize = 64;
+
+/// How often a thread looks before it makes ready to sleep.
+const LOOKS: u32 = 30;
+
+/// The place of a ticket's word. Tickets that follow each other have words that are 64 bytes apart.
+fn bed_of(ticket: u64) -> usize
+    ensures { result < 64 }
+{
+    ((ticket % 8) * 8 + (ticket / 8) % 8) as usize
+}
+
+/// What a thread with this ticket writes into its word before it sleeps. It isn't 0, and tickets that are out at one time and have one word have different marks.
+fn mark_of(ticket: u64) -> u64 {
+    (ticket / 64) % 0x4000_0000 * 2 + 1
+}
+
+/// The table behind a turn: four words, and a slot with the value. Beside it are the words to sleep on, of which no clause speaks.
 #[derive(Drop)]
 pub(crate) struct TurnTable<T: Kept> {
     pub(crate) table: Table<
@@ -46,6 +67,7 @@ pub(crate) struct TurnTable<T: Kept> {
         Rule<T>,
         Global,
     >,
+    beds: [AtomicU64; BEDS],
     ghost counts: { (table.shared.table_id.words ≡ 4) × (table.shared.table_id.slots ≡ 1) },
 }
 
@@ -62,7 +84,10 @@ impl<T: Kept> TurnTable<T> {
             return Err((failed.value.unwrap(), Memory));
         }
         match Table::new(alloc, &[0, 0, 0, 1], slots, &about) {
-            Ok((table, token)) => Ok((TurnTable { table }, token)),
+            Ok((table, token)) => {
+                let beds = array::from_fn(|_| AtomicU64::new(0));
+                Ok((TurnTable { table, beds }, token))
+            }
             Err(Refused { mut slots }) => {
                 let value = slots.pop().unwrap().unwrap();
                 slots.destroy_empty();
@@ -92,9 +117,29 @@ impl<T: Kept> TurnTable<T> {
         self.table.shared.exchange(token, SLOT, None).unwrap()
     }
 
+    /// Looks a few times, and says whether the ticket is being served.
+    fn watch(&self, ticket: u64) -> bool {
+        for _ in 0..LOOKS {
+            if self.table.shared.peek(SERVING) == ticket {
+                return true;
+            }
+            spin_loop();
+        }
+        false
+    }
+
+    /// Wakes the thread that is served, if it sleeps or is about to.
+    fn wake_next(&self) {
+        let bed = &self.beds[bed_of(self.table.shared.peek(SERVING))];
+        if bed.load(Ordering::SeqCst) != 0 {
+            bed.store(0, Ordering::SeqCst);
+            bed.wake_all();
+        }
+    }
+
     /// Looks until the ticket is the one being served, and takes the value.
     ///
-    /// After each look that finds another ticket it sleeps, if the word still has what was read, until a wake.
+    /// After some looks that find another ticket it marks its word, looks once more, and sleeps while the word has its mark. So no wake is lost: who passes the turn on after that look finds a mark, or the word was cleared after the mark was written.
     fn wait<R: Wait>(&self, rt: &R, token: &mut Token<T>, ticket: u64) -> T
         requires own { token.old.table_id ≡ self.now.table.shared.table_id }
         requires waits { (t : ℕ) × (t % 2 ^ 64 ≡ ticket) × (token.old.me.0.phase ≡ Waits t) }
@@ -102,14 +147,17 @@ impl<T: Kept> TurnTable<T> {
         ensures holds { (t : ℕ) × (token.new.me ≡ (with_phase token.old.me.0 (Holds t (T.history result)), (0, None) ∷ token.old.me.1)) }
         ensures lent { Lent T.history T.number T.fixed token.old.me.0 result }
     {
+        let bed = &self.beds[bed_of(ticket)];
+        let mark = mark_of(ticket);
         for _ in rt.forever() {
+            if !self.watch(ticket) {
+                bed.store(mark, Ordering::SeqCst);
+            }
             let served = self.table.shared.load::<Look<T>>(token, SERVING);
             if served == ticket {
                 return self.take(token);
             }
-            self.table
-                .shared
-                .park(rt, SERVING, (served & 0xffff_ffff) as u32);
+            bed.park(rt, (mark & 0xffff_ffff) as u32);
         }
         unreachable!()
     }
@@ -138,7 +186,7 @@ impl<T: Kept> TurnTable<T> {
 
     /// Puts the value back, counts its entries, and passes the turn on.
     ///
-    /// It wakes all that sleep, since any of them may have the next ticket.
+    /// It wakes only the thread with the next ticket, and none where that one doesn't sleep.
     pub(crate) fn leave(&self, token: &mut Token<T>, value: T, lent: Snapshot<T>, count: u64)
         requires own { token.old.table_id ≡ self.now.table.shared.table_id }
         requires holds { HasTurn token.old.me.0 (T.history lent.value) }
@@ -156,7 +204,7 @@ impl<T: Kept> TurnTable<T> {
         self.put(token, value);
         self.table.shared.fetch_add::<Count<T>>(token, COUNT, added);
         self.table.shared.fetch_add::<Pass>(token, SERVING, 1);
-        self.table.shared.wake_all(SERVING);
+        self.wake_next();
     }
 
     pub(crate) fn split(&self, token: &mut Token<T>) -> (Token<T>, u32)
@@ -192,7 +240,7 @@ impl<T: Kept> TurnTable<T> {
         ensures history { Closes T.number token.me.0 (T.history result) }
         ensures fixed { Some (T.fixed result) ≡ token.me.0.fixed }
     {
-        let TurnTable { table } = self;
+        let TurnTable { table, beds: _ } = self;
         let mut closed = table.close_with(token);
         let value = closed.take(SLOT).unwrap();
         closed.free();
