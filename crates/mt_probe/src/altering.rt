@@ -9,8 +9,11 @@ use mt_base::{Command, Kind, Memory, Path, Record};
 use mt_change::alteration_by;
 use std::alloc::Global;
 
-/// The planned flight that a command names, as the entry of the command leaves it. It asks that no check of the command fails.
-pub(crate) fn altered_flight(
+/// The planned flight that a command names, as the entry of the command leaves it.
+///
+/// It asks that the command alters a planned flight, that its numbers are within their bounds, whatever version the probe of an acceptance
+/// names, and that no check of it fails, but for the want of room.
+pub fn altered_flight(
     alloc: Global,
     snapshot: &Snapshot,
     who: u32,

@@ -13,6 +13,7 @@ mod probe;
 mod snapshot;
 mod trying;
 
+pub use altering::altered_flight;
 pub use finding::{Finds, Found};
 pub use flight::{Flight, Made};
 pub use laws::filing_order_law;
