@@ -1,0 +1,237 @@
+-- What a change of the kept conflicts costs, by trajectories.
+use Rattle.std.proofs.Common.{◌≡◌, ◌≢◌, ℕ, ◌+◌, ◌*◌, ◌/◌, ◌≤◌, ⊎_elim, Bool, true, false, not, ◌==◌, List, [], ◌∷◌, length, map, Contains, All, AllPairs, Option, Some, None, refl, sym, ◌∙◌, ap, subst, arith}
+use Rattle.std.proofs.lemmas.Bool.{cases_eq}
+use Rattle.std.proofs.lemmas.List.{length-map}
+use Rattle.std.proofs.lemmas.List.Kept.{AllPairs-filter}
+use Rattle.std.proofs.lemmas.Slice.Eq.{bytes_eq-Decides}
+use Rattle.std.specs.List.{filter, sum_by}
+use Rattle.std.specs.Str.{bytes_eq}
+use Rattle.mt_base.specs.declared.conflict.Kind.TheVariants.{Actual, Tentative}
+use Rattle.mt_base.specs.declared.rules.Rules.{Rules}
+use Rattle.mt_base.specs.History.{state_of}
+use Rattle.mt_base.specs.Picture.{NamedTrajectory, State, trajectories}
+use Rattle.mt_base.specs.Tables.{Setup}
+use Rattle.mt_cover.specs.declared.stays.Stay.{Stay}
+use Rattle.mt_kept.specs.declared.finds.Candidate.{Candidate}
+use Rattle.mt_kept.specs.declared.finds.Verdict.{Verdict}
+use Rattle.mt_kept.specs.declared.finds.Verdict.TheVariants.{Known, Unknown}
+use Rattle.mt_kept.specs.Finds.{IsRight, asks_one, asks_two, cost, is_crossing, is_listed, is_other, is_unknown, place_of}
+use Rattle.mt_kept.specs.Places.{at}
+use Rattle.mt_kept.specs.Tests.{RoseUpTo}
+use Rattle.mt_kept.specs.Window.{is_straddling}
+use Rattle.mt_kept.proofs.Costs.{cost_sum}
+use Rattle.mt_kept.proofs.Elements.{All-from_held, Contains-filter, Contains-map, Contains-map_cases, distinct_held, distinct_map}
+use Rattle.mt_kept.proofs.Gathering.{rising_once}
+use Rattle.mt_kept.proofs.Keeping.{halves}
+use Rattle.mt_probe.specs.Items.{kind_at}
+use Rattle.mt_probe.specs.Prepared.{Prepared}
+use Rattle.mt_probe.specs.Shot.{Shot}
+use Rattle.mt_probe.specs.Shot.{state_of as state_in}
+use Rattle.mt_probe.specs.Standing.{IsSoundShot}
+use Rattle.mt_probe.proofs.Covered.{even_kind, odd_kind}
+use Rattle.mt_probe.proofs.Gathered.{at_kept}
+use Rattle.mt_picture.specs.Asked.{AreNearby, IsCrossingNow, IsLaterNow, IsNearNow, WasTestedAgain, WasTestedAnew}
+use Rattle.mt_picture.specs.Places.{all_places, made_of_kind}
+use Rattle.mt_picture.specs.Stamps.{AreStamped, IsMadeAt}
+use Rattle.mt_picture.specs.Story.{Story}
+use Rattle.mt_picture.specs.Verdicts.{AreNear, IsPreps}
+use Rattle.mt_picture.proofs.HitsHere.{both_true}
+use Rattle.mt_picture.proofs.Knowing.{kept_made, stands_at, stays_there}
+
+-- a place is that of its slot and its kind
+same_place : (i j : ℕ) → i / 2 ≡ j / 2 → kind_at i ≡ kind_at j → i ≡ j
+same_place i j half kind = ⊎_elim
+    (λ i_even. ⊎_elim
+    (λ j_even. i_even ∙ ap (λ (k : ℕ). 2 * k) half ∙ sym j_even)
+    (λ j_odd. absurd (let both : Actual ≡ Tentative = sym (even_kind (i / 2)) ∙ sym (ap kind_at i_even) ∙ kind ∙ ap kind_at j_odd ∙ odd_kind (j / 2) in cc))
+    (halves j (j / 2) refl))
+    (λ i_odd. ⊎_elim
+    (λ j_even. absurd (let both : Tentative ≡ Actual = sym (odd_kind (i / 2)) ∙ sym (ap kind_at i_odd) ∙ kind ∙ ap kind_at j_even ∙ even_kind (j / 2) in cc))
+    (λ j_odd. i_odd ∙ ap (λ (k : ℕ). 2 * k + 1) half ∙ sym j_odd)
+    (halves j (j / 2) refl))
+    (halves i (i / 2) refl)
+
+-- two places of a sound snapshot have different trajectories
+pub one_place : (shot : Shot) (i j : ℕ) (t : NamedTrajectory) → IsSoundShot shot → at (all_places shot.slots) i ≡ Some t → at (all_places shot.slots) j ≡ Some t → i ≡ j
+one_place shot i j t sound i_is j_is =
+    let s = stands_at shot.slots i t i_is in
+    let r = stands_at shot.slots j t j_is in
+    let kind : kind_at i ≡ kind_at j = ap (λ (u : NamedTrajectory). u.kind) s.is ∙ sym (ap (λ (u : NamedTrajectory). u.kind) r.is) in
+    let call : s.flight.card.call ≡ r.flight.card.call = ap (λ (u : NamedTrajectory). u.call) s.is ∙ sym (ap (λ (u : NamedTrajectory). u.call) r.is) in
+    let half : i / 2 ≡ j / 2 = ⊎_elim (λ same. same)
+    (λ differ. absurd ((sound.apart (i / 2) (j / 2) s.flight r.flight differ s.at_is r.at_is).calls call)) (cases_eq (i / 2) (j / 2)) in
+    same_place i j half kind
+
+-- ---- the candidates that are listed
+
+record IsListed (places : List (Option NamedTrajectory)) (call : List ℕ) (j : ℕ) : Type 0 where
+  other : NamedTrajectory
+  is : at places j ≡ Some other
+  apart : other.call ≢ call
+
+other_there : (o : Option NamedTrajectory) (call : List ℕ) → is_other o call ≡ true → (t : NamedTrajectory) × (o ≡ Some t) × (t.call ≢ call)
+other_there None call e = absurd (cc)
+other_there (Some t) call e = (t, refl, λ same. (let named = (bytes_eq-Decides t.call call).1 same in let test : not (bytes_eq t.call call) ≡ true = e in cc))
+
+listed_there : (places : List (Option NamedTrajectory)) (place : ℕ) (call : List ℕ) (x : Candidate) → is_listed places place call x ≡ true → IsListed places call x.place
+listed_there places place call x e =
+    let b = both_true (not (x.place == place)) (is_other (at places x.place) call) e in
+    let t = other_there (at places x.place) call b.1 in
+    record { other = t.0; is = t.1; apart = t.2 }
+
+abbrev fetch : NamedTrajectory → Option NamedTrajectory → NamedTrajectory
+fetch mine None = mine
+fetch mine (Some t) = t
+
+module _ (story : Story) (shot : Shot) (p : Prepared) (known : Bool) (place : ℕ) (mine : NamedTrajectory) (sound : IsSoundShot shot)
+    (setup_is : shot.setup ≡ story.setup) (stands : state_in shot ≡ state_of story.setup story.history) (all : AreStamped story.setup story.history shot.slots)
+    (rules_are : p.setup.rules ≡ shot.setup.rules) (own : mine.call ≡ p.card.call) (preps : IsPreps p known mine.path) (xs : List Candidate)
+    (near : AreNear shot mine.path p known xs) where
+  abbrev places : List (Option NamedTrajectory)
+  places = all_places shot.slots
+
+  abbrev seen : Candidate → NamedTrajectory
+  seen x = fetch mine (at places x.place)
+
+  seen_is : (x : Candidate) (t : NamedTrajectory) → at places x.place ≡ Some t → seen x ≡ t
+  seen_is x t is = ap (fetch mine) is
+
+  -- a listed candidate is a near trajectory of another flight
+  near_one : (x : Candidate) (t : NamedTrajectory) → Contains xs x → at places x.place ≡ Some t → t.call ≢ mine.call → IsNearNow story mine t
+  near_one x t held is apart =
+      let s = stands_at shot.slots x.place t is in
+      let there : Contains (trajectories shot.setup (state_in shot)) t =
+      subst (Contains (trajectories shot.setup (state_in shot))) s.is
+      (at_kept shot (x.place / 2) s.flight (made_of_kind s.flight (kind_at x.place) s.made) sound s.at_is (kept_made s.flight (kind_at x.place) s.made s.made_is)) in
+      let item = (near.near.same x.place).0 (Contains-map place_of xs x held) in
+      record {
+        stands = subst (λ (q : State). Contains (trajectories story.setup q) t) stands
+            (subst (λ (u : Setup). Contains (trajectories u (state_in shot)) t) setup_is there);
+        apart = apart;
+        near = subst (λ (u : Setup). AreNearby u.rules mine.path t.path) setup_is (record {
+          left = item.mine;
+          left_of = item.of;
+          right = item.theirs;
+          right_of = subst (λ (stays : List Stay). Contains stays item.theirs) (stays_there shot.setup.rules shot.slots x.place t s) item.there;
+          meet = item.meet;
+        });
+      }
+
+  later_one : (x : Candidate) (t : NamedTrajectory) → Contains xs x → at places x.place ≡ Some t → t.call ≢ mine.call → known ≡ true → x.verdict ≡ Unknown
+      → IsLaterNow story p.state.version mine t
+  later_one x t held is apart is_known unknown =
+      let s = stands_at shot.slots x.place t is in
+      record {
+        now = near_one x t held is apart;
+        stamp = s.made.stamp;
+        later = (near.known_is x held).later is_known unknown s.flight s.made s.at_is s.made_is;
+        made = subst (λ (u : NamedTrajectory). IsMadeAt story.setup story.history u s.made.stamp) s.is
+            (all (x.place / 2) s.flight (kind_at x.place) s.made s.at_is s.made_is);
+      }
+
+  crossing_one : (x : Candidate) (t : NamedTrajectory) → Contains xs x → at places x.place ≡ Some t → t.call ≢ mine.call → is_crossing shot.now x.verdict ≡ true
+      → IsCrossingNow story mine t
+  crossing_one x t held is apart e =
+      let s = stands_at shot.slots x.place t is in
+      let differ : s.flight.card.call ≢ p.card.call = λ same. apart (sym (ap (λ (u : NamedTrajectory). u.call) s.is) ∙ same ∙ sym own) in
+      let right = (near.known_is x held).right s.flight s.made mine s.at_is s.made_is differ preps in
+      let right_t : IsRight p.setup.rules mine t x.verdict = subst (λ (u : NamedTrajectory). IsRight p.setup.rules mine u x.verdict) s.is right in
+      let rules_story : p.setup.rules ≡ story.setup.rules = rules_are ∙ ap (λ (u : Setup). u.rules) setup_is in
+      by_verdict x.verdict (subst (λ (u : Rules). IsRight u mine t x.verdict) rules_story right_t) e where
+        now_is : shot.now ≡ (state_of story.setup story.history).now
+        now_is = ap (λ (q : State). q.now) stands
+
+        by_verdict : (v : Verdict) → IsRight story.setup.rules mine t v → is_crossing shot.now v ≡ true → IsCrossingNow story mine t
+        by_verdict Unknown r c = absurd (cc)
+        by_verdict (Known None) r c = absurd (cc)
+        by_verdict (Known (Some span)) r c = record {
+          now = near_one x t held is apart;
+          first = span.0;
+          last = span.1;
+          conflict = r;
+          straddling = subst (λ (n : ℕ). is_straddling n span.0 span.1 ≡ true) now_is c;
+        }
+
+  -- those of some kind, each once
+  distinct_seen : (q : Candidate → Bool) → ((x : Candidate) → q x ≡ true → is_listed places place mine.call x ≡ true) → AllPairs (λ s t. s ≢ t) (map seen (filter q xs))
+  distinct_seen q listed =
+      distinct_map (λ s t. s ≢ t) seen (filter q xs)
+      (distinct_held (λ x y. x.place ≢ y.place) (λ x y. seen x ≢ seen y) (filter q xs)
+      (λ x y x_in y_in differ same.
+      let x_test = ((Contains-filter q xs x).0 x_in).1 in
+      let y_test = ((Contains-filter q xs y).0 y_in).1 in
+      let x_there = listed_there places place mine.call x (listed x x_test) in
+      let y_there = listed_there places place mine.call y (listed y y_test) in
+      let both : x_there.other ≡ y_there.other = sym (seen_is x x_there.other x_there.is) ∙ same ∙ seen_is y y_there.other y_there.is in
+      differ (one_place shot x.place y.place y_there.other sound (x_there.is ∙ ap Some both) y_there.is))
+      (AllPairs-filter (λ (x y : Candidate). x.place ≢ y.place) q xs (rising_once xs near.near.rising)))
+
+  each_seen : (P : NamedTrajectory → Type 0) (q : Candidate → Bool) → ((x : Candidate) → q x ≡ true → is_listed places place mine.call x ≡ true)
+      → ((x : Candidate) (t : NamedTrajectory) → Contains xs x → q x ≡ true → at places x.place ≡ Some t → t.call ≢ mine.call → P t) → All P (map seen (filter q xs))
+  each_seen P q listed one = All-from_held P (map seen (filter q xs)) (λ t held.
+      let s = Contains-map_cases seen (filter q xs) t held in
+      let x = (Contains-filter q xs s.of).0 s.held in
+      let l = listed_there places place mine.call s.of (listed s.of x.1) in
+      subst P (sym (seen_is s.of l.other l.is) ∙ s.is) (one s.of l.other x.0 x.1 l.is l.apart))
+
+  unknown_is : (v : Verdict) → is_unknown v ≡ true → v ≡ Unknown
+  unknown_is Unknown e = refl
+  unknown_is (Known span) e = absurd (cc)
+
+  abbrev two : Candidate → Bool
+  two = asks_two places place mine.call
+
+  abbrev one : Candidate → Bool
+  one = asks_one places place mine.call shot.now
+
+  abbrev some : Candidate → Bool
+  some = is_listed places place mine.call
+
+  pub again : (old new : ℕ) → known ≡ true → RoseUpTo (sum_by (cost places place mine.call shot.now) xs) old new → WasTestedAgain story p.state.version mine old new
+  again old new is_known rose =
+      let total = cost_sum places place mine.call shot.now xs in
+      let a = length-map (filter two xs) seen in
+      let b = length-map (filter one xs) seen in
+      let within = rose.within in
+      record {
+        later = map seen (filter two xs);
+        later_distinct = distinct_seen two (λ x e. (both_true (some x) (is_unknown x.verdict) e).0);
+        later_each = each_seen (IsLaterNow story p.state.version mine) two (λ x e. (both_true (some x) (is_unknown x.verdict) e).0)
+            (λ x t held e is apart. later_one x t held is apart is_known (unknown_is x.verdict (both_true (some x) (is_unknown x.verdict) e).1));
+        crossing = map seen (filter one xs);
+        crossing_distinct = distinct_seen one (λ x e. (both_true (some x) (is_crossing shot.now x.verdict) e).0);
+        crossing_each = each_seen (IsCrossingNow story mine) one (λ x e. (both_true (some x) (is_crossing shot.now x.verdict) e).0)
+            (λ x t held e is apart. crossing_one x t held is apart (both_true (some x) (is_crossing shot.now x.verdict) e).1);
+        more = rose.more;
+        within = omega (arith, total, a, b, within);
+        is = rose.is;
+      }
+
+  -- no more than two for each that is listed
+  few : (ys : List Candidate) → 2 * length (filter two ys) + length (filter one ys) ≤ 2 * length (filter some ys)
+  few [] = omega arith
+  few (y ∷ ys) = by_test (some y) refl y.verdict refl (few ys) where
+    by_test : (b : Bool) → some y ≡ b → (v : Verdict) → y.verdict ≡ v → 2 * length (filter two ys) + length (filter one ys) ≤ 2 * length (filter some ys)
+        → 2 * length (filter two (y ∷ ys)) + length (filter one (y ∷ ys)) ≤ 2 * length (filter some (y ∷ ys))
+    by_test false e v v_is rest = rw e rest
+    by_test true e Unknown v_is rest = rw (e, v_is) (omega (arith, rest))
+    by_test true e (Known None) v_is rest = rw (e, v_is) (omega (arith, rest))
+    by_test true e (Known (Some span)) v_is rest = by_span (is_straddling shot.now span.0 span.1) refl where
+      by_span : (c : Bool) → is_straddling shot.now span.0 span.1 ≡ c → 2 * length (filter two (y ∷ ys)) + length (filter one (y ∷ ys)) ≤ 2 * length (filter some (y ∷ ys))
+      by_span true c_is = rw (e, v_is, c_is) (omega (arith, rest))
+      by_span false c_is = rw (e, v_is, c_is) (omega (arith, rest))
+
+  pub anew : (old new : ℕ) → RoseUpTo (sum_by (cost places place mine.call shot.now) xs) old new → WasTestedAnew story mine old new
+  anew old new rose =
+      let total = cost_sum places place mine.call shot.now xs in
+      let most = few xs in
+      let a = length-map (filter some xs) seen in
+      let within = rose.within in
+      record {
+        others = map seen (filter some xs);
+        distinct = distinct_seen some (λ x e. e);
+        each = each_seen (IsNearNow story mine) some (λ x e. e) (λ x t held e is apart. near_one x t held is apart);
+        more = rose.more;
+        within = omega (arith, total, most, a, within);
+        is = rose.is;
+      }

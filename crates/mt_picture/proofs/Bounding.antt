@@ -1,0 +1,128 @@
+-- The tests of a command that makes a trajectory are within its bound.
+use Rattle.std.proofs.Common.{◌≡◌, ℕ, ⊎_elim, Bool, true, false, [], Option, Some, None, option_map, refl, sym, ◌∙◌, ap, subst, arith}
+use Rattle.mt_base.specs.declared.command.Command.{Command}
+use Rattle.mt_base.specs.declared.command.Command.TheVariants.{Accept, Clear, Commit, Drop, External, Plan, Renew, Tentative, Tick, Withdraw}
+use Rattle.mt_base.specs.declared.command.Command.TheVariants as commands
+use Rattle.mt_base.specs.declared.flight.Record.{Record}
+use Rattle.mt_base.specs.History.{state_of}
+use Rattle.mt_base.specs.Picture.{NamedTrajectory, State}
+use Rattle.mt_base.specs.Tables.{Setup}
+use Rattle.mt_base.specs.Trajectory.{Trajectory}
+use Rattle.mt_probe.specs.Prepared.{IsLeft, IsPrepared, Prepared, kind_made, left_made, named, path_made}
+use Rattle.mt_probe.specs.Shot.{Shot}
+use Rattle.mt_probe.specs.Shot.{state_of as state_in}
+use Rattle.mt_probe.specs.Standing.{IsSoundShot}
+use Rattle.mt_picture.specs.Asked.{IsWithinBoth, IsWithinBound, IsWithinPreps, WasTestedAgain, WasTestedAnew, WasTestedForTick}
+use Rattle.mt_picture.specs.Asking.{AreAsked, WasAskedOf}
+use Rattle.mt_picture.specs.Stamps.{AreStamped}
+use Rattle.mt_picture.specs.Story.{IsPrepFor, IsUsable, Story}
+use Rattle.mt_picture.specs.Verdicts.{IsPreps}
+use Rattle.mt_picture.proofs.Asking.{again, anew}
+
+-- no test is within each bound
+none_anew : (story : Story) (mine : NamedTrajectory) (old new : ℕ) → new ≡ old → WasTestedAnew story mine old new
+none_anew story mine old new same = record {
+  others = [];
+  distinct = λ i j d before below. absurd (omega arith);
+  each = λ k d below. absurd (omega arith);
+  more = 0;
+  within = omega arith;
+  is = same;
+}
+
+none_again : (story : Story) (v : ℕ) (mine : NamedTrajectory) (old new : ℕ) → new ≡ old → WasTestedAgain story v mine old new
+none_again story v mine old new same = record {
+  later = [];
+  later_distinct = λ i j d before below. absurd (omega arith);
+  later_each = λ k d below. absurd (omega arith);
+  crossing = [];
+  crossing_distinct = λ i j d before below. absurd (omega arith);
+  crossing_each = λ k d below. absurd (omega arith);
+  more = 0;
+  within = omega arith;
+  is = same;
+}
+
+pub none_both : (story : Story) (c : Command) (p : Prepared) (mine : NamedTrajectory) (old new : ℕ) → new ≡ old → IsWithinBoth story c p mine old new
+none_both story c p mine old new same = record {
+  anew = none_anew story mine old new same;
+  again = λ usable. none_again story p.state.version mine old new same;
+}
+
+pub none_ticked : (story : Story) (now old new : ℕ) → new ≡ old → WasTestedForTick story now old new
+none_ticked story now old new same =
+    record { pairs = []; distinct = (λ i j d before below. absurd (omega arith)); each = (λ k d below. absurd (omega arith)); is = same }
+
+none_preps : (story : Story) (who : ℕ) (c : Command) (prep : Option Prepared) (old new : ℕ) → new ≡ old → IsWithinPreps story who c prep old new
+none_preps story who c None old new same = same
+none_preps story who c (Some p) old new same = λ mine made. none_both story c p mine old new same
+
+-- a command that makes no test is within its bound
+pub none_within : (story : Story) (who : ℕ) (c : Command) (prep : Option Prepared) (old new : ℕ) → new ≡ old → IsWithinBound story who c prep old new
+none_within story who (Plan call kind route at from level) prep old new same = none_preps story who (Plan call kind route at from level) prep old new same
+none_within story who (External call straight) prep old new same = none_preps story who (External call straight) prep old new same
+none_within story who (Drop call) prep old new same = none_preps story who (Drop call) prep old new same
+none_within story who (commands.Report call report) prep old new same = none_preps story who (commands.Report call report) prep old new same
+none_within story who (Tick now) prep old new same = none_ticked story now old new same
+none_within story who (Renew call) prep old new same = none_preps story who (Renew call) prep old new same
+none_within story who (Clear call clearance eff) prep old new same = none_preps story who (Clear call clearance eff) prep old new same
+none_within story who (Accept call clearance eff probed) prep old new same = none_preps story who (Accept call clearance eff probed) prep old new same
+none_within story who (Tentative call clearance eff) prep old new same = none_preps story who (Tentative call clearance eff) prep old new same
+none_within story who (Withdraw call force) prep old new same = none_preps story who (Withdraw call force) prep old new same
+none_within story who (Commit call) prep old new same = none_preps story who (Commit call) prep old new same
+
+-- what a command makes of the flight that it leaves
+record IsMine (setup : Setup) (c : Command) (card : Record) (mine : NamedTrajectory) : Type 0 where
+  call_is : mine.call ≡ card.call
+  path_is : path_made setup card (kind_made c) ≡ Some mine.path
+
+mine_is : (setup : Setup) (s : State) (who : ℕ) (c : Command) (card : Record) (mine : NamedTrajectory) → IsLeft setup s who c card
+    → left_made setup s who c ≡ Some mine → IsMine setup c card mine
+mine_is setup s who c card mine left is = by_path (path_made setup card (kind_made c)) refl (rw left.card_is at is) where
+  by_path : (path : Option Trajectory) → path_made setup card (kind_made c) ≡ path → option_map (named card (kind_made c)) path ≡ Some mine → IsMine setup c card mine
+  by_path None made e = absurd (cc)
+  by_path (Some t) made e =
+      let one : named card (kind_made c) t ≡ mine = cc in
+      record { call_is = ap (λ (u : NamedTrajectory). u.call) (sym one); path_is = made ∙ ap (λ (u : NamedTrajectory). Some u.path) one }
+
+pub within_both : (story : Story) (shot : Shot) (who : ℕ) (c : Command) (p : Prepared) (known : Bool) (card : Record) (mine : NamedTrajectory) (old new : ℕ)
+    → IsSoundShot shot → shot.setup ≡ story.setup → state_in shot ≡ state_of story.setup story.history → AreStamped story.setup story.history shot.slots
+    → IsPrepFor story who c p → IsPrepared p → IsLeft shot.setup (state_in shot) who c card → p.card.call ≡ card.call → (known ≡ true → card ≡ p.card)
+    → (known ≡ false → ¬ IsUsable story c p) → left_made shot.setup (state_in shot) who c ≡ Some mine → WasAskedOf shot p known mine old new
+    → IsWithinBoth story c p mine old new
+within_both story shot who c p known card mine old new sound setup_is stands stamped for kept left own same_card unusable made was = ⊎_elim
+    (λ same. none_both story c p mine old new same)
+    (λ asked. record {
+      anew = anew story shot p known was.place mine sound setup_is stands stamped rules_are call_is preps asked.xs asked.near old new asked.rose;
+      again = λ usable. by_known known refl usable asked;
+    })
+    was.was where
+      is : IsMine shot.setup c card mine
+      is = mine_is shot.setup (state_in shot) who c card mine left made
+
+      rules_are : p.setup.rules ≡ shot.setup.rules
+      rules_are = ap (λ (u : Setup). u.rules) (for.setup_is ∙ sym setup_is)
+
+      call_is : mine.call ≡ p.card.call
+      call_is = is.call_is ∙ sym own
+
+      preps : IsPreps p known mine.path
+      preps here =
+          let p_made : path_made shot.setup p.card (kind_made c) ≡ Some p.strand =
+          subst (λ (d : Command). path_made shot.setup p.card (kind_made d) ≡ Some p.strand) for.command_is
+          (subst (λ (u : Setup). path_made u p.card (kind_made p.command) ≡ Some p.strand) (for.setup_is ∙ sym setup_is) kept.strand_is) in
+          let both : Some mine.path ≡ Some p.strand =
+          sym is.path_is ∙ ap (λ (r : Record). path_made shot.setup r (kind_made c)) (same_card here) ∙ p_made in
+          cc
+
+      by_known : (b : Bool) → known ≡ b → IsUsable story c p → AreAsked shot p known was.place mine old new → WasTestedAgain story p.state.version mine old new
+      by_known false e usable asked = absurd (unusable e usable)
+      by_known true e usable asked =
+          again story shot p known was.place mine sound setup_is stands stamped rules_are call_is preps asked.xs asked.near old new e asked.rose
+
+-- what a command makes, where its trajectory is known
+pub made_known : (setup : Setup) (s : State) (who : ℕ) (c : Command) (card : Record) (t : Trajectory) (mine : NamedTrajectory) → IsLeft setup s who c card
+    → path_made setup card (kind_made c) ≡ Some t → left_made setup s who c ≡ Some mine → named card (kind_made c) t ≡ mine
+made_known setup s who c card t mine left made is =
+    let both : Some (named card (kind_made c) t) ≡ Some mine = sym (rw (left.card_is, made) refl) ∙ is in
+    cc

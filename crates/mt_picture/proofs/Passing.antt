@@ -1,0 +1,181 @@
+-- What a command that passes its checks says of the state.
+use Rattle.std.proofs.Common.{◌≡◌, ◌⊎◌, inl, inr, ⊎_elim, Bool, true, ℕ, ℤ, pos, ◌≤ℤ◌, ◌<◌, ◌^◌, List, [], ◌∷◌, ◌++◌, Option, Some, None, Ok, IsOk, is_some, length, option_map, refl, ap, arith}
+use Rattle.std.proofs.lemmas.Int.{ints}
+use Rattle.std.specs.List.{AllByRecursion}
+use Rattle.std.specs.Option.{option_map_or}
+use Rattle.std.specs.Prelude.{int_lt, unwrap_or}
+use Rattle.std.proofs.lemmas.Bool.Decides.{nat_tests}
+use Rattle.mt_base.specs.declared.command.Command.{Command}
+use Rattle.mt_base.specs.declared.command.Command.TheVariants.{Accept, Clear, Commit, Drop, External, Plan, Renew, Tentative, Tick, Withdraw}
+use Rattle.mt_base.specs.declared.command.Command.TheVariants as commands
+use Rattle.mt_base.specs.declared.command.Refusal.{Refusal}
+use Rattle.mt_base.specs.declared.flight.Path.TheVariants.{Planned}
+use Rattle.mt_base.specs.declared.flight.Record.{Record}
+use Rattle.mt_base.specs.Bounds.{AreWithinBounds}
+use Rattle.mt_base.specs.Checks.{judged}
+use Rattle.mt_base.specs.Cleared.{aim_checks}
+use Rattle.mt_base.specs.History.{checks, look_at, route_checks}
+use Rattle.mt_base.specs.Picture.{State, flight_of, trajectory_of}
+use Rattle.mt_base.specs.Tables.{Setup}
+use Rattle.mt_base.specs.WhatIf.{course_in, what_if_checks}
+use Rattle.mt_base.proofs.CheckLemmas.{all_pass, all_passed}
+use Rattle.mt_change.proofs.Passed.{ok_is}
+use Rattle.mt_probe.specs.declared.flight.Flight.{Flight}
+use Rattle.mt_probe.specs.Prepared.{MakesStrand, judged_aside, roomy}
+use Rattle.mt_probe.proofs.Left.{found_call}
+use Rattle.mt_machine.specs.Deciding.{IsFirstHit}
+use Rattle.mt_picture.specs.Entries.{IsFiling, IsReport, IsWithdrawal}
+
+abbrev Holds : Refusal × Bool → Type 0
+Holds c = c.1 ≡ true
+
+-- the checks that pass of a list in two parts
+front_of : (xs ys : List (Refusal × Bool)) → AllByRecursion Holds (xs ++ ys) → AllByRecursion Holds xs
+front_of [] ys all = tt
+front_of (x ∷ xs) ys all = (all.0, front_of xs ys all.1)
+
+end_of : (xs ys : List (Refusal × Bool)) → AllByRecursion Holds (xs ++ ys) → AllByRecursion Holds ys
+end_of [] ys all = all
+end_of (x ∷ xs) ys all = end_of xs ys all.1
+
+both_of : (xs ys : List (Refusal × Bool)) → AllByRecursion Holds xs → AllByRecursion Holds ys → AllByRecursion Holds (xs ++ ys)
+both_of [] ys one two = two
+both_of (x ∷ xs) ys one two = (one.0, both_of xs ys one.1 two)
+
+room : (h : ℤ) → pos 1 ≤ℤ h → int_lt (pos 0) h ≡ true
+room h some = grind (arith, ints)
+
+few : (n : ℕ) (h : ℤ) → int_lt (pos n) h ≡ true → h ≤ℤ pos 4194304 → n < 2 ^ 40
+few n h below most = grind (arith, ints)
+
+module _ (setup : Setup) (s : State) (who : ℕ) (rules : AreWithinBounds setup.rules) where
+  abbrev Pass : Command → Type 0
+  Pass c = judged (checks setup (look_at s c) who c) (tt {0}) ≡ Ok (tt {0})
+
+  abbrev All : Command → Type 0
+  All c = AllByRecursion Holds (checks setup (look_at s c) who c)
+
+  tests : (c : Command) → Pass c → All c
+  tests c passed = all_passed (checks setup (look_at s c) who c) (tt {0}) (let ok : IsOk (judged (checks setup (look_at s c) who c) (tt {0})) = rw passed refl in ok)
+
+  entry_room : int_lt (pos 0) setup.rules.history ≡ true
+  entry_room = room setup.rules.history rules.history.least
+
+  flight_room : int_lt (pos 0) setup.rules.flights ≡ true
+  flight_room = room setup.rules.flights rules.flights.least
+
+  -- and that there is room for the entry
+  has_entry : (c : Command) → All c → int_lt (pos s.version) setup.rules.history ≡ true
+  has_entry (Plan call kind route at from level) all = (end_of (route_checks setup.tables route) _ all.1.1).1.1.1.0
+  has_entry (External call straight) all = all.1.1.0
+  has_entry (Drop call) all = all.1.0
+  has_entry (commands.Report call report) all = all.1.1.1.1.0
+  has_entry (Tick next) all = all.1.0
+  has_entry (Renew call) all = all.1.1.1.0
+  has_entry (Clear call clearance eff) all = (end_of (what_if_checks setup s.now (flight_of s.records call) call clearance (unwrap_or eff s.now)) _ all).0
+  has_entry (Accept call clearance eff probed) all = (end_of (what_if_checks setup s.now (flight_of s.records call) call clearance eff) _ all).0
+  has_entry (Tentative call clearance eff) all =
+      (end_of (option_map_or (λ course. aim_checks setup.tables course (trajectory_of setup (Planned course)) clearance (unwrap_or eff s.now))
+      (course_in (flight_of s.records call)) []) _ all.1.1).1.1.0
+  has_entry (Withdraw call force) all = all.1.1.1.0
+  has_entry (Commit call) all = all.1.1.0
+
+  pub few_entries : (c : Command) → Pass c → s.version < 2 ^ 40
+  few_entries c passed = few s.version setup.rules.history (has_entry c (tests c passed)) rules.history.most
+
+  -- the same with room aside
+  abbrev Aside : Command → Type 0
+  Aside c = AllByRecursion Holds (checks setup (roomy s c) who c)
+
+  aside_all : (c : Command) → All c → Aside c
+  aside_all (Plan call kind route at from level) all =
+      let e = end_of (route_checks setup.tables route) _ all.1.1 in
+      (all.0, (all.1.0, both_of (route_checks setup.tables route) _ (front_of (route_checks setup.tables route) _ all.1.1) (e.0, (e.1.0, (flight_room, (entry_room, tt))))))
+  aside_all (External call straight) all = (all.0, (flight_room, (entry_room, tt)))
+  aside_all (Drop call) all = (all.0, (entry_room, tt))
+  aside_all (commands.Report call report) all = (all.0, (all.1.0, (all.1.1.0, (all.1.1.1.0, (entry_room, tt)))))
+  aside_all (Tick next) all = (all.0, (entry_room, tt))
+  aside_all (Renew call) all = (all.0, (all.1.0, (all.1.1.0, (entry_room, tt))))
+  aside_all (Clear call clearance eff) all =
+      let cs = what_if_checks setup s.now (flight_of s.records call) call clearance (unwrap_or eff s.now) in
+      both_of cs _ (front_of cs _ all) (entry_room, tt)
+  aside_all (Accept call clearance eff probed) all =
+      let cs = what_if_checks setup s.now (flight_of s.records call) call clearance eff in
+      both_of cs _ (front_of cs _ all) (entry_room, tt)
+  aside_all (Tentative call clearance eff) all =
+      let cs : List (Refusal × Bool) = option_map_or (λ course. aim_checks setup.tables course (trajectory_of setup (Planned course)) clearance (unwrap_or eff s.now))
+      (course_in (flight_of s.records call)) [] in
+      let e = end_of cs _ all.1.1 in
+      (all.0, (all.1.0, both_of cs _ (front_of cs _ all.1.1) (e.0, (e.1.0, (entry_room, tt)))))
+  aside_all (Withdraw call force) all = (all.0, (all.1.0, (all.1.1.0, (entry_room, tt))))
+  aside_all (Commit call) all = (all.0, (all.1.0, (entry_room, tt)))
+
+  pub aside_passes : (c : Command) → Pass c → judged_aside setup s who c ≡ Ok (tt {0})
+  aside_passes c passed = ok_is (judged_aside setup s who c) (all_pass (checks setup (roomy s c) who c) (tt {0}) (aside_all c (tests c passed)))
+
+  -- that there is room for one more flight, where one is filed
+  has_seat : (c : Command) → IsFiling c → All c → int_lt (pos (length s.records)) setup.rules.flights ≡ true
+  has_seat (Plan call kind route at from level) filing all = (end_of (route_checks setup.tables route) _ all.1.1).1.1.0
+  has_seat (External call straight) filing all = all.1.0
+  has_seat (Drop call) filing all = absurd filing
+  has_seat (commands.Report call report) filing all = absurd filing
+  has_seat (Tick next) filing all = absurd filing
+  has_seat (Renew call) filing all = absurd filing
+  has_seat (Clear call clearance eff) filing all = absurd filing
+  has_seat (Accept call clearance eff probed) filing all = absurd filing
+  has_seat (Tentative call clearance eff) filing all = absurd filing
+  has_seat (Withdraw call force) filing all = absurd filing
+  has_seat (Commit call) filing all = absurd filing
+
+  pub seat_passed : (c : Command) → IsFiling c → Pass c → int_lt (pos (length s.records)) setup.rules.flights ≡ true
+  seat_passed c filing passed = has_seat c filing (tests c passed)
+
+  pub drop_there : (call : List ℕ) → Pass (Drop call) → is_some (flight_of s.records call) ≡ true
+  drop_there call passed = (tests (Drop call) passed).0
+
+  pub tick_later : (now : ℕ) → Pass (Tick now) → s.now < now
+  tick_later now passed = let t = (tests (Tick now) passed).0 in grind (arith, nat_tests)
+
+-- a flight that is found is at its place
+pub found_place : (rs : List Record) (call : List ℕ) (at : Option Flight) → is_some (flight_of rs call) ≡ true → flight_of rs call ≡ option_map (λ (f : Flight). f.card) at
+    → option_map (λ (f : Flight). f.card.call) at ≡ Some call
+found_place rs call None some is = absurd (let e = ap is_some is in cc)
+found_place rs call (Some f) some is = ap Some (found_call call rs f.card is)
+
+pub full_not : (n m : ℕ) (h : ℤ) → pos m ≡ h → int_lt (pos n) h ≡ true → n ≡ m → ⊥
+full_not n m h is below same = grind (arith, ints)
+
+pub planned_some : (at : Option Record) → is_some (course_in at) ≡ true → is_some at ≡ true
+planned_some None e = absurd (cc)
+planned_some (Some r) e = refl
+
+-- a command that makes no trajectory and is neither a tick nor a drop
+pub plain_other : (c : Command) → (MakesStrand c → ⊥) → ((now : ℕ) → c ≡ Tick now → ⊥) → ((call : List ℕ) → c ≡ Drop call → ⊥) → IsReport c ⊎ IsWithdrawal c
+plain_other (Plan call kind route at from level) plain no_tick no_drop = absurd (plain tt)
+plain_other (External call straight) plain no_tick no_drop = absurd (plain tt)
+plain_other (Drop call) plain no_tick no_drop = absurd (no_drop call refl)
+plain_other (commands.Report call report) plain no_tick no_drop = inl tt
+plain_other (Tick now) plain no_tick no_drop = absurd (no_tick now refl)
+plain_other (Renew call) plain no_tick no_drop = absurd (plain tt)
+plain_other (Clear call clearance eff) plain no_tick no_drop = absurd (plain tt)
+plain_other (Accept call clearance eff probed) plain no_tick no_drop = absurd (plain tt)
+plain_other (Tentative call clearance eff) plain no_tick no_drop = absurd (plain tt)
+plain_other (Withdraw call force) plain no_tick no_drop = inr tt
+plain_other (Commit call) plain no_tick no_drop = absurd (plain tt)
+
+pub withdraws : (c : Command) → IsReport c ⊎ IsWithdrawal c → ¬ IsReport c → IsWithdrawal c
+withdraws c which none = ⊎_elim (λ reports. absurd (none reports)) (λ is. is) which
+
+-- it has no hits
+pub plain_free : (setup : Setup) (s : State) (c : Command) → (MakesStrand c → ⊥) → IsFirstHit setup s c None
+plain_free setup s (Plan call kind route at from level) plain = absurd (plain tt)
+plain_free setup s (External call straight) plain = absurd (plain tt)
+plain_free setup s (Drop call) plain = refl
+plain_free setup s (commands.Report call report) plain = refl
+plain_free setup s (Tick now) plain = refl
+plain_free setup s (Renew call) plain = absurd (plain tt)
+plain_free setup s (Clear call clearance eff) plain = absurd (plain tt)
+plain_free setup s (Accept call clearance eff probed) plain = absurd (plain tt)
+plain_free setup s (Tentative call clearance eff) plain = absurd (plain tt)
+plain_free setup s (Withdraw call force) plain = refl
+plain_free setup s (Commit call) plain = absurd (plain tt)

@@ -1,0 +1,42 @@
+use Rattle.std.proofs.Common.{◌≡◌, ap, ◌∙◌, sym, refl, inl, inr, subst}
+use Rattle.std.proofs.lemmas.Result.{IfOk-weaker}
+use Rattle.mt_base.specs.Picture.{NamedTrajectory}
+use Rattle.mt_base.specs.Tables.{Setup}
+use Rattle.mt_picture.specs.Asking.{WasAsked}
+use Rattle.mt_track.specs.Named.{named}
+use Rattle.mt_kept.specs.Places.{seen}
+use Rattle.mt_picture.proofs.Knowing.{candidates_right}
+use Rattle.mt_picture.proofs.change.new_finds.Goals as goal
+
+pub gather-requires : goal.gather-requires
+gather-requires c =
+    let s = c.args.snapshot.now in
+    let mine = named c.in-Some.item in
+    let is = ap seen c.in-Some.is in
+    let laid = rw c.deref.ensures at c.end-end.ensures.kept in
+    let near = rw c.deref-2.ensures at c.in_ok-candidates.ensures in
+    rw (c.requires.rules, c.requires.places, c.deref-3.ensures.value)
+    (candidates_right s c.args.place mine c.args.prep.now c.args.known c.in_ok-candidates.candidates.items c.version-version.ensures.kept laid
+    (ap (λ (u : Setup). u.rules) c.requires.setup) (c.requires.call mine is) (c.requires.known mine is) near)
+
+pub returns-clause-finds : goal.returns-clause-finds
+returns-clause-finds c =
+    let k = c.args.kept.now in
+    let mine = named c.in-Some.item in
+    let is = ap seen c.in-Some.is in
+    IfOk-weaker c.gather.result _ _ (λ finds found after at_is agree. found after (agree mine is)) c.gather.ensures.finds
+
+pub returns-in_default-clause-counted : goal.returns-in_default-clause-counted
+returns-in_default-clause-counted c = λ m is. absurd (let e = ap seen c.in_default.is in let both = sym e ∙ is in cc)
+
+pub returns-in_err-candidates-clause-counted : goal.returns-in_err-candidates-clause-counted
+returns-in_err-candidates-clause-counted c = λ m is. inl refl
+
+pub returns-clause-counted : goal.returns-clause-counted
+returns-clause-counted c = λ m is.
+    let s = c.args.snapshot.now in
+    let own : named c.in-Some.item ≡ m = (let both = sym (ap seen c.in-Some.is) ∙ is in cc) in
+    let near = rw c.deref-2.ensures at c.in_ok-candidates.ensures in
+    let rose = rw (c.requires.places, c.requires.moment, c.deref-3.ensures.value) at c.gather.ensures.counted in
+    subst (λ (u : NamedTrajectory). WasAsked s c.args.prep.now c.args.known c.args.place u c.args.tests.now c.gather.new.tests) own
+    (inr (record { xs = c.in_ok-candidates.candidates.items; near = near; rose = rose }))

@@ -1,0 +1,23 @@
+use Rattle.std.proofs.Common.{◌≡◌, ◌++◌, ◌∷◌, [], List, subst, sym, arith}
+use Rattle.std.proofs.lemmas.Grind.{common_steps}
+use Rattle.mt_base.specs.declared.command.Command.TheVariants.{Tick}
+use Rattle.mt_base.specs.declared.command.Entry.{Entry}
+use Rattle.mt_picture.specs.Stamps.{IsPicture}
+use Rattle.mt_picture.proofs.Moved.{none_tested, picture_tick}
+use Rattle.mt_picture.proofs.held.tick.Goals as goal
+
+pub returns-clause-held : goal.returns-clause-held
+returns-clause-held c =
+    let shot = c.args.held.now.snapshot in
+    let h = c.args.held.now.history.items in
+    let e : Entry = record { who = c.args.who; command = Tick c.args.now } in
+    let entered : c.push.new.self.items ≡ h ++ e ∷ [] = grind (arith, common_steps) in
+    subst (λ (g : List Entry). IsPicture c.in_ok-snapshot.snapshot g c.move_to.new.self) (sym entered)
+    (picture_tick shot c.in_ok-snapshot.snapshot h c.args.who c.args.now c.args.held.now.kept c.move_to.new.self c.requires.held
+    c.version-next.ensures.kept c.in_ok-snapshot.ensures c.in_ok-move_to.ensures.rules c.in_ok-move_to.ensures.ok c.in_ok-move_to.ensures.places)
+
+pub returns-in_err-snapshot-clause-counted : goal.returns-in_err-snapshot-clause-counted
+returns-in_err-snapshot-clause-counted c = none_tested _ _ _ _
+
+pub returns-in_err-reserve-clause-counted : goal.returns-in_err-reserve-clause-counted
+returns-in_err-reserve-clause-counted c = none_tested _ _ _ _

@@ -1,0 +1,105 @@
+-- How many pair tests a command may cost.
+use Rattle.std.specs.Prelude.{◌≡◌, ◌≢◌, ◌<◌, ◌≤◌, ◌+◌, ◌*◌, ℕ, List, true, All, AllPairs, Contains, Option, Some, None, length}
+use Rattle.mt_base.specs.declared.command.Command.{Command}
+use Rattle.mt_base.specs.declared.command.Command.TheVariants.{Tick}
+use Rattle.mt_base.specs.Conflict.{IsConflict, IsSpanOfLoss}
+use Rattle.mt_base.specs.declared.rules.Rules.{Rules}
+use Rattle.mt_base.specs.History.{state_of}
+use Rattle.mt_base.specs.Picture.{NamedTrajectory, State, trajectories}
+use Rattle.mt_base.specs.Trajectory.{Trajectory}
+use Rattle.mt_cover.specs.declared.stays.Stay.{Stay}
+use Rattle.mt_cover.specs.Cells.{cover_of}
+use Rattle.mt_kept.specs.Places.{horizon}
+use Rattle.mt_kept.specs.Tests.{raised_by}
+use Rattle.mt_kept.specs.Window.{is_straddling}
+use Rattle.mt_probe.specs.Items.{Meet}
+use Rattle.mt_probe.specs.Prepared.{Prepared, left_made}
+use Rattle.mt_picture.specs.Stamps.{IsMadeAt}
+use Rattle.mt_picture.specs.Story.{IsUsable, Story}
+
+-- the state of the history
+abbrev pub state_now : Story → State
+state_now story = state_of story.setup story.history
+
+-- Two trajectories are near each other: they share a cell, with a second in common.
+pub record AreNearby (rules : Rules) (a b : Trajectory) : Type 0 where
+  pub left : Stay
+  pub left_of : Contains (cover_of rules a) left
+  pub right : Stay
+  pub right_of : Contains (cover_of rules b) right
+  pub meet : Meet left right
+
+-- a trajectory of another flight that stands now, near the new one
+pub record IsNearNow (story : Story) (mine other : NamedTrajectory) : Type 0 where
+  pub stands : Contains (trajectories story.setup (state_now story)) other
+  pub apart : other.call ≢ mine.call
+  pub near : AreNearby story.setup.rules mine.path other.path
+
+-- it was made after version v
+pub record IsLaterNow (story : Story) (v : ℕ) (mine other : NamedTrajectory) : Type 0 where
+  pub now : IsNearNow story mine other
+  pub stamp : ℕ
+  pub later : v < stamp
+  pub made : IsMadeAt story.setup story.history other stamp
+
+-- its conflict with the new one over all seconds straddles an edge of the window now
+pub record IsCrossingNow (story : Story) (mine other : NamedTrajectory) : Type 0 where
+  pub now : IsNearNow story mine other
+  pub first : ℕ
+  pub last : ℕ
+  pub conflict : IsConflict story.setup.rules mine.path other.path 0 horizon (Some (first, last))
+  pub straddling : is_straddling (state_now story).now first last ≡ true
+
+-- At most two tests were made for each trajectory of another flight that is near the new one.
+pub record WasTestedAnew (story : Story) (mine : NamedTrajectory) (old new : ℕ) : Type 0 where
+  pub others : List NamedTrajectory
+  pub distinct : AllPairs (λ s t. s ≢ t) others
+  pub each : All (IsNearNow story mine) others
+  pub more : ℕ
+  pub within : more ≤ 2 * length others
+  pub is : new ≡ raised_by more old
+
+-- At most two tests were made for each trajectory of another flight that is near the new one and was made after version v, and one for each
+-- whose conflict with it straddles an edge of the window now.
+pub record WasTestedAgain (story : Story) (v : ℕ) (mine : NamedTrajectory) (old new : ℕ) : Type 0 where
+  pub later : List NamedTrajectory
+  pub later_distinct : AllPairs (λ s t. s ≢ t) later
+  pub later_each : All (IsLaterNow story v mine) later
+  pub crossing : List NamedTrajectory
+  pub crossing_distinct : AllPairs (λ s t. s ≢ t) crossing
+  pub crossing_each : All (IsCrossingNow story mine) crossing
+  pub more : ℕ
+  pub within : more ≤ 2 * length later + length crossing
+  pub is : new ≡ raised_by more old
+
+-- Two trajectories of different flights that stand now, with their conflict over all seconds, which straddles an edge of the window from `now`.
+pub record IsCrossingPair (story : Story) (now : ℕ) (pair : NamedTrajectory × NamedTrajectory) : Type 0 where
+  pub left_stands : Contains (trajectories story.setup (state_now story)) pair.0
+  pub right_stands : Contains (trajectories story.setup (state_now story)) pair.1
+  pub apart : pair.0.call ≢ pair.1.call
+  pub first : ℕ
+  pub last : ℕ
+  pub span : IsSpanOfLoss story.setup.rules pair.0.path pair.1.path 0 horizon first last
+  pub straddling : is_straddling now first last ≡ true
+
+-- One test was made for each of some such pairs, and no other test.
+pub record WasTestedForTick (story : Story) (now old new : ℕ) : Type 0 where
+  pub pairs : List (NamedTrajectory × NamedTrajectory)
+  pub distinct : AllPairs (λ p q. p ≢ q) pairs
+  pub each : All (IsCrossingPair story now) pairs
+  pub is : new ≡ raised_by (length pairs) old
+
+-- The bound of a command with a prep: that of testing anew, and where the prep is usable that of testing again.
+pub record IsWithinBoth (story : Story) (command : Command) (p : Prepared) (mine : NamedTrajectory) (old new : ℕ) : Type 0 where
+  pub anew : WasTestedAnew story mine old new
+  pub again : IsUsable story command p → WasTestedAgain story p.state.version mine old new
+
+abbrev pub IsWithinPreps : Story → ℕ → Command → Option Prepared → ℕ → ℕ → Type 0
+IsWithinPreps story who command None old new = new ≡ old
+IsWithinPreps story who command (Some p) old new = (mine : NamedTrajectory) → left_made story.setup (state_now story) who command ≡ Some mine
+    → IsWithinBoth story command p mine old new
+
+-- The bound of each command: of a tick its own, of one that makes no trajectory no test, of one that makes one that of its prep.
+abbrev pub IsWithinBound : Story → ℕ → Command → Option Prepared → ℕ → ℕ → Type 0
+IsWithinBound story who (Tick now) prep old new = WasTestedForTick story now old new
+IsWithinBound story who command prep old new = IsWithinPreps story who command prep old new

@@ -1,0 +1,40 @@
+-- Commands by what they do to the flight that they name. No public contract cites these.
+use Rattle.std.specs.Prelude.{◌≡◌, ℕ, ◌<◌, List, length, get_or, Option, Some, None, Bool, true, false, ⊤}
+use Rattle.mt_base.specs.declared.command.Command.{Command}
+use Rattle.mt_base.specs.declared.command.Command.TheVariants.{Plan, External, Renew, Clear, Accept, Tentative, Withdraw, Commit}
+use Rattle.mt_base.specs.declared.command.Command.TheVariants as commands
+use Rattle.mt_probe.specs.declared.flight.Flight.{Flight}
+use Rattle.mt_probe.specs.Shot.{records_in}
+
+-- it files a flight
+abbrev pub IsFiling : Command → Type 0
+IsFiling (Plan call kind route at from level) = ⊤
+IsFiling (External call straight) = ⊤
+IsFiling command = ⊥
+
+-- it makes a trajectory of a flight that is there
+abbrev pub IsRemaking : Command → Type 0
+IsRemaking (Renew call) = ⊤
+IsRemaking (Clear call clearance eff) = ⊤
+IsRemaking (Accept call clearance eff probed) = ⊤
+IsRemaking (Tentative call clearance eff) = ⊤
+IsRemaking (Commit call) = ⊤
+IsRemaking command = ⊥
+
+-- a slot that is empty; or there is none
+abbrev pub IsFreeIn : List (Option Flight) → Option ℕ → Type 0
+IsFreeIn slots (Some i) = (i < length slots) × (get_or slots i None ≡ None)
+IsFreeIn slots None = length (records_in slots) ≡ length slots
+
+-- it is a report; it withdraws a tentative clearance; it accepts what was probed
+abbrev pub IsReport : Command → Type 0
+IsReport (commands.Report call report) = ⊤
+IsReport command = ⊥
+
+abbrev pub IsWithdrawal : Command → Type 0
+IsWithdrawal (Withdraw call force) = ⊤
+IsWithdrawal command = ⊥
+
+abbrev pub is_probed : Command → Bool
+is_probed (Accept call clearance eff probed) = true
+is_probed command = false

@@ -1,0 +1,38 @@
+-- The hits among the finds of a slot. No public contract cites these.
+use Rattle.std.specs.Prelude.{◌≡◌, ◌↔◌, ℕ, ◌%◌, List, Contains, Option, Some, None, Bool, nat_eq, ◌&&◌, slice_get, if◌then◌else◌}
+use Rattle.std.specs.List.Sorted.{IsStrictlySortedBy}
+use Rattle.std.specs.Str.{bytes_eq}
+use Rattle.mt_base.specs.declared.conflict.Conflict.{Conflict}
+use Rattle.mt_base.specs.declared.hit.Hit.{Hit}
+use Rattle.mt_base.specs.WhatIf.{hit_cmp}
+use Rattle.mt_kept.specs.declared.open_pair.OpenPair.{OpenPair}
+use Rattle.mt_kept.specs.Made.{is_open}
+
+-- a conflict as a hit of the flight of that callsign
+abbrev pub hit_by : List ℕ → Option Conflict → Option Hit
+hit_by call None = None
+hit_by call (Some c) = Some (record { first = c.first; with = if bytes_eq c.a call then c.b else c.a; last = c.last })
+
+-- both trajectories are flown, and the pair is open
+abbrev pub is_flown : OpenPair → Bool
+is_flown o = nat_eq (o.edge.a % 2) 0 && nat_eq (o.edge.b % 2) 0
+
+abbrev pub hit_of : List ℕ → ℕ → OpenPair → Option Hit
+hit_of call now o = if is_flown o && is_open now o.edge then hit_by call o.conflict else None
+
+-- a hit of one of some finds
+pub record IsHitOfOne (finds : List OpenPair) (call : List ℕ) (now : ℕ) (hit : Hit) : Type 0 where
+  pub pair : OpenPair
+  pub held : Contains finds pair
+  pub is : hit_of call now pair ≡ Some hit
+
+-- all hits of some finds, in order
+pub record AreHitsAmong (finds : List OpenPair) (call : List ℕ) (now : ℕ) (hits : List Hit) : Type 0 where
+  pub members : (hit : Hit) → Contains hits hit ↔ IsHitOfOne finds call now hit
+  pub sorted : IsStrictlySortedBy hit_cmp hits
+
+-- the first of them
+pub record IsFirstAmong (finds : List OpenPair) (call : List ℕ) (now : ℕ) (first : Option Hit) : Type 0 where
+  pub hits : List Hit
+  pub all : AreHitsAmong finds call now hits
+  pub first_is : first ≡ slice_get hits 0

@@ -1,0 +1,10 @@
+pub mod Asked
+pub mod Asking
+pub mod Entries
+pub mod Finding
+pub mod Hits
+pub mod Places
+pub mod Putting
+pub mod Stamps
+pub mod Story
+pub mod Verdicts

@@ -1,0 +1,39 @@
+-- What a prep says of the trajectories of a snapshot. No public contract cites these.
+use Rattle.std.specs.Prelude.{◌≡◌, ◌≢◌, ◌<◌, ◌/◌, List, Bool, true, Option, Some, None, Contains, get_or, map}
+use Rattle.mt_base.specs.declared.conflict.Kind.{Kind}
+use Rattle.mt_base.specs.Picture.{NamedTrajectory}
+use Rattle.mt_base.specs.Trajectory.{Trajectory}
+use Rattle.mt_cover.specs.Cells.{cover_of}
+use Rattle.mt_kept.specs.declared.finds.Candidate.{Candidate}
+use Rattle.mt_kept.specs.declared.finds.Verdict.{Verdict}
+use Rattle.mt_kept.specs.declared.finds.Verdict.TheVariants.{Unknown}
+use Rattle.mt_kept.specs.Finds.{IsRight, place_of}
+use Rattle.mt_probe.specs.declared.flight.Flight.{Flight}
+use Rattle.mt_probe.specs.declared.flight.Made.{Made}
+use Rattle.mt_probe.specs.Items.{AreNearItems, kind_at}
+use Rattle.mt_probe.specs.Prepared.{Prepared}
+use Rattle.mt_probe.specs.Shot.{Shot, made_of}
+use Rattle.mt_picture.specs.Places.{made_of_kind}
+
+-- A new trajectory is the prep's, where the prep is known to be of use.
+abbrev pub IsPreps : Prepared → Bool → Trajectory → Type 0
+IsPreps p known mine = known ≡ true → mine ≡ p.strand
+
+-- what is known of the trajectory of a kind of the flight at a place is right
+abbrev pub IsRightAt : Prepared → Bool → Option Flight → Kind → Verdict → Type 0
+IsRightAt p known slot kind verdict = (f : Flight) (made : Made) (mine : NamedTrajectory) → slot ≡ Some f → made_of f kind ≡ Some made
+    → f.card.call ≢ p.card.call → IsPreps p known mine.path → IsRight p.setup.rules mine (made_of_kind f kind made) verdict
+
+-- the trajectory of a kind of the flight at a place was made after the prep
+abbrev pub IsLaterAt : Prepared → Option Flight → Kind → Type 0
+IsLaterAt p slot kind = (f : Flight) (made : Made) → slot ≡ Some f → made_of f kind ≡ Some made → p.state.version < made.stamp
+
+-- What is known of a candidate is right; and where nothing is known of it though the prep is of use, it was made after the prep.
+pub record IsKnown (p : Prepared) (known : Bool) (slots : List (Option Flight)) (x : Candidate) : Type 0 where
+  pub right : IsRightAt p known (get_or slots (x.place / 2) None) (kind_at x.place) x.verdict
+  pub later : known ≡ true → x.verdict ≡ Unknown → IsLaterAt p (get_or slots (x.place / 2) None) (kind_at x.place)
+
+-- The candidates of a trajectory: the trajectories that are near it, with what is known of them.
+pub record AreNear (shot : Shot) (t : Trajectory) (p : Prepared) (known : Bool) (xs : List Candidate) : Type 0 where
+  pub near : AreNearItems shot (cover_of shot.setup.rules t) (map place_of xs)
+  pub known_is : (x : Candidate) → Contains xs x → IsKnown p known shot.slots x

@@ -1,0 +1,119 @@
+//! What is decided of a command on a snapshot.
+ghost use Rattle.std.specs.Prelude.{◌≡◌, length, option_copied, option_map};
+ghost use Rattle.std.specs.Arc.{arc_value};
+ghost use Rattle.mt_base.specs.Bounds.{IsBoundedCommand};
+ghost use Rattle.mt_base.specs.Checks.{judged};
+ghost use Rattle.mt_base.specs.History.{checks, look_at, verdict_in};
+ghost use Rattle.mt_predict.specs.Looking.{HasStrand, look_of};
+ghost use Rattle.mt_probe.specs.Shot.{flight_at, records_in};
+ghost use Rattle.mt_probe.specs.Shot.{state_of as state_in};
+ghost use Rattle.mt_picture.specs.Entries.{IsFreeIn};
+
+use mt_base::{Command, Kind, Path, Refusal, Verdict};
+use mt_predict::{Looked, judge};
+use mt_probe::Snapshot;
+use mt_track::Strand;
+use mt_watch::verdict;
+
+// How many flights there are.
+fn flights(snapshot: &Snapshot) -> u32
+    ensures { result ≡ length (records_in snapshot.now.slots) }
+{
+    let mut held: u32 = 0;
+    let count = snapshot.slots();
+    for slot in 0..count {
+        if let Some(_card) = snapshot.flight(slot) {
+            held += 1;
+        }
+    }
+    held
+}
+
+/// An empty slot; `None` exactly where each is filled.
+pub(crate) fn free_slot(snapshot: &Snapshot) -> Option<u32>
+    ensures { IsFreeIn snapshot.now.slots result }
+{
+    let count = snapshot.slots();
+    for slot in 0..count {
+        let Some(_card) = snapshot.flight(slot) else {
+            return Some(slot);
+        };
+    }
+    None
+}
+
+/// The trajectory that the flight in a slot flies.
+pub(crate) fn strand_at(snapshot: &Snapshot, slot: u32) -> Option<&Strand>
+    ensures { option_copied result ≡ option_map (λ f. arc_value f.actual.strand) (flight_at snapshot.now slot) }
+{
+    let strand = snapshot.strand(slot, Kind::Actual)?;
+    Some(&**strand)
+}
+
+// What a decision of a command looks at.
+fn look<'a>(snapshot: &'a Snapshot, command: &Command) -> Looked<'a>
+    ensures look { look_of result ≡ look_at (state_in snapshot.now) command.now }
+    ensures strand { HasStrand snapshot.now.setup result command.now }
+{
+    let _version = snapshot.version();
+    let now = snapshot.now();
+    let held = flights(snapshot);
+    let entries = snapshot.version();
+    let Some(call) = command.call() else {
+        return Looked {
+            now,
+            held,
+            entries,
+            flight: None,
+            strand: None,
+        };
+    };
+    let Some(slot) = snapshot.find(call) else {
+        return Looked {
+            now,
+            held,
+            entries,
+            flight: None,
+            strand: None,
+        };
+    };
+    Looked {
+        now,
+        held,
+        entries,
+        flight: snapshot.flight(slot),
+        strand: strand_at(snapshot, slot),
+    }
+}
+
+/// The first refusal of an actor's command on a snapshot, but for one that was probed and is no longer free; or none.
+pub(crate) fn decide(snapshot: &Snapshot, who: u32, command: &Command) -> Result<(), Refusal>
+    ensures { result ≡ judged (checks snapshot.now.setup (look_at (state_in snapshot.now) command.now) who command.now) (tt {0}) }
+{
+    let looked = look(snapshot, command);
+    judge(snapshot.tables(), snapshot.rules(), &looked, who, command)
+}
+
+/// The verdict on a report of a planned flight, as it is before the report is entered; no other command has one.
+pub(crate) fn verdict_on(snapshot: &Snapshot, command: &Command) -> Option<Verdict>
+    requires { IsBoundedCommand command.now }
+    ensures { result ≡ verdict_in snapshot.now.setup (state_in snapshot.now) command.now }
+{
+    let _version = snapshot.version();
+    let Command::Report { call, report } = command else {
+        return None;
+    };
+    let Some(slot) = snapshot.find(*call) else {
+        return None;
+    };
+    let Some(card) = snapshot.flight(slot) else {
+        return None;
+    };
+    let Path::Planned(course) = &card.path else {
+        return None;
+    };
+    let Some(strand) = strand_at(snapshot, slot) else {
+        return None;
+    };
+    Some(verdict(strand, &course.base, report, snapshot.rules()))
+}

@@ -1,0 +1,370 @@
+//! Entering a command that names a flight: what it leaves in the flight's slot.
+ghost use Rattle.std.specs.Prelude.{◌≡◌, ◌<◌, ◌+◌, ◌++◌, ◌∷◌, ◌^◌, [], None, Some, IfOk, OnOk, OnErr, is_some, length, option_and_then, option_map, false, true};
+ghost use Rattle.std.specs.Arc.{arc_value};
+ghost use Rattle.mt_base.specs.Bounds.{IsSoundFlight};
+ghost use Rattle.mt_base.specs.History.{filled};
+ghost use Rattle.mt_base.specs.Picture.{NamedTrajectory};
+ghost use Rattle.mt_machine.specs.Deciding.{IsFirstHit};
+ghost use Rattle.mt_probe.specs.Prepared.{IsLeft, kind_made, path_made};
+ghost use Rattle.mt_probe.specs.Shot.{flight_at, made_of};
+ghost use Rattle.mt_probe.specs.Shot.{state_of as state_in};
+ghost use Rattle.mt_picture.specs.Asking.{WasAskedFor, WasAskedOf};
+ghost use Rattle.mt_picture.specs.Entries.{IsFiling, IsRemaking, IsReport, IsWithdrawal, is_probed};
+ghost use Rattle.mt_picture.specs.Places.{place_kind, place_other};
+ghost use Rattle.mt_picture.specs.Putting.{IsFirstOf, IsKeptFlight, IsPutBy, IsRemade, history_after};
+ghost use Rattle.mt_picture.specs.Stamps.{HaveStood, IsPicture};
+ghost use Rattle.mt_picture.specs.Verdicts.{IsPreps};
+
+use crate::change::{change_bare, change_for};
+use crate::held::{Held, put_card, put_change};
+use crate::hits::first_hit;
+use mt_base::{Callsign, Command, Entry, Hit, Kind, Memory, Record, Tally};
+use mt_probe::{Flight, Made, Prep, Snapshot, strand_of};
+use mt_track::Strand;
+use std::alloc::Global;
+use std::sync::Arc;
+
+// The callsign of a flight.
+fn callsign(flight: &Flight) -> Callsign
+    ensures { result ≡ flight.now.card.call }
+{
+    flight.card.call
+}
+
+// Enters a command that leaves this flight in a slot with a new trajectory of that kind; or gives the first hit, where that was probed and has
+// one, and leaves all as it was. What the prep found is used where it is known to be of use.
+fn put_made(
+    held: &mut Held,
+    alloc: Global,
+    slot: u32,
+    flight: Flight,
+    kind: Kind,
+    entry: Entry,
+    prep: &Prep,
+    known: bool,
+    probed: bool,
+    tests: &mut Tally,
+) -> Result<Option<Hit>, Memory>
+    requires held { IsPicture held.old.snapshot held.old.history.items held.old.kept }
+    requires counted { held.old.snapshot.version < 2 ^ 40 }
+    requires put { IsPutBy held.old.snapshot slot flight entry }
+    requires setup { prep.now.setup ≡ held.old.snapshot.setup }
+    requires call { flight.card.call ≡ prep.now.card.call }
+    requires new { (m : NamedTrajectory) → place_kind kind (Some flight) ≡ Some m → IsPreps prep.now known m.path }
+    requires other { (m : NamedTrajectory) → place_other kind (Some flight) ≡ Some m
+        → place_other kind (flight_at held.old.snapshot slot) ≡ Some m }
+    requires stood { HaveStood held.old.snapshot prep.now }
+    ensures held { IsPicture held.new.snapshot held.new.history.items held.new.kept }
+    ensures setup { held.new.snapshot.setup ≡ held.old.snapshot.setup }
+    ensures ok { IfOk result (λ first. held.new.history.items ≡ history_after held.old.history.items entry first) }
+    ensures err { OnErr result (held.new.history.items ≡ held.old.history.items) }
+    ensures hits { IfOk result (λ first. probed ≡ true → IsFirstOf held.old.snapshot.setup (state_in held.old.snapshot) flight.card.call
+        (arc_value flight.actual.strand) first) }
+    ensures free { IfOk result (λ first. probed ≡ false → first ≡ None) }
+    ensures counted { (m : NamedTrajectory) → place_kind kind (Some flight) ≡ Some m → WasAskedOf held.old.snapshot prep.now known m tests.old tests.new }
+{
+    let _version = held.snapshot.version();
+    let call = callsign(&flight);
+    let change = change_for(
+        alloc,
+        &held.kept,
+        &held.snapshot,
+        slot,
+        &flight,
+        kind,
+        prep,
+        known,
+        tests,
+    )?;
+    let now = held.snapshot.now();
+    let first = first_hit(alloc, &change.finds, call, now, probed)?;
+    if first.is_some() {
+        return Ok(first);
+    }
+    put_change(held, alloc, slot, flight, entry, change)?;
+    Ok(None)
+}
+
+// The trajectory of a kind of a flight: the prep's, where that is known to be of use, or a new one.
+fn strand_for(
+    alloc: Global,
+    snapshot: &Snapshot,
+    card: &Record,
+    kind: Kind,
+    prep: &Prep,
+    known: bool,
+) -> Result<Arc<Strand>, Memory>
+    requires sound { IsSoundFlight snapshot.now.setup card.now }
+    requires makes { is_some (path_made snapshot.now.setup card.now kind) ≡ true }
+    requires setup { prep.now.setup ≡ snapshot.now.setup }
+    requires kind { kind ≡ kind_made prep.now.command }
+    requires known { known ≡ true → card.now ≡ prep.now.card }
+    ensures made { IfOk result (λ strand. path_made snapshot.now.setup card.now kind ≡ Some (arc_value strand)) }
+    ensures known { IfOk result (λ strand. known ≡ true → arc_value strand ≡ prep.now.strand) }
+{
+    let _prepared = prep.version();
+    if known {
+        Ok(Arc::try_clone(prep.strand())?)
+    } else {
+        strand_of(alloc, snapshot, card, kind)
+    }
+}
+
+// The trajectory of a kind of the flight in a slot once more, with its stamp.
+fn made_again(snapshot: &Snapshot, slot: u32, kind: Kind) -> Result<Option<Made>, Memory>
+    ensures strand { IfOk result (λ again. option_map (λ m. arc_value m.strand) again
+        ≡ option_map (λ m. arc_value m.strand) (option_and_then (λ f. made_of f kind) (flight_at snapshot.now slot))) }
+    ensures stamp { IfOk result (λ again. option_map (λ m. m.stamp) again
+        ≡ option_map (λ m. m.stamp) (option_and_then (λ f. made_of f kind) (flight_at snapshot.now slot))) }
+{
+    let Some(strand) = snapshot.strand(slot, kind) else {
+        return Ok(None);
+    };
+    let Some(stamp) = snapshot.stamp(slot, kind) else {
+        return Ok(None);
+    };
+    let strand = Arc::try_clone(strand)?;
+    Ok(Some(Made { strand, stamp }))
+}
+
+// The entry of a command.
+fn entry_of(
+    alloc: Global,
+    snapshot: &Snapshot,
+    who: u32,
+    command: &Command,
+) -> Result<Entry, Memory>
+    ensures { IfOk result (λ entry. entry ≡ record { who = who; command = filled snapshot.now.now command.now }) }
+{
+    let command = command.filled(alloc, snapshot.now())?;
+    Ok(Entry { who, command })
+}
+
+/// Files a flight in an empty slot.
+pub(crate) fn file(
+    held: &mut Held,
+    alloc: Global,
+    slot: u32,
+    who: u32,
+    command: &Command,
+    card: Record,
+    prep: &Prep,
+    known: bool,
+    tests: &mut Tally,
+) -> Result<Option<Hit>, Memory>
+    requires held { IsPicture held.old.snapshot held.old.history.items held.old.kept }
+    requires counted { held.old.snapshot.version < 2 ^ 40 }
+    requires slot { slot < length held.old.snapshot.slots }
+    requires free { flight_at held.old.snapshot slot ≡ None }
+    requires filing { IsFiling command.now }
+    requires left { IsLeft held.old.snapshot.setup (state_in held.old.snapshot) who command.now card }
+    requires setup { prep.now.setup ≡ held.old.snapshot.setup }
+    requires of { prep.now.card.call ≡ card.call }
+    requires command { prep.now.command ≡ command.now }
+    requires known { known ≡ true → card ≡ prep.now.card }
+    requires stood { HaveStood held.old.snapshot prep.now }
+    ensures held { IsPicture held.new.snapshot held.new.history.items held.new.kept }
+    ensures setup { held.new.snapshot.setup ≡ held.old.snapshot.setup }
+    ensures ok { IfOk result (λ first. held.new.history.items ≡ history_after held.old.history.items
+        (record { who = who; command = filled held.old.snapshot.now command.now }) first) }
+    ensures err { OnErr result (held.new.history.items ≡ held.old.history.items) }
+    ensures hits { IfOk result (IsFirstHit held.old.snapshot.setup (state_in held.old.snapshot) command.now) }
+    ensures counted { WasAskedFor held.old.snapshot prep.now known who command.now tests.old tests.new }
+{
+    let version = held.snapshot.version();
+    let strand = strand_for(alloc, &held.snapshot, &card, Kind::Actual, prep, known)?;
+    let entry = entry_of(alloc, &held.snapshot, who, command)?;
+    let flight = Flight {
+        card,
+        filed: version + 1,
+        reported: 0,
+        actual: Made {
+            strand,
+            stamp: version + 1,
+        },
+        mark: None,
+    };
+    put_made(
+        held,
+        alloc,
+        slot,
+        flight,
+        Kind::Actual,
+        entry,
+        prep,
+        known,
+        false,
+        tests,
+    )
+}
+
+// The flight in a slot with another record, and with all else that it has.
+fn kept_flight(snapshot: &Snapshot, slot: u32, card: Record) -> Result<Flight, Memory>
+    requires { option_map (λ f. f.card.call) (flight_at snapshot.now slot) ≡ Some card.call }
+    ensures { IfOk result (IsKeptFlight (flight_at snapshot.now slot) card) }
+{
+    let Some(filed) = snapshot.filed(slot) else {
+        unreachable!()
+    };
+    let Some(reported) = snapshot.reported(slot) else {
+        unreachable!()
+    };
+    let Some(actual) = made_again(snapshot, slot, Kind::Actual)? else {
+        unreachable!()
+    };
+    let mark = made_again(snapshot, slot, Kind::Tentative)?;
+    Ok(Flight {
+        card,
+        filed,
+        reported,
+        actual,
+        mark,
+    })
+}
+
+// The flight in a slot with a new trajectory, as a command leaves it.
+fn remade(
+    snapshot: &Snapshot,
+    slot: u32,
+    command: &Command,
+    card: Record,
+    strand: Arc<Strand>,
+) -> Result<Flight, Memory>
+    requires counted { snapshot.now.version < 2 ^ 40 }
+    requires there { option_map (λ f. f.card.call) (flight_at snapshot.now slot) ≡ Some card.call }
+    ensures { IfOk result (IsRemade (flight_at snapshot.now slot) (snapshot.now.version + 1) command.now card (arc_value strand)) }
+{
+    let stamp = snapshot.version() + 1;
+    let mut flight = kept_flight(snapshot, slot, card)?;
+    let made = Made { strand, stamp };
+    match command {
+        Command::Tentative { .. } => {
+            flight.mark = Some(made);
+            Ok(flight)
+        }
+        Command::Commit { .. } => {
+            flight.actual = made;
+            flight.mark = None;
+            Ok(flight)
+        }
+        _ => {
+            flight.actual = made;
+            Ok(flight)
+        }
+    }
+}
+
+// The kind of the trajectory that a command makes.
+fn kind_made(command: &Command) -> Kind
+    ensures { result ≡ kind_made command.now }
+{
+    match command {
+        Command::Tentative { .. } => Kind::Tentative,
+        _ => Kind::Actual,
+    }
+}
+
+// Whether a command accepts what was probed.
+fn is_probed(command: &Command) -> bool
+    ensures { result ≡ is_probed command.now }
+{
+    match command {
+        Command::Accept { .. } => true,
+        _ => false,
+    }
+}
+
+/// Renews, clears or marks the flight in a slot, or commits its tentative clearance; or gives the first hit, where the command was probed and
+/// has one, and leaves all as it was.
+pub(crate) fn remake(
+    held: &mut Held,
+    alloc: Global,
+    slot: u32,
+    who: u32,
+    command: &Command,
+    card: Record,
+    prep: &Prep,
+    known: bool,
+    tests: &mut Tally,
+) -> Result<Option<Hit>, Memory>
+    requires held { IsPicture held.old.snapshot held.old.history.items held.old.kept }
+    requires counted { held.old.snapshot.version < 2 ^ 40 }
+    requires there { option_map (λ f. f.card.call) (flight_at held.old.snapshot slot) ≡ Some card.call }
+    requires remaking { IsRemaking command.now }
+    requires left { IsLeft held.old.snapshot.setup (state_in held.old.snapshot) who command.now card }
+    requires setup { prep.now.setup ≡ held.old.snapshot.setup }
+    requires of { prep.now.card.call ≡ card.call }
+    requires command { prep.now.command ≡ command.now }
+    requires known { known ≡ true → card ≡ prep.now.card }
+    requires stood { HaveStood held.old.snapshot prep.now }
+    ensures held { IsPicture held.new.snapshot held.new.history.items held.new.kept }
+    ensures setup { held.new.snapshot.setup ≡ held.old.snapshot.setup }
+    ensures ok { IfOk result (λ first. held.new.history.items ≡ history_after held.old.history.items
+        (record { who = who; command = filled held.old.snapshot.now command.now }) first) }
+    ensures err { OnErr result (held.new.history.items ≡ held.old.history.items) }
+    ensures hits { IfOk result (IsFirstHit held.old.snapshot.setup (state_in held.old.snapshot) command.now) }
+    ensures counted { WasAskedFor held.old.snapshot prep.now known who command.now tests.old tests.new }
+{
+    let _version = held.snapshot.version();
+    let kind = kind_made(command);
+    let strand = strand_for(alloc, &held.snapshot, &card, kind, prep, known)?;
+    let entry = entry_of(alloc, &held.snapshot, who, command)?;
+    let flight = remade(&held.snapshot, slot, command, card, strand)?;
+    let probed = is_probed(command);
+    put_made(
+        held, alloc, slot, flight, kind, entry, prep, known, probed, tests,
+    )
+}
+
+/// Enters the report of a flight in a slot.
+pub(crate) fn report(
+    held: &mut Held,
+    alloc: Global,
+    slot: u32,
+    who: u32,
+    command: &Command,
+    card: Record,
+) -> Result<(), Memory>
+    requires held { IsPicture held.old.snapshot held.old.history.items held.old.kept }
+    requires counted { held.old.snapshot.version < 2 ^ 40 }
+    requires there { option_map (λ f. f.card.call) (flight_at held.old.snapshot slot) ≡ Some card.call }
+    requires reports { IsReport command.now }
+    requires left { IsLeft held.old.snapshot.setup (state_in held.old.snapshot) who command.now card }
+    ensures held { IsPicture held.new.snapshot held.new.history.items held.new.kept }
+    ensures setup { held.new.snapshot.setup ≡ held.old.snapshot.setup }
+    ensures ok { OnOk result (held.new.history.items ≡ held.old.history.items ++ (record { who = who; command = filled held.old.snapshot.now command.now }) ∷ []) }
+    ensures err { OnErr result (held.new.history.items ≡ held.old.history.items) }
+{
+    let version = held.snapshot.version();
+    let mut flight = kept_flight(&held.snapshot, slot, card)?;
+    flight.reported = version + 1;
+    let entry = entry_of(alloc, &held.snapshot, who, command)?;
+    put_card(held, slot, flight, entry)
+}
+
+/// Withdraws the tentative clearance of the flight in a slot.
+pub(crate) fn withdraw(
+    held: &mut Held,
+    alloc: Global,
+    slot: u32,
+    who: u32,
+    command: &Command,
+    card: Record,
+) -> Result<(), Memory>
+    requires held { IsPicture held.old.snapshot held.old.history.items held.old.kept }
+    requires counted { held.old.snapshot.version < 2 ^ 40 }
+    requires there { option_map (λ f. f.card.call) (flight_at held.old.snapshot slot) ≡ Some card.call }
+    requires withdraws { IsWithdrawal command.now }
+    requires left { IsLeft held.old.snapshot.setup (state_in held.old.snapshot) who command.now card }
+    ensures held { IsPicture held.new.snapshot held.new.history.items held.new.kept }
+    ensures setup { held.new.snapshot.setup ≡ held.old.snapshot.setup }
+    ensures ok { OnOk result (held.new.history.items ≡ held.old.history.items ++ (record { who = who; command = filled held.old.snapshot.now command.now }) ∷ []) }
+    ensures err { OnErr result (held.new.history.items ≡ held.old.history.items) }
+{
+    let _version = held.snapshot.version();
+    let mut flight = kept_flight(&held.snapshot, slot, card)?;
+    flight.mark = None;
+    let entry = entry_of(alloc, &held.snapshot, who, command)?;
+    let change = change_bare(alloc, &held.kept, &held.snapshot, slot, &flight)?;
+    put_change(held, alloc, slot, flight, entry, change)
+}

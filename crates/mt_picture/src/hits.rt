@@ -1,0 +1,89 @@
+//! The hits of a clearance that was probed, among what is found with the trajectory that it leaves.
+ghost use Rattle.std.specs.Prelude.{◌≡◌, ◌≤◌, IfOk, None, false, true};
+ghost use Rattle.mt_kept.specs.Made.{is_open};
+ghost use Rattle.mt_picture.specs.Hits.{AreHitsAmong, IsFirstAmong, hit_by, hit_of, is_flown};
+
+use mt_base::{Callsign, Conflict, Hit, Hits, Memory, Second};
+use mt_kept::{Edge, OpenPair};
+use std::alloc::Global;
+
+/// The seconds of the window.
+const WINDOW: Second = 1200;
+
+// Whether both trajectories of a pair are flown.
+fn is_flown(pair: &OpenPair) -> bool
+    ensures { result ≡ is_flown pair.now }
+{
+    pair.edge.a % 2 == 0 && pair.edge.b % 2 == 0
+}
+
+// Whether its span meets the window.
+fn is_open(edge: &Edge, now: Second) -> bool
+    requires { now ≤ 10000000 }
+    ensures { result ≡ is_open now edge.now }
+{
+    edge.first < now + WINDOW && now <= edge.last
+}
+
+// A conflict as a hit of the flight of that callsign.
+fn hit_by(call: Callsign, conflict: Option<Conflict>) -> Option<Hit>
+    ensures { result ≡ hit_by call conflict }
+{
+    let conflict = conflict?;
+    let with = if conflict.a == call {
+        conflict.b
+    } else {
+        conflict.a
+    };
+    Some(Hit {
+        first: conflict.first,
+        with,
+        last: conflict.last,
+    })
+}
+
+// The hit that a pair shows in the window.
+fn hit_of(call: Callsign, now: Second, pair: &OpenPair) -> Option<Hit>
+    requires { now ≤ 10000000 }
+    ensures { result ≡ hit_of call now pair.now }
+{
+    if is_flown(pair) && is_open(&pair.edge, now) {
+        hit_by(call, pair.conflict)
+    } else {
+        None
+    }
+}
+
+// The hits that some finds show, in order.
+fn hits_of(alloc: Global, finds: &[OpenPair], call: Callsign, now: Second) -> Result<Hits, Memory>
+    requires { now ≤ 10000000 }
+    ensures { IfOk result (AreHitsAmong finds.now call now) }
+{
+    let mut hits = Hits::make(alloc)?;
+    for pair in finds {
+        if let Some(hit) = hit_of(call, now, pair) {
+            hits.push(hit)?;
+        }
+    }
+    hits.order();
+    Ok(hits)
+}
+
+/// The first hit that some finds of the flight of that callsign show, where that was probed.
+pub(crate) fn first_hit(
+    alloc: Global,
+    finds: &[OpenPair],
+    call: Callsign,
+    now: Second,
+    probed: bool,
+) -> Result<Option<Hit>, Memory>
+    requires { now ≤ 10000000 }
+    ensures probed { IfOk result (λ first. probed ≡ true → IsFirstAmong finds.now call now first) }
+    ensures free { IfOk result (λ first. probed ≡ false → first ≡ None) }
+{
+    if !probed {
+        return Ok(None);
+    }
+    let hits = hits_of(alloc, finds, call, now)?;
+    Ok(hits.items().first().copied())
+}

@@ -1,0 +1,16 @@
+//! The kept picture: its history, the snapshot now, and the conflicts that are published of it, kept by increments.
+#![tactic(auto)]
+
+mod change;
+mod deciding;
+mod enter;
+mod entering;
+mod held;
+mod hits;
+mod picture;
+mod usable;
+mod verdicts;
+
+pub use mt_board::No;
+pub use mt_memory::Memory;
+pub use picture::Picture;

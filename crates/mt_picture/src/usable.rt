@@ -1,0 +1,66 @@
+//! Whether a prep of an earlier version is of use.
+ghost use Rattle.std.specs.Prelude.{◌≡◌, ◌↔◌, IsTrue, Some, false, true};
+ghost use Rattle.mt_base.specs.History.{call_of, filled, state_of};
+ghost use Rattle.mt_probe.specs.Shot.{state_of as state_in};
+ghost use Rattle.mt_picture.specs.Story.{IsNamedAfter, IsPrepFor, IsUsable};
+
+use mt_base::{Callsign, Command, Entry};
+use mt_probe::{Prep, Snapshot};
+
+// Whether a command names that callsign.
+fn names(command: &Command, call: Callsign) -> bool
+    ensures { IsTrue result ↔ (call_of command.now ≡ Some call) }
+{
+    match command.call() {
+        Some(other) => other == call,
+        None => false,
+    }
+}
+
+// Whether an entry after the first ones names that callsign.
+fn is_named_after(history: &[Entry], from: usize, call: Callsign) -> bool
+    ensures named { result ≡ true → IsNamedAfter history.now from call }
+    ensures unnamed { result ≡ false → ¬ IsNamedAfter history.now from call }
+{
+    for i in from..history.len() {
+        if names(&history[i].command, call) {
+            return true;
+        }
+    }
+    false
+}
+
+// Whether a moment that a command leaves open is that of its prep.
+fn is_same_moment(snapshot: &Snapshot, command: &Command, prep: &Prep) -> bool
+    ensures same { result ≡ true → filled prep.now.state.now command.now ≡ filled snapshot.now.now command.now }
+    ensures other { filled prep.now.state.now command.now ≡ filled snapshot.now.now command.now → result ≡ true }
+{
+    match command {
+        Command::Clear { eff, .. } => eff.is_some() || prep.now() == snapshot.now(),
+        Command::Tentative { eff, .. } => eff.is_some() || prep.now() == snapshot.now(),
+        _ => true,
+    }
+}
+
+/// Whether a prep is usable.
+pub(crate) fn is_usable(
+    snapshot: &Snapshot,
+    history: &[Entry],
+    who: u32,
+    command: &Command,
+    prep: &Prep,
+) -> bool
+    requires stands { state_in snapshot.now ≡ state_of snapshot.now.setup history.now }
+    requires prepared { IsPrepFor (record { setup = snapshot.now.setup; history = history.now }) who command.now prep.now }
+    ensures usable { result ≡ true → IsUsable (record { setup = snapshot.now.setup; history = history.now }) command.now prep.now }
+    ensures unusable { result ≡ false → ¬ IsUsable (record { setup = snapshot.now.setup; history = history.now }) command.now prep.now }
+{
+    let _version = prep.version();
+    let Some(call) = command.call() else {
+        return false;
+    };
+    if is_named_after(history, prep.version() as usize, call) {
+        return false;
+    }
+    is_same_moment(snapshot, command, prep)
+}
