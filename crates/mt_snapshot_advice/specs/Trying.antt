@@ -1,0 +1,26 @@
+-- How an advice is found. No public contract cites these.
+use Rattle.std.specs.Prelude.{◌≡◌, ℕ, List, All, filter, map, Result, Ok}
+use Rattle.mt_memory.specs.declared.Memory.{Memory}
+use Rattle.mt_advise.specs.Trying.{CanBeTried}
+use Rattle.mt_base.specs.declared.clearance.Clearance.{Clearance}
+use Rattle.mt_base.specs.Advice.{advice_checks, candidates_in, has_none}
+use Rattle.mt_base.specs.Checks.{judged}
+use Rattle.mt_base.specs.Picture.{flight_of}
+use Rattle.mt_probe.specs.Hits.{Tried}
+use Rattle.mt_probe.specs.Shot.{Shot, state_of}
+
+-- No check refuses advice, and these are the candidates, each of which can be tried.
+pub record AreAsked (shot : Shot) (call : List ℕ) (list : List Clearance) : Type 0 where
+  pub passed : judged (advice_checks shot.setup shot.now (flight_of (state_of shot).records call) call) (tt {0}) ≡ Ok (tt {0})
+  pub are : list ≡ candidates_in shot.setup (state_of shot) call
+  pub can : All (CanBeTried shot.setup (state_of shot) call) list
+
+-- those of some probes that have no hit, in order
+abbrev pub free_among : List Tried → List Tried
+free_among probes = filter (λ p. has_none p.hits) probes
+
+-- Each try gave a probe, and these are those without a hit.
+pub record AreFreeOf (tries : List (Result Tried Memory)) (free : List Tried) : Type 0 where
+  pub probes : List Tried
+  pub all : tries ≡ map Ok probes
+  pub are : free ≡ free_among probes
