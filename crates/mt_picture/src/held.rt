@@ -60,7 +60,7 @@ pub(crate) fn put_change(
     held.kept
         .change(alloc, slot, first, second, &finds, &mut steps)?;
     held.snapshot = snapshot;
-    let _ = held.history.push(entry);
+    held.history.push_reserved(entry);
     Ok(())
 }
 
@@ -86,7 +86,7 @@ pub(crate) fn put_card(
     let _next = snapshot.version();
     held.history.reserve(1)?;
     held.snapshot = snapshot;
-    let _ = held.history.push(entry);
+    held.history.push_reserved(entry);
     Ok(())
 }
 
@@ -114,7 +114,7 @@ pub(crate) fn tick(
     held.history.reserve(1)?;
     held.kept.move_to(alloc, now, tests)?;
     held.snapshot = snapshot;
-    let _ = held.history.push(Entry {
+    held.history.push_reserved(Entry {
         who,
         command: Command::Tick { now },
     });
@@ -144,7 +144,7 @@ pub(crate) fn remove(
     let mut steps = Steps::new();
     held.kept.remove(alloc, slot, &mut steps)?;
     held.snapshot = snapshot;
-    let _ = held.history.push(Entry {
+    held.history.push_reserved(Entry {
         who,
         command: Command::Drop { call },
     });

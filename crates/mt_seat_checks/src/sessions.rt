@@ -67,18 +67,30 @@ fn list<R: Threads + Wait + Sync + Abort>(
     say(rt, alloc, board, None, "{\"do\":\"list\"}\n", replies)
 }
 
-#[test]
-fn flagged_report_is_handed_on(rt: HostRuntime) {
-    let alloc = rt.alloc();
-    let mut jobs = MemOutbox::make(alloc, 1).expect(&rt, "memory");
+/// The session of a flight and its report with a flag, with so many places for jobs; the board then, and the jobs that were handed on.
+fn reported<R: Threads + Wait + Sync + Abort>(
+    rt: &R,
+    alloc: Global,
+    places: u32,
+) -> (PlainBoard, MemOutbox)
+    requires sync { IsSync R.row }
+{
+    let mut jobs = MemOutbox::make(alloc, places).expect(rt, "memory");
     let board = say(
-        &rt,
+        rt,
         alloc,
-        seated(&rt, alloc),
+        seated(rt, alloc),
         Some(&mut jobs),
         REPORTED,
         JUDGED,
     );
+    (board, jobs)
+}
+
+#[test]
+fn flagged_report_is_handed_on(rt: HostRuntime) {
+    let alloc = rt.alloc();
+    let (board, jobs) = reported(&rt, alloc, 1);
     assert_eq!(&rt; jobs.taken().len(), 1);
     let job = jobs.taken().first().expect(&rt, "a job");
     assert!(&rt; job.call.bytes() == b"DDD1".as_slice());
@@ -90,15 +102,7 @@ fn flagged_report_is_handed_on(rt: HostRuntime) {
 #[test]
 fn flagged_report_is_renewed_here(rt: HostRuntime) {
     let alloc = rt.alloc();
-    let mut jobs = MemOutbox::make(alloc, 0).expect(&rt, "memory");
-    let board = say(
-        &rt,
-        alloc,
-        seated(&rt, alloc),
-        Some(&mut jobs),
-        REPORTED,
-        JUDGED,
-    );
+    let (board, jobs) = reported(&rt, alloc, 0);
     assert_eq!(&rt; jobs.taken().len(), 0);
     list(&rt, alloc, board, "{\"conflicts\":[],\"version\":4}\n");
 }
@@ -106,15 +110,7 @@ fn flagged_report_is_renewed_here(rt: HostRuntime) {
 #[test]
 fn worker_renews_a_flight(rt: HostRuntime) {
     let alloc = rt.alloc();
-    let mut jobs = MemOutbox::make(alloc, 1).expect(&rt, "memory");
-    let board = say(
-        &rt,
-        alloc,
-        seated(&rt, alloc),
-        Some(&mut jobs),
-        REPORTED,
-        JUDGED,
-    );
+    let (board, _jobs) = reported(&rt, alloc, 1);
     let mut calls = Calls::make(alloc).expect(&rt, "memory");
     calls
         .push(Callsign::of(b"DDD1").expect(&rt, "a callsign"))

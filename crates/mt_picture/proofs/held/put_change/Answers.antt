@@ -18,7 +18,7 @@ returns-clause-held c =
     let shot = c.args.held.now.snapshot in
     let h = c.args.held.now.history.items in
     let e : Entry = c.args.entry in
-    let entered : c.push.new.self.items ≡ h ++ e ∷ [] = grind (arith, common_steps) in
+    let entered : c.push_reserved.new.self.items ≡ h ++ e ∷ [] = grind (arith, common_steps) in
     let places = rw (
       c.requires.held.places_are,
       c.requires.first,

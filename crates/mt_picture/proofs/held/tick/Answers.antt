@@ -11,7 +11,7 @@ returns-clause-held c =
     let shot = c.args.held.now.snapshot in
     let h = c.args.held.now.history.items in
     let e : Entry = record { who = c.args.who; command = Tick c.args.now } in
-    let entered : c.push.new.self.items ≡ h ++ e ∷ [] = grind (arith, common_steps) in
+    let entered : c.push_reserved.new.self.items ≡ h ++ e ∷ [] = grind (arith, common_steps) in
     subst (λ (g : List Entry). IsPicture c.in_ok-snapshot.snapshot g c.move_to.new.self) (sym entered)
     (picture_tick shot c.in_ok-snapshot.snapshot h c.args.who c.args.now c.args.held.now.kept c.move_to.new.self c.requires.held
     c.version-next.ensures.kept c.in_ok-snapshot.ensures c.in_ok-move_to.ensures.rules c.in_ok-move_to.ensures.ok c.in_ok-move_to.ensures.places)
