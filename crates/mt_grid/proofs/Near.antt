@@ -1,15 +1,11 @@
 -- Near items, list by list and stay by stay.
-use Rattle.std.proofs.Common.{◌≡◌, ◌↔◌, ◌⊎◌, inl, inr, ⊎_elim, ℕ, zero, suc, ◌+◌, ◌<◌, List, [], ◌∷◌, ◌++◌, Option, None, Some, Contains, length, get_or, set, take, map, replicate, refl, sym, ap, ◌∙◌, subst, arith, eqb, IsPermutation, IsSorted}
+use Rattle.std.proofs.Common.{◌≡◌, ◌↔◌, ◌⊎◌, inl, inr, ⊎_elim, ℕ, zero, suc, ◌+◌, ◌<◌, List, [], ◌∷◌, ◌++◌, Option, None, Some, Contains, length, get_or, set, take, map, replicate, refl, sym, ap, ◌∙◌, subst, arith, Bool}
 use Rattle.std.proofs.lemmas.List.{get_or-map, map-set, take_more}
 use Rattle.std.proofs.lemmas.List.Elements.{Contains-append_left, Contains-push, Contains-push_cases}
-use Rattle.std.proofs.lemmas.List.Kept.{Contains-dedup_nat, Contains-from_dedup}
-use Rattle.std.proofs.lemmas.List.Sorted.{Contains-permutation, IsPermutation-sym}
-use Rattle.std.proofs.lemmas.Map.Keys.{IsStrictlyIncreasing-dedup}
-use Rattle.std.specs.Ordering.{nat_cmp}
-use Rattle.std.specs.List.{dedup}
 use Rattle.mt_cover.specs.declared.stays.Stay.{Stay}
 use Rattle.mt_grid.specs.declared.placed.Placed.{Placed}
 use Rattle.mt_grid.specs.Lists.{AreNear, IsItemOf, IsNear, IsNearIn, filled, list_at}
+use Rattle.mt_grid.specs.Marks.{AreMarked, IsMarked}
 
 pub map-empty : (n : ℕ) → map filled (replicate n None) ≡ replicate n []
 map-empty zero = refl
@@ -45,10 +41,10 @@ more P Q R S T first second U both = (
   (λ h. ⊎_elim (λ r. second.1 (inl (first.1 (inl r)))) (λ u. ⊎_elim (λ p. second.1 (inl (first.1 (inr p)))) (λ q. second.1 (inr q)) (both.0 u)) h),
 )
 
-pub near_more : (list : List Placed) (i : ℕ) (d : Placed) (stay : Stay) (first old new : List ℕ) → i < length list
-    → ((item : ℕ) → Contains old item ↔ (Contains first item ⊎ IsNearIn (take i list) stay item))
-    → ((item : ℕ) → Contains new item ↔ (Contains old item ⊎ IsItemOf (get_or list i d) stay item))
-    → (item : ℕ) → Contains new item ↔ (Contains first item ⊎ IsNearIn (take (i + 1) list) stay item)
+pub near_more : (list : List Placed) (i : ℕ) (d : Placed) (stay : Stay) (first old new : List Bool) → i < length list
+    → ((item : ℕ) → IsMarked old item ↔ (IsMarked first item ⊎ IsNearIn (take i list) stay item))
+    → ((item : ℕ) → IsMarked new item ↔ (IsMarked old item ⊎ IsItemOf (get_or list i d) stay item))
+    → (item : ℕ) → IsMarked new item ↔ (IsMarked first item ⊎ IsNearIn (take (i + 1) list) stay item)
 near_more list i d stay first old new below before step item =
     more _ _ _ _ _ (before item) (step item) _ (IsNearIn-more list i d stay item below)
 
@@ -66,10 +62,10 @@ IsNear-more grid stays i d item below = (
       h),
 )
 
-pub near_on : (grid : List (List Placed)) (stays : List Stay) (i : ℕ) (d : Stay) (old new : List ℕ) → i < length stays
-    → ((item : ℕ) → Contains old item ↔ IsNear grid (take i stays) item)
-    → ((item : ℕ) → Contains new item ↔ (Contains old item ⊎ IsNearIn (list_at grid (get_or stays i d).cell) (get_or stays i d) item))
-    → (item : ℕ) → Contains new item ↔ IsNear grid (take (i + 1) stays) item
+pub near_on : (grid : List (List Placed)) (stays : List Stay) (i : ℕ) (d : Stay) (old new : List Bool) → i < length stays
+    → ((item : ℕ) → IsMarked old item ↔ IsNear grid (take i stays) item)
+    → ((item : ℕ) → IsMarked new item ↔ (IsMarked old item ⊎ IsNearIn (list_at grid (get_or stays i d).cell) (get_or stays i d) item))
+    → (item : ℕ) → IsMarked new item ↔ IsNear grid (take (i + 1) stays) item
 near_on grid stays i d old new below before step item =
     let both = IsNear-more grid stays i d item below in (
       (λ h. ⊎_elim (λ o. both.1 (inl ((before item).0 o))) (λ n. both.1 (inr n)) ((step item).0 h)),
@@ -80,16 +76,13 @@ near_on grid stays i d old new below before step item =
 pub none_in : {X : Type 0} (x : X) → ¬ Contains [] x
 none_in x h = omega (arith, h.1)
 
--- put in order, each once
-pub ordered : (grid : List (List Placed)) (stays : List Stay) (found sorted kept : List ℕ) → ((item : ℕ) → Contains found item ↔ IsNear grid stays item)
-    → IsPermutation found sorted → IsSorted nat_cmp sorted → kept ≡ dedup eqb sorted → AreNear grid stays kept
-ordered grid stays found sorted kept near moved in_order is = rw is (record {
-  rising = IsStrictlyIncreasing-dedup sorted in_order;
-  same = λ item. (
-    (λ h. (near item).0 (Contains-permutation _ _ item (IsPermutation-sym _ _ moved) (Contains-from_dedup eqb sorted item h))),
-    (λ h. Contains-dedup_nat sorted item (Contains-permutation _ _ item moved ((near item).1 h))),
-  );
-})
+-- in order, each once
+pub listed : (grid : List (List Placed)) (stays : List Stay) (marks : List Bool) (items : List ℕ) → ((item : ℕ) → IsMarked marks item ↔ IsNear grid stays item)
+    → AreMarked marks items → AreNear grid stays items
+listed grid stays marks items near are = record {
+  rising = are.rising;
+  same = λ item. ((λ h. (near item).0 ((are.same item).0 h)), (λ h. (are.same item).1 ((near item).1 h)));
+}
 
 -- the list of a cell, from what stands at its place
 pub list_is : (cells : List (Option (List Placed))) (cell : ℕ) (o : Option (List Placed)) → cell < length cells → o ≡ get_or cells cell None

@@ -1,7 +1,9 @@
-ghost use Rattle.std.specs.Prelude.{◌≡◌, ◌↔◌, ℕ, ◌<◌, ◌++◌, ◌⊎◌, [], replicate, Contains, IfOk, OnOk, slice_set};
+ghost use Rattle.std.specs.Prelude.{◌≡◌, ◌↔◌, ℕ, ◌<◌, ◌++◌, ◌⊎◌, [], replicate, IfOk, OnOk, slice_set};
 ghost use Rattle.mt_grid.specs.Lists.{AreInGrid, AreNear, IsNearIn, list_at, others, with_stay, with_stays, without_stay, without_stays};
+ghost use Rattle.mt_grid.specs.Marks.{IsMarked};
 
-use crate::nearness::add_near;
+use crate::marks::Marks;
+use crate::nearness::mark_near;
 use crate::placed::Placed;
 use mt_base::{Listed, Memory};
 use mt_cover::{Cover, Stay};
@@ -124,30 +126,30 @@ impl Grid {
         Ok(grid)
     }
 
-    /// Adds the items that are near a stay.
-    fn add_near_stay(&self, stay: &Stay, items: &mut Vec<u32>) -> Result<(), Memory>
+    /// Marks the items that are near a stay.
+    fn mark_near_stay(&self, stay: &Stay, marks: &mut Marks) -> Result<(), Memory>
         requires { stay.now.cell < 4096 }
-        ensures { OnOk result ((item : ℕ) → Contains items.new.items item
-            ↔ (Contains items.old.items item ⊎ IsNearIn (list_at self.now stay.now.cell) stay.now item)) }
+        ensures { OnOk result ((item : ℕ) → IsMarked marks.new item
+            ↔ (IsMarked marks.old item ⊎ IsNearIn (list_at self.now stay.now.cell) stay.now item)) }
     {
         match self.cells.get(stay.cell) {
-            Some(list) => add_near(list.items(), stay, items),
+            Some(list) => mark_near(list.items(), stay, marks),
             None => Ok(()),
         }
     }
 
     /// The items that are near a cover, rising, each once: those that share a cell with it in a common second.
+    ///
+    /// While it looks, it keeps a byte for each number up to the greatest near item.
     pub fn near(&self, cover: &Cover) -> Result<Vec<u32>, Memory>
         requires { AreInGrid cover.now }
         ensures { IfOk result (λ items. AreNear self.now cover.now items.items) }
     {
-        let mut items = Vec::new(self.alloc);
+        let mut marks = Marks::make(self.alloc);
         for stay in cover.stays() {
-            self.add_near_stay(stay, &mut items)?;
+            self.mark_near_stay(stay, &mut marks)?;
         }
-        items.sort_unstable();
-        items.dedup();
-        Ok(items)
+        marks.numbers()
     }
 }
 

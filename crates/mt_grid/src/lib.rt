@@ -3,6 +3,7 @@
 
 mod grid;
 mod laws;
+mod marks;
 mod nearness;
 mod placed;
 #[cfg(test)]

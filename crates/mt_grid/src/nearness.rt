@@ -1,7 +1,9 @@
 //! Which items of one cell are near a stay in it.
-ghost use Rattle.std.specs.Prelude.{◌↔◌, ◌⊎◌, ℕ, Contains, IsTrue, OnOk};
+ghost use Rattle.std.specs.Prelude.{◌↔◌, ◌⊎◌, ℕ, IsTrue, OnOk};
 ghost use Rattle.mt_grid.specs.Lists.{IsItemOf, IsNearIn, Overlap};
+ghost use Rattle.mt_grid.specs.Marks.{IsMarked};
 
+use crate::marks::Marks;
 use crate::placed::Placed;
 use mt_base::Memory;
 use mt_cover::Stay;
@@ -13,24 +15,24 @@ fn overlap(stay: &Stay, placed: &Placed) -> bool
     stay.from < placed.to && placed.from < stay.to
 }
 
-/// Adds the item of what is placed, where it has a second in common with a stay.
-fn add_if_near(placed: &Placed, stay: &Stay, items: &mut Vec<u32>) -> Result<(), Memory>
-    ensures { OnOk result ((item : ℕ) → Contains items.new.items item
-        ↔ (Contains items.old.items item ⊎ IsItemOf placed.now stay.now item)) }
+/// Marks the item of what is placed, where it has a second in common with a stay.
+fn mark_if_near(placed: &Placed, stay: &Stay, marks: &mut Marks) -> Result<(), Memory>
+    ensures { OnOk result ((item : ℕ) → IsMarked marks.new item
+        ↔ (IsMarked marks.old item ⊎ IsItemOf placed.now stay.now item)) }
 {
     if overlap(stay, placed) {
-        items.push(placed.item)?;
+        marks.mark(placed.item)?;
     }
     Ok(())
 }
 
-/// Adds the items of a cell's list that are near a stay in that cell.
-pub(crate) fn add_near(list: &[Placed], stay: &Stay, items: &mut Vec<u32>) -> Result<(), Memory>
-    ensures { OnOk result ((item : ℕ) → Contains items.new.items item
-        ↔ (Contains items.old.items item ⊎ IsNearIn list.now stay.now item)) }
+/// Marks the items of a cell's list that are near a stay in that cell.
+pub(crate) fn mark_near(list: &[Placed], stay: &Stay, marks: &mut Marks) -> Result<(), Memory>
+    ensures { OnOk result ((item : ℕ) → IsMarked marks.new item
+        ↔ (IsMarked marks.old item ⊎ IsNearIn list.now stay.now item)) }
 {
     for placed in list {
-        add_if_near(placed, stay, items)?;
+        mark_if_near(placed, stay, marks)?;
     }
     Ok(())
 }
