@@ -1,3 +1,4 @@
+pub mod Aside
 pub mod Covered
 pub mod Filing
 pub mod Gathered

@@ -1,10 +1,11 @@
 -- A probe, and its hits among what was found.
-use Rattle.std.specs.Prelude.{◌≡◌, ℕ, List, Contains, Option, Some, None, Ok, Err, ⊤, unwrap_or}
+use Rattle.std.specs.Prelude.{◌≡◌, ◌≤◌, ℕ, List, Contains, Option, Some, None, Ok, Err, ⊤, unwrap_or}
 use Rattle.mt_base.specs.declared.clearance.Clearance.{Clearance}
 use Rattle.mt_base.specs.declared.command.Command.TheVariants.{Accept}
 use Rattle.mt_base.specs.declared.conflict.Kind.{Kind}
 use Rattle.mt_base.specs.declared.conflict.Kind.TheVariants.{Actual, Tentative}
 use Rattle.mt_base.specs.declared.hit.Hit.{Hit}
+use Rattle.mt_base.specs.Bounds.{IsBoundedClearance}
 use Rattle.mt_base.specs.WhatIf.{IsWhatIf}
 use Rattle.mt_board.specs.declared.no.No.{No}
 use Rattle.mt_board.specs.declared.no.No.TheVariants as nos
@@ -37,9 +38,11 @@ pub record Tried : Type 0 where
   pub eff : ℕ
   pub hits : List Hit
 
--- What every probe keeps: it was prepared for the acceptance of its clearance, and its hits are what would follow in its state; there are few
--- enough of them for a reply.
+-- What every probe keeps: its numbers are within their bounds; it was prepared for the acceptance of its clearance, and its hits are what would
+-- follow in its state; there are few enough of them for a reply.
 pub record IsTried (p : Tried) : Type 0 where
+  pub clearance : IsBoundedClearance p.clearance
+  pub early : p.eff ≤ 10000000
   pub kept : IsPrepared p.prep
   pub who_is : p.prep.who ≡ 0
   pub command_is : p.prep.command ≡ Accept p.call p.clearance p.eff p.prep.state.version

@@ -20,7 +20,7 @@ pub use laws::filing_order_law;
 pub use mt_memory::Memory;
 pub use narrow::narrowed;
 pub use prep::Prep;
-pub use preparing::{left_of, prepare, strand_of};
+pub use preparing::{left_of, makes_strand, prepare, strand_of};
 pub use probe::Probe;
 pub use snapshot::Snapshot;
 pub use trying::what_if;

@@ -1,5 +1,5 @@
 //! How a command that makes a trajectory is prepared.
-ghost use Rattle.std.specs.Prelude.{◌≡◌, Ok, Some, true, is_some, IfOk, IfErr};
+ghost use Rattle.std.specs.Prelude.{◌≡◌, ◌↔◌, Ok, Some, true, is_some, IfOk, IfErr, IsTrue};
 ghost use Rattle.std.specs.Arc.{arc_value};
 ghost use Rattle.mt_base.specs.Bounds.{IsSoundFlight};
 ghost use Rattle.mt_base.specs.Trajectory.{Trajectory};
@@ -22,6 +22,25 @@ use mt_tables::Tables;
 use mt_track::Strand;
 use std::alloc::Global;
 use std::sync::Arc;
+
+/// Whether a command makes a trajectory, and so is prepared before it is entered.
+pub fn makes_strand(command: &Command) -> bool
+    ensures { IsTrue result ↔ MakesStrand command.now }
+{
+    match command {
+        Command::Plan { .. }
+        | Command::External { .. }
+        | Command::Renew { .. }
+        | Command::Clear { .. }
+        | Command::Accept { .. }
+        | Command::Tentative { .. }
+        | Command::Commit { .. } => true,
+        Command::Drop { .. }
+        | Command::Report { .. }
+        | Command::Tick { .. }
+        | Command::Withdraw { .. } => false,
+    }
+}
 
 /// The trajectory of a kind of a flight: the one that it flies, or that of its tentative clearance. It asks that the flight is sound, and that
 /// it has a trajectory of that kind.

@@ -38,6 +38,14 @@ impl Probe {
     {
         &self.prep
     }
+
+    /// The conflicts that would follow, by first second and then callsign. What every probe keeps is said here too.
+    pub fn found(&self) -> &Hits
+        ensures found { result.now ≡ self.now.hits }
+        ensures kept { IsTried self.now }
+    {
+        &self.found
+    }
 }
 
 impl Probed for Probe {

@@ -76,6 +76,8 @@ fn tried(
 ) -> Result<Probe, Memory>
     requires command { prep.command ≡ Accept call clearance eff prep.state.version }
     requires who { prep.who ≡ 0 }
+    requires clearance { IsBoundedClearance clearance }
+    requires early { eff ≤ 10000000 }
     ensures { IfOk result (λ p. (p.prep ≡ prep) × (p.call ≡ call) × (p.clearance ≡ clearance) × (p.eff ≡ eff)) }
 {
     let _version = prep.version();

@@ -11,6 +11,8 @@ invariant_of-result c =
     let are : AreHitsOf p.setup p.state p.card.call p.strand c.in_ok-found.found =
     hits_found p.setup p.state p.card.call p.strand p.finds c.in_ok-found.found kept.early kept.finds_are members c.in_ok-found.ensures.sorted in
     record {
+      clearance = c.requires.clearance;
+      early = c.requires.early;
       kept = kept;
       who_is = c.requires.who;
       command_is = c.requires.command;
