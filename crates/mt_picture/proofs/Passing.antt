@@ -52,7 +52,7 @@ module _ (setup : Setup) (s : State) (who : ℕ) (rules : AreWithinBounds setup.
   abbrev Pass : Command → Type 0
   Pass c = judged (checks setup (look_at s c) who c) (tt {0}) ≡ Ok (tt {0})
 
-  abbrev All : Command → Type 0
+  abbrev pub All : Command → Type 0
   All c = AllByRecursion Holds (checks setup (look_at s c) who c)
 
   tests : (c : Command) → Pass c → All c
@@ -65,7 +65,7 @@ module _ (setup : Setup) (s : State) (who : ℕ) (rules : AreWithinBounds setup.
   flight_room = room setup.rules.flights rules.flights.least
 
   -- and that there is room for the entry
-  has_entry : (c : Command) → All c → int_lt (pos s.version) setup.rules.history ≡ true
+  pub has_entry : (c : Command) → All c → int_lt (pos s.version) setup.rules.history ≡ true
   has_entry (Plan call kind route at from level) all = (end_of (route_checks setup.tables route) _ all.1.1).1.1.1.0
   has_entry (External call straight) all = all.1.1.0
   has_entry (Drop call) all = all.1.0

@@ -92,6 +92,13 @@ impl Picture {
         self.held.history.get(place as usize)
     }
 
+    /// The history.
+    pub fn entries(&self) -> &[Entry]
+        ensures { result.now ≡ self.now.history }
+    {
+        self.held.history.as_slice()
+    }
+
     /// The rules.
     pub fn rules(&self) -> Rules
         ensures rules { result ≡ self.now.setup.rules }
