@@ -1,0 +1,6 @@
+mod Dues
+mod Filling
+mod FiledOrder
+mod Placing
+mod Told
+mod Trajectories

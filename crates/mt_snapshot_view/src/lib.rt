@@ -1,0 +1,12 @@
+//! What is told of a snapshot: the flights for which a new trajectory is due, what is to be seen of a flight, and the published conflicts from
+//! nothing.
+#![tactic(auto)]
+
+mod checking;
+mod order;
+mod renewals;
+mod telling;
+
+pub use checking::check;
+pub use renewals::due;
+pub use telling::view;

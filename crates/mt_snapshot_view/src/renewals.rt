@@ -1,0 +1,40 @@
+//! The flights for which a new trajectory is due.
+ghost use Rattle.std.specs.Prelude.{◌≡◌, IfOk};
+ghost use Rattle.mt_base.specs.Settled.{due_calls, is_due};
+ghost use Rattle.mt_board.specs.Short.{AreShortCalls};
+ghost use Rattle.mt_probe.specs.Shot.{state_of};
+
+use crate::order::in_order;
+use mt_base::{Calls, Memory, Path, Record};
+use mt_probe::Snapshot;
+use std::alloc::Global;
+
+// Whether a new trajectory of the flight is due.
+fn is_due(flight: &Record) -> bool
+    ensures { result ≡ is_due flight.now }
+{
+    match &flight.path {
+        Path::Planned(course) => course.due,
+        Path::Outer(_) => false,
+    }
+}
+
+/// The callsigns of the flights for which a new trajectory is due, in the order of filing. There are at most 1,024.
+pub fn due(alloc: Global, snapshot: &Snapshot) -> Result<Calls, Memory>
+    ensures exact { IfOk result (λ calls. calls ≡ due_calls (state_of snapshot.now).records) }
+    ensures short { IfOk result AreShortCalls }
+{
+    let _version = snapshot.version();
+    let places = in_order(alloc, snapshot)?;
+    let mut calls = Calls::make(alloc)?;
+    for filed in &places {
+        let Some(flight) = snapshot.flight(filed.place) else {
+            unreachable!()
+        };
+        let _letters = flight.call.bytes();
+        if is_due(flight) {
+            calls.push(flight.call)?;
+        }
+    }
+    Ok(calls)
+}
