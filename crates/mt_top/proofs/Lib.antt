@@ -1,9 +1,6 @@
-pub mod Booked
-pub mod BriefHits
+pub mod Adding
 pub mod OneReply
-pub mod OneSolution
-pub mod Renewing
 pub mod Replying
+pub mod Served
 pub mod Turning
 pub mod WordLemmas
-pub mod WorldLemmas

@@ -15,10 +15,10 @@ use Rattle.mt_read.specs.declared.request.Request.TheVariants as requests
 use Rattle.mt_write.specs.declared.reply.Reply.{Reply}
 use Rattle.mt_write.specs.declared.reply.Reply.TheVariants as replies
 use Rattle.mt_lines.specs.Given.{IsGivenFor, is_brief}
-use Rattle.mt_top.specs.Script.{IsLeftBy, IsReplied}
+use Rattle.mt_top.specs.Script.{IsAnswered, IsLeftBy, IsReplied, asked}
 use Rattle.mt_machine.specs.Book.{probe_at}
-use Rattle.mt_top.specs.declared.actor.Probe.{Probe}
-use Rattle.mt_top.specs.World.{IsAcceptedOf, IsAdded, IsAdvisedAs, IsAnswered, IsLeft, IsOutcome, IsServed, IsTold, IsTried, World, actor_of, asked, is_empty, picture_of}
+use Rattle.mt_board.specs.Probing.{Probe}
+use Rattle.mt_world.specs.World.{IsAcceptedOf, IsAdded, IsAdvisedAs, IsLeft, IsOutcome, IsServed, IsTold, IsTried, World, actor_of, is_empty, picture_of}
 
 -- a brief reply is none of those that are not brief
 not_given : (given reply : Reply) (P : Type 0) → reply ≡ given → is_brief given ≡ true → is_brief reply ≡ false → P

@@ -17,7 +17,7 @@ use Rattle.mt_top.specs.Run.{ReplayMeans}
 use Rattle.mt_top.specs.Script.{IsFollowed, IsReplied}
 use Rattle.mt_top.specs.SoFar.{SoFar, Turned}
 use Rattle.mt_top.specs.Status.{ending}
-use Rattle.mt_top.specs.World.{World, opening_world}
+use Rattle.mt_world.specs.World.{World, opening_world}
 use Rattle.mt_top.proofs.Replying.{given_replied}
 
 -- before the first line

@@ -8,7 +8,7 @@ use Rattle.mt_write.specs.Reply.{reply_text}
 use Rattle.mt_top.specs.declared.status.Status.{Status}
 use Rattle.mt_top.specs.declared.status.Status.TheVariants.{Done, Usage, ReadFault, WriteFault, Spent, Memory}
 use Rattle.mt_top.specs.Script.{IsFollowed, IsReplied}
-use Rattle.mt_top.specs.World.{World, opening_world}
+use Rattle.mt_world.specs.World.{World, opening_world}
 
 -- A script is lines answered one by one, from the opening world on, up to the one that is answered with a farewell. At its end there is
 -- some world.

@@ -1,8 +1,30 @@
-use Rattle.std.specs.Prelude.{◌≡◌, ◌≤◌, ℕ, ◌⊎◌, List, length, Result, Ok, Err}
+-- A script: what each line is answered.
+use Rattle.std.specs.Prelude.{◌≡◌, ◌≤◌, ℕ, ◌⊎◌, List, length, nat_lt, Result, Ok, Err, if◌then◌else◌}
 use Rattle.mt_write.specs.declared.reply.Reply.{Reply}
 use Rattle.mt_write.specs.declared.reply.Reply.TheVariants as replies
 use Rattle.mt_read.specs.declared.request.Request.{Request}
-use Rattle.mt_top.specs.World.{World, IsAnswered, IsLeft, asked}
+use Rattle.mt_read.specs.declared.request.LineNo.{LineNo}
+use Rattle.mt_read.specs.declared.request.LineNo.TheVariants as nos
+use Rattle.mt_read.specs.declared.request.Place.TheVariants.{Replay}
+use Rattle.mt_read.specs.Line.{line as read_as}
+use Rattle.mt_world.specs.World.{World, IsLeft, IsRefused, IsServed}
+
+-- the refusal of a line as a reply
+abbrev pub or_reply : Result (ℕ × Request) LineNo → Result (ℕ × Request) Reply
+or_reply (Ok asked) = Ok asked
+or_reply (Err nos.Json) = Err replies.Json
+or_reply (Err (nos.Form name)) = Err (replies.Form name)
+or_reply (Err (nos.Range name)) = Err (replies.Range name)
+or_reply (Err nos.Memory) = Err replies.Memory
+
+-- what a line asks for, or its refusal
+abbrev pub asked : World → List ℕ → Result (ℕ × Request) Reply
+asked w line = if nat_lt 65536 (length line) then Err replies.Long else or_reply (read_as Replay w.rules line)
+
+-- what is answered of it, and the world after it
+abbrev pub IsAnswered : World → Result (ℕ × Request) Reply → Reply → World → Type 0
+IsAnswered w (Err refusal) reply next = IsRefused w refusal reply next
+IsAnswered w (Ok asked) reply next = IsServed w asked.0 asked.1 reply next
 
 -- what a line leaves for which there was no memory: the world as it was, but for what settling had renewed
 abbrev pub IsLeftBy : World → Result (ℕ × Request) Reply → World → Type 0

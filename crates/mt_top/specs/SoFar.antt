@@ -9,7 +9,7 @@ use Rattle.mt_write.specs.Reply.{reply_text}
 use Rattle.mt_top.specs.declared.status.Status.{Status}
 use Rattle.mt_top.specs.Run.{ReplayMeans}
 use Rattle.mt_top.specs.Script.{IsFollowed, IsReplied}
-use Rattle.mt_top.specs.World.{World, opening_world}
+use Rattle.mt_world.specs.World.{World, opening_world}
 
 -- A replay so far: some lines were read, and bytes that answer them were written.
 abbrev pub SoFar : Option (List ℕ) → Option (List ℕ) → Option (List ℕ) → Option (List ℕ) → Reading → World → Type 0

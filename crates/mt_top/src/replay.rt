@@ -7,8 +7,8 @@ ghost use Rattle.mt_top.specs.Run.{ReplayMeans};
 ghost use Rattle.mt_top.specs.SoFar.{SoFar, Turned};
 ghost use Rattle.mt_top.specs.declared.status.Status.TheVariants.{ReadFault, WriteFault};
 
+use crate::script::Script;
 use crate::status::{Status, ending};
-use crate::world::World;
 use mt_io::{Line, LineFault, LineReader, Sink, Source};
 use mt_lines::give;
 use mt_wire::Reply;
@@ -34,14 +34,22 @@ pub fn replay<R: Threads + Sync, S: Source, K: Sink>(
     let Ok(mut reader) = LineReader::make(alloc) else {
         return Status::Memory;
     };
-    let Ok(mut world) = World::make(rt, alloc) else {
+    let Ok(mut script) = Script::make(alloc) else {
         return Status::Memory;
     };
     let Ok(mut room) = Vec::with_capacity(alloc, ROOM) else {
         return Status::Memory;
     };
     loop {
-        if let Some(status) = turn(rt, alloc, &mut reader, &mut world, &mut room, input, output) {
+        if let Some(status) = turn(
+            rt,
+            alloc,
+            &mut reader,
+            &mut script,
+            &mut room,
+            input,
+            output,
+        ) {
             return status;
         }
     }
@@ -52,7 +60,7 @@ fn turn<R: Threads + Sync, S: Source, K: Sink>(
     rt: &R,
     alloc: Global,
     reader: &mut LineReader,
-    world: &mut World,
+    script: &mut Script,
     room: &mut Vec<u8>,
     input: &mut S,
     output: &mut K,
@@ -60,8 +68,8 @@ fn turn<R: Threads + Sync, S: Source, K: Sink>(
     requires sound { reader.old.fault ≡ None }
     requires room { 65536 ≤ vec_capacity room.old }
     ensures turned { (before held : Option (List ℕ))
-        → SoFar before (S.left input.old) held (K.held output.old) reader.old world.old
-        → Turned result before (S.left input.new) held (K.held output.new) reader.new world.new }
+        → SoFar before (S.left input.old) held (K.held output.old) reader.old script.old
+        → Turned result before (S.left input.new) held (K.held output.new) reader.new script.new }
     ensures rises { IfNone result ((reader.new.given ≡ reader.old.given + 1) × (reader.new.given ≤ 2 ^ 32) × (reader.new.fault ≡ None)) }
     ensures room { 65536 ≤ vec_capacity room.new }
     ensures read { result ≡ Some ReadFault → Rose (S.faults input.old) (S.faults input.new) }
@@ -72,7 +80,7 @@ fn turn<R: Threads + Sync, S: Source, K: Sink>(
 {
     match reader.next(input) {
         Ok(Line::Text(line)) => {
-            let reply = world.answer(rt, alloc, line);
+            let reply = script.answer(rt, alloc, line);
             ending(give(alloc, &reply, room, output))
         }
         Ok(Line::Long) => ending(give(alloc, &Reply::Long, room, output)),

@@ -1,79 +1,154 @@
 //! Lines that are given before the picture begins.
-ghost use Rattle.std.specs.Prelude.{◌≡◌, ◌⊎◌, [], MatchBool, true, replicate};
+ghost use Rattle.std.specs.Prelude.{◌≡◌, ◌⊎◌, ℕ, [], IfOk, true, false, replicate};
 ghost use Rattle.mt_base.specs.Bounds.{AreBoundedBands, AreWithinBounds, IsInPlane};
 ghost use Rattle.mt_base.specs.Checks.{judged};
+ghost use Rattle.mt_base.specs.Rules.{usual_rules};
+ghost use Rattle.mt_base.specs.Tables.{no_tables};
 ghost use Rattle.mt_tables.specs.Adding.{fix_adding, type_adding, with_fix, with_type};
 ghost use Rattle.mt_write.specs.declared.reply.DoneWord.TheVariants as done;
 ghost use Rattle.mt_write.specs.declared.reply.Reply.TheVariants as replies;
+ghost use Rattle.mt_read.specs.declared.request.Request.TheVariants as requests;
+ghost use Rattle.mt_read.specs.Bounded.{IsBoundedRequest};
 ghost use Rattle.mt_read.specs.Rules.{rules_with};
 ghost use Rattle.mt_lines.specs.Fit.{IsFit};
-ghost use Rattle.mt_top.specs.World.{IsAdded, IsGiven, IsRefused, new_actor, not_added};
+ghost use Rattle.mt_world.specs.World.{IsAdded, IsGiven, IsRefused, IsServed, IsStarved, new_actor, not_added, opening_world};
 
-use crate::world::World;
-use mt_base::{Bands, FixName, TypeName};
-use mt_tables::AddNo;
-use mt_wire::{DoneWord, Reply, RuleSet};
+use mt_base::{Bands, FixName, Memory, Rules, TypeName};
+use mt_picture::Picture;
+use mt_tables::{AddNo, Tables};
+use mt_wire::{DoneWord, Reply, Request, RuleSet};
+use mt_world::World;
+use std::alloc::Global;
+use std::marker::Model;
+use std::sync::Arc;
+use std::thread::Threads;
 
-impl World {
-    // Adds a fix, before the picture has begun.
-    pub(crate) fn add_fix(&mut self, name: FixName, x: i64, y: i64) -> Reply
-        requires { IsInPlane x y }
-        ensures answered { MatchBool self.old.begun (IsRefused self.old replies.Begun result self.new)
-            (IsAdded self.old (judged (fix_adding self.old.tables name) (tt {0})) done.Fix (replies.TakenFix name)
-            (with_fix self.old.tables name (record { x = x; y = y })) result self.new) ⊎ IsRefused self.old replies.Memory result self.new }
+/// What lines set up before the picture begins: the rules, and the tables.
+#[derive(Drop)]
+pub struct Setting {
+    rules: Rules,
+    tables: Arc<Tables>,
+}
+
+impl Model for Setting {
+    ghost use Rattle.std.specs.Prelude.{[], false, replicate};
+    ghost use Rattle.std.specs.Arc.{arc_value};
+    ghost use Rattle.mt_base.specs.Bounds.{AreWithinBounds};
+    ghost use Rattle.mt_world.specs.World.{World, new_actor};
+
+    ghost Value = { World };
+
+    ghost view = { λ s. record {
+      rules = s.rules;
+      tables = arc_value s.tables;
+      begun = false;
+      history = [];
+      actors = replicate 16 new_actor;
+    } };
+
+    ghost invariant = { λ s. AreWithinBounds s.rules };
+}
+
+impl Setting {
+    /// The usual rules, and no fix and no type.
+    pub fn make(alloc: Global) -> Result<Setting, Memory>
+        ensures { IfOk result (λ setting. setting ≡ opening_world) }
+    {
+        let tables = Tables::make(alloc)?;
+        Ok(Setting {
+            rules: Rules::usual(),
+            tables: Arc::new(alloc, tables)?,
+        })
+    }
+
+    /// The rules that stand. That the picture hasn't begun is said here too.
+    pub fn rules(&self) -> Rules
+        ensures rules { result ≡ self.now.rules }
+        ensures bounded { AreWithinBounds result }
+        ensures before { self.now.begun ≡ false }
+    {
+        self.rules
+    }
+
+    /// Serves a request, whoever asks. It asks that the request doesn't begin the picture.
+    pub fn serve(&mut self, request: &Request) -> Reply
+        requires stays { request.now ≡ requests.Begin → ⊥ }
+        requires bounded { IsBoundedRequest self.old.rules request.now }
+        ensures served { (who : ℕ) → IsServed self.old who request.now result self.new ⊎ IsStarved self.old who request.now result self.new }
         ensures fit { IsFit result }
     {
-        if self.begun {
-            return Reply::Begun;
+        let _rules = self.rules();
+        match request {
+            Request::Fix { name, x, y } => self.add_fix(*name, *x, *y),
+            Request::TypeLine { name, bands } => self.add_type(*name, bands),
+            Request::Rule(set) => self.set_rules(set),
+            Request::Begin => unreachable!(),
+            Request::Hello(role) => Reply::Hello(*role),
+            Request::Bye => Reply::Done(DoneWord::Bye),
+            Request::List => Reply::Unbegun,
+            Request::Check => Reply::Unbegun,
+            Request::Flight { .. } => Reply::Unbegun,
+            Request::History { .. } => Reply::Unbegun,
+            Request::Change(_) => Reply::Unbegun,
+            Request::Take => Reply::Unbegun,
+            Request::Probe { .. } => Reply::Unbegun,
+            Request::Accept { .. } => Reply::Unbegun,
+            Request::Advise { .. } => Reply::Unbegun,
+            Request::Due => Reply::Unbegun,
+            Request::Settle => Reply::Unbegun,
         }
-        if let Err(refusal) = self.tables.add_fix(name, x, y) {
+    }
+
+    /// The world of these rules and tables, whose picture has begun.
+    pub fn world<R: Threads + Sync>(&self, rt: &R, alloc: Global) -> Result<World, Memory>
+        ensures world { IfOk result (λ world. world ≡ record self.now { begun = true; history = []; actors = replicate 16 new_actor }) }
+        ensures before { self.now.begun ≡ false }
+    {
+        let tables = Arc::try_clone(&self.tables)?;
+        let picture = Picture::make(alloc, self.rules, tables)?;
+        World::make(rt, alloc, picture)
+    }
+
+    // Adds a fix.
+    fn add_fix(&mut self, name: FixName, x: i64, y: i64) -> Reply
+        requires { IsInPlane x y }
+        ensures answered { IsAdded self.old (judged (fix_adding self.old.tables name) (tt {0})) done.Fix (replies.TakenFix name)
+            (with_fix self.old.tables name (record { x = x; y = y })) result self.new ⊎ IsRefused self.old replies.Memory result self.new }
+        ensures fit { IsFit result }
+    {
+        let Some(tables) = Arc::get_mut(&mut self.tables) else {
+            return Reply::Memory;
+        };
+        if let Err(refusal) = tables.add_fix(name, x, y) {
             return not_added(Reply::TakenFix(name), refusal);
         }
         Reply::Done(DoneWord::Fix)
     }
 
-    // Adds a type of aircraft, before the picture has begun.
-    pub(crate) fn add_type(&mut self, name: TypeName, bands: &Bands) -> Reply
+    // Adds a type of aircraft.
+    fn add_type(&mut self, name: TypeName, bands: &Bands) -> Reply
         requires { AreBoundedBands bands.now }
-        ensures answered { MatchBool self.old.begun (IsRefused self.old replies.Begun result self.new)
-            (IsAdded self.old (judged (type_adding self.old.tables name bands.now) (tt {0})) done.TypeLine (replies.TakenType name)
-            (with_type self.old.tables name bands.now) result self.new) ⊎ IsRefused self.old replies.Memory result self.new }
+        ensures answered { IsAdded self.old (judged (type_adding self.old.tables name bands.now) (tt {0})) done.TypeLine (replies.TakenType name)
+            (with_type self.old.tables name bands.now) result self.new ⊎ IsRefused self.old replies.Memory result self.new }
         ensures fit { IsFit result }
     {
-        if self.begun {
-            return Reply::Begun;
-        }
-        if let Err(refusal) = self.tables.add_type(name, bands.items()) {
+        let Some(tables) = Arc::get_mut(&mut self.tables) else {
+            return Reply::Memory;
+        };
+        if let Err(refusal) = tables.add_type(name, bands.items()) {
             return not_added(Reply::TakenType(name), refusal);
         }
         Reply::Done(DoneWord::TypeLine)
     }
 
-    // Sets rules, before the picture has begun.
-    pub(crate) fn set_rules(&mut self, set: &RuleSet) -> Reply
+    // Sets rules.
+    fn set_rules(&mut self, set: &RuleSet) -> Reply
         requires { AreWithinBounds (rules_with set.now self.old.rules) }
-        ensures answered { MatchBool self.old.begun (IsRefused self.old replies.Begun result self.new)
-            (IsGiven (replies.Done done.Rule) (record self.old { rules = rules_with set.now self.old.rules }) result self.new) }
+        ensures answered { IsGiven (replies.Done done.Rule) (record self.old { rules = rules_with set.now self.old.rules }) result self.new }
         ensures fit { IsFit result }
     {
-        if self.begun {
-            return Reply::Begun;
-        }
         self.rules = set.over(&self.rules);
         Reply::Done(DoneWord::Rule)
-    }
-
-    // Begins the picture, once.
-    pub(crate) fn begin(&mut self) -> Reply
-        ensures answered { MatchBool self.old.begun (IsRefused self.old replies.Begun result self.new)
-            (IsGiven (replies.Done done.Begin) (record self.old { begun = true; history = []; actors = replicate 16 new_actor }) result self.new) }
-        ensures fit { IsFit result }
-    {
-        if self.begun {
-            return Reply::Begun;
-        }
-        self.begun = true;
-        Reply::Done(DoneWord::Begin)
     }
 }
 

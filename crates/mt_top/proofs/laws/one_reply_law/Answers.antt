@@ -1,5 +1,5 @@
 use Rattle.mt_top.proofs.OneReply.{one_reply}
-use Rattle.mt_top.specs.World.{asked}
+use Rattle.mt_top.specs.Script.{asked}
 use Rattle.mt_top.proofs.laws.one_reply_law.Goals as goal
 
 pub returns : goal.returns

@@ -4,7 +4,7 @@ use Rattle.mt_top.proofs.replay.replay.Given as goal
 
 abbrev pub invariant-loop-status : goal.invariant-loop-status
 invariant-loop-status g l = record {
-  so_far : SoFar (g.S.Source.left l.initial.input) (g.S.Source.left l.input) (g.K.Sink.held l.initial.output) (g.K.Sink.held l.output) l.reader l.world;
+  so_far : SoFar (g.S.Source.left l.initial.input) (g.S.Source.left l.input) (g.K.Sink.held l.initial.output) (g.K.Sink.held l.output) l.reader l.script;
   sound : l.reader.fault ≡ None;
   bound : l.reader.given ≤ 2 ^ 32;
   room : 65536 ≤ vec_capacity l.room;

@@ -14,7 +14,7 @@ pub returns-in-Ok-Long-clause-turned : goal.returns-in-Ok-Long-clause-turned
 returns-in-Ok-Long-clause-turned g c =
     let (line, long, takes) = rw (c.in-Ok-Long.is, c.in-Ok-Long.field-0-is) at c.next.follows.holds-at-none in
     λ before held so_far. rw c.ending-in-Ok-Long.ensures (turned before _ _ held _ _ _ _ _ _ line replies.Long c.give-in-Ok-Long.result so_far takes
-    (long_replied c.args.world.now line long) (λ not_brief. cc) c.give-in-Ok-Long.ensures.given)
+    (long_replied c.args.script.now line long) (λ not_brief. cc) c.give-in-Ok-Long.ensures.given)
 
 pub returns-in-Ok-End-clause-turned : goal.returns-in-Ok-End-clause-turned
 returns-in-Ok-End-clause-turned g c =

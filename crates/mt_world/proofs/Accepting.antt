@@ -1,0 +1,111 @@
+-- The acceptance of a probe of an actor's book.
+use Rattle.std.proofs.Common.{◌≡◌, ◌⊎◌, inl, inr, ℕ, ◌<◌, ◌≤◌, Bool, true, false, List, [], ◌∷◌, length, map, get_or, Option, Some, Result, Ok, Err, IfOk, refl, sym, ◌∙◌, ap, subst, ◌==◌, arith}
+use Rattle.std.proofs.lemmas.Bool.Decides.{nat_tests}
+use Rattle.std.specs.Option.{option_map}
+use Rattle.std.specs.Prelude.{IfErr, MatchBool, OnErr}
+use Rattle.mt_base.specs.declared.command.Command.{Command}
+use Rattle.mt_base.specs.declared.command.Command.TheVariants.{Accept}
+use Rattle.mt_base.specs.declared.command.Entered.{Entered}
+use Rattle.mt_base.specs.declared.command.Refusal.TheVariants.{NotFree}
+use Rattle.mt_base.specs.declared.hit.Hit.{Hit}
+use Rattle.mt_base.specs.Bounds.{AreWithinBounds, IsBoundedCommand}
+use Rattle.mt_base.specs.History.{IsInTime, WasFree}
+use Rattle.mt_base.specs.Picture.{State}
+use Rattle.mt_base.specs.Tables.{Setup}
+use Rattle.mt_base.specs.WhatIf.{IsWhatIf}
+use Rattle.mt_board.specs.declared.no.No.{No}
+use Rattle.mt_board.specs.Probing.{Probe, acceptance}
+use Rattle.mt_machine.specs.Book.{Book, probe_at}
+use Rattle.mt_picture.specs.Story.{IsEntered, IsGivenFor, IsRefused as IsDenied, Story}
+use Rattle.mt_picture.proofs.Counted.{history_counted}
+use Rattle.mt_probe.specs.Hits.{IsTried, Tried, told_of}
+use Rattle.mt_write.specs.declared.reply.Reply.{Reply}
+use Rattle.mt_write.specs.declared.reply.Reply.TheVariants as replies
+use Rattle.mt_world.specs.declared.actor.Actor.{Actor}
+use Rattle.mt_world.specs.Sound.{IsKeptOf, IsSoundActor, IsSoundWorld, shown, told_book}
+use Rattle.mt_world.specs.Told.{entered_reply}
+use Rattle.mt_world.specs.World.{IsAcceptedOf, IsAccepted, IsChanged, IsRefused, World, actor_of, is_empty}
+use Rattle.mt_world.specs.World as world
+use Rattle.mt_world.proofs.Books.{all_at, told_at}
+use Rattle.mt_world.proofs.Entering.{changed_is, same_setup}
+use Rattle.mt_world.proofs.Taking.{seen}
+use Rattle.mt_world.proofs.WorldLemmas.{actor_is, actor_sound}
+
+pub empty_list : {A : Type 0} (xs : List A) → (length xs == 0) ≡ true → xs ≡ []
+empty_list [] none = refl
+empty_list (x ∷ xs) none = grind (arith, nat_tests, none)
+
+full_list : {A : Type 0} (xs : List A) → (length xs == 0) ≡ false → is_empty xs ≡ false
+full_list [] some = cc
+full_list (x ∷ xs) some = refl
+
+-- the command that accepts what was tried
+abbrev pub accepting : Tried → Command
+accepting p = Accept p.call p.clearance p.eff p.prep.state.version
+
+module _ (story : Story) (actors : List Actor) (who : ℕ) (a : Actor) (sound : IsSoundWorld story actors) (below : who < 16) (is : a ≡ get_or actors who a)
+    (number : ℕ) (p : Tried) (found : probe_at a.book number ≡ Some p) where
+  kept : IsKeptOf story.setup story.history p
+  kept = all_at (IsKeptOf story.setup story.history) a.book number p (actor_sound story actors who a sound below is).kept found
+
+  pub accept_bounded : IsTried p → IsBoundedCommand (accepting p)
+  accept_bounded tried =
+      let rules : AreWithinBounds story.setup.rules = subst (λ (s : Setup). AreWithinBounds s.rules) kept.setup_is tried.kept.rules in
+      let counted = history_counted story.setup story.history rules sound.legal.replayable in
+      (tried.clearance, tried.early, omega (arith, kept.past, counted))
+
+  pub accept_in_time : IsInTime (length story.history) (accepting p)
+  accept_in_time = kept.past
+
+  pub accept_given : IsTried p → IsGivenFor story who (accepting p) (Some p.prep)
+  accept_given tried = record {
+    makes = tt;
+    setup_is = kept.setup_is;
+    command_is = tried.command_is;
+    who_is = tt;
+    within = kept.past;
+    state_is = kept.state_is;
+  }
+
+  pub accept_free : IsTried p → p.hits ≡ [] → WasFree story.setup story.history (accepting p)
+  accept_free tried none =
+      let free : IsWhatIf p.prep.setup p.prep.state p.call p.clearance (Some p.eff) (Ok []) =
+      subst (λ (hits : List Hit). IsWhatIf p.prep.setup p.prep.state p.call p.clearance (Some p.eff) (Ok hits)) none tried.follows in
+      subst (λ (s : State). IsWhatIf story.setup s p.call p.clearance (Some p.eff) (Ok [])) kept.state_is
+      (subst (λ (s : Setup). IsWhatIf s p.prep.state p.call p.clearance (Some p.eff) (Ok [])) kept.setup_is free)
+
+  -- the probe of the number, as it is told
+  pub told_found : probe_at (actor_of (seen story actors) who).book number ≡ Some (told_of p)
+  told_found =
+      let within : who < length actors = rw sound.sixteen below in
+      ap (λ (b : world.Actor). probe_at b.book number) (actor_is actors who a within is) ∙ told_at a.book number ∙ ap (option_map told_of) found
+
+  pub not_free : (reply : Reply) → (length p.hits == 0) ≡ false → reply ≡ replies.Refused NotFree (length story.history)
+      → IsAccepted (seen story actors) who number reply (seen story actors)
+  not_free reply some refused = subst (λ (o : Option Probe). IsAcceptedOf (seen story actors) who o reply (seen story actors)) (sym told_found)
+      (subst (λ (b : Bool). MatchBool b (IsChanged (seen story actors) who (acceptance (told_of p)) reply (seen story actors))
+      (IsRefused (seen story actors) (replies.Refused NotFree (length story.history)) reply (seen story actors))) (sym (full_list p.hits some))
+      (record { reply_is = refused; same = refl }))
+
+  pub accepted : (next : World) (reply : Reply) → p.hits ≡ []
+      → IsChanged (seen story actors) who (accepting p) reply next ⊎ IsRefused (seen story actors) replies.Memory reply next
+      → IsAccepted (seen story actors) who number reply next ⊎ IsRefused (seen story actors) replies.Memory reply next
+  accepted next reply none (inl changed) = inl (subst (λ (o : Option Probe). IsAcceptedOf (seen story actors) who o reply next) (sym told_found)
+      (subst (λ (hits : List Hit). MatchBool (is_empty hits) (IsChanged (seen story actors) who (acceptance (told_of p)) reply next)
+      (IsRefused (seen story actors) (replies.Refused NotFree (length story.history)) reply next)) (sym none) changed))
+  accepted next reply none (inr memory) = inr memory
+
+-- what is answered of a command, by what the picture answers
+pub published_is : (story after : Story) (actors : List Actor) (who : ℕ) (c : Command) (result : Result Entered No) → IfOk result (IsEntered story after who c)
+    → IfErr result (IsDenied story who c) → OnErr result (after ≡ story)
+    → IsChanged (seen story actors) who c (entered_reply result) (seen after actors)
+    ⊎ IsRefused (seen story actors) replies.Memory (entered_reply result) (seen after actors)
+published_is story after actors who c result entered denied unchanged = changed_is (seen story actors) (seen after actors) who c result
+    (λ i. record { rules = (same i).rules; tables = (same i).tables; begun = true; history = after.history; actors = map shown actors })
+    entered denied (seen_unchanged result unchanged) where
+      same : after.setup ≡ story.setup
+      same = same_setup story after who c result entered unchanged
+
+      seen_unchanged : (r : Result Entered No) → OnErr r (after ≡ story) → OnErr r (seen after actors ≡ seen story actors)
+      seen_unchanged (Ok entered) u = tt
+      seen_unchanged (Err denied) u = ap (λ (s : Story). seen s actors) u

@@ -1,0 +1,11 @@
+pub mod Accepting
+pub mod Advice
+pub mod Books
+pub mod BriefHits
+pub mod Entering
+pub mod OneAnswer
+pub mod OneSolution
+pub mod Renewing
+pub mod Taking
+pub mod Viewed
+pub mod WorldLemmas

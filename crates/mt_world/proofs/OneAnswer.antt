@@ -1,0 +1,133 @@
+-- A request of a world has one reply.
+use Rattle.std.proofs.Common.{◌≡◌, ℕ, Bool, true, false, List, length, Option, Some, None, Result, Ok, Err, sym, subst, ◌∙◌, ap}
+use Rattle.std.specs.Prelude.{MatchBool, unwrap_or, ⊤}
+use Rattle.mt_base.specs.declared.command.Command.{Command}
+use Rattle.mt_base.specs.declared.command.Entry.{Entry}
+use Rattle.mt_base.specs.declared.command.Refusal.{Refusal}
+use Rattle.mt_base.specs.declared.conflict.Conflict.{Conflict}
+use Rattle.mt_base.specs.declared.clearance.Clearance.{Clearance}
+use Rattle.mt_base.specs.declared.flight.Record.{Record}
+use Rattle.mt_base.specs.declared.hit.Hit.{Hit}
+use Rattle.mt_base.specs.Picture.{flight_of}
+use Rattle.mt_base.specs.History.{state_of}
+use Rattle.mt_base.specs.Settled.{due_calls}
+use Rattle.mt_base.specs.Tables.{Tables}
+use Rattle.mt_base.proofs.ConflictOrder.{total}
+use Rattle.mt_base.proofs.OneOrder.{one_order}
+use Rattle.mt_read.specs.declared.request.Request.{Request}
+use Rattle.mt_read.specs.declared.request.Request.TheVariants as requests
+use Rattle.mt_tables.specs.declared.add_no.AddNo.{AddNo}
+use Rattle.mt_machine.specs.Book.{probe_at}
+use Rattle.mt_write.specs.declared.reply.DoneWord.{DoneWord}
+use Rattle.mt_write.specs.declared.reply.Reply.{Reply}
+use Rattle.mt_write.specs.declared.reply.Reply.TheVariants.{List as listed, Settled as settled}
+use Rattle.mt_board.specs.Probing.{Probe}
+use Rattle.mt_world.specs.World.{IsAcceptedOf, IsAdded, IsAdvised, IsAdvisedAs, IsChanged, IsGiven, IsListed, IsOutcome, IsProbed, IsRefused, IsServed, IsSettling, IsTold, IsTried, World, actor_of, is_empty, picture_of, picture_taken, setup_of}
+use Rattle.mt_world.proofs.OneSolution.{one_advised, one_decision, one_renewal, one_what_if}
+
+-- the same reply, and the same world after it
+abbrev AreOne : Reply → Reply → World → World → Type 0
+AreOne r s next other = (r ≡ s) × (next ≡ other)
+
+one_given : (given : Reply) (after : World) (r s : Reply) (next other : World) → IsGiven given after r next → IsGiven given after s other → AreOne r s next other
+one_given given after r s next other x y = (x.reply_is ∙ sym y.reply_is, x.next_is ∙ sym y.next_is)
+
+one_refused : (w : World) (refusal r s : Reply) (next other : World) → IsRefused w refusal r next → IsRefused w refusal s other → AreOne r s next other
+one_refused w refusal r s next other x y = (x.reply_is ∙ sym y.reply_is, x.same ∙ sym y.same)
+
+one_listed : (w : World) (r s : Reply) (next other : World) → IsListed w r next → IsListed w s other → AreOne r s next other
+one_listed w r s next other x y =
+    let conflicts : x.conflicts ≡ y.conflicts = one_order total x.conflicts y.conflicts x.published.sorted y.published.sorted
+    (λ c h. (y.published.exact c).1 ((x.published.exact c).0 h)) (λ c h. (x.published.exact c).1 ((y.published.exact c).0 h)) in
+    (x.reply_is ∙ ap (λ (cs : List Conflict). listed cs (length w.history)) conflicts ∙ sym y.reply_is, x.same ∙ sym y.same)
+
+one_added : (w : World) (checked : Result ⊤ AddNo) (word : DoneWord) (taken : Reply) (tables : Tables) (r s : Reply) (next other : World)
+    → IsAdded w checked word taken tables r next → IsAdded w checked word taken tables s other → AreOne r s next other
+one_added w (Ok _) word taken tables r s next other x y = one_given _ _ r s next other x y
+one_added w (Err refusal) word taken tables r s next other x y = one_refused w _ r s next other x y
+
+by_begun : (b : Bool) (P Q P' Q' R : Type 0) → (P → P' → R) → (Q → Q' → R) → MatchBool b P Q → MatchBool b P' Q' → R
+by_begun true P Q P' Q' R p q x y = p x y
+by_begun false P Q P' Q' R p q x y = q x y
+
+one_outcome : (w : World) (d : Result Entry Refusal) (r s : Reply) (next other : World) → IsOutcome w d r next → IsOutcome w d s other
+    → AreOne r s next other
+one_outcome w (Ok entry) r s next other x y = one_given _ _ r s next other x y
+one_outcome w (Err refusal) r s next other x y = one_refused w _ r s next other x y
+
+one_changed : (w : World) (who : ℕ) (command : Command) (r s : Reply) (next other : World) → IsChanged w who command r next
+    → IsChanged w who command s other → AreOne r s next other
+one_changed w who command r s next other x y =
+    let same : y.decision ≡ x.decision = one_decision (setup_of w) (picture_of w) who command y.decision x.decision y.decided x.decided in
+    one_outcome w x.decision r s next other x.outcome (subst (λ (d : Result Entry Refusal). IsOutcome w d s other) same y.outcome)
+
+one_tried : (w : World) (who : ℕ) (call : List ℕ) (clearance : Clearance) (eff : ℕ) (found : Result (List Hit) Refusal) (r s : Reply) (next other : World)
+    → IsTried w who call clearance eff found r next → IsTried w who call clearance eff found s other → AreOne r s next other
+one_tried w who call clearance eff (Ok hits) r s next other x y = one_given _ _ r s next other x y
+one_tried w who call clearance eff (Err refusal) r s next other x y = one_refused w _ r s next other x y
+
+one_probed : (w : World) (who : ℕ) (call : List ℕ) (clearance : Clearance) (eff : Option ℕ) (r s : Reply) (next other : World)
+    → IsProbed w who call clearance eff r next → IsProbed w who call clearance eff s other → AreOne r s next other
+one_probed w who call clearance eff r s next other x y =
+    let at : ℕ = unwrap_or eff (picture_taken w who).now in
+    let same : y.result ≡ x.result =
+    one_what_if (setup_of w) (picture_taken w who) call clearance eff y.result x.result y.follows x.follows in
+    one_tried w who call clearance at x.result r s next other x.tried
+    (subst (λ (found : Result (List Hit) Refusal). IsTried w who call clearance at found s other) same y.tried)
+
+one_accepted : (w : World) (who : ℕ) (found : Option Probe) (r s : Reply) (next other : World) → IsAcceptedOf w who found r next
+    → IsAcceptedOf w who found s other → AreOne r s next other
+one_accepted w who None r s next other x y = one_refused w _ r s next other x y
+one_accepted w who (Some probe) r s next other x y =
+    by_begun (is_empty probe.hits) _ _ _ _ _ (one_changed w who _ r s next other) (one_refused w _ r s next other) x y
+
+one_told : (w : World) (who : ℕ) (call : List ℕ) (eff : ℕ) (advice : Result (List Clearance) Refusal) (r s : Reply) (next other : World)
+    → IsAdvisedAs w who call eff advice r next → IsAdvisedAs w who call eff advice s other → AreOne r s next other
+one_told w who call eff (Ok advised) r s next other x y = one_given _ _ r s next other x y
+one_told w who call eff (Err refusal) r s next other x y = one_refused w _ r s next other x y
+
+one_advice_told : (w : World) (who : ℕ) (call : List ℕ) (r s : Reply) (next other : World) → IsAdvised w who call r next → IsAdvised w who call s other
+    → AreOne r s next other
+one_advice_told w who call r s next other x y =
+    let eff : ℕ = (picture_taken w who).now in
+    let same : y.result ≡ x.result = one_advised (setup_of w) (picture_taken w who) call y.result x.result y.advice x.advice in
+    one_told w who call eff x.result r s next other x.told
+    (subst (λ (advice : Result (List Clearance) Refusal). IsAdvisedAs w who call eff advice s other) same y.told)
+
+one_settled : (w : World) (who : ℕ) (r s : Reply) (next other : World) → IsSettling w who r next → IsSettling w who s other → AreOne r s next other
+one_settled w who r s next other x y =
+    let same : y.history ≡ x.history =
+    one_renewal (setup_of w) who (due_calls (state_of (setup_of w) w.history).records) w.history y.history x.history y.settled x.settled in
+    one_given _ _ r s next other x.given (subst (λ (h : List Entry).
+    IsGiven (settled (due_calls (state_of (setup_of w) h).records) (length h)) (record w { history = h }) s other) same y.given)
+
+pub one_served : (w : World) (who : ℕ) (request : Request) (r s : Reply) (next other : World) → IsServed w who request r next
+    → IsServed w who request s other → AreOne r s next other
+one_served w who (requests.Fix name a b) r s next other x y =
+    by_begun w.begun _ _ _ _ _ (one_refused w _ r s next other) (one_added w _ _ _ _ r s next other) x y
+one_served w who (requests.TypeLine name bands) r s next other x y =
+    by_begun w.begun _ _ _ _ _ (one_refused w _ r s next other) (one_added w _ _ _ _ r s next other) x y
+one_served w who (requests.Rule set) r s next other x y = by_begun w.begun _ _ _ _ _ (one_refused w _ r s next other) (one_given _ _ r s next other) x y
+one_served w who requests.Begin r s next other x y = by_begun w.begun _ _ _ _ _ (one_refused w _ r s next other) (one_given _ _ r s next other) x y
+one_served w who (requests.Hello role) r s next other x y = one_given _ _ r s next other x y
+one_served w who requests.Bye r s next other x y = one_given _ _ r s next other x y
+one_served w who requests.List r s next other x y = by_begun w.begun _ _ _ _ _ (one_listed w r s next other) (one_refused w _ r s next other) x y
+one_served w who requests.Check r s next other x y = by_begun w.begun _ _ _ _ _ (one_listed w r s next other) (one_refused w _ r s next other) x y
+one_served w who (requests.Flight call sec) r s next other x y =
+    by_begun w.begun _ _ _ _ _ (one_told (flight_of (picture_of w).records call)) (one_refused w _ r s next other) x y where
+      one_told : (found : Option Record) → IsTold w call sec found r next → IsTold w call sec found s other → AreOne r s next other
+      one_told (Some flight) a b = one_given _ _ r s next other a b
+      one_told None a b = one_refused w _ r s next other a b
+one_served w who (requests.History from to) r s next other x y =
+    by_begun w.begun _ _ _ _ _ (one_given _ _ r s next other) (one_refused w _ r s next other) x y
+one_served w who (requests.Change command) r s next other x y =
+    by_begun w.begun _ _ _ _ _ (one_changed w who command r s next other) (one_refused w _ r s next other) x y
+one_served w who requests.Take r s next other x y = by_begun w.begun _ _ _ _ _ (one_given _ _ r s next other) (one_refused w _ r s next other) x y
+one_served w who (requests.Probe call clearance eff) r s next other x y =
+    by_begun w.begun _ _ _ _ _ (one_probed w who call clearance eff r s next other) (one_refused w _ r s next other) x y
+one_served w who (requests.Accept number) r s next other x y =
+    by_begun w.begun _ _ _ _ _ (one_accepted w who (probe_at (actor_of w who).book number) r s next other) (one_refused w _ r s next other) x y
+one_served w who (requests.Advise call) r s next other x y =
+    by_begun w.begun _ _ _ _ _ (one_advice_told w who call r s next other) (one_refused w _ r s next other) x y
+one_served w who requests.Due r s next other x y = by_begun w.begun _ _ _ _ _ (one_given _ _ r s next other) (one_refused w _ r s next other) x y
+one_served w who requests.Settle r s next other x y = by_begun w.begun _ _ _ _ _ (one_settled w who r s next other) (one_refused w _ r s next other) x y

@@ -1,0 +1,229 @@
+-- The world of a script: what each request is answered, and what it leaves.
+use Rattle.std.specs.Prelude.{◌≡◌, ℕ, ◌-◌, Bool, true, false, List, [], ◌∷◌, ◌++◌, length, map, replicate, take, drop, get_or, slice_set, nat_lt, unwrap_or, Option, Some, None, Result, Ok, Err, MatchBool, ◌⊎◌, ⊤, if◌then◌else◌}
+use Rattle.mt_base.specs.declared.command.Entry.{Entry}
+use Rattle.mt_base.specs.declared.command.Refusal.{Refusal}
+use Rattle.mt_base.specs.declared.conflict.Conflict.{Conflict}
+use Rattle.mt_base.specs.declared.rules.Rules.{Rules}
+use Rattle.mt_base.specs.declared.clearance.Clearance.{Clearance}
+use Rattle.mt_base.specs.declared.command.Command.{Command}
+use Rattle.mt_base.specs.declared.command.Refusal.TheVariants.{UnknownCall, NoProbe, NotFree}
+use Rattle.mt_base.specs.declared.hit.Hit.{Hit}
+use Rattle.mt_base.specs.declared.flight.Record.{Record}
+use Rattle.mt_base.specs.Checks.{judged}
+use Rattle.mt_base.specs.Advice.{IsAdvice}
+use Rattle.mt_base.specs.History.{IsDecided, entered_by, state_of}
+use Rattle.mt_base.specs.Picture.{IsPublished, State, flight_of}
+use Rattle.mt_base.specs.Rules.{usual_rules}
+use Rattle.mt_base.specs.Settled.{IsSettled, IsSettledInPart, due_calls}
+use Rattle.mt_base.specs.Tally.{raised}
+use Rattle.mt_base.specs.Tables.{Setup, Tables, no_tables}
+use Rattle.mt_base.specs.View.{view_of}
+use Rattle.mt_base.specs.WhatIf.{IsWhatIf}
+use Rattle.mt_board.specs.Probing.{Probe, acceptance, free_probe}
+use Rattle.mt_machine.specs.Book.{Book, empty_book, probe_at, with_probe}
+use Rattle.mt_tables.specs.declared.add_no.AddNo.{AddNo}
+use Rattle.mt_tables.specs.declared.add_no.AddNo.TheVariants as add
+use Rattle.mt_tables.specs.Adding.{fix_adding, type_adding, with_fix, with_type}
+use Rattle.mt_read.specs.declared.request.Request.{Request}
+use Rattle.mt_read.specs.declared.request.Request.TheVariants as requests
+use Rattle.mt_write.specs.declared.reply.DoneWord.{DoneWord}
+use Rattle.mt_write.specs.declared.reply.DoneWord.TheVariants as done
+use Rattle.mt_write.specs.declared.reply.AdviceItem.{AdviceItem}
+use Rattle.mt_write.specs.declared.reply.Reply.{Reply}
+use Rattle.mt_write.specs.declared.reply.Reply.TheVariants as replies
+use Rattle.mt_read.specs.Rules.{rules_with}
+
+-- whether there are none
+abbrev pub is_empty : {A : Type 0} → List A → Bool
+is_empty [] = true
+is_empty (x ∷ xs) = false
+
+-- An actor of a script: how many entries of the history it has taken, and its book of probes.
+pub record Actor : Type 0 where
+  pub taken : ℕ
+  pub book : Book Probe
+
+-- as it is at first
+abbrev pub new_actor : Actor
+new_actor = record { taken = 0; book = empty_book }
+
+-- The world of a script: the rules and the tables, whether the picture has begun, its history, and its sixteen actors.
+pub record World : Type 0 where
+  pub rules : Rules
+  pub tables : Tables
+  pub begun : Bool
+  pub history : List Entry
+  pub actors : List Actor
+
+-- as it is before the first line
+abbrev pub opening_world : World
+opening_world = record { rules = usual_rules; tables = no_tables; begun = false; history = []; actors = replicate 16 new_actor }
+
+-- what its lines before `begin` fix, and the state of its history
+abbrev pub setup_of : World → Setup
+setup_of w = record { rules = w.rules; tables = w.tables }
+
+abbrev pub picture_of : World → State
+picture_of w = state_of (setup_of w) w.history
+
+-- an actor by its number; the state of the entries that it has taken
+abbrev pub actor_of : World → ℕ → Actor
+actor_of w who = get_or w.actors who new_actor
+
+abbrev pub picture_taken : World → ℕ → State
+picture_taken w who = state_of (setup_of w) (take (actor_of w who).taken w.history)
+
+-- a world with another book of an actor, and with all entries taken by it
+abbrev pub with_book : World → ℕ → Book Probe → World
+with_book w who book = record w { actors = slice_set w.actors who (record (actor_of w who) { book = book }) }
+
+abbrev pub with_all_taken : World → ℕ → World
+with_all_taken w who = record w { actors = slice_set w.actors who (record (actor_of w who) { taken = length w.history }) }
+
+-- the refusal is the reply, and nothing has changed
+pub record IsRefused (w : World) (refusal reply : Reply) (next : World) : Type 0 where
+  pub reply_is : reply ≡ refusal
+  pub same : next ≡ w
+
+-- this is the reply, and this the world after it
+pub record IsGiven (given : Reply) (after : World) (reply : Reply) (next : World) : Type 0 where
+  pub reply_is : reply ≡ given
+  pub next_is : next ≡ after
+
+-- the reply is what is published of the history, and nothing has changed
+pub record IsListed (w : World) (reply : Reply) (next : World) : Type 0 where
+  pub conflicts : List Conflict
+  pub published : IsPublished (setup_of w) (picture_of w) conflicts
+  pub reply_is : reply ≡ replies.List conflicts (length w.history)
+  pub same : next ≡ w
+
+-- the refusal of a line that adds a fix or a type
+abbrev pub not_added : Reply → AddNo → Reply
+not_added taken add.Taken = taken
+not_added taken add.Bands = replies.Bands
+not_added taken add.Full = replies.TablesFull
+not_added taken add.Memory = replies.Memory
+
+-- what such a line is answered: the tables with one name more, or its refusal
+abbrev pub IsAdded : World → Result ⊤ AddNo → DoneWord → Reply → Tables → Reply → World → Type 0
+IsAdded w (Ok _) word taken tables reply next = IsGiven (replies.Done word) (record w { tables = tables }) reply next
+IsAdded w (Err refusal) word taken tables reply next = IsRefused w (not_added taken refusal) reply next
+
+-- what is told of the flight of a callsign, where there is one
+abbrev pub IsTold : World → List ℕ → Option ℕ → Option Record → Reply → World → Type 0
+IsTold w call sec (Some flight) reply next = IsGiven (replies.Flight (view_of (setup_of w) (picture_of w) sec flight)) w reply next
+IsTold w call sec None reply next = IsRefused w (replies.Refused (UnknownCall call) (length w.history)) reply next
+
+-- what a decision answers: an entry is put behind the history, a refusal changes nothing
+abbrev pub IsOutcome : World → Result Entry Refusal → Reply → World → Type 0
+IsOutcome w (Ok entry) reply next =
+    IsGiven (replies.Entered (entered_by (setup_of w) (picture_of w) entry)) (record w { history = w.history ++ entry ∷ [] }) reply next
+IsOutcome w (Err refusal) reply next = IsRefused w (replies.Refused refusal (length w.history)) reply next
+
+-- what an actor's command is answered: what is decided of it on the state of the history
+pub record IsChanged (w : World) (who : ℕ) (command : Command) (reply : Reply) (next : World) : Type 0 where
+  pub decision : Result Entry Refusal
+  pub decided : IsDecided (setup_of w) (picture_of w) who command decision
+  pub outcome : IsOutcome w decision reply next
+
+-- the reply carries what would follow from a clearance, or its refusal; a probe that isn't refused is put in the actor's book
+abbrev pub IsTried : World → ℕ → List ℕ → Clearance → ℕ → Result (List Hit) Refusal → Reply → World → Type 0
+IsTried w who call clearance eff (Ok hits) reply next =
+    IsGiven (replies.Probe hits eff (raised (actor_of w who).book.count) (actor_of w who).taken)
+    (with_book w who (with_probe (actor_of w who).book
+    (record { call = call; clearance = clearance; eff = eff; version = (actor_of w who).taken; hits = hits }))) reply next
+IsTried w who call clearance eff (Err refusal) reply next = IsRefused w (replies.Refused refusal (actor_of w who).taken) reply next
+
+-- what a probe is answered: what would follow on the state that its actor has taken
+pub record IsProbed (w : World) (who : ℕ) (call : List ℕ) (clearance : Clearance) (eff : Option ℕ) (reply : Reply) (next : World) : Type 0 where
+  pub result : Result (List Hit) Refusal
+  pub follows : IsWhatIf (setup_of w) (picture_taken w who) call clearance eff result
+  pub tried : IsTried w who call clearance (unwrap_or eff (picture_taken w who).now) result reply next
+
+-- what the acceptance of a probe is answered: that the book has none of that number, that it had hits, or what is decided of it now
+abbrev pub IsAcceptedOf : World → ℕ → Option Probe → Reply → World → Type 0
+IsAcceptedOf w who None reply next = IsRefused w (replies.Refused NoProbe (length w.history)) reply next
+IsAcceptedOf w who (Some probe) reply next = MatchBool (is_empty probe.hits)
+    (IsChanged w who (acceptance probe) reply next)
+    (IsRefused w (replies.Refused NotFree (length w.history)) reply next)
+
+abbrev pub IsAccepted : World → ℕ → ℕ → Reply → World → Type 0
+IsAccepted w who number reply next = IsAcceptedOf w who (probe_at (actor_of w who).book number) reply next
+
+-- A book with some probes more, in order; and advised clearances, each with the number that its probe gets behind so many.
+abbrev pub with_probes : Book Probe → List Probe → Book Probe
+with_probes book [] = book
+with_probes book (p ∷ ps) = with_probes (with_probe book p) ps
+
+abbrev pub items_from : ℕ → List Clearance → List AdviceItem
+items_from count [] = []
+items_from count (c ∷ cs) = record { clearance = c; probe = raised count } ∷ items_from (raised count) cs
+
+-- The reply carries the advice, each clearance of which is put in the actor's book; or the refusal.
+abbrev pub IsAdvisedAs : World → ℕ → List ℕ → ℕ → Result (List Clearance) Refusal → Reply → World → Type 0
+IsAdvisedAs w who call eff (Ok advised) reply next =
+    IsGiven (replies.Advice (items_from (actor_of w who).book.count advised) call eff (actor_of w who).taken)
+    (with_book w who (with_probes (actor_of w who).book (map (free_probe call eff (actor_of w who).taken) advised))) reply next
+IsAdvisedAs w who call eff (Err refusal) reply next = IsRefused w (replies.Refused refusal (actor_of w who).taken) reply next
+
+-- what is answered where advice is asked for: the advice on the state that its actor has taken
+pub record IsAdvised (w : World) (who : ℕ) (call : List ℕ) (reply : Reply) (next : World) : Type 0 where
+  pub result : Result (List Clearance) Refusal
+  pub advice : IsAdvice (setup_of w) (picture_taken w who) call result
+  pub told : IsAdvisedAs w who call (picture_taken w who).now result reply next
+
+-- what settling is answered: the flights that are due behind the renewals of those that were due at first
+pub record IsSettling (w : World) (who : ℕ) (reply : Reply) (next : World) : Type 0 where
+  pub history : List Entry
+  pub settled : IsSettled (setup_of w) who w.history history
+  pub given : IsGiven (replies.Settled (due_calls (state_of (setup_of w) history).records) (length history)) (record w { history = history }) reply next
+
+-- What an actor's request is answered, and the world after it. Fixes, types and rules are set and the picture is begun once, at first;
+-- `hello` and `bye` are answered always, and the other requests once the picture has begun.
+abbrev pub IsServed : World → ℕ → Request → Reply → World → Type 0
+IsServed w who (requests.Fix name x y) reply next = MatchBool w.begun (IsRefused w replies.Begun reply next)
+    (IsAdded w (judged (fix_adding w.tables name) (tt {0})) done.Fix (replies.TakenFix name)
+    (with_fix w.tables name (record { x = x; y = y })) reply next)
+IsServed w who (requests.TypeLine name bands) reply next = MatchBool w.begun (IsRefused w replies.Begun reply next)
+    (IsAdded w (judged (type_adding w.tables name bands) (tt {0})) done.TypeLine (replies.TakenType name)
+    (with_type w.tables name bands) reply next)
+IsServed w who (requests.Rule set) reply next = MatchBool w.begun
+    (IsRefused w replies.Begun reply next) (IsGiven (replies.Done done.Rule) (record w { rules = rules_with set w.rules }) reply next)
+IsServed w who requests.Begin reply next = MatchBool w.begun
+    (IsRefused w replies.Begun reply next) (IsGiven (replies.Done done.Begin) (record w { begun = true; history = []; actors = replicate 16 new_actor }) reply next)
+IsServed w who (requests.Hello role) reply next = IsGiven (replies.Hello role) w reply next
+IsServed w who requests.Bye reply next = IsGiven (replies.Done done.Bye) w reply next
+IsServed w who requests.List reply next = MatchBool w.begun (IsListed w reply next) (IsRefused w replies.Unbegun reply next)
+IsServed w who requests.Check reply next = MatchBool w.begun (IsListed w reply next) (IsRefused w replies.Unbegun reply next)
+IsServed w who (requests.Flight call sec) reply next = MatchBool w.begun
+    (IsTold w call sec (flight_of (picture_of w).records call) reply next) (IsRefused w replies.Unbegun reply next)
+IsServed w who (requests.History from to) reply next = MatchBool w.begun
+    (IsGiven (replies.History (take (to - from) (drop from w.history)) (length w.history)) w reply next) (IsRefused w replies.Unbegun reply next)
+IsServed w who (requests.Change command) reply next = MatchBool w.begun
+    (IsChanged w who command reply next) (IsRefused w replies.Unbegun reply next)
+IsServed w who requests.Take reply next = MatchBool w.begun
+    (IsGiven (replies.Taken (length w.history)) (with_all_taken w who) reply next) (IsRefused w replies.Unbegun reply next)
+IsServed w who (requests.Probe call clearance eff) reply next = MatchBool w.begun
+    (IsProbed w who call clearance eff reply next) (IsRefused w replies.Unbegun reply next)
+IsServed w who (requests.Accept number) reply next = MatchBool w.begun
+    (IsAccepted w who number reply next) (IsRefused w replies.Unbegun reply next)
+IsServed w who (requests.Advise call) reply next = MatchBool w.begun
+    (IsAdvised w who call reply next) (IsRefused w replies.Unbegun reply next)
+IsServed w who requests.Due reply next = MatchBool w.begun
+    (IsGiven (replies.Due (due_calls (picture_of w).records) (length w.history)) w reply next) (IsRefused w replies.Unbegun reply next)
+IsServed w who requests.Settle reply next = MatchBool w.begun
+    (IsSettling w who reply next) (IsRefused w replies.Unbegun reply next)
+
+-- A request that found no memory changed nothing, but that settling may have renewed some of the flights.
+pub record IsSettledSoFar (w : World) (who : ℕ) (next : World) : Type 0 where
+  pub history : List Entry
+  pub part : IsSettledInPart (setup_of w) who w.history history
+  pub next_is : next ≡ record w { history = history }
+
+abbrev pub IsLeft : World → ℕ → Request → World → Type 0
+IsLeft w who requests.Settle next = (next ≡ w) ⊎ IsSettledSoFar w who next
+IsLeft w who request next = next ≡ w
+
+pub record IsStarved (w : World) (who : ℕ) (request : Request) (reply : Reply) (next : World) : Type 0 where
+  pub reply_is : reply ≡ replies.Memory
+  pub left : IsLeft w who request next

@@ -1,0 +1,120 @@
+//! Lines that change the picture.
+ghost use Rattle.std.specs.Prelude.{◌≡◌, ◌⊎◌, ◌≤◌, length, IfErr, IfOk, MatchBool, OnErr};
+ghost use Rattle.mt_base.specs.Bounds.{IsAskedFor, IsBoundedCommand};
+ghost use Rattle.mt_write.specs.declared.reply.Reply.TheVariants as replies;
+ghost use Rattle.mt_lines.specs.Fit.{IsFit};
+ghost use Rattle.mt_picture.specs.Story.{IsEntered, IsGivenFor, IsRefused as IsDenied};
+ghost use Rattle.mt_world.specs.Sound.{story_of};
+ghost use Rattle.mt_world.specs.World.{IsAccepted, IsChanged, IsRefused};
+
+use crate::telling::changed;
+use crate::world::World;
+use mt_base::{Command, Entered, Refusal};
+use mt_board::{No, Probed};
+use mt_probe::{Prep, makes_strand, prepare};
+use mt_write::Reply;
+
+impl World {
+    // Decides a command, and enters it unless it is refused.
+    pub(crate) fn change(&mut self, who: u32, command: &Command) -> Reply
+        requires bounded { IsBoundedCommand command.now }
+        requires asked { IsAskedFor command.now }
+        ensures answered { MatchBool self.old.begun (IsChanged self.old who command.now result self.new) (IsRefused self.old replies.Unbegun result self.new)
+            ⊎ IsRefused self.old replies.Memory result self.new }
+        ensures fit { IsFit result }
+    {
+        let _version = self.version();
+        changed(self.enter(who, command))
+    }
+
+    // Enters a command, or says why not; it is prepared on the state now, where it makes a trajectory.
+    pub(crate) fn enter(&mut self, who: u32, command: &Command) -> Result<Entered, No>
+        requires bounded { IsBoundedCommand command.now }
+        requires asked { IsAskedFor command.now }
+        ensures entered { IfOk result (IsEntered (story_of self.old) (story_of self.new) who command.now) }
+        ensures refused { IfErr result (IsDenied (story_of self.old) who command.now) }
+        ensures unchanged { OnErr result (self.new ≡ self.old) }
+        ensures kept { self.new ≡ record self.old { history = self.new.history } }
+    {
+        let prep = self.prepared(who, command)?;
+        self.publish(who, command, &prep)
+    }
+
+    // What is prepared for a command on the state now, where it makes a trajectory; or why it is refused.
+    fn prepared(&mut self, who: u32, command: &Command) -> Result<Option<Prep>, No>
+        requires bounded { IsBoundedCommand command.now }
+        requires asked { IsAskedFor command.now }
+        ensures given { IfOk result (IsGivenFor (story_of self.old) who command.now) }
+        ensures refused { IfErr result (IsDenied (story_of self.old) who command.now) }
+        ensures same { self.new ≡ self.old }
+    {
+        if !makes_strand(command) {
+            return Ok(None);
+        }
+        let now = self.picture.snapshot()?;
+        let (tables, rules) = (now.tables(), now.rules());
+        match prepare(
+            self.alloc,
+            &now,
+            tables,
+            rules,
+            who,
+            command,
+            &mut self.tests,
+        ) {
+            Ok(prep) => Ok(Some(prep)),
+            Err(no) => Err(no),
+        }
+    }
+
+    // Enters a command with what is prepared for it.
+    fn publish(&mut self, who: u32, command: &Command, prep: &Option<Prep>) -> Result<Entered, No>
+        requires bounded { IsBoundedCommand command.now }
+        requires asked { IsAskedFor command.now }
+        requires prepared { IsGivenFor (story_of self.old) who command.now prep.now }
+        ensures entered { IfOk result (IsEntered (story_of self.old) (story_of self.new) who command.now) }
+        ensures refused { IfErr result (IsDenied (story_of self.old) who command.now) }
+        ensures unchanged { OnErr result (self.new ≡ self.old) }
+        ensures kept { self.new ≡ record self.old { history = self.new.history } }
+    {
+        self.picture
+            .publish(self.alloc, who, command, prep.as_ref(), &mut self.tests)
+    }
+
+    // A refusal at the version now.
+    pub(crate) fn refused(&self, refusal: Refusal) -> Reply
+        ensures answered { result ≡ replies.Refused refusal (length self.now.history) }
+        ensures fit { IsFit result }
+    {
+        Reply::Refused {
+            refusal,
+            version: self.version(),
+        }
+    }
+
+    // Enters a probe of an actor's book, if it is free still.
+    pub(crate) fn accept(&mut self, who: u32, number: u64) -> Reply
+        requires { who ≤ 15 }
+        ensures answered { MatchBool self.old.begun (IsAccepted self.old who number result self.new) (IsRefused self.old replies.Unbegun result self.new)
+            ⊎ IsRefused self.old replies.Memory result self.new }
+        ensures fit { IsFit result }
+    {
+        let Some(probe) = self.actors[who as usize].book.get(number) else {
+            return self.refused(Refusal::NoProbe);
+        };
+        if !probe.hits().is_empty() {
+            return self.refused(Refusal::NotFree);
+        }
+        let command = Command::Accept {
+            call: probe.call(),
+            clearance: probe.clearance(),
+            eff: probe.eff(),
+            probed: probe.version(),
+        };
+        let prep = probe.prep();
+        changed(
+            self.picture
+                .publish(self.alloc, who, &command, Some(prep), &mut self.tests),
+        )
+    }
+}
