@@ -1,5 +1,6 @@
 //! A world, and what each request is answered.
 ghost use Rattle.std.specs.Prelude.{◌≡◌, ◌⊎◌, ◌≤◌, [], length, replicate, true, All, IfOk};
+ghost use Rattle.mt_base.specs.History.{IsLegal};
 ghost use Rattle.mt_machine.specs.Book.{empty_book};
 ghost use Rattle.mt_probe.specs.Shot.{Shot};
 ghost use Rattle.mt_read.specs.Bounded.{IsBoundedRequest};
@@ -117,10 +118,11 @@ impl World {
         }
     }
 
-    /// The picture.
+    /// The picture, whose history is legal: what is published of it is at each version what every pair tested anew would give.
     pub fn picture(&self) -> &Picture
         ensures setup { result.now.setup ≡ record { rules = self.now.rules; tables = self.now.tables } }
         ensures history { result.now.history ≡ self.now.history }
+        ensures legal { IsLegal result.now.setup result.now.history }
     {
         &self.picture
     }
