@@ -40,6 +40,18 @@ def run(data, program=PROGRAM):
     return seconds, written
 
 
-def best(data, repeats=REPEATS):
-    """The seconds of the fastest of some runs."""
-    return min(run(data)[0] for _ in range(repeats))
+def spent(data, program=PROGRAM):
+    """The seconds of a processor that one run takes, so that other work on the machine counts less."""
+    with subprocess.Popen([program, "replay"], stdin=subprocess.PIPE, stdout=subprocess.DEVNULL) as process:
+        process.stdin.write(data)
+        process.stdin.close()
+        _, status, usage = os.wait4(process.pid, 0)
+        process.returncode = os.waitstatus_to_exitcode(status)
+    if process.returncode != 0:
+        sys.exit("%s answered the status %d" % (program, process.returncode))
+    return usage.ru_utime + usage.ru_stime
+
+
+def least(data, repeats=REPEATS):
+    """The seconds of a processor of the cheapest of some runs."""
+    return min(spent(data) for _ in range(repeats))
