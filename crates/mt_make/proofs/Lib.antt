@@ -1,0 +1,4 @@
+pub mod DrawLemmas
+pub mod InputBounds
+pub mod Lists
+pub mod PlanLemmas
