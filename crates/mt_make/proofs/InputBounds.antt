@@ -1,14 +1,13 @@
 -- The numbers of each request are within their bounds.
-use Rattle.std.proofs.Common.{◌≡◌, ℕ, ℤ, pos, neg_ℤ, ◌+◌, ◌*◌, ◌/◌, ◌%◌, ◌<◌, ◌≤◌, List, [], ◌∷◌, ◌++◌, All, arith}
+use Rattle.std.proofs.Common.{ℕ, pos, neg_ℤ, ◌*◌, ◌/◌, ◌%◌, ◌<◌, ◌≤◌, [], ◌∷◌, ◌++◌, All, arith}
 use Rattle.std.proofs.lemmas.Int.{ints}
 use Rattle.std.proofs.lemmas.List.Elements.{All-append, All-from_recursion}
-use Rattle.mt_base.specs.declared.band.Band.{Band}
 use Rattle.mt_base.specs.declared.command.Command.TheVariants.{Tick}
 use Rattle.mt_base.specs.declared.rules.Rules.{Rules}
 use Rattle.mt_base.specs.Bounds.{AreBoundedBands, IsBoundedBand, IsWithin}
 use Rattle.mt_read.specs.declared.request.Request.TheVariants.{Begin, Change, TypeLine}
 use Rattle.mt_read.specs.Bounded.{IsBoundedRequest}
-use Rattle.mt_make.specs.Draws.{drawn, state_after}
+use Rattle.mt_make.specs.Draws.{state_after}
 use Rattle.mt_make.specs.Input.{bands, coordinate, each_below, fix, inputs, kind_name, plan_of}
 use Rattle.mt_make.proofs.DrawLemmas.{drawn_below}
 use Rattle.mt_make.proofs.Lists.{all_below}

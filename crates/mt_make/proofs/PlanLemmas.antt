@@ -1,5 +1,5 @@
 -- A plan by the values that were drawn for it.
-use Rattle.std.proofs.Common.{◌≡◌, ◌∙◌, ℕ, ◌+◌, ◌*◌, List, [], ◌∷◌, refl}
+use Rattle.std.proofs.Common.{◌≡◌, ℕ, ◌+◌, ◌*◌, List, [], ◌∷◌, refl}
 use Rattle.mt_base.specs.declared.command.Command.TheVariants.{Plan}
 use Rattle.mt_make.specs.Draws.{drawn, next_state, state_after}
 use Rattle.mt_make.specs.Input.{callsign, fix_name, kind_name, other_than, plan_from}
