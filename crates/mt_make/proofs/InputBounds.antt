@@ -1,16 +1,14 @@
 -- The numbers of each request are within their bounds.
-use Rattle.std.proofs.Common.{ℕ, pos, neg_ℤ, ◌*◌, ◌/◌, ◌%◌, ◌<◌, ◌≤◌, [], ◌∷◌, ◌++◌, All, arith}
+use Rattle.std.proofs.Common.{ℕ, pos, neg_ℤ, ◌*◌, ◌/◌, ◌%◌, ◌<◌, ◌≤◌, All, arith}
 use Rattle.std.proofs.lemmas.Int.{ints}
-use Rattle.std.proofs.lemmas.List.Elements.{All-append, All-from_recursion}
-use Rattle.mt_base.specs.declared.command.Command.TheVariants.{Tick}
+use Rattle.std.proofs.lemmas.List.Elements.{All-from_recursion}
 use Rattle.mt_base.specs.declared.rules.Rules.{Rules}
 use Rattle.mt_base.specs.Bounds.{AreBoundedBands, IsBoundedBand, IsWithin}
-use Rattle.mt_read.specs.declared.request.Request.TheVariants.{Begin, Change, TypeLine}
 use Rattle.mt_read.specs.Bounded.{IsBoundedRequest}
 use Rattle.mt_make.specs.Draws.{state_after}
-use Rattle.mt_make.specs.Input.{bands, coordinate, each_below, fix, inputs, kind_name, plan_of}
+use Rattle.mt_make.specs.Input.{bands, coordinate, fix, inputs, plan_of}
 use Rattle.mt_make.proofs.DrawLemmas.{drawn_below}
-use Rattle.mt_make.proofs.Lists.{all_below}
+use Rattle.mt_make.proofs.Inputs.{all_inputs}
 
 coordinate_in : (i : ℕ) → i < 8 → IsWithin (neg_ℤ (pos 3686400)) (pos 3686400) (coordinate i)
 coordinate_in i below = record { least = omega (arith, ints); most = omega (arith, ints) }
@@ -45,15 +43,4 @@ plan_in rules number n =
 
 pub inputs_in : (rules : Rules) (flights number : ℕ) → All (IsBoundedRequest rules) (inputs flights number)
 inputs_in rules flights number =
-    let P = IsBoundedRequest rules in
-    let fixes = each_below fix 64 in
-    let kinds = TypeLine kind_name bands ∷ [] in
-    let begin = Begin ∷ [] in
-    let plans = each_below (plan_of number) flights in
-    let are_fixes = all_below P fix 64 (fix_in rules) in
-    let is_kind = All-from_recursion P kinds (bands_in, tt) in
-    let is_begin = All-from_recursion P begin (tt, tt) in
-    let are_plans = all_below P (plan_of number) flights (λ n below. plan_in rules number n) in
-    let is_tick = All-from_recursion P (Change (Tick 60) ∷ []) ((omega arith, tt), tt) in
-    All-append P (fixes ++ kinds ++ begin ++ plans) (Change (Tick 60) ∷ [])
-    (All-append P (fixes ++ kinds ++ begin) plans (All-append P (fixes ++ kinds) begin (All-append P fixes kinds are_fixes is_kind) is_begin) are_plans) is_tick
+    all_inputs (IsBoundedRequest rules) flights number (fix_in rules) bands_in tt (plan_in rules number) (omega arith, tt)

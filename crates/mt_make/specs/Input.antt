@@ -1,8 +1,10 @@
 -- A large input of known outcome, made from a number: 64 fixes and one type of aircraft, then flights between two of the fixes.
-use Rattle.std.specs.Prelude.{ℕ, ℤ, pos, ◌*ℤ◌, ◌-ℤ◌, zero, suc, ◌+◌, ◌*◌, ◌/◌, ◌%◌, nat_le, if◌then◌else◌, List, [], ◌∷◌, ◌++◌, codes}
+use Rattle.std.specs.Prelude.{◌≡◌, ℕ, ℤ, pos, ◌*ℤ◌, ◌-ℤ◌, zero, suc, ◌+◌, ◌*◌, ◌/◌, ◌%◌, Bool, true, nat_le, if◌then◌else◌, List, [], ◌∷◌, ◌++◌, All, codes, ⊤}
 use Rattle.mt_base.specs.declared.band.Band.{Band}
 use Rattle.mt_base.specs.declared.command.Command.{Command}
 use Rattle.mt_base.specs.declared.command.Command.TheVariants.{Plan, Tick}
+use Rattle.mt_base.specs.declared.route.RouteNo.{RouteNo}
+use Rattle.mt_base.specs.Tables.{length_checks}
 use Rattle.mt_read.specs.declared.request.Request.{Request}
 use Rattle.mt_read.specs.declared.request.Request.TheVariants.{Begin, Change, Fix, TypeLine}
 use Rattle.mt_make.specs.Draws.{drawn, state_after}
@@ -70,3 +72,8 @@ plan_of number n = Change (plan_from n (state_after (4 * n) number))
 abbrev pub inputs : ℕ → ℕ → List Request
 inputs flights number =
     each_below fix 64 ++ TypeLine kind_name bands ∷ [] ++ Begin ∷ [] ++ each_below (plan_of number) flights ++ Change (Tick 60) ∷ []
+
+-- the route of a plan has 2 to 64 names, no two neighbours equal
+abbrev pub HasRightRoute : Request → Type 0
+HasRightRoute (Change (Plan call kind route at from level)) = All (λ (c : RouteNo × Bool). c.1 ≡ true) (length_checks route)
+HasRightRoute request = ⊤

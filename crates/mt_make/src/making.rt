@@ -1,7 +1,7 @@
 ghost use Rattle.std.specs.Prelude.{◌≡◌, ◌≤◌, All, IfOk};
 ghost use Rattle.mt_base.specs.declared.rules.Rules.{Rules};
 ghost use Rattle.mt_read.specs.Bounded.{IsBoundedRequest};
-ghost use Rattle.mt_make.specs.Input.{inputs};
+ghost use Rattle.mt_make.specs.Input.{HasRightRoute, inputs};
 
 use crate::fixes::{put_fixes, type_line};
 use crate::plans::put_plans;
@@ -18,11 +18,12 @@ const FIRST_TICK: u32 = 60;
 /// the flights `L0000`, `L0001` and so on, and moves the moment to second 60. For each flight two different fixes are drawn, a level, one of
 /// 300, 310 and so on to 390, and a second below 1,200. The definition is `inputs`.
 ///
-/// The numbers of each request are within their bounds, whatever the rules are. The one error is want of memory.
+/// The numbers of each request are within their bounds, whatever the rules are, and no route has a fix twice. The one error is want of memory.
 pub fn input(alloc: Global, flights: u32, number: u64) -> Result<Vec<Request>, Memory>
     requires { (1 ≤ flights) × (flights ≤ 1024) }
     ensures exact { IfOk result (λ list. list.items ≡ inputs flights number) }
     ensures bounded { (rules : Rules) → IfOk result (λ list. All (IsBoundedRequest rules) list.items) }
+    ensures routed { IfOk result (λ list. All HasRightRoute list.items) }
 {
     let mut list = Vec::new(alloc);
     put_fixes(&mut list)?;
