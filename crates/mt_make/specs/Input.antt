@@ -1,4 +1,4 @@
--- A large input of known outcome, made from a number: 64 fixes and one type of aircraft, then flights between two of the fixes.
+-- A large input, made from a number: 64 fixes and one type of aircraft, then flights between two of the fixes.
 use Rattle.std.specs.Prelude.{◌≡◌, ℕ, ℤ, pos, ◌*ℤ◌, ◌-ℤ◌, zero, suc, ◌+◌, ◌*◌, ◌/◌, ◌%◌, Bool, true, nat_le, if◌then◌else◌, List, [], ◌∷◌, ◌++◌, All, codes, ⊤}
 use Rattle.mt_base.specs.declared.band.Band.{Band}
 use Rattle.mt_base.specs.declared.command.Command.{Command}

@@ -1,4 +1,4 @@
-//! A large input of known outcome, made from a number: fixes, a type of aircraft, and flights whose routes, levels and times are drawn.
+//! A large input, made from a number: fixes, a type of aircraft, and flights whose routes, levels and times are drawn.
 //!
 //! The definitions are `specs/Input.antt` and, of the draws, `specs/Draws.antt`.
 #![tactic(auto)]
