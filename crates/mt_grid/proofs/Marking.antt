@@ -1,5 +1,5 @@
 -- Marks: one more of them, and the numbers of a front of them.
-use Rattle.std.proofs.Common.{◌≡◌, ◌↔◌, ◌⊎◌, inl, inr, ⊎_elim, ℕ, zero, suc, ◌+◌, ◌<◌, ◌≤◌, Bool, true, false, List, [], ◌∷◌, ◌++◌, Contains, length, get_or, set, take, refl, sym, ap, ◌∙◌, subst, arith}
+use Rattle.std.proofs.Common.{◌≡◌, ◌↔◌, ◌⊎◌, inl, inr, ⊎_elim, ℕ, zero, suc, ◌+◌, ◌<◌, ◌≤◌, ◌||◌, Bool, true, false, List, [], ◌∷◌, ◌++◌, Contains, length, get_or, set, take, refl, sym, ap, ◌∙◌, subst, arith}
 use Rattle.std.proofs.lemmas.Bool.{cases_lt, false≢true}
 use Rattle.std.proofs.lemmas.List.{get_or_append_left, get_or_push, length-take-le, length_push, take_more}
 use Rattle.std.proofs.lemmas.List.Elements.{Contains-append_left, Contains-get_or, Contains-push, Contains-push_cases}
@@ -15,16 +15,18 @@ same_marked [] (b ∷ more) h (suc k) = same_marked [] more h.1 k
 same_marked (b ∷ marks) more h zero = ((λ m. m), (λ m. m))
 same_marked (b ∷ marks) more h (suc k) = same_marked marks more h k
 
--- one mark set
-pub marked_set : (marks : List Bool) (place k : ℕ) → place < length marks → IsMarked (set marks place true) k ↔ (IsMarked marks k ⊎ (place ≡ k))
-marked_set [] place k below = absurd (omega (arith, below))
-marked_set (b ∷ marks) zero zero below = ((λ m. inr refl), (λ m. refl))
-marked_set (b ∷ marks) zero (suc k) below = ((λ m. inl m), (λ h. ⊎_elim (λ m. m) (λ e. absurd (omega (arith, e))) h))
-marked_set (b ∷ marks) (suc place) zero below = ((λ m. inl m), (λ h. ⊎_elim (λ m. m) (λ e. absurd (omega (arith, e))) h))
-marked_set (b ∷ marks) (suc place) (suc k) below =
-    let rest = marked_set marks place k (omega (arith, below)) in (
-      (λ m. ⊎_elim (λ o. inl o) (λ (e : place ≡ k). inr (ap suc e)) (rest.0 m)),
-      (λ h. ⊎_elim (λ m. rest.1 (inl m)) (λ e. rest.1 (inr (omega (arith, e)))) h),
+-- one mark set where that is wanted
+pub marked_or : (marks : List Bool) (place k : ℕ) (wanted : Bool) → place < length marks
+    → IsMarked (set marks place (get_or marks place false || wanted)) k ↔ (IsMarked marks k ⊎ ((wanted ≡ true) × (place ≡ k)))
+marked_or [] place k wanted below = absurd (omega (arith, below))
+marked_or (true ∷ marks) zero zero wanted below = ((λ m. inl refl), (λ h. refl))
+marked_or (false ∷ marks) zero zero wanted below = ((λ m. inr (m, refl)), (λ h. ⊎_elim (λ m. absurd (false≢true m)) (λ e. e.0) h))
+marked_or (b ∷ marks) zero (suc k) wanted below = ((λ m. inl m), (λ h. ⊎_elim (λ m. m) (λ e. absurd (let p = e.1 in omega (arith, p))) h))
+marked_or (b ∷ marks) (suc place) zero wanted below = ((λ m. inl m), (λ h. ⊎_elim (λ m. m) (λ e. absurd (let p = e.1 in omega (arith, p))) h))
+marked_or (b ∷ marks) (suc place) (suc k) wanted below =
+    let rest = marked_or marks place k wanted (omega (arith, below)) in (
+      (λ m. ⊎_elim (λ o. inl o) (λ e. inr (e.0, ap suc e.1)) (rest.0 m)),
+      (λ h. ⊎_elim (λ m. rest.1 (inl m)) (λ e. rest.1 (inr (e.0, let p = e.1 in omega (arith, p)))) h),
     )
 
 -- a front with one mark more

@@ -140,7 +140,7 @@ impl Grid {
 
     /// The items that are near a cover, rising, each once: those that share a cell with it in a common second.
     ///
-    /// While it looks, it keeps a byte for each number up to the greatest near item.
+    /// While it looks, it keeps a byte for each number up to the greatest item that it meets, and some more.
     pub fn near(&self, cover: &Cover) -> Result<Vec<u32>, Memory>
         requires { AreInGrid cover.now }
         ensures { IfOk result (λ items. AreNear self.now cover.now items.items) }

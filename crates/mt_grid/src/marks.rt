@@ -1,12 +1,15 @@
 //! Numbers that are marked, to be listed in order, each once.
-ghost use Rattle.std.specs.Prelude.{◌≡◌, ◌↔◌, ◌⊎◌, ◌<◌, ℕ, [], length, IfOk, OnOk};
+ghost use Rattle.std.specs.Prelude.{◌≡◌, ◌↔◌, ◌⊎◌, ◌<◌, ℕ, true, [], length, IfOk, OnOk};
 ghost use Rattle.mt_grid.specs.Marks.{AreMarked, IsMarked};
 
 use mt_base::Memory;
 use std::alloc::Global;
 use std::marker::Model;
 
-/// Which numbers are marked: a byte for each number up to the greatest marked one.
+/// How many marks are made at a time, so that seldom any are.
+const STEP: usize = 1024;
+
+/// Which numbers are marked: a byte for each number up to the greatest marked one, and some more.
 #[derive(Drop)]
 pub(crate) struct Marks {
     alloc: Global,
@@ -41,18 +44,19 @@ impl Marks {
     {
         let place = number as usize;
         if place >= self.marked.len() {
-            self.marked.resize(place + 1, false)?;
+            self.marked.resize((place / STEP + 1) * STEP, false)?;
         }
         Ok(())
     }
 
-    /// Marks a number.
-    pub(crate) fn mark(&mut self, number: u32) -> Result<(), Memory>
+    /// Marks a number where that is wanted. There is no branch on it, as it goes one way as often as the other.
+    pub(crate) fn mark(&mut self, number: u32, wanted: bool) -> Result<(), Memory>
         ensures { OnOk result ((k : ℕ) → IsMarked self.new k
-            ↔ (IsMarked self.old k ⊎ (number ≡ k))) }
+            ↔ (IsMarked self.old k ⊎ ((wanted ≡ true) × (number ≡ k)))) }
     {
         self.reach(number)?;
-        self.marked[number as usize] = true;
+        let place = number as usize;
+        self.marked[place] = self.marked[place] | wanted;
         Ok(())
     }
 

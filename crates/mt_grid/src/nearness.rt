@@ -12,7 +12,7 @@ use mt_cover::Stay;
 fn overlap(stay: &Stay, placed: &Placed) -> bool
     ensures { IsTrue result ↔ Overlap stay.now placed.now }
 {
-    stay.from < placed.to && placed.from < stay.to
+    (stay.from < placed.to) & (placed.from < stay.to)
 }
 
 /// Marks the item of what is placed, where it has a second in common with a stay.
@@ -20,10 +20,7 @@ fn mark_if_near(placed: &Placed, stay: &Stay, marks: &mut Marks) -> Result<(), M
     ensures { OnOk result ((item : ℕ) → IsMarked marks.new item
         ↔ (IsMarked marks.old item ⊎ IsItemOf placed.now stay.now item)) }
 {
-    if overlap(stay, placed) {
-        marks.mark(placed.item)?;
-    }
-    Ok(())
+    marks.mark(placed.item, overlap(stay, placed))
 }
 
 /// Marks the items of a cell's list that are near a stay in that cell.
