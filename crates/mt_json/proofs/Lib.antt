@@ -1,4 +1,4 @@
 mod KeysShown
 mod LeastOther
-mod OneLine
+pub mod OneLine
 mod Plain

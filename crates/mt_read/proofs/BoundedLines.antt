@@ -284,7 +284,7 @@ other_holds : {A : Type 0} (P : A → Type 0) (o : Option (List ℕ)) (r : Resul
 other_holds P (Some key) r a h e = cc
 other_holds P None r a h e = h e
 
-layout_holds : {A : Type 0} (P : ℕ × A → Type 0) (origin : Origin) (more : List (Fault × Bool)) (row : Layout A) (ms : Members) (a : ℕ × A)
+pub layout_holds : {A : Type 0} (P : ℕ × A → Type 0) (origin : Origin) (more : List (Fault × Bool)) (row : Layout A) (ms : Members) (a : ℕ × A)
     → ((b : ℕ × A) → checked origin more row ms ≡ Ok b → P b) → read_layout origin more row ms ≡ Ok a → P a
 layout_holds P origin more row ms a h e =
     other_holds P (least_other (keys_of origin row.fields) ms) (named (checked origin more row ms)) a (named_holds P (checked origin more row ms) a h) e
@@ -294,7 +294,7 @@ object_holds : {A : Type 0} (P : A → Type 0) (reading : Members → Result A L
 object_holds P reading None a h e = cc
 object_holds P reading (Some ms) a h e = h ms e
 
-value_holds : {A : Type 0} (P : A → Type 0) (reading : Members → Result A LineNo) (o : Option Data) (a : A)
+pub value_holds : {A : Type 0} (P : A → Type 0) (reading : Members → Result A LineNo) (o : Option Data) (a : A)
     → ((ms : Members) → reading ms ≡ Ok a → P a) → read_value reading o ≡ Ok a → P a
 value_holds P reading None a h e = cc
 value_holds P reading (Some d) a h e = object_holds P reading (as_object d) a h e

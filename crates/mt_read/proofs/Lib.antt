@@ -2,3 +2,4 @@ pub mod BoundedLines
 pub mod Decoding
 pub mod EntryReading
 pub mod StepLemmas
+pub mod TimedEntries

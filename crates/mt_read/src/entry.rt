@@ -1,7 +1,8 @@
 //! The text of an entry read.
-ghost use Rattle.std.specs.Prelude.{◌≡◌, [], IfOk, option_and_then};
+ghost use Rattle.std.specs.Prelude.{◌≡◌, ℕ, [], IfOk, option_and_then};
 ghost use Rattle.mt_base.specs.Bounds.{IsBoundedCommand};
 ghost use Rattle.mt_base.specs.declared.command.Entry.{Entry as Kept};
+ghost use Rattle.mt_base.specs.History.{filled};
 ghost use Rattle.mt_json.specs.Shown.{members};
 ghost use Rattle.mt_read.specs.Entry.{entry, held_in};
 ghost use Rattle.mt_read.specs.Field.{IsUnlessMemory};
@@ -70,9 +71,11 @@ fn read_bytes(alloc: Global, bytes: &[u8]) -> Result<(u32, Command), LineNo>
 /// It is one object with all the fields of the entry's command, those with a default too, and `who`, from 0 to 4,294,967,295. An
 /// acceptance has the fields of a clearance and `v`, the version of its probe, from 0 to 4,194,304. The refusals are those of a line, in
 /// the same order; `v` is checked behind the clearance, and `who` last, in both passes. [`LineNo::Memory`] may come in place of any answer.
+/// The numbers of what is read are within their bounds, and its clearance says from when it holds, so that no moment fills that in.
 pub fn read_entry(alloc: Global, bytes: &[u8]) -> Result<Entry, LineNo>
     ensures exact { Gives result (entry bytes.now) }
     ensures bounded { IfOk result (λ (e : Kept). IsBoundedCommand e.command) }
+    ensures timed { IfOk result (λ (e : Kept). (now : ℕ) → filled now e.command ≡ e.command) }
 {
     let (who, command) = read_bytes(alloc, bytes)?;
     Ok(Entry { who, command })
