@@ -1,0 +1,105 @@
+-- Lines read as entries, one more at a time.
+use Rattle.std.proofs.Common.{◌≡◌, ℕ, zero, suc, List, [], ◌∷◌, ◌++◌, length, map, take, Some, Ok, Err, refl, sym, ◌∙◌, ap, subst, arith, append_assoc, append-nil}
+use Rattle.std.specs.Prelude.{Result, slice_get}
+use Rattle.std.proofs.lemmas.List.{length-map, map-append, take_at}
+use Rattle.mt_base.specs.declared.command.Entry.{Entry}
+use Rattle.mt_io.specs.Lines.{lines_of}
+use Rattle.mt_read.specs.declared.request.LineNo.{LineNo}
+use Rattle.mt_read.specs.Entry.{entry}
+use Rattle.mt_history.specs.declared.reading.Bad.{Bad}
+use Rattle.mt_history.specs.declared.reading.Bad.TheVariants.{Line, Memory}
+use Rattle.mt_history.specs.Printed.{AreRead, IsBad, IsBadLine, IsFirstBad}
+
+abbrev Answer : Type 0
+Answer = Result Entry LineNo
+
+abbrev read_as : Entry → Answer
+read_as e = Ok e
+
+pub read_none : AreRead [] []
+unfolding AreRead
+read_none = refl
+
+pub read_first : (line : List ℕ) (e : Entry) (lines : List (List ℕ)) (entries : List Entry) → entry line ≡ Ok e → AreRead lines entries
+    → AreRead (line ∷ lines) (e ∷ entries)
+unfolding AreRead
+read_first line e lines entries is read = λ i. is i ∷ read i
+
+read_push : (lines : List (List ℕ)) (entries : List Entry) (line : List ℕ) (e : Entry) → AreRead lines entries → entry line ≡ Ok e
+    → AreRead (lines ++ line ∷ []) (entries ++ e ∷ [])
+unfolding AreRead
+read_push lines entries line e read is =
+    let both : map entry lines ++ entry line ∷ [] ≡ map read_as entries ++ read_as e ∷ [] = λ i. read i ++ is i ∷ [] in
+    map-append entry lines (line ∷ []) ∙ both ∙ sym (map-append read_as entries (e ∷ []))
+
+read_length : (lines : List (List ℕ)) (entries : List Entry) → AreRead lines entries → length lines ≡ length entries
+unfolding AreRead
+read_length lines entries read = sym (length-map lines entry) ∙ ap length read ∙ length-map entries read_as
+
+ok_is : (a b : Entry) → read_as a ≡ read_as b → a ≡ b
+ok_is a b e = cc
+
+same_entries : (some others : List Entry) → map read_as some ≡ map read_as others → some ≡ others
+same_entries [] [] e = refl
+same_entries [] (b ∷ others) e = cc
+same_entries (a ∷ some) [] e = cc
+same_entries (a ∷ some) (b ∷ others) e =
+    let first : read_as a ≡ read_as b = cc in
+    let rest : map read_as some ≡ map read_as others = cc in
+    let head = ok_is a b first in
+    let tail = same_entries some others rest in
+    λ i. head i ∷ tail i
+
+pub one_reading : (lines : List (List ℕ)) (some others : List Entry) → AreRead lines some → AreRead lines others → some ≡ others
+unfolding AreRead
+one_reading lines some others read also = same_entries some others (sym read ∙ also)
+
+slice_get_at : {X : Type 0} (xs : List X) (y : X) (ys : List X) (n : ℕ) → length xs ≡ n → slice_get (xs ++ y ∷ ys) n ≡ Some y
+slice_get_at [] y ys zero e = refl
+slice_get_at [] y ys (suc n) e = absurd (omega arith)
+slice_get_at (x ∷ xs) y ys zero e = absurd (omega arith)
+slice_get_at (x ∷ xs) y ys (suc n) e = slice_get_at xs y ys n (omega arith)
+
+-- The lines of bytes are some that were read, and those of the rest.
+pub record IsReadUpTo (bytes rest : List ℕ) (entries : List Entry) : Type 0 where
+  pub done : List (List ℕ)
+  pub lines_are : lines_of bytes ≡ done ++ lines_of rest
+  pub read : AreRead done entries
+
+pub up_to_none : (bytes : List ℕ) → IsReadUpTo bytes bytes []
+up_to_none bytes = record { done = []; lines_are = refl; read = read_none }
+
+pub up_to_more : (bytes rest line others : List ℕ) (entries : List Entry) (e : Entry) → IsReadUpTo bytes rest entries
+    → lines_of rest ≡ line ∷ lines_of others → entry line ≡ Ok e → IsReadUpTo bytes others (entries ++ e ∷ [])
+up_to_more bytes rest line others entries e up cut is = record {
+  done = up.done ++ line ∷ [];
+  lines_are = up.lines_are ∙ ap (λ (lines : List (List ℕ)). up.done ++ lines) cut ∙ sym (append_assoc up.done (line ∷ []) (lines_of others));
+  read = read_push up.done entries line e up.read is;
+}
+
+pub up_to_end : (bytes rest : List ℕ) (entries : List Entry) → IsReadUpTo bytes rest entries → length rest ≡ 0 → AreRead (lines_of bytes) entries
+up_to_end bytes [] entries up none =
+    subst (λ (lines : List (List ℕ)). AreRead lines entries) (sym (up.lines_are ∙ append-nil up.done)) up.read
+up_to_end bytes (b ∷ rest) entries up none = absurd (omega arith)
+
+pub first_bad : (bytes rest line others : List ℕ) (entries : List Entry) (place : ℕ) (refusal : LineNo) → IsReadUpTo bytes rest entries
+    → lines_of rest ≡ line ∷ lines_of others → place ≡ length entries → entry line ≡ Err refusal → IsFirstBad bytes place
+first_bad bytes rest line others entries place refusal up cut at refused =
+    let lines_are : lines_of bytes ≡ up.done ++ line ∷ lines_of others =
+    up.lines_are ∙ ap (λ (lines : List (List ℕ)). up.done ++ lines) cut in
+    let counted : length up.done ≡ place = read_length up.done entries up.read ∙ sym at in
+    record {
+      line = line;
+      is = ap (λ (lines : List (List ℕ)). slice_get lines place) lines_are ∙ slice_get_at up.done line (lines_of others) place counted;
+      refusal = refusal;
+      refused = refused;
+      before = entries;
+      read = subst (λ (lines : List (List ℕ)). AreRead lines entries)
+          (sym (ap (λ (lines : List (List ℕ)). take place lines) lines_are ∙ take_at up.done (line ∷ lines_of others) place counted)) up.read;
+    }
+
+pub bad_is : (bytes rest line others : List ℕ) (entries : List Entry) (place : ℕ) (bad : Bad) → IsReadUpTo bytes rest entries
+    → lines_of rest ≡ line ∷ lines_of others → place ≡ length entries → IsBadLine line place bad → IsBad bytes bad
+bad_is bytes rest line others entries place (Line named) up cut at is =
+    first_bad bytes rest line others entries named is.1.0 up cut (is.0 ∙ at) is.1.1
+bad_is bytes rest line others entries place Memory up cut at is = tt

@@ -1,0 +1,36 @@
+-- Entries as they are printed, and what the lines of bytes are read as.
+use Rattle.std.specs.Prelude.{◌≡◌, ℕ, List, map, take, flat_map, slice_get, Some, Ok, Err, ⊤}
+use Rattle.mt_base.specs.declared.command.Entry.{Entry}
+use Rattle.mt_io.specs.Lines.{lines_of}
+use Rattle.mt_read.specs.declared.request.LineNo.{LineNo}
+use Rattle.mt_read.specs.Entry.{entry}
+use Rattle.mt_write.specs.Entry.{entry_text}
+use Rattle.mt_history.specs.declared.reading.Bad.{Bad}
+use Rattle.mt_history.specs.declared.reading.Bad.TheVariants.{Line, Memory}
+
+-- the texts of entries, one behind the other; each ends with its 0x0A
+abbrev pub printed : List Entry → List ℕ
+printed entries = flat_map entry_text entries
+
+-- each line, in order, is read as the entry of its place, and there are as many. (Opaque, so that a proof opens no reading.)
+unfoldable pub AreRead : List (List ℕ) → List Entry → Type 0
+AreRead lines entries = map entry lines ≡ map Ok entries
+
+-- The line at a place, counted from 0, is read as no entry, and each before it as one.
+pub record IsFirstBad (bytes : List ℕ) (place : ℕ) : Type 0 where
+  pub line : List ℕ
+  pub is : slice_get (lines_of bytes) place ≡ Some line
+  pub refusal : LineNo
+  pub refused : entry line ≡ Err refusal
+  pub before : List Entry
+  pub read : AreRead (take place (lines_of bytes)) before
+
+-- why bytes are not read: their first line that is no entry, or want of memory
+abbrev pub IsBad : List ℕ → Bad → Type 0
+IsBad bytes (Line place) = IsFirstBad bytes place
+IsBad bytes Memory = ⊤
+
+-- why the line at a place is not read
+abbrev pub IsBadLine : List ℕ → ℕ → Bad → Type 0
+IsBadLine line place (Line named) = (named ≡ place) × ((refusal : LineNo) × (entry line ≡ Err refusal))
+IsBadLine line place Memory = ⊤

@@ -1,0 +1,44 @@
+-- Entries that rebuild a picture, and what is wrong with those that rebuild none.
+use Rattle.std.specs.Prelude.{◌≡◌, ℕ, List, length, take, slice_get, Some, Err, ⊤}
+use Rattle.mt_base.specs.declared.command.Entry.{Entry}
+use Rattle.mt_base.specs.declared.command.Refusal.{Refusal}
+use Rattle.mt_base.specs.Bounds.{IsBoundedCommand}
+use Rattle.mt_base.specs.History.{IsDecided, IsInTime, IsReplayable, filled, state_of}
+use Rattle.mt_base.specs.Tables.{Setup}
+use Rattle.mt_picture.specs.Story.{Story}
+use Rattle.mt_history.specs.declared.rebuilding.Wrong.{Wrong}
+use Rattle.mt_history.specs.declared.rebuilding.Wrong.TheVariants.{Illegal, Late, Memory}
+
+-- An entry that may be decided anew: its numbers are within their bounds, and its clearance says from when it holds, so that no moment fills
+-- that in.
+pub record IsReady (e : Entry) : Type 0 where
+  pub bounded : IsBoundedCommand e.command
+  pub timed : (now : ℕ) → filled now e.command ≡ e.command
+
+-- The entries before a place, counted from 0, can be replayed. The one there comes in time, and its command is refused on their state.
+pub record IsIllegalAt (setup : Setup) (entries : List Entry) (at : ℕ) (refusal : Refusal) : Type 0 where
+  pub entry : Entry
+  pub is : slice_get entries at ≡ Some entry
+  pub before : IsReplayable setup (take at entries)
+  pub in_time : IsInTime at entry.command
+  pub refused : IsDecided setup (state_of setup (take at entries)) entry.who entry.command (Err refusal)
+
+-- The entries before a place can be replayed. The one there was probed at a version after its place.
+pub record IsLateAt (setup : Setup) (entries : List Entry) (at : ℕ) : Type 0 where
+  pub entry : Entry
+  pub is : slice_get entries at ≡ Some entry
+  pub before : IsReplayable setup (take at entries)
+  pub late : ¬ IsInTime at entry.command
+
+-- what is wrong with entries, at the first place where something is; or memory is wanted
+abbrev pub IsWrong : Setup → List Entry → Wrong → Type 0
+IsWrong setup entries (Illegal at refusal) = IsIllegalAt setup entries at refusal
+IsWrong setup entries (Late at) = IsLateAt setup entries at
+IsWrong setup entries Memory = ⊤
+
+-- what is wrong with an entry behind the history of a picture
+abbrev pub IsWrongNext : Story → Entry → Wrong → Type 0
+IsWrongNext story e (Illegal at refusal) =
+    (at ≡ length story.history) × IsInTime at e.command × IsDecided story.setup (state_of story.setup story.history) e.who e.command (Err refusal)
+IsWrongNext story e (Late at) = (at ≡ length story.history) × (¬ IsInTime at e.command)
+IsWrongNext story e Memory = ⊤

@@ -1,0 +1,11 @@
+ghost use Rattle.std.specs.Prelude.{◌≡◌, ℕ, List, All};
+ghost use Rattle.mt_base.specs.declared.command.Entry.{Entry};
+ghost use Rattle.mt_io.specs.Lines.{lines_of};
+ghost use Rattle.mt_wire.specs.Complete.{IsComplete};
+ghost use Rattle.mt_history.specs.Printed.{AreRead, printed};
+
+/// The lines of printed entries are read as these entries and as no others: where each of the entries is complete, as it is in a history.
+pub fn history_printed_law()
+    ensures back { (entries : List Entry) → All IsComplete entries → AreRead (lines_of (printed entries)) entries }
+    ensures one { (lines : List (List ℕ)) (some others : List Entry) → AreRead lines some → AreRead lines others → some ≡ others }
+{}

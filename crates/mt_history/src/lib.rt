@@ -1,0 +1,13 @@
+//! Printed histories: the entries of a picture as lines of text, the entries that lines say, and the picture that entries rebuild.
+#![tactic(auto)]
+
+mod laws;
+mod printing;
+mod reading;
+mod rebuilding;
+
+pub use laws::history_printed_law;
+pub use mt_memory::Memory;
+pub use printing::print;
+pub use reading::{Bad, read_all};
+pub use rebuilding::{Wrong, rebuild};
