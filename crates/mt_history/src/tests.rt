@@ -1,0 +1,105 @@
+//! A small history as text: read, rebuilt, printed, and read and rebuilt once more; and texts that say none.
+use crate::{Bad, Wrong, print, read_all, rebuild};
+use mt_base::{Band, Callsign, Conflict, FixName, Kind, Refusal, Rules, TypeName};
+use mt_picture::Picture;
+use mt_tables::Tables;
+use std::alloc::Global;
+use std::process::Abort;
+use std::sync::Arc;
+use std::thread::Threads;
+
+// Two plans, one far north of the other, and an external flight that comes towards the first, one flight level above it. The first is marked
+// to climb there.
+const MARKED: &str = r#"{"at":0,"call":"DDD1","do":"plan","from":350,"level":350,"route":["Q0","Q1"],"type":"JA1","who":0}
+{"at":0,"call":"III1","do":"plan","from":350,"level":350,"route":["Q2","Q3"],"type":"JA1","who":0}
+{"call":"JJJ1","do":"external","from":0,"gr":0,"gw":0,"r":0,"to":1200,"vx":-480,"vy":0,"vz":0,"w":0,"who":0,"x":144000,"y":0,"z":2160000}
+{"call":"DDD1","do":"tentative","eff":0,"level":360,"who":1}
+"#;
+
+// The second climbs, and the first's mark is taken away.
+const WITHDRAWN: &str = r#"{"call":"III1","do":"clear","eff":0,"level":370,"who":0}
+{"call":"DDD1","do":"withdraw","force":false,"who":1}
+"#;
+
+fn fix(rt: &impl Abort, text: &[u8]) -> FixName {
+    FixName::of(text).expect(rt, "a fix")
+}
+
+// Two pairs of fixes, one 500,000 units north of the other, those of a pair 480,000 units apart; and a type of one band.
+fn small_tables(rt: &impl Abort, alloc: Global) -> Arc<Tables> {
+    let mut tables = Tables::make(alloc).expect(rt, "memory");
+    let band = [Band {
+        top: 410,
+        speed: 480,
+        climb: 2_100,
+        descent: 2_100,
+    }];
+    assert!(rt; tables.add_fix(fix(rt, b"Q0"), 0, 0).is_ok());
+    assert!(rt; tables.add_fix(fix(rt, b"Q1"), 480_000, 0).is_ok());
+    assert!(rt; tables.add_fix(fix(rt, b"Q2"), 0, 500_000).is_ok());
+    assert!(rt; tables.add_fix(fix(rt, b"Q3"), 480_000, 500_000).is_ok());
+    let kind = TypeName::of(b"JA1").expect(rt, "a type");
+    assert!(rt; tables.add_type(kind, &band).is_ok());
+    Arc::new(alloc, tables).ok().expect(rt, "memory")
+}
+
+// What is rebuilt of the entries that a text says.
+fn rebuilt(
+    rt: &(impl Abort + Threads + Sync),
+    alloc: Global,
+    text: &[u8],
+) -> Result<Picture, Wrong> {
+    let entries = read_all(alloc, text).ok().expect(rt, "entries");
+    let tables = small_tables(rt, alloc);
+    rebuild(rt, alloc, Rules::usual(), tables, &entries)
+}
+
+// The conflict of the marked climb with the flight ahead.
+fn conflict_ahead(rt: &impl Abort) -> Conflict {
+    Conflict {
+        first: 129,
+        a: Callsign::of(b"DDD1").expect(rt, "a callsign"),
+        b: Callsign::of(b"JJJ1").expect(rt, "a callsign"),
+        ka: Kind::Tentative,
+        kb: Kind::Actual,
+        last: 171,
+    }
+}
+
+// One text behind another.
+fn joined(rt: &impl Abort, alloc: Global, first: &str, last: &str) -> Vec<u8> {
+    let mut text = Vec::new(alloc);
+    text.extend_from_slice(first.as_bytes()).ok().expect(rt, "memory");
+    text.extend_from_slice(last.as_bytes()).ok().expect(rt, "memory");
+    text
+}
+
+#[test]
+fn a_printed_history_rebuilds_the_picture(rt: HostRuntime) {
+    let alloc = rt.alloc();
+    let marked = rebuilt(&rt, alloc, MARKED.as_bytes()).ok().expect(&rt, "a picture");
+    assert!(&rt; marked.published() == [conflict_ahead(&rt)].as_slice());
+    let text = joined(&rt, alloc, MARKED, WITHDRAWN);
+    let picture = rebuilt(&rt, alloc, &text).ok().expect(&rt, "a picture");
+    let printed = print(alloc, &picture, 0, picture.version()).expect(&rt, "memory");
+    assert!(&rt; printed.as_slice() == text.as_slice());
+    let again = rebuilt(&rt, alloc, &printed).ok().expect(&rt, "a picture");
+    assert!(&rt; again.version() == 6);
+    assert!(&rt; again.published().is_empty());
+}
+
+#[test]
+fn what_is_wrong_is_named_by_its_place(rt: HostRuntime) {
+    let alloc = rt.alloc();
+    let twice = joined(&rt, alloc, MARKED, MARKED);
+    let held = Wrong::Illegal {
+        at: 4,
+        refusal: Refusal::HeldCall,
+    };
+    assert!(&rt; rebuilt(&rt, alloc, &twice).err() == Some(held));
+    let ahead = "{\"call\":\"DDD1\",\"do\":\"accept\",\"eff\":0,\"level\":360,\"v\":5,\"who\":0}\n";
+    let late = joined(&rt, alloc, MARKED, ahead);
+    assert!(&rt; rebuilt(&rt, alloc, &late).err() == Some(Wrong::Late { at: 4 }));
+    let gap = joined(&rt, alloc, MARKED, "\n");
+    assert!(&rt; read_all(alloc, &gap).err() == Some(Bad::Line(4)));
+}
