@@ -10,7 +10,8 @@ use std::thread::Threads;
 
 // Two plans, one far north of the other, and an external flight that comes towards the first, one flight level above it. The first is marked
 // to climb there.
-const MARKED: &str = r#"{"at":0,"call":"DDD1","do":"plan","from":350,"level":350,"route":["Q0","Q1"],"type":"JA1","who":0}
+const MARKED: &str =
+    r#"{"at":0,"call":"DDD1","do":"plan","from":350,"level":350,"route":["Q0","Q1"],"type":"JA1","who":0}
 {"at":0,"call":"III1","do":"plan","from":350,"level":350,"route":["Q2","Q3"],"type":"JA1","who":0}
 {"call":"JJJ1","do":"external","from":0,"gr":0,"gw":0,"r":0,"to":1200,"vx":-480,"vy":0,"vz":0,"w":0,"who":0,"x":144000,"y":0,"z":2160000}
 {"call":"DDD1","do":"tentative","eff":0,"level":360,"who":1}
@@ -69,15 +70,21 @@ fn conflict_ahead(rt: &impl Abort) -> Conflict {
 // One text behind another.
 fn joined(rt: &impl Abort, alloc: Global, first: &str, last: &str) -> Vec<u8> {
     let mut text = Vec::new(alloc);
-    text.extend_from_slice(first.as_bytes()).ok().expect(rt, "memory");
-    text.extend_from_slice(last.as_bytes()).ok().expect(rt, "memory");
+    text.extend_from_slice(first.as_bytes())
+        .ok()
+        .expect(rt, "memory");
+    text.extend_from_slice(last.as_bytes())
+        .ok()
+        .expect(rt, "memory");
     text
 }
 
 #[test]
 fn a_printed_history_rebuilds_the_picture(rt: HostRuntime) {
     let alloc = rt.alloc();
-    let marked = rebuilt(&rt, alloc, MARKED.as_bytes()).ok().expect(&rt, "a picture");
+    let marked = rebuilt(&rt, alloc, MARKED.as_bytes())
+        .ok()
+        .expect(&rt, "a picture");
     assert!(&rt; marked.published() == [conflict_ahead(&rt)].as_slice());
     let text = joined(&rt, alloc, MARKED, WITHDRAWN);
     let picture = rebuilt(&rt, alloc, &text).ok().expect(&rt, "a picture");
