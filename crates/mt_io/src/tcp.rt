@@ -107,7 +107,7 @@ impl Duplex for TcpLink {
 }
 
 /// A door to the ports of loopback. It has the runtime's handle to the network, and a listener once it has listened. An error of either
-/// is counted, and so is a link that is asked for before `listen`.
+/// is counted. Before `listen` it has no link to give.
 #[derive(Drop)]
 pub struct TcpDoor<N> {
     net: N,
