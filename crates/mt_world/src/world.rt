@@ -127,6 +127,15 @@ impl World {
         &self.picture
     }
 
+    /// The picture, out of the world.
+    pub fn into_picture(self) -> Picture
+        ensures setup { result.setup ≡ record { rules = self.rules; tables = self.tables } }
+        ensures history { result.history ≡ self.history }
+        ensures legal { IsLegal result.setup result.history }
+    {
+        self.picture
+    }
+
     /// How many pairs were tested for commands and probes; those of advice and of checks from nothing are counted apart. At 2^64 - 1 it stays.
     pub fn tests(&self) -> u64 {
         self.tests.get()
