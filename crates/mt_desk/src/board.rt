@@ -1,0 +1,116 @@
+//! A hand's calls.
+ghost use Rattle.std.specs.Prelude.{◌≡◌};
+ghost use Rattle.mt_board.specs.Probing.{acceptance};
+ghost use Rattle.mt_probe.specs.Hits.{told_of};
+ghost use Rattle.mt_desk.specs.Desk.{seat_of};
+
+use crate::hand::Hand;
+use crate::home::Home;
+use mt_base::{Callsign, Clearance, Command, Entered, Second, Tally};
+use mt_board::{Advised, Answer, Ask, Board, No, Probed};
+use mt_io::Gate;
+use mt_probe::{Probe, makes_strand, prepare, what_if};
+use mt_snapshot_advice::advise;
+use std::sync::Wait;
+use std::thread::Threads;
+
+// The command that accepts a probe.
+fn acceptance(probe: &Probe) -> Command
+    ensures { result ≡ acceptance (told_of probe.now) }
+{
+    Command::Accept {
+        call: probe.call(),
+        clearance: probe.clearance(),
+        eff: probe.eff(),
+        probed: probe.version(),
+    }
+}
+
+impl<'a> Board for Hand<'a> {
+    type Probe = Probe;
+
+    type Home = Home;
+
+    ghost seat = { λ h. seat_of h.desk.fixed h.view };
+
+    ghost home = { λ h. record { turn = h.desk.home; gave = h.view.gave; joined = h.view.joined } };
+
+    fn number(&self) -> u32 {
+        self.seat.number()
+    }
+
+    fn read<R: Threads + Wait + Sync>(&mut self, rt: &R, ask: &Ask) -> Result<Answer, No> {
+        let (desk, seat) = (self.desk, &mut self.seat);
+        match ask {
+            Ask::List => desk.list(rt, seat),
+            Ask::Check => desk.check(rt, seat),
+            Ask::Due => desk.due(rt, seat),
+            Ask::Flight { call, sec } => desk.flight(rt, seat, *call, *sec),
+            Ask::History { from, to } => desk.entries(rt, seat, *from, *to),
+        }
+    }
+
+    fn what_if<R: Threads + Wait + Sync, G: Gate>(
+        &mut self,
+        rt: &R,
+        call: Callsign,
+        clearance: Clearance,
+        eff: Option<Second>,
+        gate: &G,
+    ) -> Result<Probe, No> {
+        let desk = self.desk;
+        let snapshot = desk.take(rt, &mut self.seat)?;
+        gate.between(self.seat.number());
+        let (tables, rules) = (snapshot.tables(), snapshot.rules());
+        let mut tests = Tally::new(rt);
+        what_if(
+            desk.alloc, &snapshot, tables, rules, call, clearance, eff, &mut tests,
+        )
+    }
+
+    fn advise<R: Threads + Wait + Sync, G: Gate>(
+        &mut self,
+        rt: &R,
+        call: Callsign,
+        gate: &G,
+    ) -> Result<Advised<Probe>, No> {
+        let desk = self.desk;
+        let snapshot = desk.take(rt, &mut self.seat)?;
+        gate.between(self.seat.number());
+        advise(rt, desk.alloc, &snapshot, call)
+    }
+
+    fn change<R: Threads + Wait + Sync, G: Gate>(
+        &mut self,
+        rt: &R,
+        command: Command,
+        gate: &G,
+    ) -> Result<Entered, No> {
+        let desk = self.desk;
+        let who = self.seat.number();
+        if !makes_strand(&command) {
+            gate.between(who);
+            return desk.publish(rt, &mut self.seat, &command, None);
+        }
+        let snapshot = desk.take(rt, &mut self.seat)?;
+        gate.between(who);
+        let (tables, rules) = (snapshot.tables(), snapshot.rules());
+        let mut tests = Tally::new(rt);
+        let prep = prepare(
+            desk.alloc, &snapshot, tables, rules, who, &command, &mut tests,
+        )?;
+        desk.publish(rt, &mut self.seat, &command, Some(&prep))
+    }
+
+    fn accept<R: Threads + Wait + Sync, G: Gate>(
+        &mut self,
+        rt: &R,
+        probe: &Probe,
+        gate: &G,
+    ) -> Result<Entered, No> {
+        gate.between(self.seat.number());
+        let command = acceptance(probe);
+        self.desk
+            .publish(rt, &mut self.seat, &command, Some(probe.prep()))
+    }
+}

@@ -1,0 +1,115 @@
+//! The desk: how it begins, is shared and ends.
+ghost use Rattle.std.specs.Prelude.{◌≡◌, ◌<◌, ◌^◌, [], length, IfOk, IfErr};
+ghost use Rattle.mt_base.specs.History.{IsLegal};
+ghost use Rattle.mt_turn.specs.Lending.{AllJoined, Closes};
+ghost use Rattle.mt_turn.specs.Views.{first_view, giver, newcomer, taker, up_to};
+ghost use Rattle.mt_desk.specs.Desk.{IsReady};
+
+use crate::hand::Hand;
+use crate::legal::Legal;
+use mt_base::Memory;
+use mt_picture::Picture;
+use mt_turn::Turn;
+use std::alloc::Global;
+use std::marker::Model;
+use std::snapshot::Snapshot;
+
+/// A seat of a desk. Contracts see it as a `Place`: the turn that it is of, and what it knows.
+pub type Seat = mt_turn::Seat<Legal>;
+
+/// One kept picture behind a turn. Contracts see it as the name of the turn with the rules and tables.
+#[derive(Drop)]
+pub struct Desk {
+    pub(crate) alloc: Global,
+    pub(crate) turn: Turn<Legal>,
+    // The picture as it was handed in, for clauses alone: it has no bytes.
+    pub(crate) opening: Snapshot<Picture>,
+}
+
+impl Model for Desk {
+    ghost use Rattle.mt_desk.specs.Desk.{Desk};
+
+    ghost Value = { Desk };
+
+    ghost view = { λ d. record { home = d.turn; fixed = d.opening.value.setup } };
+}
+
+impl Desk {
+    /// A desk over a picture that nothing was entered into, and its first seat, which has the number 0 and has seen nothing. The one error is
+    /// want of memory, and the picture comes back with it as it was.
+    pub fn make(alloc: Global, picture: Picture) -> Result<(Desk, Seat), (Picture, Memory)>
+        requires empty { picture.history ≡ [] }
+        ensures fixed { IfOk result (λ r. r.0.fixed ≡ picture.setup) }
+        ensures ready { IfOk result (λ r. IsReady r.0 r.1) }
+        ensures first { IfOk result (λ r. r.1.view ≡ first_view picture.setup) }
+        ensures err { IfErr result (λ e. e.0 ≡ picture) }
+    {
+        let opening = Snapshot::of(&picture);
+        match Turn::make(alloc, Legal::of(picture)) {
+            Ok((turn, seat)) => Ok((
+                Desk {
+                    alloc,
+                    turn,
+                    opening,
+                },
+                seat,
+            )),
+            Err((legal, memory)) => Err((legal.into_picture(), memory)),
+        }
+    }
+
+    /// A hand with a seat of this desk. It takes no memory.
+    pub fn hand(&self, seat: Seat) -> Hand<'_>
+        requires ready { IsReady self.now seat }
+        ensures { result ≡ record { desk = self.now; view = seat.view } }
+    {
+        Hand { desk: self, seat }
+    }
+
+    /// Splits a seat off the first one, with the next number and with all that the first one has seen. It takes no memory.
+    ///
+    /// The numbers are 1, 2, 3 and so on, at most 2^31 of them. `giver` and `newcomer` say what the two seats know.
+    pub fn split(&self, seat: &mut Seat) -> Seat
+        requires ready { IsReady self.now seat.old }
+        requires first { seat.old.view.number ≡ 0 }
+        requires room { length seat.old.view.gave < 2 ^ 31 }
+        ensures ready { IsReady self.now seat.new × IsReady self.now result }
+        ensures gives { seat.new.view ≡ giver seat.old.view }
+        ensures comes { result.view ≡ newcomer seat.old.view }
+        ensures in_order { seat.new.view.gave ≡ up_to result.view.number }
+    {
+        self.turn.split(seat)
+    }
+
+    /// Joins a seat into the first one, which keeps the longer of what the two have seen. It takes no memory.
+    ///
+    /// `taker` says what the first seat knows then: the other's number, seen and mine are among its joined.
+    pub fn join(&self, seat: &mut Seat, other: Seat)
+        requires ready { IsReady self.now seat.old × IsReady self.now other }
+        requires first { seat.old.view.number ≡ 0 }
+        ensures ready { IsReady self.now seat.new }
+        ensures joins { seat.new.view ≡ taker seat.old.view other.view }
+    {
+        self.turn.join(seat, other);
+    }
+
+    /// Gives the picture, where every seat that was split off is joined again, as `AllJoined` says. It takes no memory.
+    ///
+    /// Its history is legal under the desk's rules and tables, and `Closes` says what it is: it begins with what each seat has seen, has each
+    /// seat's entries and no others.
+    pub fn close(self, seat: Seat) -> Picture
+        requires ready { IsReady self seat }
+        requires first { seat.view.number ≡ 0 }
+        requires joined { AllJoined seat.view }
+        ensures history { Closes (λ e. e.who) seat.view result.history }
+        ensures fixed { result.setup ≡ self.fixed }
+        ensures legal { IsLegal result.setup result.history }
+    {
+        let Desk {
+            alloc: _,
+            turn,
+            opening: _,
+        } = self;
+        turn.close(seat).into_picture()
+    }
+}

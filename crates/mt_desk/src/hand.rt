@@ -1,0 +1,35 @@
+//! A seat in the hand of a thread.
+ghost use Rattle.std.specs.Prelude.{◌≡◌};
+ghost use Rattle.mt_desk.specs.Desk.{IsReady, place_of};
+
+use crate::desk::{Desk, Seat};
+use std::marker::Model;
+
+/// A seat of a desk, through which one thread reads and changes the picture: it is a `Board`. Contracts see it as its desk with what the seat
+/// knows.
+#[derive(Drop)]
+pub struct Hand<'a> {
+    pub(crate) desk: &'a Desk,
+    pub(crate) seat: Seat,
+}
+
+impl<'a> Model for Hand<'a> {
+    ghost use Rattle.mt_desk.specs.Desk.{Hand, IsReady};
+
+    ghost Value = { Hand };
+
+    ghost view = { λ h. record { desk = h.desk.now; view = h.seat.view } };
+
+    ghost invariant = { λ h. IsReady h.desk.now h.seat };
+}
+
+impl<'a> Hand<'a> {
+    /// Its seat. It takes no memory.
+    pub fn back(self) -> Seat
+        ensures seat { result ≡ place_of self.entry }
+        ensures ready { IsReady self.entry.desk result }
+    {
+        let Hand { desk: _, seat } = self;
+        seat
+    }
+}
