@@ -9,10 +9,10 @@ use crate::hand::Hand;
 use crate::legal::Legal;
 use mt_base::Memory;
 use mt_picture::Picture;
+use mt_probe::Snapshot;
 use mt_turn::Turn;
 use std::alloc::Global;
 use std::marker::Model;
-use std::snapshot::Snapshot;
 
 /// A seat of a desk. Contracts see it as a `Place`: the turn that it is of, and what it knows.
 pub type Seat = mt_turn::Seat<Legal>;
@@ -22,8 +22,8 @@ pub type Seat = mt_turn::Seat<Legal>;
 pub struct Desk {
     pub(crate) alloc: Global,
     pub(crate) turn: Turn<Legal>,
-    // The picture as it was handed in, for clauses alone: it has no bytes.
-    pub(crate) opening: Snapshot<Picture>,
+    // The picture as it was handed in. It tells the rules and tables.
+    pub(crate) opening: Snapshot,
 }
 
 impl Model for Desk {
@@ -31,7 +31,7 @@ impl Model for Desk {
 
     ghost Value = { Desk };
 
-    ghost view = { λ d. record { home = d.turn; fixed = d.opening.value.setup } };
+    ghost view = { λ d. record { home = d.turn; fixed = d.opening.setup } };
 }
 
 impl Desk {
@@ -44,7 +44,9 @@ impl Desk {
         ensures first { IfOk result (λ r. r.1.view ≡ first_view picture.setup) }
         ensures err { IfErr result (λ e. e.0 ≡ picture) }
     {
-        let opening = Snapshot::of(&picture);
+        let Ok(opening) = picture.snapshot() else {
+            return Err((picture, Memory));
+        };
         match Turn::make(alloc, Legal::of(picture)) {
             Ok((turn, seat)) => Ok((
                 Desk {
