@@ -1,0 +1,157 @@
+//! What is done with the turn not held: a gate holds one seat between its snapshot and what follows, until the other seat has entered a flight.
+//! A desk that held the turn meanwhile would never end these tests.
+ghost use Rattle.std.specs.Prelude.{◌≡◌};
+ghost use Rattle.std.specs.Thread.{IsSync};
+ghost use Rattle.mt_desk.specs.Desk.{IsReady};
+
+use crate::scene::{named, opened, outer, plan};
+use mt_base::{Clearance, Command};
+use mt_board::{Board, Probed};
+use mt_desk::{Desk, Seat};
+use mt_io::{Gate, OpenGate};
+use std::alloc::Global;
+use std::process::Abort;
+use std::sync::{Barrier, Wait};
+use std::thread::{Threads, join};
+
+/// Holds its caller from one meeting to the next.
+#[derive(Drop)]
+struct Hold<'a, R: Wait> {
+    rt: &'a R,
+    meeting: &'a Barrier,
+}
+
+impl<R: Wait> Gate for Hold<'_, R> {
+    fn between(&self, _who: u32) {
+        self.meeting.wait(self.rt);
+        self.meeting.wait(self.rt);
+    }
+}
+
+/// What the seat does whose gate holds it.
+#[derive(Clone, Copy)]
+enum Work {
+    Probe,
+    Advice,
+    Change,
+}
+
+/// Files the one planned flight.
+fn file<R: Threads + Wait + Sync + Abort>(rt: &R, alloc: Global, desk: &Desk, seat: Seat) -> Seat
+    requires sync { IsSync R.row }
+    requires ready { IsReady desk.now seat }
+    ensures { IsReady desk.now result }
+{
+    let mut hand = desk.hand(seat);
+    let filed = hand.change(rt, plan(rt, alloc, b"DDD1"), &OpenGate);
+    assert!(rt; filed.is_ok());
+    hand.back()
+}
+
+/// Works through the gate, and gives the version that is named.
+fn held_version<R: Threads + Wait + Sync + Abort>(
+    rt: &R,
+    desk: &Desk,
+    seat: Seat,
+    meeting: &Barrier,
+    work: Work,
+) -> u64
+    requires sync { IsSync R.row }
+    requires ready { IsReady desk.now seat }
+{
+    let mut hand = desk.hand(seat);
+    let gate = Hold { rt, meeting };
+    let (call, clearance) = (named(rt, b"DDD1"), Clearance::Level(360));
+    match work {
+        Work::Probe => match hand.what_if(rt, call, clearance, None, &gate) {
+            Ok(probe) => probe.version(),
+            Err(_) => panic!(rt; "no probe"),
+        },
+        Work::Advice => match hand.advise(rt, call, &gate) {
+            Ok(advised) => advised.version,
+            Err(_) => panic!(rt; "no advice"),
+        },
+        Work::Change => {
+            let eff = None;
+            let command = Command::Clear {
+                call,
+                clearance,
+                eff,
+            };
+            match hand.change(rt, command, &gate) {
+                Ok(entered) => entered.version,
+                Err(_) => panic!(rt; "not entered"),
+            }
+        }
+    }
+}
+
+/// Enters a flight between the two meetings, and gives the version with it.
+fn enter<R: Threads + Wait + Sync + Abort>(
+    rt: &R,
+    desk: &Desk,
+    seat: Seat,
+    meeting: &Barrier,
+) -> u64
+    requires sync { IsSync R.row }
+    requires ready { IsReady desk.now seat }
+{
+    let mut hand = desk.hand(seat);
+    meeting.wait(rt);
+    let entered = hand.change(rt, outer(named(rt, b"BBB1"), 10), &OpenGate);
+    meeting.wait(rt);
+    match entered {
+        Ok(entered) => entered.version,
+        Err(_) => panic!(rt; "not entered"),
+    }
+}
+
+/// Both at once: the version of the work, and that of the flight that was entered meanwhile.
+fn versions<R: Threads + Wait + Sync + Abort>(
+    rt: &R,
+    desk: &Desk,
+    first: Seat,
+    second: Seat,
+    meeting: &Barrier,
+    held: Work,
+) -> (u64, u64)
+    requires sync { IsSync R.row }
+    requires ready { IsReady desk.now first × IsReady desk.now second }
+{
+    join(
+        rt,
+        move ||
+            requires { IsSync R.row × IsReady desk.now first }
+        { held_version(rt, desk, first, meeting, held) },
+        move ||
+            requires { IsSync R.row × IsReady desk.now second }
+        { enter(rt, desk, second, meeting) },
+    )
+}
+
+#[test]
+fn probe_holds_no_turn(rt: HostRuntime) {
+    let (desk, first, second) = opened(&rt, rt.alloc());
+    let first = file(&rt, rt.alloc(), &desk, first);
+    let meeting = Barrier::new(2);
+    let named = versions(&rt, &desk, first, second, &meeting, Work::Probe);
+    assert!(&rt; named == (1, 2));
+}
+
+#[test]
+fn advice_holds_no_turn(rt: HostRuntime) {
+    let (desk, first, second) = opened(&rt, rt.alloc());
+    let first = file(&rt, rt.alloc(), &desk, first);
+    let meeting = Barrier::new(2);
+    let named = versions(&rt, &desk, first, second, &meeting, Work::Advice);
+    assert!(&rt; named == (1, 2));
+}
+
+#[test]
+fn preparing_a_change_holds_no_turn(rt: HostRuntime) {
+    let (desk, first, second) = opened(&rt, rt.alloc());
+    let first = file(&rt, rt.alloc(), &desk, first);
+    let meeting = Barrier::new(2);
+    let named = versions(&rt, &desk, first, second, &meeting, Work::Change);
+    assert!(&rt; named == (3, 2));
+}

@@ -1,0 +1,9 @@
+//! Tests of a desk on threads: two seats that file at once, and what is done with the turn not held.
+#![tactic(auto)]
+
+#[cfg(test)]
+mod filing;
+#[cfg(test)]
+mod holding;
+#[cfg(test)]
+mod scene;
