@@ -1,5 +1,5 @@
 -- What the words of a command line ask for.
-use Rattle.std.specs.Prelude.{ℕ, ◌==◌, Bool, true, false, ◌&&◌, if◌then◌else◌, nat_lt, List, [], ◌∷◌, length, codes, Option, Some, None, option_map, unwrap_or, is_some}
+use Rattle.std.specs.Prelude.{ℕ, ◌≤◌, ⊤, ◌==◌, Bool, true, false, ◌&&◌, if◌then◌else◌, nat_lt, List, [], ◌∷◌, length, codes, Option, Some, None, option_map, unwrap_or, is_some}
 use Rattle.std.specs.Int.{is_in_range}
 use Rattle.std.specs.List.{after_first, before_first, position_or_len}
 use Rattle.std.specs.Str.{all_ascii_digits, bytes_eq}
@@ -111,3 +111,11 @@ task_of (command ∷ words) =
     else (if bytes_eq command (codes "serve") then option_map serve_task (set_by serving_with no_serving words)
     else (if bytes_eq command (codes "load") then option_map load_task (set_by loading_with no_loading words)
     else None))
+
+-- the flights of a load run are 1 to 1,024
+abbrev pub IsFlights : ℕ → Type 0
+IsFlights flights = (1 ≤ flights) × (flights ≤ 1024)
+
+abbrev pub IsBoundedTask : Task → Type 0
+IsBoundedTask (Load flights number) = IsFlights flights
+IsBoundedTask task = ⊤

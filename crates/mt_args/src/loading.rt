@@ -1,6 +1,6 @@
 //! The options of `load`.
-ghost use Rattle.std.specs.Prelude.{◌≡◌, ◌<◌, drop, length, MatchResult, Some, None, option_map};
-ghost use Rattle.mt_args.specs.Task.{load_task, loading_with, no_loading, set_by};
+ghost use Rattle.std.specs.Prelude.{◌≡◌, ◌<◌, drop, length, IfOk, MatchResult, Some, None, option_map};
+ghost use Rattle.mt_args.specs.Task.{IsBoundedTask, load_task, loading_with, no_loading, set_by};
 
 use crate::number::once;
 use crate::setting::{Setting, setting_at};
@@ -16,11 +16,14 @@ struct Loading {
 }
 
 impl Model for Loading {
-    ghost use Rattle.mt_args.specs.Task.{Loading};
+    ghost use Rattle.std.specs.Prelude.{IfSome};
+    ghost use Rattle.mt_args.specs.Task.{IsFlights, Loading};
 
     ghost Value = { Loading };
 
     ghost view = { λ s. record { flights = s.flights; number = s.number } };
+
+    ghost invariant = { λ s. IfSome s.flights IsFlights };
 }
 
 impl Loading {
@@ -44,8 +47,9 @@ impl Loading {
 /// Reads the words behind the first as the options of `load`.
 pub fn load(words: &Words) -> Result<Task, Usage>
     requires { 0 < length words.now }
-    ensures { MatchResult result (λ task. option_map load_task (set_by loading_with no_loading (drop 1 words.now)) ≡ Some task)
+    ensures task { MatchResult result (λ task. option_map load_task (set_by loading_with no_loading (drop 1 words.now)) ≡ Some task)
         (λ _. option_map load_task (set_by loading_with no_loading (drop 1 words.now)) ≡ None) }
+    ensures bounded { IfOk result IsBoundedTask }
 {
     let mut loading = Loading {
         flights: None,

@@ -11,7 +11,7 @@ const DIGITS: usize = 10;
 /// The number of an option that is set at most once: 1 to 10 digits, within its bounds.
 pub fn once(is_set: bool, value: &str, low: u64, high: u64) -> Result<u64, Usage>
     ensures number { MatchResult result (λ number. once is_set low high value.now ≡ Some number) (λ _. once is_set low high value.now ≡ None) }
-    ensures bound { IfOk result (λ number. number ≤ high) }
+    ensures bound { IfOk result (λ number. (low ≤ number) × (number ≤ high)) }
 {
     if is_set {
         return Err(Usage);

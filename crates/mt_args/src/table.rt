@@ -1,6 +1,6 @@
 //! The table of words.
-ghost use Rattle.std.specs.Prelude.{◌≡◌, ◌<◌, drop, length, MatchResult, Some, None};
-ghost use Rattle.mt_args.specs.Task.{task_of};
+ghost use Rattle.std.specs.Prelude.{◌≡◌, ◌<◌, drop, length, IfOk, MatchResult, Some, None};
+ghost use Rattle.mt_args.specs.Task.{IsBoundedTask, task_of};
 ghost use Rattle.mt_args.specs.declared.task.Task.TheVariants.{Replay};
 
 use crate::loading::load;
@@ -15,7 +15,8 @@ use mt_base::Words;
 /// `--workers` (0 to 8, by default 2), `load` the options `--flights` (1 to 1,024, by default 40) and `--number` (0 to 4,294,967,295, by
 /// default 1). Options follow in any order, each at most once, as `--port 7700` or `--port=7700`. A number is 1 to 10 ASCII digits.
 pub fn read_words(words: &Words) -> Result<Task, Usage>
-    ensures { MatchResult result (λ task. task_of words.now ≡ Some task) (λ _. task_of words.now ≡ None) }
+    ensures task { MatchResult result (λ task. task_of words.now ≡ Some task) (λ _. task_of words.now ≡ None) }
+    ensures bounded { IfOk result IsBoundedTask }
 {
     if words.count() == 0 {
         return Err(Usage);

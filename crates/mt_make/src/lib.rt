@@ -10,3 +10,4 @@ mod names;
 mod plans;
 
 pub use making::input;
+pub use names::callsign;

@@ -20,8 +20,8 @@ pub(crate) fn fix_name(number: u32) -> FixName
     FixName::of(&text).unwrap()
 }
 
-/// The callsign of a flight: `L` and its number in four digits.
-pub(crate) fn callsign(number: u32) -> Callsign
+/// The callsign of a flight of the input: `L` and its number in four digits. It asks that the number is below 10,000.
+pub fn callsign(number: u32) -> Callsign
     requires { number < 10000 }
     ensures { result ≡ callsign number }
 {

@@ -1,4 +1,3 @@
-pub mod Adding
 pub mod OneReply
 pub mod Replying
 pub mod Served

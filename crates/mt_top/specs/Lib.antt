@@ -1,3 +1,4 @@
+pub mod Load
 pub mod Run
 pub mod Script
 pub mod SoFar

@@ -1,12 +1,17 @@
 use Rattle.std.specs.Prelude.{◌≡◌, ◌^◌, ◌⊎◌, ℕ, List, [], ◌∷◌, ◌++◌, length, codes}
 use Rattle.std.specs.declared.option.Option.{Option}
+use Rattle.std.specs.declared.option.Option.TheVariants.{None, Some}
 use Rattle.std.specs.Io.KnownBytes.{Appends}
+use Rattle.mt_args.specs.declared.task.Task.{Task}
+use Rattle.mt_args.specs.declared.task.Task.TheVariants.{Load, Replay, Serve}
+use Rattle.mt_args.specs.Task.{task_of}
 use Rattle.mt_io.specs.Writing.{AppendsFront}
 use Rattle.mt_lines.specs.Answering as answering
 use Rattle.mt_lines.specs.Given.{is_farewell}
 use Rattle.mt_write.specs.Reply.{reply_text}
 use Rattle.mt_top.specs.declared.status.Status.{Status}
 use Rattle.mt_top.specs.declared.status.Status.TheVariants.{Done, Usage, ReadFault, WriteFault, Spent, Memory}
+use Rattle.mt_top.specs.Load.{LoadMeans}
 use Rattle.mt_top.specs.Script.{IsFollowed, IsReplied}
 use Rattle.mt_world.specs.World.{World, opening_world}
 
@@ -47,10 +52,6 @@ ReplayMeans Usage input left written = ⊥
 abbrev pub usage_line : List ℕ
 usage_line = codes "usage: mtcd replay | serve [--port P] [--sessions N] [--workers W] | load [--flights N] [--number X]" ++ 10 ∷ []
 
--- the words are the one command that there is
-abbrev pub IsReplay : List (List ℕ) → Type 0
-IsReplay words = words ≡ codes "replay" ∷ []
-
 -- what the status says where they are not: nothing was read, and the usage line was written, or a front of it where the output failed
 abbrev pub UsageMeans : Status → List ℕ → List ℕ → List ℕ → Type 0
 UsageMeans Usage input left written = (left ≡ input) × (written ≡ usage_line)
@@ -69,10 +70,15 @@ SaysUsage ReadFault before after = ⊥
 SaysUsage Spent before after = ⊥
 SaysUsage Memory before after = ⊥
 
--- What a run's status says, by its words.
+-- What a run's status says, by what its words ask for; words that ask to serve are no command yet.
+abbrev pub TaskMeans : Option Task → Status → List ℕ → List ℕ → List ℕ → Type 0
+TaskMeans (Some Replay) status input left written = ReplayMeans status input left written
+TaskMeans (Some (Load flights number)) status input left written = LoadMeans flights number status input left written
+TaskMeans (Some (Serve port sessions workers)) status input left written = UsageMeans status input left written
+TaskMeans None status input left written = UsageMeans status input left written
+
 abbrev pub RunMeans : List (List ℕ) → Status → List ℕ → List ℕ → List ℕ → Type 0
-RunMeans words status input left written =
-    (IsReplay words × ReplayMeans status input left written) ⊎ (¬ IsReplay words × UsageMeans status input left written)
+RunMeans words status input left written = TaskMeans (task_of words) status input left written
 
 -- no fault of the outside
 abbrev pub IsNoFault : Status → Type 0

@@ -1,10 +1,10 @@
-//! The top call: a script of lines in, their replies out.
+//! The top call: a script of lines in, their replies out; or a large input that is made and summed up.
 #![tactic(auto)]
 
+mod answering;
 mod laws;
+mod load;
 mod replay;
-mod script;
-mod setting;
 mod status;
 mod top_call;
 

@@ -7,10 +7,11 @@ ghost use Rattle.mt_top.specs.Run.{ReplayMeans};
 ghost use Rattle.mt_top.specs.SoFar.{SoFar, Turned};
 ghost use Rattle.mt_top.specs.declared.status.Status.TheVariants.{ReadFault, WriteFault};
 
-use crate::script::Script;
+use crate::answering::answer;
 use crate::status::{Status, ending};
 use mt_io::{Line, LineFault, LineReader, Sink, Source};
 use mt_lines::give;
+use mt_script::Script;
 use mt_wire::Reply;
 use std::alloc::Global;
 use std::thread::Threads;
@@ -80,7 +81,7 @@ fn turn<R: Threads + Sync, S: Source, K: Sink>(
 {
     match reader.next(input) {
         Ok(Line::Text(line)) => {
-            let reply = script.answer(rt, alloc, line);
+            let reply = answer(rt, alloc, script, line);
             ending(give(alloc, &reply, room, output))
         }
         Ok(Line::Long) => ending(give(alloc, &Reply::Long, room, output)),

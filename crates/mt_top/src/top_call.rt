@@ -1,12 +1,14 @@
 //! The top call.
-ghost use Rattle.std.specs.Prelude.{◌≡◌, ◌↔◌, IsTrue};
+ghost use Rattle.std.specs.Prelude.{◌≡◌};
 ghost use Rattle.mt_io.specs.Causes.{Rose};
 ghost use Rattle.mt_lines.specs.Answering.{Explains};
-ghost use Rattle.mt_top.specs.Run.{IsNoFault, IsReplay, RunMeans, SaysUsage};
+ghost use Rattle.mt_top.specs.Run.{IsNoFault, RunMeans, SaysUsage};
 ghost use Rattle.mt_top.specs.declared.status.Status.TheVariants.{ReadFault, WriteFault};
 
+use crate::load::load;
 use crate::replay::replay;
 use crate::status::Status;
+use mt_args::{Task, Usage, read_words};
 use mt_base::Words;
 use mt_io::{Sink, Source, put_all};
 use std::alloc::Global;
@@ -18,7 +20,8 @@ const USAGE: &[u8] =
 
 /// Does all that the program does: `words` are those of its command line, without its name; `input` and `output` its streams.
 ///
-/// The word `replay` alone answers each line of the input on the output. Any other words are answered by the usage line.
+/// The word `replay` alone answers each line of the input on the output. The word `load` with its options makes a large input, runs it and
+/// writes one line that sums it up. Any other words are answered by the usage line. Words are read by the table of `mt_args`.
 ///
 /// `means` is the whole promise, for each status: by the words, of which lines of the input, from its first byte on, and in which order
 /// the bytes written are the answers. Each reply is that of the line in the state of the history of the lines before it. The other
@@ -37,17 +40,11 @@ pub fn run<R: Threads + Sync, S: Source, K: Sink>(
     ensures reads { S.reads_to input.old input.new }
     ensures writes { K.writes_to output.old output.new }
 {
-    if is_replay(words) {
-        return replay(rt, alloc, input, output);
+    match read_words(words) {
+        Ok(Task::Replay) => replay(rt, alloc, input, output),
+        Ok(Task::Load { flights, number }) => load(rt, alloc, flights, number, output),
+        Ok(Task::Serve { .. }) | Err(Usage) => usage(output),
     }
-    usage(output)
-}
-
-// Whether the words are the one command.
-fn is_replay(words: &Words) -> bool
-    ensures { IsTrue result ↔ IsReplay words.now }
-{
-    words.count() == 1 && words.word(0) == "replay"
 }
 
 // Writes the usage line.

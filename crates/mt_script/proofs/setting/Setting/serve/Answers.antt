@@ -1,7 +1,7 @@
 use Rattle.std.proofs.Common.{◌≡◌, inl, refl, arith, of_z, to_z, to_z-of_z, w64}
 use Rattle.mt_read.specs.declared.request.Request.TheVariants.{Fix, TypeLine}
-use Rattle.mt_top.proofs.Adding.{before_or, on_false}
-use Rattle.mt_top.proofs.setting.Setting.serve.Goals as goal
+use Rattle.mt_script.proofs.Adding.{before_or, on_false}
+use Rattle.mt_script.proofs.setting.Setting.serve.Goals as goal
 
 pub returns-in-Fix-clause-served : goal.returns-in-Fix-clause-served
 returns-in-Fix-clause-served c = λ who.

@@ -1,5 +1,6 @@
-//! Lines that are given before the picture begins.
+//! Requests that are made before the picture begins.
 ghost use Rattle.std.specs.Prelude.{◌≡◌, ◌⊎◌, ℕ, [], IfOk, true, false, replicate};
+ghost use Rattle.std.specs.Arc.{arc_value};
 ghost use Rattle.mt_base.specs.Bounds.{AreBoundedBands, AreWithinBounds, IsInPlane};
 ghost use Rattle.mt_base.specs.Checks.{judged};
 ghost use Rattle.mt_base.specs.Rules.{usual_rules};
@@ -15,15 +16,16 @@ ghost use Rattle.mt_world.specs.World.{IsAdded, IsGiven, IsRefused, IsServed, Is
 
 use mt_base::{Bands, FixName, Memory, Rules, TypeName};
 use mt_picture::Picture;
+use mt_read::{Request, RuleSet};
 use mt_tables::{AddNo, Tables};
-use mt_wire::{DoneWord, Reply, Request, RuleSet};
 use mt_world::World;
+use mt_write::{DoneWord, Reply};
 use std::alloc::Global;
 use std::marker::Model;
 use std::sync::Arc;
 use std::thread::Threads;
 
-/// What lines set up before the picture begins: the rules, and the tables.
+/// What requests set up before the picture begins: the rules, and the tables.
 #[derive(Drop)]
 pub struct Setting {
     rules: Rules,
@@ -68,6 +70,13 @@ impl Setting {
         ensures before { self.now.begun ≡ false }
     {
         self.rules
+    }
+
+    /// The tables that stand. They are shared and not copied.
+    pub fn tables(&self) -> Result<Arc<Tables>, Memory>
+        ensures { IfOk result (λ tables. arc_value tables ≡ self.now.tables) }
+    {
+        Ok(Arc::try_clone(&self.tables)?)
     }
 
     /// Serves a request, whoever asks. It asks that the request doesn't begin the picture.

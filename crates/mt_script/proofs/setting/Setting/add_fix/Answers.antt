@@ -5,8 +5,8 @@ use Rattle.mt_tables.specs.Adding.{fix_adding, with_fix}
 use Rattle.mt_write.specs.declared.reply.DoneWord.TheVariants.{Fix}
 use Rattle.mt_write.specs.declared.reply.Reply.TheVariants.{TakenFix}
 use Rattle.mt_world.specs.World.{World, new_actor}
-use Rattle.mt_top.proofs.Adding.{is_added}
-use Rattle.mt_top.proofs.setting.Setting.add_fix.Goals as goal
+use Rattle.mt_script.proofs.Adding.{is_added}
+use Rattle.mt_script.proofs.setting.Setting.add_fix.Goals as goal
 
 pub returns-clause-answered : goal.returns-clause-answered
 returns-clause-answered c =

@@ -1,20 +1,23 @@
-//! A script: what each line is answered, and the world that it leaves.
-ghost use Rattle.std.specs.Prelude.{◌≡◌, ◌⊎◌, ◌≤◌, length, IfOk, None};
+//! A script: what each request is answered, and the world that it leaves.
+ghost use Rattle.std.specs.Prelude.{◌≡◌, ◌⊎◌, ◌≤◌, IfOk, MatchOption, None, false};
+ghost use Rattle.std.specs.Arc.{arc_value};
 ghost use Rattle.mt_base.specs.Bounds.{AreWithinBounds};
 ghost use Rattle.mt_read.specs.Bounded.{IsBoundedRequest};
 ghost use Rattle.mt_lines.specs.Fit.{IsFit};
-ghost use Rattle.mt_top.specs.Script.{IsReplied};
 ghost use Rattle.mt_world.specs.World.{IsServed, IsStarved, opening_world};
 
 use crate::setting::Setting;
 use mt_base::{Memory, Rules};
-use mt_wire::{DoneWord, LineNo, Place, Reply, Request, read_line};
+use mt_read::Request;
+use mt_tables::Tables;
 use mt_world::World;
+use mt_write::{DoneWord, Reply};
 use std::alloc::Global;
 use std::marker::Model;
+use std::sync::Arc;
 use std::thread::Threads;
 
-/// A script: what was set up, and the world once the picture has begun.
+/// A script, seen as its world: what was set up, and once the picture has begun the world of that picture.
 #[derive(Drop)]
 pub struct Script {
     setting: Setting,
@@ -22,16 +25,19 @@ pub struct Script {
 }
 
 impl Model for Script {
-    ghost use Rattle.std.specs.Prelude.{unwrap_or};
+    ghost use Rattle.std.specs.Prelude.{IfSome, unwrap_or};
+    ghost use Rattle.mt_script.specs.Kept.{IsBegunWith};
     ghost use Rattle.mt_world.specs.World.{World};
 
     ghost Value = { World };
 
     ghost view = { λ s. unwrap_or s.begun s.setting };
+
+    ghost invariant = { λ s. IfSome s.begun (IsBegunWith s.setting.tables) };
 }
 
 impl Script {
-    /// The script before its first line.
+    /// The script before its first request.
     pub fn make(alloc: Global) -> Result<Script, Memory>
         ensures { IfOk result (λ script. script ≡ opening_world) }
     {
@@ -41,23 +47,8 @@ impl Script {
         })
     }
 
-    /// Answers a line of at most 65,536 bytes.
-    pub fn answer<R: Threads + Sync>(&mut self, rt: &R, alloc: Global, line: &[u8]) -> Reply
-        requires { length line.now ≤ 65536 }
-        ensures replied { IsReplied self.old line.now result self.new }
-        ensures fit { IsFit result }
-    {
-        match read_line(alloc, line, Place::Replay, &self.rules()) {
-            Ok((who, request)) => self.serve(rt, alloc, who, &request),
-            Err(LineNo::Json) => Reply::Json,
-            Err(LineNo::Form(name)) => Reply::Form(name),
-            Err(LineNo::Range(name)) => Reply::Range(name),
-            Err(LineNo::Memory) => Reply::Memory,
-        }
-    }
-
-    // The rules that stand.
-    fn rules(&self) -> Rules
+    /// The rules that stand.
+    pub fn rules(&self) -> Rules
         ensures rules { result ≡ self.now.rules }
         ensures bounded { AreWithinBounds result }
     {
@@ -67,8 +58,25 @@ impl Script {
         }
     }
 
-    // Serves an actor's request.
-    fn serve<R: Threads + Sync>(
+    /// The tables that stand. They are shared and not copied.
+    pub fn tables(&self) -> Result<Arc<Tables>, Memory>
+        ensures { IfOk result (λ tables. arc_value tables ≡ self.now.tables) }
+    {
+        self.setting.tables()
+    }
+
+    /// The world; none exactly where the picture hasn't begun.
+    pub fn world(&self) -> Option<&World>
+        ensures { MatchOption result (self.now.begun ≡ false) (λ world. world.now ≡ self.now) }
+    {
+        let _rules = self.setting.rules();
+        self.begun.as_ref()
+    }
+
+    /// Serves an actor's request, of one of the numbers 0 to 15: the reply that the definition of a world has for it, and that world after it; or
+    /// `Memory` is the reply, and nothing has changed, but that settling may have renewed some flights. A reply that follows a change is short
+    /// enough for the room that is taken before the first line.
+    pub fn serve<R: Threads + Sync>(
         &mut self,
         rt: &R,
         alloc: Global,

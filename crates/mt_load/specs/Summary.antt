@@ -1,0 +1,55 @@
+-- What a load run is summed up as, and the line that says it.
+use Rattle.std.specs.Prelude.{◌≡◌, ℕ, pos, List, [], ◌∷◌, ◌++◌, length, codes}
+use Rattle.serde_json.specs.Data.{Data, object, no_members, member}
+use Rattle.serde_json.specs.Written.{compact_text}
+use Rattle.mt_base.specs.declared.command.Entry.{Entry}
+use Rattle.mt_base.specs.declared.conflict.Conflict.{Conflict}
+use Rattle.mt_base.specs.History.{state_of}
+use Rattle.mt_base.specs.Picture.{IsPublished}
+use Rattle.mt_base.specs.Tables.{Setup}
+use Rattle.mt_history.specs.Printed.{AreRead, printed}
+use Rattle.mt_io.specs.Lines.{lines_of}
+use Rattle.mt_load.specs.declared.summary.Summary.{Summary}
+use Rattle.mt_load.specs.Load.{IsLoadRun}
+use Rattle.mt_write.specs.Entry.{whole}
+use Rattle.mt_world.specs.World.{World, picture_of, setup_of}
+
+-- so many conflicts are published of the state of a history
+pub record IsPublishedCount (setup : Setup) (history : List Entry) (n : ℕ) : Type 0 where
+  pub conflicts : List Conflict
+  pub published : IsPublished setup (state_of setup history) conflicts
+  pub count : n ≡ length conflicts
+
+-- so many are published of the entries as which the lines of a history, printed, are read
+pub record IsCountedAgain (setup : Setup) (history : List Entry) (n : ℕ) : Type 0 where
+  pub entries : List Entry
+  pub read : AreRead (lines_of (printed history)) entries
+  pub counted : IsPublishedCount setup entries n
+
+-- The summary of a world: how many conflicts are published of its history, and again of the history printed, read back and rebuilt, which is the
+-- same number; how many entries there are, and how many flights. (No clause says how many pairs were tested.)
+pub record IsSummary (w : World) (s : Summary) : Type 0 where
+  pub conflicts : IsPublishedCount (setup_of w) w.history s.conflicts
+  pub again : IsCountedAgain (setup_of w) w.history s.again
+  pub same : s.again ≡ s.conflicts
+  pub entries : s.entries ≡ length w.history
+  pub flights : s.flights ≡ length (picture_of w).records
+
+-- the summary of a load run
+pub record IsLoaded (flights number : ℕ) (s : Summary) : Type 0 where
+  pub end : World
+  pub run : IsLoadRun flights number end
+  pub summed : IsSummary end s
+
+-- it as an object, its keys in byte order
+abbrev pub summary_value : Summary → Data
+summary_value s = object (
+    member (codes "again") (whole (pos s.again)) (
+    member (codes "conflicts") (whole (pos s.conflicts)) (
+    member (codes "entries") (whole (pos s.entries)) (
+    member (codes "flights") (whole (pos s.flights)) (
+    member (codes "tests") (whole (pos s.tests)) no_members)))))
+
+-- its line: the object, compact, with 0x0A at its end
+abbrev pub summary_text : Summary → List ℕ
+summary_text s = compact_text (summary_value s) ++ 10 ∷ []

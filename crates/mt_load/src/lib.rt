@@ -1,0 +1,15 @@
+//! The word `load`: a large input that is made from a number, run over a world with advice, acceptances and drops behind it, and a line that
+//! sums up what is left.
+//!
+//! The definitions are `specs/Load.antt` and, of the line, `specs/Summary.antt`.
+#![tactic(auto)]
+
+mod again;
+mod complete;
+mod driving;
+mod loading;
+mod summary;
+
+pub use loading::load;
+pub use mt_memory::Memory;
+pub use summary::{Summary, write_summary};

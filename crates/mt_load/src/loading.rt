@@ -1,0 +1,72 @@
+//! A load run, and its summary.
+ghost use Rattle.std.specs.Prelude.{◌≡◌, ◌≤◌, IfOk, length};
+ghost use Rattle.mt_probe.specs.Shot.{records_in};
+ghost use Rattle.mt_load.specs.Summary.{IsLoaded, IsSummary};
+
+use crate::again::again;
+use crate::complete::are_complete;
+use crate::driving::drive;
+use crate::summary::Summary;
+use mt_memory::Memory;
+use mt_probe::Snapshot;
+use mt_script::Script;
+use std::alloc::Global;
+use std::thread::Threads;
+
+// How many flights there are.
+fn flights_in(snapshot: &Snapshot) -> u64
+    ensures { result ≡ length (records_in snapshot.now.slots) }
+{
+    let mut held: u64 = 0;
+    let count = snapshot.slots();
+    for slot in 0..count {
+        if let Some(_card) = snapshot.flight(slot) {
+            held += 1;
+        }
+    }
+    held
+}
+
+// The summary of a script whose picture has begun.
+fn sum_up<R: Threads + Sync>(rt: &R, alloc: Global, script: &Script) -> Result<Summary, Memory>
+    ensures { IfOk result (IsSummary script.now) }
+{
+    let Some(world) = script.world() else {
+        return Err(Memory);
+    };
+    let picture = world.picture();
+    if !are_complete(picture.entries()) {
+        return Err(Memory);
+    }
+    let tables = script.tables()?;
+    let again = again(rt, alloc, picture, tables)?;
+    let flights = flights_in(&picture.snapshot()?);
+    Ok(Summary {
+        again,
+        conflicts: picture.published().len() as u64,
+        entries: picture.version(),
+        flights,
+        tests: world.tests(),
+    })
+}
+
+/// Makes the load run of so many flights, 1 to 1,024, and a number, and sums it up: the same at each call.
+///
+/// The input of `mt_make` is made by actor 0. Then, for each flight whose number 8 divides, actor 1 takes the version now, asks for advice and
+/// accepts the first clearance that is advised. Actor 0 moves the moment to second 120 and drops each flight whose number 5 divides. Then the
+/// history is printed, read back and rebuilt. The definition is `IsLoaded`. It says nothing of the number of pair tests.
+///
+/// The one error is want of memory, wherever it is.
+pub fn load<R: Threads + Sync>(
+    rt: &R,
+    alloc: Global,
+    flights: u32,
+    number: u64,
+) -> Result<Summary, Memory>
+    requires { (1 ≤ flights) × (flights ≤ 1024) }
+    ensures { IfOk result (IsLoaded flights number) }
+{
+    let mut script = Script::make(alloc)?;
+    drive(rt, alloc, &mut script, flights, number)?;
+    sum_up(rt, alloc, &script)
+}

@@ -1,0 +1,46 @@
+//! A summary, and its line.
+ghost use Rattle.std.specs.Prelude.{◌≡◌, ◌++◌, IfOk, OnOk, decimal};
+ghost use Rattle.mt_load.specs.Summary.{summary_text};
+
+use itoa::Buffer;
+use mt_memory::Memory;
+use std::alloc::Global;
+
+/// What a load run is summed up as.
+#[derive(Clone, Copy, Debug, PartialEq, Eq)]
+pub struct Summary {
+    /// How many conflicts are published of the picture that is rebuilt of its history, printed and read back.
+    pub again: u64,
+    /// How many conflicts are published.
+    pub conflicts: u64,
+    /// How many entries there are.
+    pub entries: u64,
+    /// How many flights there are.
+    pub flights: u64,
+    /// How many pairs were tested for commands and probes.
+    pub tests: u64,
+}
+
+// Puts a number behind what stands in a line, with its key before it.
+fn put_number(line: &mut Vec<u8>, key: &[u8], number: u64) -> Result<(), Memory>
+    ensures { OnOk result (line.new.items ≡ line.old.items ++ (key.now ++ decimal number)) }
+{
+    let mut digits = Buffer::new();
+    line.extend_from_slice(key)?;
+    line.extend_from_slice(digits.format(number).as_bytes())?;
+    Ok(())
+}
+
+/// The line of a summary: one compact object, its keys in byte order, and 0x0A at its end.
+pub fn write_summary(alloc: Global, summary: &Summary) -> Result<Vec<u8>, Memory>
+    ensures { IfOk result (λ line. line.items ≡ summary_text summary.now) }
+{
+    let mut line = Vec::new(alloc);
+    put_number(&mut line, b"{\"again\":", summary.again)?;
+    put_number(&mut line, b",\"conflicts\":", summary.conflicts)?;
+    put_number(&mut line, b",\"entries\":", summary.entries)?;
+    put_number(&mut line, b",\"flights\":", summary.flights)?;
+    put_number(&mut line, b",\"tests\":", summary.tests)?;
+    line.extend_from_slice(b"}\n")?;
+    Ok(line)
+}

@@ -1,0 +1,34 @@
+-- What a load run writes, and what its status says.
+use Rattle.std.specs.Prelude.{◌≡◌, ℕ, List, [], ◌++◌}
+use Rattle.std.specs.declared.option.Option.{Option}
+use Rattle.std.specs.Io.KnownBytes.{Appends}
+use Rattle.mt_io.specs.Writing.{AppendsFront}
+use Rattle.mt_load.specs.declared.summary.Summary.{Summary}
+use Rattle.mt_load.specs.Summary.{IsLoaded, summary_text}
+use Rattle.mt_top.specs.declared.status.Status.{Status}
+use Rattle.mt_top.specs.declared.status.Status.TheVariants.{Done, Usage, ReadFault, WriteFault, Spent, Memory}
+
+-- the line of the summary of a load run
+pub record IsSummaryLine (flights number : ℕ) (line : List ℕ) : Type 0 where
+  pub summary : Summary
+  pub loaded : IsLoaded flights number summary
+  pub line_is : line ≡ summary_text summary
+
+-- What the status of a load run says: nothing was read, and its summary line was written, or a front of it where the output failed. Where
+-- memory was wanted nothing was written.
+abbrev pub LoadMeans : ℕ → ℕ → Status → List ℕ → List ℕ → List ℕ → Type 0
+LoadMeans flights number Done input left written = (left ≡ input) × IsSummaryLine flights number written
+LoadMeans flights number WriteFault input left written = (left ≡ input) × ((unwritten : List ℕ) × IsSummaryLine flights number (written ++ unwritten))
+LoadMeans flights number Memory input left written = (left ≡ input) × (written ≡ [])
+LoadMeans flights number Usage input left written = ⊥
+LoadMeans flights number ReadFault input left written = ⊥
+LoadMeans flights number Spent input left written = ⊥
+
+-- the same by what the output holds
+abbrev pub SaysSummary : ℕ → ℕ → Status → Option (List ℕ) → Option (List ℕ) → Type 0
+SaysSummary flights number Done before after = (line : List ℕ) × IsSummaryLine flights number line × Appends before after line
+SaysSummary flights number WriteFault before after = (line : List ℕ) × IsSummaryLine flights number line × AppendsFront before after line
+SaysSummary flights number Memory before after = after ≡ before
+SaysSummary flights number Usage before after = ⊥
+SaysSummary flights number ReadFault before after = ⊥
+SaysSummary flights number Spent before after = ⊥
