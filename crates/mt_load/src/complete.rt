@@ -93,10 +93,8 @@ fn is_complete(entry: &Entry) -> bool
 pub(crate) fn are_complete(entries: &[Entry]) -> bool
     ensures { IsTrue result → All IsComplete entries.now }
 {
-    for entry in entries {
-        if !is_complete(entry) {
-            return false;
-        }
-    }
-    true
+    let Some((entry, rest)) = entries.split_first() else {
+        return true;
+    };
+    is_complete(entry) && are_complete(rest)
 }

@@ -1,0 +1,25 @@
+-- Requests that are answered one after the other.
+use Rattle.std.proofs.Common.{◌≡◌, ◌⊎◌, ⊎_elim, ℕ, zero, suc, ◌+◌, ◌%◌, List, refl, add-one, nat_eq}
+use Rattle.std.specs.Prelude.{MatchBool}
+use Rattle.mt_make.specs.Input.{callsign}
+use Rattle.mt_read.specs.declared.request.Request.{Request}
+use Rattle.mt_write.specs.declared.reply.Reply.{Reply}
+use Rattle.mt_write.specs.declared.reply.Reply.TheVariants.{Memory}
+use Rattle.mt_world.specs.World.{IsServed, IsStarved, World}
+use Rattle.mt_load.specs.Load.{EachDivided}
+
+-- a request whose reply isn't `memory` was served
+pub served_of : (w next : World) (who : ℕ) (request : Request) (reply : Reply) → (reply ≡ Memory → ⊥)
+    → IsServed w who request reply next ⊎ IsStarved w who request reply next → IsServed w who request reply next
+served_of w next who request reply not served = ⊎_elim (λ served. served) (λ starved. absurd (not starved.reply_is)) served
+
+-- no flight
+pub each_none : (Does : World → List ℕ → World → Type 0) (divisor : ℕ) (w : World) → EachDivided Does divisor 0 w w
+unfolding EachDivided
+each_none Does divisor w = refl
+
+-- one flight more
+pub each_more : (Does : World → List ℕ → World → Type 0) (divisor n : ℕ) (w middle end : World) → EachDivided Does divisor n w middle
+    → MatchBool (nat_eq (n % divisor) 0) (Does middle (callsign n) end) (end ≡ middle) → EachDivided Does divisor (n + 1) w end
+unfolding EachDivided
+each_more Does divisor n w middle end done last = rw add-one (middle, done, last)

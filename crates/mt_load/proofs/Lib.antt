@@ -1,0 +1,3 @@
+pub mod Asking
+pub mod Counted
+pub mod SummaryLine

@@ -1,0 +1,24 @@
+use Rattle.std.proofs.Common.{◌≡◌, ◌∙◌, length, refl, rules, sym, subst, ap}
+use Rattle.std.specs.Prelude.{All}
+use Rattle.mt_base.specs.Picture.{State}
+use Rattle.mt_base.specs.Tables.{Setup}
+use Rattle.mt_wire.specs.Complete.{IsComplete}
+use Rattle.mt_world.specs.World.{World, setup_of}
+use Rattle.mt_load.proofs.Counted.{summary_is}
+use Rattle.mt_load.proofs.loading.sum_up.Goals as goal
+
+pub again-requires : goal.again-requires
+again-requires g c =
+    let same : c.picture-picture.result.now.setup ≡ setup_of c.args.script.now =
+    c.picture-picture.ensures.setup ∙ ap (λ (w : World). setup_of w) c.in-Some.ensures in
+    (search rules, c.in_ok-tables.ensures ∙ sym (ap (λ (s : Setup). s.tables) same))
+
+pub returns : goal.returns
+returns g c =
+    summary_is c.args.script.now c.picture-picture.result.now _
+    (c.picture-picture.ensures.setup ∙ ap (λ (w : World). setup_of w) c.in-Some.ensures)
+    (c.picture-picture.ensures.history ∙ ap (λ (w : World). w.history) c.in-Some.ensures)
+    (subst (All IsComplete) c.entries.ensures (c.if-not-are_complete.ensures refl))
+    (record { conflicts = c.published.result.now; published = c.published.ensures; count = refl })
+    c.in_ok-again.ensures c.version.ensures
+    (c.flights_in-flights.ensures ∙ ap (λ (s : State). length s.records) c.in_ok-snapshot.ensures.state)
