@@ -8,7 +8,7 @@ ghost use Rattle.mt_top.specs.declared.status.Status.TheVariants.{ReadFault, Wri
 use crate::load::load;
 use crate::replay::replay;
 use crate::status::Status;
-use mt_args::{Task, Usage, read_words};
+use mt_args::{Task, read_words};
 use mt_base::Words;
 use mt_io::{Sink, Source, put_all};
 use std::alloc::Global;
@@ -40,10 +40,13 @@ pub fn run<R: Threads + Sync, S: Source, K: Sink>(
     ensures reads { S.reads_to input.old input.new }
     ensures writes { K.writes_to output.old output.new }
 {
-    match read_words(words) {
-        Ok(Task::Replay) => replay(rt, alloc, input, output),
-        Ok(Task::Load { flights, number }) => load(rt, alloc, flights, number, output),
-        Ok(Task::Serve { .. }) | Err(Usage) => usage(output),
+    let Ok(task) = read_words(words) else {
+        return usage(output);
+    };
+    match task {
+        Task::Replay => replay(rt, alloc, input, output),
+        Task::Load { flights, number } => load(rt, alloc, flights, number, output),
+        Task::Serve { .. } => usage(output),
     }
 }
 
