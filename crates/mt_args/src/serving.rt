@@ -1,6 +1,6 @@
 //! The options of `serve`.
-ghost use Rattle.std.specs.Prelude.{◌≡◌, ◌<◌, drop, length, MatchResult, Some, None, option_map};
-ghost use Rattle.mt_args.specs.Task.{no_serving, serve_task, serving_with, set_by};
+ghost use Rattle.std.specs.Prelude.{◌≡◌, ◌<◌, drop, length, IfOk, MatchResult, Some, None, option_map};
+ghost use Rattle.mt_args.specs.Task.{IsBoundedTask, no_serving, serve_task, serving_with, set_by};
 
 use crate::number::once;
 use crate::setting::{Setting, setting_at};
@@ -49,8 +49,9 @@ impl Serving {
 /// Reads the words behind the first as the options of `serve`.
 pub fn serve(words: &Words) -> Result<Task, Usage>
     requires { 0 < length words.now }
-    ensures { MatchResult result (λ task. option_map serve_task (set_by serving_with no_serving (drop 1 words.now)) ≡ Some task)
+    ensures task { MatchResult result (λ task. option_map serve_task (set_by serving_with no_serving (drop 1 words.now)) ≡ Some task)
         (λ _. option_map serve_task (set_by serving_with no_serving (drop 1 words.now)) ≡ None) }
+    ensures bounded { IfOk result IsBoundedTask }
 {
     let mut serving = Serving {
         port: None,
