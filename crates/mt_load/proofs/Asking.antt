@@ -1,5 +1,5 @@
 -- Requests that are answered one after the other.
-use Rattle.std.proofs.Common.{◌≡◌, ◌⊎◌, ⊎_elim, ℕ, zero, suc, ◌+◌, ◌%◌, List, refl, add-one, nat_eq}
+use Rattle.std.proofs.Common.{◌≡◌, ◌⊎◌, ⊎_elim, ℕ, ◌+◌, ◌%◌, List, refl, add-one, nat_eq}
 use Rattle.std.specs.Prelude.{MatchBool}
 use Rattle.mt_make.specs.Input.{callsign}
 use Rattle.mt_read.specs.declared.request.Request.{Request}

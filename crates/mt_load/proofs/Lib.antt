@@ -1,3 +1,6 @@
 pub mod Asking
+pub mod Begun
 pub mod Counted
+pub mod OneRun
+pub mod Rebuilding
 pub mod SummaryLine

@@ -4,10 +4,11 @@ ghost use Rattle.std.specs.Arc.{arc_value};
 ghost use Rattle.mt_history.specs.Printed.{AreRead, printed};
 ghost use Rattle.mt_history.specs.Rebuilt.{IsReady};
 ghost use Rattle.mt_io.specs.Lines.{lines_of};
+ghost use Rattle.mt_load.specs.Again.{IsReadable, IsReplayedAgain};
 ghost use Rattle.mt_load.specs.Summary.{IsCountedAgain};
 
 use mt_base::Entries;
-use mt_history::{print, read_all, rebuild};
+use mt_history::{Bad, Wrong, print, read_all, rebuild};
 use mt_memory::Memory;
 use mt_picture::Picture;
 use mt_tables::Tables;
@@ -15,31 +16,38 @@ use std::alloc::Global;
 use std::sync::Arc;
 use std::thread::Threads;
 
-// The entries as which the history of a picture, printed, is read.
+// The entries as which the history of a picture, printed, is read. It asks that each line is read as one.
 fn read_back(alloc: Global, picture: &Picture) -> Result<Entries, Memory>
+    requires { IsReadable picture.now.history }
     ensures read { IfOk result (AreRead (lines_of (printed picture.now.history))) }
     ensures ready { IfOk result (All IsReady) }
 {
     let text = print(alloc, picture, 0, picture.version())?;
     match read_all(alloc, &text) {
         Ok(entries) => Ok(entries),
-        Err(_) => Err(Memory),
+        Err(Bad::Line(_)) => unreachable!(),
+        Err(Bad::Memory) => Err(Memory),
     }
 }
 
-/// How many conflicts are published of the picture that is rebuilt of a picture's history, printed and read back.
+/// How many conflicts are published of the picture that is rebuilt of a picture's history, printed and read back. It asks that each
+/// line is read as an entry and that these entries can be replayed, and not that they are those of the picture.
 pub(crate) fn again<R: Threads + Sync>(
     rt: &R,
     alloc: Global,
     picture: &Picture,
     tables: Arc<Tables>,
 ) -> Result<u64, Memory>
-    requires { arc_value tables ≡ picture.now.setup.tables }
+    requires tables { arc_value tables ≡ picture.now.setup.tables }
+    requires readable { IsReadable picture.now.history }
+    requires replayed { IsReplayedAgain picture.now.setup picture.now.history }
     ensures { IfOk result (IsCountedAgain picture.now.setup picture.now.history) }
 {
     let entries = read_back(alloc, picture)?;
     match rebuild(rt, alloc, picture.rules(), tables, &entries) {
         Ok(rebuilt) => Ok(rebuilt.published().len() as u64),
-        Err(_) => Err(Memory),
+        Err(Wrong::Illegal { .. }) => unreachable!(),
+        Err(Wrong::Late { .. }) => unreachable!(),
+        Err(Wrong::Memory) => Err(Memory),
     }
 }

@@ -64,7 +64,7 @@ fn serve_all<R: Threads + Sync>(
     serve_all(rt, alloc, script, who, rest)
 }
 
-// Accepts the first of some advised clearances.
+// Accepts the first of some advised clearances. A number that no acceptance can name is answered as want of memory.
 fn accept_first<R: Threads + Sync>(
     rt: &R,
     alloc: Global,

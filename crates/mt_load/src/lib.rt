@@ -7,9 +7,11 @@
 mod again;
 mod complete;
 mod driving;
+mod laws;
 mod loading;
 mod summary;
 
+pub use laws::one_summary_law;
 pub use loading::load;
 pub use mt_memory::Memory;
 pub use summary::{Summary, write_summary};

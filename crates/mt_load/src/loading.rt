@@ -1,5 +1,5 @@
 //! A load run, and its summary.
-ghost use Rattle.std.specs.Prelude.{◌≡◌, ◌≤◌, IfOk, length};
+ghost use Rattle.std.specs.Prelude.{◌≡◌, ◌≤◌, IfOk, length, true};
 ghost use Rattle.mt_probe.specs.Shot.{records_in};
 ghost use Rattle.mt_load.specs.Summary.{IsLoaded, IsSummary};
 
@@ -27,12 +27,13 @@ fn flights_in(snapshot: &Snapshot) -> u64
     held
 }
 
-// The summary of a script whose picture has begun.
+// The summary of a script whose picture has begun. It answers want of memory too where an entry isn't complete.
 fn sum_up<R: Threads + Sync>(rt: &R, alloc: Global, script: &Script) -> Result<Summary, Memory>
+    requires { script.now.begun ≡ true }
     ensures { IfOk result (IsSummary script.now) }
 {
     let Some(world) = script.world() else {
-        return Err(Memory);
+        unreachable!()
     };
     let picture = world.picture();
     if !are_complete(picture.entries()) {
@@ -50,13 +51,16 @@ fn sum_up<R: Threads + Sync>(rt: &R, alloc: Global, script: &Script) -> Result<S
     })
 }
 
-/// Makes the load run of so many flights, 1 to 1,024, and a number, and sums it up: the same at each call.
+/// Makes the load run of so many flights, 1 to 1,024, and a number, and sums it up.
 ///
 /// The input of `mt_make` is made by actor 0. Then, for each flight whose number 8 divides, actor 1 takes the version now, asks for advice and
 /// accepts the first clearance that is advised. Actor 0 moves the moment to second 120 and drops each flight whose number 5 divides. Then the
-/// history is printed, read back and rebuilt. The definition is `IsLoaded`. It says nothing of the number of pair tests.
+/// history is printed, read back and rebuilt. The definition is `IsLoaded`. It says nothing of the number of pair tests; all else is the same
+/// at each call, by [`one_summary_law`](crate::one_summary_law).
 ///
-/// The one error is want of memory, wherever it is.
+/// The error is want of memory, wherever it is. It would be the error in two cases more. Neither comes, but no clause says so: that an entry has
+/// a name that is none or a number beyond its bounds (each is looked at before the history is printed), and that the number of an advised
+/// probe is 0 or has more than 63 bits (actor 1 is advised at most 16 clearances a flight).
 pub fn load<R: Threads + Sync>(
     rt: &R,
     alloc: Global,

@@ -17,7 +17,7 @@ pub struct Summary {
     pub entries: u64,
     /// How many flights there are.
     pub flights: u64,
-    /// How many pairs were tested for commands and probes.
+    /// How many pairs were tested for what was entered; those of advice and of the rebuilding aren't counted.
     pub tests: u64,
 }
 

@@ -1,17 +1,27 @@
-use Rattle.std.proofs.Common.{◌≡◌, ◌∙◌, length, refl, rules, sym, subst, ap}
+use Rattle.std.proofs.Common.{◌≡◌, ◌∙◌, length, refl, sym, subst, ap}
 use Rattle.std.specs.Prelude.{All}
 use Rattle.mt_base.specs.Picture.{State}
 use Rattle.mt_base.specs.Tables.{Setup}
 use Rattle.mt_wire.specs.Complete.{IsComplete}
 use Rattle.mt_world.specs.World.{World, setup_of}
 use Rattle.mt_load.proofs.Counted.{summary_is}
+use Rattle.mt_load.proofs.Rebuilding.{readable, replayed_again}
 use Rattle.mt_load.proofs.loading.sum_up.Goals as goal
 
-pub again-requires : goal.again-requires
-again-requires g c =
+pub again-requires-clause-tables : goal.again-requires-clause-tables
+again-requires-clause-tables g c κs within =
     let same : c.picture-picture.result.now.setup ≡ setup_of c.args.script.now =
     c.picture-picture.ensures.setup ∙ ap (λ (w : World). setup_of w) c.in-Some.ensures in
-    (search rules, c.in_ok-tables.ensures ∙ sym (ap (λ (s : Setup). s.tables) same))
+    c.in_ok-tables.ensures ∙ sym (ap (λ (s : Setup). s.tables) same)
+
+pub again-requires-clause-readable : goal.again-requires-clause-readable
+again-requires-clause-readable g c κs within =
+    readable c.picture-picture.result.now.history (subst (All IsComplete) c.entries.ensures (c.if-not-are_complete.ensures refl))
+
+pub again-requires-clause-replayed : goal.again-requires-clause-replayed
+again-requires-clause-replayed g c κs within =
+    replayed_again c.picture-picture.result.now.setup c.picture-picture.result.now.history
+    (subst (All IsComplete) c.entries.ensures (c.if-not-are_complete.ensures refl)) c.picture-picture.ensures.legal.replayable
 
 pub returns : goal.returns
 returns g c =
