@@ -1,8 +1,7 @@
 -- What a run means, by what its words ask for.
-use Rattle.std.proofs.Common.{◌≡◌, ℕ, List, [], Some, None, refl, sym, subst}
+use Rattle.std.proofs.Common.{◌≡◌, ℕ, List, [], refl, sym, subst}
 use Rattle.std.specs.declared.option.Option.{Option}
 use Rattle.mt_args.specs.declared.task.Task.{Task}
-use Rattle.mt_args.specs.declared.task.Task.TheVariants.{Load}
 use Rattle.mt_args.specs.Task.{task_of}
 use Rattle.mt_io.specs.HasRead.{Tells}
 use Rattle.mt_io.proofs.HasRead.{told}

@@ -17,4 +17,6 @@ returns-in-Load-clause-means g c =
     (summary_explained c.in-Load.flights c.in-Load.number c.load.result _ _ _ c.load.ensures.said)
 
 pub returns-in-Serve-clause-means : goal.returns-in-Serve-clause-means
-returns-in-Serve-clause-means g c = ?
+returns-in-Serve-clause-means g c =
+    asked_for c.args.words.now (Some (Serve c.in-Serve.port c.in-Serve.sessions c.in-Serve.workers)) c.usage-in-Serve.result _ _ _ _
+    (c.in-Ok.ensures.task ∙ ap Some c.in-Serve.is) (usage_explained c.usage-in-Serve.result _ _ _ c.usage-in-Serve.ensures.said)
