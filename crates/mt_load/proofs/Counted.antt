@@ -16,7 +16,8 @@ use Rattle.mt_base.specs.Tables.{Setup, Tables, setup_with}
 use Rattle.mt_history.specs.Printed.{AreRead, printed}
 use Rattle.mt_picture.specs.Story.{Story}
 use Rattle.mt_load.specs.declared.summary.Summary.{Summary}
-use Rattle.mt_load.specs.Summary.{IsCountedAgain, IsPublishedCount, IsSummary}
+use Rattle.mt_load.specs.Summary.{IsCountedAgain, IsSummary}
+use Rattle.mt_summary.specs.Sizes.{IsPublishedCount}
 use Rattle.mt_world.specs.World.{World, setup_of}
 
 one_published : (setup : Setup) (s : State) (some others : List Conflict) → IsPublished setup s some → IsPublished setup s others → some ≡ others

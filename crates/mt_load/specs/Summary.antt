@@ -3,22 +3,14 @@ use Rattle.std.specs.Prelude.{◌≡◌, ℕ, pos, List, [], ◌∷◌, ◌++◌
 use Rattle.serde_json.specs.Data.{Data, object, no_members, member}
 use Rattle.serde_json.specs.Written.{compact_text}
 use Rattle.mt_base.specs.declared.command.Entry.{Entry}
-use Rattle.mt_base.specs.declared.conflict.Conflict.{Conflict}
-use Rattle.mt_base.specs.History.{state_of}
-use Rattle.mt_base.specs.Picture.{IsPublished}
 use Rattle.mt_base.specs.Tables.{Setup}
 use Rattle.mt_history.specs.Printed.{AreRead, printed}
 use Rattle.mt_io.specs.Lines.{lines_of}
 use Rattle.mt_load.specs.declared.summary.Summary.{Summary}
 use Rattle.mt_load.specs.Load.{IsLoadRun}
+use Rattle.mt_summary.specs.Sizes.{IsPublishedCount}
 use Rattle.mt_write.specs.Entry.{whole}
 use Rattle.mt_world.specs.World.{World, picture_of, setup_of}
-
--- so many conflicts are published of the state of a history
-pub record IsPublishedCount (setup : Setup) (history : List Entry) (n : ℕ) : Type 0 where
-  pub conflicts : List Conflict
-  pub published : IsPublished setup (state_of setup history) conflicts
-  pub count : n ≡ length conflicts
 
 -- so many are published of the entries as which the lines of a history, printed, are read
 pub record IsCountedAgain (setup : Setup) (history : List Entry) (n : ℕ) : Type 0 where

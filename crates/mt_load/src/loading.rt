@@ -1,6 +1,5 @@
 //! A load run, and its summary.
-ghost use Rattle.std.specs.Prelude.{◌≡◌, ◌≤◌, IfOk, length, true};
-ghost use Rattle.mt_probe.specs.Shot.{records_in};
+ghost use Rattle.std.specs.Prelude.{◌≡◌, ◌≤◌, IfOk, true};
 ghost use Rattle.mt_load.specs.Summary.{IsLoaded, IsSummary};
 
 use crate::again::again;
@@ -8,24 +7,10 @@ use crate::complete::are_complete;
 use crate::driving::drive;
 use crate::summary::Summary;
 use mt_memory::Memory;
-use mt_probe::Snapshot;
 use mt_script::Script;
+use mt_summary::sizes_of;
 use std::alloc::Global;
 use std::thread::Threads;
-
-// How many flights there are.
-fn flights_in(snapshot: &Snapshot) -> u64
-    ensures { result ≡ length (records_in snapshot.now.slots) }
-{
-    let mut held: u64 = 0;
-    let count = snapshot.slots();
-    for slot in 0..count {
-        if let Some(_card) = snapshot.flight(slot) {
-            held += 1;
-        }
-    }
-    held
-}
 
 // The summary of a script whose picture has begun. It answers want of memory too where an entry isn't complete.
 fn sum_up<R: Threads + Sync>(rt: &R, alloc: Global, script: &Script) -> Result<Summary, Memory>
@@ -41,12 +26,12 @@ fn sum_up<R: Threads + Sync>(rt: &R, alloc: Global, script: &Script) -> Result<S
     }
     let tables = script.tables()?;
     let again = again(rt, alloc, picture, tables)?;
-    let flights = flights_in(&picture.snapshot()?);
+    let held = sizes_of(picture)?;
     Ok(Summary {
         again,
-        conflicts: picture.published().len() as u64,
-        entries: picture.version(),
-        flights,
+        conflicts: held.conflicts,
+        entries: held.entries,
+        flights: held.flights,
         tests: world.tests(),
     })
 }

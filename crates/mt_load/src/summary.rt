@@ -1,9 +1,9 @@
 //! A summary, and its line.
-ghost use Rattle.std.specs.Prelude.{◌≡◌, ◌++◌, IfOk, OnOk, decimal};
+ghost use Rattle.std.specs.Prelude.{◌≡◌, IfOk};
 ghost use Rattle.mt_load.specs.Summary.{summary_text};
 
-use itoa::Buffer;
 use mt_memory::Memory;
+use mt_summary::put_number;
 use std::alloc::Global;
 
 /// What a load run is summed up as.
@@ -19,16 +19,6 @@ pub struct Summary {
     pub flights: u64,
     /// How many pairs were tested for what was entered; those of advice and of the rebuilding aren't counted.
     pub tests: u64,
-}
-
-// Puts a number behind what stands in a line, with its key before it.
-fn put_number(line: &mut Vec<u8>, key: &[u8], number: u64) -> Result<(), Memory>
-    ensures { OnOk result (line.new.items ≡ line.old.items ++ (key.now ++ decimal number)) }
-{
-    let mut digits = Buffer::new();
-    line.extend_from_slice(key)?;
-    line.extend_from_slice(digits.format(number).as_bytes())?;
-    Ok(())
 }
 
 /// The line of a summary: one compact object, its keys in byte order, and 0x0A at its end.

@@ -1,6 +1,5 @@
-use Rattle.std.proofs.Common.{◌≡◌, ◌∙◌, length, refl, sym, subst, ap}
+use Rattle.std.proofs.Common.{◌≡◌, ◌∙◌, refl, sym, subst, ap}
 use Rattle.std.specs.Prelude.{All}
-use Rattle.mt_base.specs.Picture.{State}
 use Rattle.mt_base.specs.Tables.{Setup}
 use Rattle.mt_wire.specs.Complete.{IsComplete}
 use Rattle.mt_world.specs.World.{World, setup_of}
@@ -29,6 +28,4 @@ returns g c =
     (c.picture-picture.ensures.setup ∙ ap (λ (w : World). setup_of w) c.in-Some.ensures)
     (c.picture-picture.ensures.history ∙ ap (λ (w : World). w.history) c.in-Some.ensures)
     (subst (All IsComplete) c.entries.ensures (c.if-not-are_complete.ensures refl))
-    (record { conflicts = c.published.result.now; published = c.published.ensures; count = refl })
-    c.in_ok-again.ensures c.version.ensures
-    (c.flights_in-flights.ensures ∙ ap (λ (s : State). length s.records) c.in_ok-snapshot.ensures.state)
+    c.in_ok-held.ensures.conflicts c.in_ok-again.ensures c.in_ok-held.ensures.entries c.in_ok-held.ensures.flights

@@ -1,6 +1,6 @@
 use Rattle.std.proofs.Common.{◌≡◌, ◌≤◌, length, take}
 use Rattle.mt_probe.specs.Shot.{flights_in}
-use Rattle.mt_load.proofs.loading.flights_in.Given as goal
+use Rattle.mt_summary.proofs.sizes.flights_in.Given as goal
 
 abbrev pub invariant-loop-slot : goal.invariant-loop-slot
 invariant-loop-slot l = record {

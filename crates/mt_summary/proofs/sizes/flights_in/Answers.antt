@@ -1,7 +1,7 @@
 use Rattle.std.proofs.Common.{◌<◌, length, arith}
 use Rattle.mt_picture.proofs.Counting.{count_all, count_none, count_some}
-use Rattle.mt_load.proofs.loading.flights_in.Goals as goal
-use Rattle.mt_load.proofs.loading.flights_in.Goals.{in-Some, in_default}
+use Rattle.mt_summary.proofs.sizes.flights_in.Goals as goal
+use Rattle.mt_summary.proofs.sizes.flights_in.Goals.{in-Some, in_default}
 
 pub loop-slot-preserved : goal.loop-slot-preserved
 loop-slot-preserved c =
