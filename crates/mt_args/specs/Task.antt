@@ -116,6 +116,13 @@ task_of (command ∷ words) =
 abbrev pub IsFlights : ℕ → Type 0
 IsFlights flights = (1 ≤ flights) × (flights ≤ 1024)
 
+abbrev pub AreFewSessions : ℕ → Type 0
+AreFewSessions sessions = sessions ≤ 64
+
+abbrev pub AreFewWorkers : ℕ → Type 0
+AreFewWorkers workers = workers ≤ 8
+
 abbrev pub IsBoundedTask : Task → Type 0
 IsBoundedTask (Load flights number) = IsFlights flights
-IsBoundedTask task = ⊤
+IsBoundedTask (Serve port sessions workers) = AreFewSessions sessions × AreFewWorkers workers
+IsBoundedTask Replay = ⊤

@@ -17,11 +17,14 @@ struct Serving {
 }
 
 impl Model for Serving {
-    ghost use Rattle.mt_args.specs.Task.{Serving};
+    ghost use Rattle.std.specs.Prelude.{IfSome};
+    ghost use Rattle.mt_args.specs.Task.{AreFewSessions, AreFewWorkers, Serving};
 
     ghost Value = { Serving };
 
     ghost view = { λ s. record { port = s.port; sessions = s.sessions; workers = s.workers } };
+
+    ghost invariant = { λ s. IfSome s.sessions AreFewSessions × IfSome s.workers AreFewWorkers };
 }
 
 impl Serving {
