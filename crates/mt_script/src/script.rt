@@ -1,13 +1,15 @@
 //! A script: what each request is answered, and the world that it leaves.
-ghost use Rattle.std.specs.Prelude.{◌≡◌, ◌⊎◌, ◌≤◌, IfOk, MatchOption, None, false};
+ghost use Rattle.std.specs.Prelude.{◌≡◌, ◌⊎◌, ◌≤◌, [], IfOk, MatchOption, None, false, true};
 ghost use Rattle.std.specs.Arc.{arc_value};
 ghost use Rattle.mt_base.specs.Bounds.{AreWithinBounds};
 ghost use Rattle.mt_read.specs.Bounded.{IsBoundedRequest};
 ghost use Rattle.mt_lines.specs.Fit.{IsFit};
+ghost use Rattle.mt_script.specs.Begun.{is_begin};
 ghost use Rattle.mt_world.specs.World.{IsServed, IsStarved, opening_world};
 
 use crate::setting::Setting;
 use mt_base::{Memory, Rules};
+use mt_picture::Picture;
 use mt_read::Request;
 use mt_tables::Tables;
 use mt_world::World;
@@ -47,10 +49,11 @@ impl Script {
         })
     }
 
-    /// The rules that stand.
+    /// The rules that stand. That the history is empty before the picture has begun is said here too.
     pub fn rules(&self) -> Rules
         ensures rules { result ≡ self.now.rules }
         ensures bounded { AreWithinBounds result }
+        ensures empty { self.now.begun ≡ false → self.now.history ≡ [] }
     {
         match &self.begun {
             Some(world) => world.picture().rules(),
@@ -73,9 +76,33 @@ impl Script {
         self.begun.as_ref()
     }
 
+    /// Whether the picture has begun.
+    pub fn has_begun(&self) -> bool
+        ensures { result ≡ self.now.begun }
+    {
+        let _rules = self.setting.rules();
+        match &self.begun {
+            Some(_world) => true,
+            None => false,
+        }
+    }
+
+    /// The picture, out of the script. It asks for a picture that has begun.
+    pub fn into_picture(self) -> Picture
+        requires { self.begun ≡ true }
+        ensures setup { result.setup ≡ record { rules = self.rules; tables = self.tables } }
+        ensures history { result.history ≡ self.history }
+    {
+        let Script { setting, begun } = self;
+        let _rules = setting.rules();
+        let Some(world) = begun else { unreachable!() };
+        world.into_picture()
+    }
+
     /// Serves an actor's request, of one of the numbers 0 to 15: the reply that the definition of a world has for it, and that world after it; or
     /// `Memory` is the reply, and nothing has changed, but that settling may have renewed some flights. A reply that follows a change is short
-    /// enough for the room that is taken before the first line.
+    /// enough for the room that is taken before the first line. Before the picture has begun its history stays empty, and it begins exactly
+    /// where `begin` is answered so.
     pub fn serve<R: Threads + Sync>(
         &mut self,
         rt: &R,
@@ -87,6 +114,7 @@ impl Script {
         requires bounded { IsBoundedRequest self.old.rules request.now }
         ensures served { IsServed self.old who request.now result self.new ⊎ IsStarved self.old who request.now result self.new }
         ensures fit { IsFit result }
+        ensures begins { self.old.begun ≡ false → (self.new.begun ≡ is_begin result) × (self.new.history ≡ []) }
     {
         match &mut self.begun {
             Some(world) => world.step(rt, who, request),

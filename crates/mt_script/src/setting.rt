@@ -12,6 +12,7 @@ ghost use Rattle.mt_read.specs.declared.request.Request.TheVariants as requests;
 ghost use Rattle.mt_read.specs.Bounded.{IsBoundedRequest};
 ghost use Rattle.mt_read.specs.Rules.{rules_with};
 ghost use Rattle.mt_lines.specs.Fit.{IsFit};
+ghost use Rattle.mt_script.specs.Begun.{is_begin};
 ghost use Rattle.mt_world.specs.World.{IsAdded, IsGiven, IsRefused, IsServed, IsStarved, new_actor, not_added, opening_world};
 
 use mt_base::{Bands, FixName, Memory, Rules, TypeName};
@@ -63,11 +64,12 @@ impl Setting {
         })
     }
 
-    /// The rules that stand. That the picture hasn't begun is said here too.
+    /// The rules that stand. That the picture hasn't begun, and that its history is empty, is said here too.
     pub fn rules(&self) -> Rules
         ensures rules { result ≡ self.now.rules }
         ensures bounded { AreWithinBounds result }
         ensures before { self.now.begun ≡ false }
+        ensures empty { self.now.history ≡ [] }
     {
         self.rules
     }
@@ -85,6 +87,9 @@ impl Setting {
         requires bounded { IsBoundedRequest self.old.rules request.now }
         ensures served { (who : ℕ) → IsServed self.old who request.now result self.new ⊎ IsStarved self.old who request.now result self.new }
         ensures fit { IsFit result }
+        ensures stays { is_begin result ≡ false }
+        ensures before { self.new.begun ≡ false }
+        ensures empty { self.new.history ≡ [] }
     {
         let _rules = self.rules();
         match request {
@@ -112,6 +117,7 @@ impl Setting {
     pub fn world<R: Threads + Sync>(&self, rt: &R, alloc: Global) -> Result<World, Memory>
         ensures world { IfOk result (λ world. world ≡ record self.now { begun = true; history = []; actors = replicate 16 new_actor }) }
         ensures before { self.now.begun ≡ false }
+        ensures empty { self.now.history ≡ [] }
     {
         let tables = Arc::try_clone(&self.tables)?;
         let picture = Picture::make(alloc, self.rules, tables)?;
@@ -124,6 +130,9 @@ impl Setting {
         ensures answered { IsAdded self.old (judged (fix_adding self.old.tables name) (tt {0})) done.Fix (replies.TakenFix name)
             (with_fix self.old.tables name (record { x = x; y = y })) result self.new ⊎ IsRefused self.old replies.Memory result self.new }
         ensures fit { IsFit result }
+        ensures stays { is_begin result ≡ false }
+        ensures before { self.new.begun ≡ false }
+        ensures empty { self.new.history ≡ [] }
     {
         let Some(tables) = Arc::get_mut(&mut self.tables) else {
             return Reply::Memory;
@@ -140,6 +149,9 @@ impl Setting {
         ensures answered { IsAdded self.old (judged (type_adding self.old.tables name bands.now) (tt {0})) done.TypeLine (replies.TakenType name)
             (with_type self.old.tables name bands.now) result self.new ⊎ IsRefused self.old replies.Memory result self.new }
         ensures fit { IsFit result }
+        ensures stays { is_begin result ≡ false }
+        ensures before { self.new.begun ≡ false }
+        ensures empty { self.new.history ≡ [] }
     {
         let Some(tables) = Arc::get_mut(&mut self.tables) else {
             return Reply::Memory;
@@ -155,6 +167,9 @@ impl Setting {
         requires { AreWithinBounds (rules_with set.now self.old.rules) }
         ensures answered { IsGiven (replies.Done done.Rule) (record self.old { rules = rules_with set.now self.old.rules }) result self.new }
         ensures fit { IsFit result }
+        ensures stays { is_begin result ≡ false }
+        ensures before { self.new.begun ≡ false }
+        ensures empty { self.new.history ≡ [] }
     {
         self.rules = set.over(&self.rules);
         Reply::Done(DoneWord::Rule)
@@ -163,7 +178,8 @@ impl Setting {
 
 // The refusal of a line that adds a fix or a type, `taken` where one of that name stands.
 fn not_added(taken: Reply, refusal: AddNo) -> Reply
-    ensures { result ≡ not_added taken refusal }
+    ensures answer { result ≡ not_added taken refusal }
+    ensures stays { is_begin taken ≡ false → is_begin result ≡ false }
 {
     match refusal {
         AddNo::Taken => taken,

@@ -1,5 +1,5 @@
 use Rattle.std.proofs.Common.{◌≡◌, ◌⊎◌, ◌∙◌, ap, inl, refl, subst, sym, Option}
-use Rattle.std.specs.Prelude.{IfSome, unwrap_or}
+use Rattle.std.specs.Prelude.{unwrap_or}
 use Rattle.mt_read.specs.declared.request.Request.TheVariants.{Begin}
 use Rattle.mt_write.specs.declared.reply.DoneWord.TheVariants as done
 use Rattle.mt_write.specs.declared.reply.Reply.TheVariants.{Done}

@@ -1,10 +1,10 @@
-use Rattle.std.proofs.Common.{◌≡◌, ◌∙◌, [], ap, false, inl, replicate, to_z-of_z}
+use Rattle.std.proofs.Common.{◌∙◌, [], ap, false, inl, replicate, to_z-of_z}
 use Rattle.mt_base.specs.Checks.{judged}
 use Rattle.mt_base.specs.Tables.{Tables}
 use Rattle.mt_tables.specs.Adding.{fix_adding, with_fix}
 use Rattle.mt_write.specs.declared.reply.DoneWord.TheVariants.{Fix}
 use Rattle.mt_write.specs.declared.reply.Reply.TheVariants.{TakenFix}
-use Rattle.mt_world.specs.World.{World, new_actor}
+use Rattle.mt_world.specs.World.{new_actor}
 use Rattle.mt_script.proofs.Adding.{is_added}
 use Rattle.mt_script.proofs.setting.Setting.add_fix.Goals as goal
 
