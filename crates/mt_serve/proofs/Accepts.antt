@@ -1,0 +1,90 @@
+-- Links, one by one.
+use Rattle.std.proofs.Common.{◌≡◌, ◌<◌, ◌+◌, suc, List, [], ◌∷◌, ◌++◌, map, length, All, None, Some, refl, sym, ap, ◌∙◌, subst, append_assoc, append-nil, arith}
+use Rattle.std.specs.Prelude.{MatchOption}
+use Rattle.std.specs.declared.option.Option.{Option}
+use Rattle.mt_base.specs.Tables.{Setup}
+use Rattle.mt_desk.specs.Desk.{Desk, IsReady}
+use Rattle.mt_turn.specs.Places.{Place}
+use Rattle.mt_base.specs.declared.command.Entry.{Entry}
+use Rattle.mt_io.specs.Door.{Count, Loses, Gains, gave_one}
+use Rattle.mt_serve.specs.Sitting.{Start, HasBegun, IsSeated, seats_of}
+use Rattle.mt_serve.specs.Accepting.{Accepting}
+
+pub loses_none : {A : Type 0} (a : Option (List A)) → Loses a a []
+loses_none None = tt
+loses_none (Some xs) = refl
+
+pub loses_on : {A : Type 0} (a b c : Option (List A)) (xs ys : List A) → Loses a b xs → Loses b c ys → Loses a c (xs ++ ys)
+loses_on None b c xs ys ab bc = tt
+loses_on (Some as_) None c xs ys ab bc = absurd ab
+loses_on (Some as_) (Some bs) None xs ys ab bc = bc
+loses_on (Some as_) (Some bs) (Some cs) xs ys ab bc = ab ∙ ap (λ zs. xs ++ zs) bc ∙ sym (append_assoc xs ys cs)
+
+pub gains_none : {A : Type 0} (a : Option (List A)) → Gains a a []
+gains_none None = tt
+gains_none (Some xs) = sym (append-nil xs)
+
+pub gains_on : {A : Type 0} (a b c : Option (List A)) (xs ys : List A) → Gains a b xs → Gains b c ys → Gains a c (xs ++ ys)
+gains_on None b c xs ys ab bc = tt
+gains_on (Some as_) None c xs ys ab bc = absurd ab
+gains_on (Some as_) (Some bs) None xs ys ab bc = bc
+gains_on (Some as_) (Some bs) (Some cs) xs ys ab bc = bc ∙ ap (λ zs. zs ++ ys) ab ∙ append_assoc as_ xs ys
+
+pub map_push : {A B : Type 0} (f : A → B) (xs : List A) (x : A) → map f (xs ++ x ∷ []) ≡ map f xs ++ f x ∷ []
+map_push f [] x = refl
+map_push f (y ∷ xs) x = ap (λ zs. f y ∷ zs) (map_push f xs x)
+
+pub length_push : {A : Type 0} (xs : List A) (x : A) → length (xs ++ x ∷ []) ≡ length xs + 1
+length_push [] x = refl
+length_push (y ∷ xs) x = omega (arith, length_push xs x)
+
+pub at_some : {A : Type 0} (o : Option A) (x : A) (P : Type 0) (Q : A → Type 0) → o ≡ Some x → MatchOption o P Q → Q x
+at_some o x P Q is m = subst (λ z. MatchOption z P Q) is m
+
+pub all_rest : {A : Type 0} (P : A → Type 0) (x : A) (xs : List A) → All P (x ∷ xs) → All P xs
+all_rest P x xs all k d below = all (suc k) d (omega arith)
+
+pub all_first : {A : Type 0} (P : A → Type 0) (x : A) (xs : List A) → All P (x ∷ xs) → P x
+all_first P x xs all = all 0 x (omega arith)
+
+-- the next one goes from the front of one list to the end of the other
+pub moved_on : {A : Type 0} (all begun rest begun' rest' : List A) (x y : A) → all ≡ begun ++ rest → rest ≡ x ∷ rest' → begun' ≡ begun ++ y ∷ [] → y ≡ x → all ≡ begun' ++ rest'
+moved_on all begun rest begun' rest' x y is front pushed same =
+    is ∙ ap (λ zs. begun ++ zs) front ∙ sym (append_assoc begun (x ∷ []) rest') ∙ ap (λ z. (begun ++ z ∷ []) ++ rest') (sym same) ∙ ap (λ zs. zs ++ rest') (sym pushed)
+
+pub all_moved : {A : Type 0} (P : A → Type 0) (x : A) (xs ys : List A) → All P ys → ys ≡ x ∷ xs → All P xs
+all_moved P x xs ys all is = all_rest P x xs (subst (All P) is all)
+
+pub all_front : {A : Type 0} (P : A → Type 0) (x : A) (xs ys : List A) → All P ys → ys ≡ x ∷ xs → P x
+all_front P x xs ys all is = all_first P x xs (subst (All P) is all)
+
+pub accepting_none : {L : Type 0} (desk : Desk) (c : Count) (still : Option (List L)) (seats : List (Place Entry Setup)) → All (IsReady desk) seats → IsSeated c seats → Accepting desk c c still still seats seats []
+accepting_none desk c still seats ready seated = record {
+  begun = record { port = refl; sessions = refl; given = omega arith; back = refl; links = loses_none _; seats_are = refl };
+  ready = ready;
+  seated = seated;
+}
+
+pub accepting_more : {L : Type 0} (desk : Desk) (c d e : Count) (still left now : Option (List L)) (seats rest after : List (Place Entry Setup)) (starts : List (Start L)) (link : L) (seat : Place Entry Setup)
+    → Accepting desk c d still left seats rest starts → (d.given < d.sessions) × (e ≡ gave_one d) × Loses left now (link ∷ []) → rest ≡ seat ∷ after
+    → Accepting desk c e still now seats after (starts ++ record { link = link; seat = seat } ∷ [])
+accepting_more {L} desk c d e still left now seats rest after starts link seat so gave is =
+    let s : Start L = record { link = link; seat = seat } in
+    let same = gave.1 in
+    record {
+      begun = record {
+        port = ap (λ (z : Count). z.port) same ∙ so.begun.port;
+        sessions = ap (λ (z : Count). z.sessions) same ∙ so.begun.sessions;
+        given = omega (arith, ap (λ (z : Count). z.given) same, so.begun.given, length_push starts s);
+        back = ap (λ (z : Count). z.back) same ∙ so.begun.back;
+        links = subst (λ ls. Loses still now ls) (sym (map_push (λ (z : Start L). z.link) starts s)) (loses_on _ _ _ _ _ so.begun.links gave.2);
+        seats_are = so.begun.seats_are ∙ ap (λ zs. seats_of starts ++ zs) is ∙ sym (append_assoc (seats_of starts) (seat ∷ []) after) ∙ ap (λ zs. zs ++ after) (sym (map_push (λ (z : Start L). z.seat) starts s));
+      };
+      ready = all_rest (IsReady desk) seat after (subst (λ zs. All (IsReady desk) zs) is so.ready);
+      seated = omega (arith, ap (λ (z : Count). z.given) same, ap (λ (z : Count). z.sessions) same, so.seated, ap (λ (zs : List (Place Entry Setup)). length zs) is);
+    }
+
+-- what holds of the door that the scope gives back holds of the door afterwards
+pub begun_at : {L D : Type 0} (count : D → Count) (still : D → Option (List L)) (c : Count) (all : Option (List L)) (seats rest : List (Place Entry Setup)) (starts : List (Start L)) (d e : D)
+    → HasBegun c (count e) all (still e) seats rest starts → d ≡ e → HasBegun c (count d) all (still d) seats rest starts
+begun_at count still c all seats rest starts d e begun is = subst (λ z. HasBegun c (count z) all (still z) seats rest starts) (sym is) begun

@@ -1,0 +1,114 @@
+-- Seats joined, one by one.
+use Rattle.std.proofs.Common.{◌≡◌, ◌<◌, ◌≤◌, ◌+◌, ◌^◌, List, [], ◌∷◌, ◌++◌, length, All, Option, refl, sym, ap, ◌∙◌, subst, append-nil, length-append, arith}
+use Rattle.std.proofs.lemmas.List.Elements.{All-push}
+use Rattle.mt_base.specs.Tables.{Setup}
+use Rattle.mt_desk.specs.Desk.{Desk, IsReady}
+use Rattle.mt_io.specs.declared.source.Source as Source
+use Rattle.mt_io.specs.declared.sink.Sink as Sink
+use Rattle.mt_turn.specs.declared.view.Phase.TheVariants.{Idle}
+use Rattle.mt_turn.specs.declared.view.View.{View}
+use Rattle.mt_turn.specs.Places.{Place}
+use Rattle.mt_turn.specs.Views.{taker}
+use Rattle.mt_base.specs.declared.command.Entry.{Entry}
+use Rattle.mt_io.specs.Door.{Count, Gains, took_one}
+use Rattle.mt_session.specs.declared.outcome.Outcome.{Outcome}
+use Rattle.mt_serve.specs.Sitting.{Met}
+use Rattle.mt_serve.specs.Working.{Worked, HasWorked, IsRested, rests_of}
+use Rattle.mt_serve.specs.Serving.{HasServed}
+use Rattle.mt_serve.specs.Seating.{HasJoined, views_of}
+use Rattle.mt_serve.specs.declared.counts.Counts.{Counts}
+use Rattle.mt_serve.specs.Summary.{counted, no_counts, with_outcome}
+use Rattle.mt_serve.proofs.Counting.{counted_more}
+use Rattle.mt_serve.specs.Tied.{AreOver, ends_of, backs_of}
+use Rattle.mt_serve.specs.Joining.{JoinsSeats, JoinsWorkers, JoinsSessions}
+use Rattle.mt_serve.proofs.Accepts.{map_push, length_push, moved_on, all_moved, gains_none, gains_on}
+use Rattle.mt_serve.proofs.Seats.{joined_none, joined_more}
+
+pub seats_more : (desk : Desk) (v w w' : View Entry Setup) (all rest rest' : List (Place Entry Setup)) (x : Place Entry Setup)
+    → JoinsSeats desk v w all rest → rest ≡ x ∷ rest' → w' ≡ taker w x.view → JoinsSeats desk v w' all rest'
+seats_more desk v w w' all rest rest' x so front takes = record {
+  past = so.past ++ x ∷ [];
+  parts = moved_on all so.past rest (so.past ++ x ∷ []) rest' x x so.parts front refl refl;
+  joined = subst (HasJoined v w') (sym (map_push (λ (s : Place Entry Setup). s.view) so.past x)) (joined_more v w w' (views_of so.past) x.view so.joined takes);
+  ready = all_moved (IsReady desk) x rest' rest so.ready front;
+}
+
+pub workers_more : (desk : Desk) (v w w' : View Entry Setup) (all rest rest' : List Worked) (x y : Worked)
+    → JoinsWorkers desk v w all rest → rest ≡ y ∷ rest' → x ≡ y → w' ≡ taker w x.seat.view → HasWorked x.from x.seat → JoinsWorkers desk v w' all rest'
+workers_more desk v w w' all rest rest' x y so front same takes worked = record {
+  past = so.past ++ x ∷ [];
+  parts = moved_on all so.past rest (so.past ++ x ∷ []) rest' y x so.parts front refl same;
+  joined =
+      subst (HasJoined v w')
+      (sym (ap views_of (map_push (λ (z : Worked). z.seat) so.past x) ∙ map_push (λ (s : Place Entry Setup). s.view) (rests_of so.past) x.seat))
+      (joined_more v w w' (views_of (rests_of so.past)) x.seat.view so.joined takes);
+  ready = all_moved (λ (z : Worked). IsReady desk z.from) y rest' rest so.ready front;
+  worked = All-push IsRested so.past x so.worked worked;
+}
+
+module _ {L : Type 0} (source : Source.Ghosts L) (sink : Sink.Ghosts L) where
+  pub sessions_none : (desk : Desk) (v : View Entry Setup) (all : List (Met L)) (c : Count) (back : Option (List L)) (counts : Counts) → v.phase ≡ Idle
+      → All (λ (x : Met L). IsReady desk x.from.seat) all → counts ≡ no_counts → JoinsSessions source sink desk v v all all c c back back counts
+  sessions_none desk v all c back counts idle ready none = record {
+    past = [];
+    parts = refl;
+    joined = joined_none v idle;
+    ready = ready;
+    served = λ k d below. absurd (omega arith);
+    count = let e : c.back + 0 ≡ c.back = omega arith in ap (λ n. record { port = c.port; sessions = c.sessions; given = c.given; back = n }) (sym e);
+    returned = gains_none back;
+    counts_are = none;
+  }
+
+  pub sessions_more : (desk : Desk) (v w w' : View Entry Setup) (all rest rest' : List (Met L)) (c d e : Count) (back now then : Option (List L)) (counts counts' : Counts) (x y : Met L)
+      → JoinsSessions source sink desk v w all rest c d back now counts → rest ≡ y ∷ rest' → x ≡ y → w' ≡ taker w x.seat.view
+      → HasServed source sink x.from.link x.from.seat x.link x.seat x.outcome → e ≡ took_one d → Gains now then (x.link ∷ []) → counts' ≡ with_outcome x.outcome counts
+      → JoinsSessions source sink desk v w' all rest' c e back then counts'
+  sessions_more desk v w w' all rest rest' c d e back now then counts counts' x y so front same takes served took gains more_counts = record {
+    past = so.past ++ x ∷ [];
+    parts = moved_on all so.past rest (so.past ++ x ∷ []) rest' y x so.parts front refl same;
+    joined =
+        subst (HasJoined v w')
+        (sym (ap views_of (map_push (λ (z : Met L). z.seat) so.past x) ∙ map_push (λ (s : Place Entry Setup). s.view) (ends_of so.past) x.seat))
+        (joined_more v w w' (views_of (ends_of so.past)) x.seat.view so.joined takes);
+    ready = all_moved (λ (z : Met L). IsReady desk z.from.seat) y rest' rest so.ready front;
+    served = All-push (λ (m : Met L). HasServed source sink m.from.link m.from.seat m.link m.seat m.outcome) so.past x so.served served;
+    count =
+        let more : c.back + length so.past + 1 ≡ c.back + length (so.past ++ x ∷ []) = omega (arith, length_push so.past x) in
+        took ∙ ap took_one so.count ∙ ap (λ n. record { port = c.port; sessions = c.sessions; given = c.given; back = n }) more;
+    returned = subst (Gains back then) (sym (map_push (λ (z : Met L). z.link) so.past x)) (gains_on back now then (backs_of so.past) (x.link ∷ []) so.returned gains);
+    counts_are = more_counts ∙ ap (with_outcome x.outcome) so.counts_are ∙ sym (counted_more so.past x);
+  }
+
+  pub sessions_over : (desk : Desk) (v w : View Entry Setup) (all rest : List (Met L)) (c d : Count) (back now : Option (List L)) (counts : Counts)
+      → JoinsSessions source sink desk v w all rest c d back now counts → rest ≡ [] → AreOver source sink all
+  sessions_over desk v w all rest c d back now counts so none =
+      subst (AreOver source sink) (sym (so.parts ∙ ap (λ zs. so.past ++ zs) none ∙ append-nil so.past)) so.served
+
+  pub counts_over : (desk : Desk) (v w : View Entry Setup) (all rest : List (Met L)) (c d : Count) (back now : Option (List L)) (counts : Counts)
+      → JoinsSessions source sink desk v w all rest c d back now counts → rest ≡ [] → counts ≡ counted all
+  counts_over desk v w all rest c d back now counts so none = so.counts_are ∙ ap counted (sym (so.parts ∙ ap (λ zs. so.past ++ zs) none ∙ append-nil so.past))
+
+  -- there is room for one more in the counts
+  pub counts_room : (desk : Desk) (v w : View Entry Setup) (all rest rest' : List (Met L)) (c d : Count) (back now : Option (List L)) (counts : Counts) (y : Met L)
+      → JoinsSessions source sink desk v w all rest c d back now counts → rest ≡ y ∷ rest' → length all ≤ 2 ^ 31 → counts.sessions < 2 ^ 32
+  counts_room desk v w all rest rest' c d back now counts y so front few =
+      let count : counts.sessions ≡ length so.past = ap (λ (k : Counts). k.sessions) so.counts_are in
+      let parts : length all ≡ length so.past + length rest = ap (λ (xs : List (Met L)). length xs) so.parts ∙ length-append so.past rest in
+      omega (arith, count, parts, few)
+
+  -- a session that is over leaves a seat of the desk that it got one of
+  pub done_ready : (desk : Desk) (a : L) (before : Place Entry Setup) (b : L) (after : Place Entry Setup) (outcome : Outcome)
+      → HasServed source sink a before b after outcome → IsReady desk before → IsReady desk after
+  done_ready desk a before b after outcome served ready = record {
+    home_is = served.home ∙ ready.home_is;
+    idle = served.idle;
+    fixed_is = served.same.3 ∙ ready.fixed_is;
+  }
+
+pub rested_ready : (desk : Desk) (before after : Place Entry Setup) → HasWorked before after → IsReady desk before → IsReady desk after
+rested_ready desk before after worked ready = record {
+  home_is = worked.home ∙ ready.home_is;
+  idle = worked.idle;
+  fixed_is = worked.same.3 ∙ ready.fixed_is;
+}

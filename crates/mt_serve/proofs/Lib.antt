@@ -1,0 +1,9 @@
+pub mod Accepts
+pub mod Seats
+pub mod Counting
+pub mod Joins
+pub mod Members
+pub mod Binding
+pub mod Renewals
+pub mod Whole
+pub mod ClosingLine

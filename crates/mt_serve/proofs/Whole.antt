@@ -1,0 +1,102 @@
+-- The parts of a serve, put together.
+use Rattle.std.proofs.Common.{◌≡◌, ◌≤◌, ◌+◌, ◌^◌, ◌⊎◌, inl, inr, ℕ, Bool, true, false, List, [], length, All, Option, refl, sym, ap, ◌∙◌, subst, length-append, arith}
+use Rattle.std.proofs.lemmas.Bool.{false≢true}
+use Rattle.mt_base.specs.Tables.{Setup}
+use Rattle.mt_base.specs.History.{IsLegal}
+use Rattle.mt_picture.specs.Story.{Story}
+use Rattle.mt_serve.specs.declared.counts.Counts.{Counts}
+use Rattle.mt_serve.specs.Summary.{HasServedWhole, counted}
+use Rattle.mt_desk.specs.Desk.{Desk, IsReady}
+use Rattle.mt_io.specs.Causes.{Rose}
+use Rattle.mt_io.specs.declared.source.Source as Source
+use Rattle.mt_io.specs.declared.sink.Sink as Sink
+use Rattle.mt_turn.specs.declared.view.View.{View}
+use Rattle.mt_turn.specs.Places.{Place}
+use Rattle.mt_turn.specs.Views.{first_view}
+use Rattle.mt_base.specs.declared.command.Entry.{Entry}
+use Rattle.mt_io.specs.Door.{Count, Loses, Gains, listened}
+use Rattle.mt_serve.specs.Sitting.{Met, Start, HasBegun, IsOver, starts_of, seats_of, links_of}
+use Rattle.mt_serve.specs.Seating.{IsFresh, AllSplit, HasSplit}
+use Rattle.mt_serve.specs.Tied.{IsTied, HasServedAll, gave_back, backs_of}
+use Rattle.mt_serve.proofs.Accepts.{loses_none}
+use Rattle.mt_serve.proofs.Seats.{length_map}
+use Rattle.mt_serve.proofs.Binding.{all_split}
+
+pub split_as : (desk : Desk) (f v w : View Entry Setup) (seats hands seats' hands' : List (Place Entry Setup)) → f ≡ first_view desk.fixed → HasSplit desk f v seats → HasSplit desk v w hands
+    → seats ≡ seats' → hands ≡ hands' → AllSplit desk w seats' hands'
+split_as desk f v w seats hands seats' hands' new a b is is' =
+    subst (λ s. AllSplit desk w s hands') is
+    (subst (AllSplit desk w seats) is' (all_split desk v w seats hands (subst (λ z. HasSplit desk z v seats) new a) b))
+
+pub ready_of : (desk : Desk) (v : View Entry Setup) (seats : List (Place Entry Setup)) → All (IsFresh desk v) seats → All (IsReady desk) seats
+ready_of desk v seats fresh k d below = (fresh k d below).ready
+
+-- there are no more sessions than seats for them
+pub few_met : {L : Type 0} (sessions workers : ℕ) (old new : Count) (still left : Option (List L)) (seats rest : List (Place Entry Setup)) (mets : List (Met L))
+    → HasBegun old new still left seats rest (starts_of mets) → length seats ≡ sessions → sessions + workers ≤ 2 ^ 31 → length mets ≤ 2 ^ 31
+few_met {L} sessions workers old new still left seats rest mets begun many few =
+    let parts : length seats ≡ length (seats_of (starts_of mets)) + length rest =
+    ap (λ (xs : List (Place Entry Setup)). length xs) begun.seats_are ∙ length-append (seats_of (starts_of mets)) rest in
+    omega (arith, parts, length_map (λ (s : Start L). s.seat) (starts_of mets), length_map (λ (m : Met L). m.from) mets, many, few)
+
+over_cause : (b : Bool) (c : Count) (f f' : ℕ) → IsOver b c f f' → b ≡ true → Rose f f'
+over_cause true c f f' over is = over
+over_cause false c f f' over is = absurd (false≢true is)
+
+over_cases : (b : Bool) (c : Count) (f f' : ℕ) → IsOver b c f f' → (b ≡ true) ⊎ (c.given ≡ c.sessions)
+over_cases true c f f' over = inl refl
+over_cases false c f f' over = inr over
+
+count_is : (c : Count) (port sessions given back : ℕ) → c.port ≡ port → c.sessions ≡ sessions → c.given ≡ given → c.back ≡ back → c ≡ record { port = port; sessions = sessions; given = given; back = back }
+count_is c port sessions given back a b d e =
+    ap (λ n. record { port = n; sessions = c.sessions; given = c.given; back = c.back }) a
+    ∙ ap (λ n. record { port = port; sessions = n; given = c.given; back = c.back }) b
+    ∙ ap (λ n. record { port = port; sessions = sessions; given = n; back = c.back }) d
+    ∙ ap (λ n. record { port = port; sessions = sessions; given = given; back = n }) e
+
+module _ {L : Type 0} (source : Source.Ghosts L) (sink : Sink.Ghosts L) where
+  pub served_all : (setup : Setup) (port sessions : ℕ) (c0 c1 c2 c3 : Count) (s0 s1 s2 s3 b0 b1 b2 b3 : Option (List L)) (f0 f1 f2 f3 : ℕ) (faulted : Bool) (h : List Entry) (mets : List (Met L)) (seats rest : List (Place Entry Setup))
+      → c1 ≡ listened port sessions → s1 ≡ s0 → b1 ≡ b0 → f0 ≤ f1
+      → HasBegun c1 c2 s1 s2 seats rest (starts_of mets) → b2 ≡ b1 → f1 ≤ f2 → IsOver faulted c2 f1 f2
+      → IsTied source sink setup h mets → c3 ≡ gave_back c2 (length mets) → s3 ≡ s2 → Gains b2 b3 (backs_of mets) → f2 ≤ f3
+      → HasServedAll source sink setup port sessions c0 c3 s0 s3 b0 b3 f0 f3 faulted h mets
+  served_all setup port sessions c0 c1 c2 c3 s0 s1 s2 s3 b0 b1 b2 b3 f0 f1 f2 f3 faulted h mets seats rest listen ss bs later1 begun bs2 later2 over tied back ss3 gains later3 =
+      let many = length_map (λ (z : Met L). z.from) mets in
+      let p1 = ap (λ (z : Count). z.port) listen in let n1 = ap (λ (z : Count). z.sessions) listen in let g1 = ap (λ (z : Count). z.given) listen in let k1 = ap (λ (z : Count). z.back) listen in
+      let given : c2.given ≡ length mets = omega (arith, begun.given, g1, many) in
+      let k3 : c3.back ≡ length mets = omega (arith, ap (λ (z : Count). z.back) back, begun.back, k1) in
+      record {
+        tied = tied;
+        given = subst (λ s. Loses s s3 (links_of (starts_of mets))) ss (subst (λ s. Loses s1 s (links_of (starts_of mets))) (sym ss3) begun.links);
+        returned = subst (λ b. Gains b b3 (backs_of mets)) (bs2 ∙ bs) gains;
+        count = inl (
+          count_is c3 port sessions (length mets) (length mets) (ap (λ (z : Count). z.port) back ∙ begun.port ∙ p1) (ap (λ (z : Count). z.sessions) back ∙ begun.sessions ∙ n1) (ap (λ (z : Count). z.given) back ∙ given) k3,
+          elim (over_cases faulted c2 f1 f2 over) [ inl yes_ ↦ inl yes_ | inr all ↦ inr (sym given ∙ all ∙ begun.sessions ∙ n1) ],
+        );
+        cause = λ is. let r = over_cause faulted c2 f1 f2 over is in omega (arith, r, later1, later3);
+      }
+
+  pub not_listened : (setup : Setup) (port sessions : ℕ) (c0 c1 c3 : Count) (s0 s1 s3 b0 b1 b3 : Option (List L)) (f0 f1 f3 : ℕ) (h : List Entry) (mets : List (Met L))
+      → c1 ≡ c0 → s1 ≡ s0 → b1 ≡ b0 → Rose f0 f1 → mets ≡ []
+      → IsTied source sink setup h mets → c3 ≡ gave_back c1 (length mets) → s3 ≡ s1 → Gains b1 b3 (backs_of mets) → f1 ≤ f3
+      → HasServedAll source sink setup port sessions c0 c3 s0 s3 b0 b3 f0 f3 true h mets
+  not_listened setup port sessions c0 c1 c3 s0 s1 s3 b0 b1 b3 f0 f1 f3 h mets listen ss bs rose none tied back ss3 gains later =
+      let zero_ : length mets ≡ 0 = ap (λ (ms : List (Met L)). length ms) none in
+      let same : c1.back + length mets ≡ c1.back = omega (arith, zero_) in
+      record {
+        tied = tied;
+        given = subst (λ ms. Loses s0 s3 (links_of (starts_of ms))) (sym none) (subst (λ s. Loses s0 s []) (sym (ss3 ∙ ss)) (loses_none s0));
+        returned = subst (λ b. Gains b b3 (backs_of mets)) bs gains;
+        count = inr (back ∙ ap (λ n. record { port = c1.port; sessions = c1.sessions; given = c1.given; back = n }) same ∙ listen, zero_, refl);
+        cause = λ is. omega (arith, rose, later);
+      }
+
+  -- the whole, by the closed picture
+  pub whole : (setup fixed : Setup) (port sessions : ℕ) (old new : Count) (still left back now : Option (List L)) (before after : ℕ) (failed faulted : Bool)
+      (picture : Story) (counts : Counts) (mets : List (Met L)) → setup ≡ fixed → faulted ≡ failed → picture.setup ≡ setup → IsLegal setup picture.history
+      → HasServedAll source sink setup port sessions old new still left back now before after failed picture.history mets → counts ≡ counted mets
+      → HasServedWhole source sink fixed port sessions old new still left back now before after faulted picture counts
+  whole setup fixed port sessions old new still left back now before after failed faulted picture counts mets same told own legal all are =
+      subst (λ (s : Setup). HasServedWhole source sink s port sessions old new still left back now before after faulted picture counts) same
+      (subst (λ (b : Bool). HasServedWhole source sink setup port sessions old new still left back now before after b picture counts) (sym told)
+      (record { mets = mets; setup_is = own; legal = legal; all = all; counts_are = are }))

@@ -1,0 +1,65 @@
+use Rattle.std.proofs.Common.{◌++◌, sym, ap, ◌∙◌, arith}
+use Rattle.mt_io.specs.Door.{Count}
+use Rattle.mt_turn.specs.Views.{first_view}
+use Rattle.mt_base.specs.Tables.{Setup}
+use Rattle.mt_serve.specs.Sitting.{seats_of, starts_of}
+use Rattle.mt_serve.specs.Working.{froms_of}
+use Rattle.mt_serve.proofs.Whole.{few_met, not_listened, ready_of, served_all, split_as, whole}
+use Rattle.mt_serve.proofs.service.serve.Goals as goal
+
+pub settle-requires-clause-split : goal.settle-requires-clause-split
+settle-requires-clause-split g c κs within =
+    split_as c.in-Ok.desk c.in-Ok.first.view c.split_all.new.first.view c.split_all-2.new.first.view c.split_all.new.seats.items c.split_all-2.new.seats.items _ _
+    (c.in-Ok.ensures.first ∙ ap (λ (s : Setup). first_view s) (sym c.in-Ok.ensures.fixed)) c.split_all.ensures.split c.split_all-2.ensures.split
+    (ap (λ ms. seats_of (starts_of ms) ++ c.split_all.new.seats.items) (sym c.in_ok-room.ensures.empty.1))
+    (ap (λ ws. froms_of ws ++ c.split_all-2.new.seats.items) (sym c.in_ok-room.ensures.empty.3))
+
+pub returns-in_default-listen-clause-served : goal.returns-in_default-listen-clause-served
+returns-in_default-listen-clause-served g c =
+    whole g.D.Link.Source g.D.Link.Sink c.in-Ok.desk.fixed c.args.picture.setup _ _ _ _ _ _ _ _ _ _ _ _ c.settle.result.picture c.settle.result.counts
+    c.in_ok-room.room.dones.items c.in-Ok.ensures.fixed c.settle.ensures.faulted c.settle.ensures.setup c.settle.ensures.legal
+    (not_listened g.D.Link.Source g.D.Link.Sink c.in-Ok.desk.fixed c.args.port c.args.sessions (g.D.Door.count c.args.door.now) (g.D.Door.count c.listen.new.self)
+    _ _ _ _ _ _ _ _ _ _ _ c.in_ok-room.room.dones.items c.in_default-listen.ensures.count c.in_default-listen.ensures.links.0
+    c.in_default-listen.ensures.links.1 c.in_default-listen.ensures.cause.failed c.in_ok-room.ensures.empty.1
+    c.settle.ensures.tied c.settle.ensures.count c.settle.ensures.still c.settle.ensures.returned c.settle.ensures.faults)
+    c.settle.ensures.counted
+
+pub serve_beside-left-requires-clause-served : goal.serve_beside-left-requires-clause-served
+serve_beside-left-requires-clause-served g c κs within = record {
+  ready = ready_of c.in-Ok.desk c.in-Ok.first.view c.split_all.new.seats.items c.split_all.ensures.split.fresh;
+  seated = omega (arith, ap (λ (z : Count). z.given) c.in-Ok-listen.ensures.count, ap (λ (z : Count). z.sessions) c.in-Ok-listen.ensures.count, c.split_all.ensures.many.0);
+  first = omega (arith, c.split_all.ensures.many.1, c.in_ok-room.ensures.sessions.0);
+  second = omega (arith, c.split_all.ensures.many.1, c.in_ok-room.ensures.sessions.1);
+  no_sitting = c.in_ok-room.ensures.empty.0;
+  no_done = c.in_ok-room.ensures.empty.1;
+}
+
+pub serve_beside-left-requires-clause-staffed : goal.serve_beside-left-requires-clause-staffed
+serve_beside-left-requires-clause-staffed g c κs within = record {
+  ready = ready_of c.in-Ok.desk c.split_all.new.first.view c.split_all-2.new.seats.items c.split_all-2.ensures.split.fresh;
+  first = omega (arith, c.split_all-2.ensures.many.1, c.in_ok-room.ensures.workers.0);
+  second = omega (arith, c.split_all-2.ensures.many.1, c.in_ok-room.ensures.workers.1);
+  no_working = c.in_ok-room.ensures.empty.2;
+  no_rested = c.in_ok-room.ensures.empty.3;
+}
+
+pub settle-requires-2-clause-split : goal.settle-requires-2-clause-split
+settle-requires-2-clause-split g c κs within =
+    split_as c.in-Ok.desk c.in-Ok.first.view c.split_all.new.first.view c.split_all-2.new.first.view c.split_all.new.seats.items c.split_all-2.new.seats.items _ _
+    (c.in-Ok.ensures.first ∙ ap (λ (s : Setup). first_view s) (sym c.in-Ok.ensures.fixed)) c.split_all.ensures.split c.split_all-2.ensures.split c.serve_beside-left.ensures.begun.seats_are c.serve_beside-left.ensures.staff
+
+pub settle-requires-2-clause-few : goal.settle-requires-2-clause-few
+settle-requires-2-clause-few g c κs within =
+    few_met c.args.sessions c.args.workers _ _ _ _ c.split_all.new.seats.items c.serve_beside-left.result.seats.items c.serve_beside-left.result.dones.items
+    c.serve_beside-left.ensures.begun c.split_all.ensures.many.0 c.requires.few
+
+pub returns-clause-served : goal.returns-clause-served
+returns-clause-served g c =
+    whole g.D.Link.Source g.D.Link.Sink c.in-Ok.desk.fixed c.args.picture.setup _ _ _ _ _ _ _ _ _ _ _ _ c.settle-2.result.picture c.settle-2.result.counts
+    c.serve_beside-left.result.dones.items c.in-Ok.ensures.fixed c.settle-2.ensures.faulted c.settle-2.ensures.setup c.settle-2.ensures.legal
+    (served_all g.D.Link.Source g.D.Link.Sink c.in-Ok.desk.fixed c.args.port c.args.sessions (g.D.Door.count c.args.door.now) (g.D.Door.count c.listen.new.self)
+    (g.D.Door.count c.serve_beside-left.new.door) _ _ _ _ _ _ _ _ _ _ _ _ _ _ _ c.serve_beside-left.result.dones.items c.split_all.new.seats.items
+    c.serve_beside-left.result.seats.items c.in-Ok-listen.ensures.count c.in-Ok-listen.ensures.links.0 c.in-Ok-listen.ensures.links.1 c.in-Ok-listen.ensures.cause.later
+    c.serve_beside-left.ensures.begun c.serve_beside-left.ensures.returned c.serve_beside-left.ensures.faults c.serve_beside-left.ensures.over
+    c.settle-2.ensures.tied c.settle-2.ensures.count c.settle-2.ensures.still c.settle-2.ensures.returned c.settle-2.ensures.faults)
+    c.settle-2.ensures.counted

@@ -1,0 +1,36 @@
+-- What serving is summed up as, and the line that says it.
+use Rattle.std.specs.Prelude.{◌≡◌, ℕ, pos, List, [], ◌∷◌, ◌++◌, codes}
+use Rattle.serde_json.specs.Data.{Data, object, no_members, member}
+use Rattle.serde_json.specs.Written.{compact_text}
+use Rattle.mt_picture.specs.Story.{Story}
+use Rattle.mt_summary.specs.declared.sizes.Sizes.{Sizes}
+use Rattle.mt_summary.specs.Sizes.{AreSizes}
+use Rattle.mt_write.specs.Entry.{whole}
+use Rattle.mt_serve.specs.declared.closing.Closing.{Closing}
+use Rattle.mt_serve.specs.declared.counts.Counts.{Counts}
+
+-- The summary of a closed picture and of sessions that were counted: the conflicts published of its history, its entries and its flights; the
+-- sessions, those that were faulted, and those that found no memory.
+pub record IsClosing (closed : Story) (counts : Counts) (c : Closing) : Type 0 where
+  pub sizes : Sizes
+  pub held : AreSizes closed.setup closed.history sizes
+  pub conflicts : c.conflicts ≡ sizes.conflicts
+  pub entries : c.entries ≡ sizes.entries
+  pub flights : c.flights ≡ sizes.flights
+  pub faulted : c.faulted ≡ counts.faulted
+  pub sessions : c.sessions ≡ counts.sessions
+  pub starved : c.starved ≡ counts.starved
+
+-- it as an object, its keys in byte order
+abbrev pub closing_value : Closing → Data
+closing_value c = object (
+    member (codes "conflicts") (whole (pos c.conflicts)) (
+    member (codes "entries") (whole (pos c.entries)) (
+    member (codes "faulted") (whole (pos c.faulted)) (
+    member (codes "flights") (whole (pos c.flights)) (
+    member (codes "sessions") (whole (pos c.sessions)) (
+    member (codes "starved") (whole (pos c.starved)) no_members))))))
+
+-- its line: the object, compact, with 0x0A at its end
+abbrev pub closing_text : Closing → List ℕ
+closing_text c = compact_text (closing_value c) ++ 10 ∷ []

@@ -1,0 +1,9 @@
+pub mod Serving
+pub mod Sitting
+pub mod Accepting
+pub mod Working
+pub mod Seating
+pub mod Joining
+pub mod Tied
+pub mod Summary
+pub mod Closing

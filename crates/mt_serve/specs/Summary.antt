@@ -1,0 +1,60 @@
+-- What is told of sessions that are over, and of the history that ties them.
+use Rattle.std.specs.Prelude.{◌≡◌, ℕ, ◌+◌, Bool, true, false, List, length, filter, Option}
+use Rattle.mt_base.specs.History.{IsLegal}
+use Rattle.mt_base.specs.Tables.{Setup}
+use Rattle.mt_io.specs.Door.{Count}
+use Rattle.mt_io.specs.declared.source.Source as Source
+use Rattle.mt_io.specs.declared.sink.Sink as Sink
+use Rattle.mt_picture.specs.Story.{Story}
+use Rattle.mt_session.specs.declared.outcome.Outcome.{Outcome}
+use Rattle.mt_session.specs.declared.outcome.Outcome.TheVariants.{Ended, ReadFault, WriteFault, Spent, Memory}
+use Rattle.mt_serve.specs.declared.counts.Counts.{Counts}
+use Rattle.mt_serve.specs.Sitting.{Met}
+use Rattle.mt_serve.specs.Tied.{HasServedAll}
+
+-- a session that its link ended: a fault, or all bytes that a link may give
+abbrev pub is_faulted : Outcome → Bool
+is_faulted Ended = false
+is_faulted ReadFault = true
+is_faulted WriteFault = true
+is_faulted Spent = true
+is_faulted Memory = false
+
+-- a session for which there was no memory
+abbrev pub is_starved : Outcome → Bool
+is_starved Memory = true
+is_starved outcome = false
+
+abbrev pub one_if : Bool → ℕ
+one_if true = 1
+one_if false = 0
+
+abbrev pub no_counts : Counts
+no_counts = record { sessions = 0; faulted = 0; starved = 0 }
+
+-- sessions counted by their outcomes
+abbrev pub counted : {L : Type 0} → List (Met L) → Counts
+counted {L} mets = record {
+  sessions = length mets;
+  faulted = length (filter (λ (m : Met L). is_faulted m.outcome) mets);
+  starved = length (filter (λ (m : Met L). is_starved m.outcome) mets);
+}
+
+-- with one session more, of that outcome
+abbrev pub with_outcome : Outcome → Counts → Counts
+with_outcome outcome counts = record {
+  sessions = counts.sessions + 1;
+  faulted = counts.faulted + one_if (is_faulted outcome);
+  starved = counts.starved + one_if (is_starved outcome);
+}
+
+module _ {L : Type 0} (source : Source.Ghosts L) (sink : Sink.Ghosts L) where
+  -- What was served, by the closed picture: its history is legal, by the rules and tables of the picture at first, and it ties all links, which
+  -- the door gave and has back. The counts are those of their sessions.
+  pub record HasServedWhole (setup : Setup) (port sessions : ℕ) (old new : Count) (still left back now : Option (List L)) (before after : ℕ)
+      (faulted : Bool) (picture : Story) (counts : Counts) : Type 0 where
+    pub mets : List (Met L)
+    pub setup_is : picture.setup ≡ setup
+    pub legal : IsLegal setup picture.history
+    pub all : HasServedAll source sink setup port sessions old new still left back now before after faulted picture.history mets
+    pub counts_are : counts ≡ counted mets

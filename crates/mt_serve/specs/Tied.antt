@@ -1,0 +1,64 @@
+-- What stands once all sessions are over: one history, and what each link was answered from it.
+use Rattle.std.specs.Prelude.{◌≡◌, ◌+◌, ◌⊎◌, ℕ, Bool, true, List, [], map, length, All, Contains, Option, Some}
+use Rattle.std.specs.List.{range_with_len}
+use Rattle.mt_base.specs.declared.command.Entry.{Entry}
+use Rattle.mt_base.specs.Tables.{Setup}
+use Rattle.mt_io.specs.Causes.{Rose}
+use Rattle.mt_io.specs.Door.{Count, Gains, Loses}
+use Rattle.mt_io.specs.declared.source.Source as Source
+use Rattle.mt_io.specs.declared.sink.Sink as Sink
+use Rattle.mt_turn.specs.Places.{Place}
+use Rattle.mt_turn.specs.Views.{GoesOn, entries_of}
+use Rattle.mt_serve.specs.Seating.{numbers_of}
+use Rattle.mt_serve.specs.Serving.{HasServed}
+use Rattle.mt_serve.specs.Sitting.{Met, links_of, seats_of, starts_of}
+use Rattle.mt_serve.specs.Working.{IsRenewal}
+
+abbrev pub number_of : Entry → ℕ
+number_of e = e.who
+
+abbrev pub ends_of : {L : Type 0} → List (Met L) → List (Place Entry Setup)
+ends_of {L} mets = map (λ (m : Met L). m.seat) mets
+
+abbrev pub backs_of : {L : Type 0} → List (Met L) → List L
+backs_of {L} mets = map (λ (m : Met L). m.link) mets
+
+-- with so many links back more
+abbrev pub gave_back : Count → ℕ → Count
+gave_back c n = record c { back = c.back + n }
+
+-- one of the sessions has this number
+abbrev pub IsSessions : {L : Type 0} → List (Met L) → ℕ → Type 0
+IsSessions {L} mets n = (m : Met L) × Contains mets m × (m.seat.view.number ≡ n)
+
+module _ {L : Type 0} (source : Source.Ghosts L) (sink : Sink.Ghosts L) where
+  -- each session served its link
+  abbrev pub AreOver : List (Met L) → Type 0
+  AreOver mets = All (λ (m : Met L). HasServed source sink m.from.link m.from.seat m.link m.seat m.outcome) mets
+
+  -- What one session is to the history: it began with nothing seen and nothing of its own, what it has seen last is a front of the history, and
+  -- the entries of its number in the history are its own.
+  pub record IsInHistory (setup : Setup) (h : List Entry) (m : Met L) : Type 0 where
+    pub number : m.seat.view.number ≡ m.from.seat.view.number
+    pub fixed : m.from.seat.view.fixed ≡ Some setup
+    pub began : (m.from.seat.view.seen ≡ []) × (m.from.seat.view.mine ≡ [])
+    pub served : HasServed source sink m.from.link m.from.seat m.link m.seat m.outcome
+    pub begins : GoesOn m.seat.view.seen h
+    pub mine : entries_of number_of m.seat.view.number h ≡ m.seat.view.mine
+
+  -- The history ties all sessions: they have the numbers 1, 2, 3 and so on, and every entry of another number is a renewal.
+  pub record IsTied (setup : Setup) (h : List Entry) (mets : List (Met L)) : Type 0 where
+    pub numbers : numbers_of (seats_of (starts_of mets)) ≡ range_with_len 1 (length mets)
+    pub each : All (IsInHistory setup h) mets
+    pub others : (e : Entry) → Contains h e → IsSessions mets e.who ⊎ IsRenewal e
+
+  -- The door was asked for a port and so many sessions, and gave that many links, or failed. Each was served, and all are back, in order; one
+  -- history ties them. Where the door doesn't listen, no link was given.
+  pub record HasServedAll (setup : Setup) (port sessions : ℕ) (old new : Count) (still left back now : Option (List L)) (before after : ℕ)
+      (faulted : Bool) (h : List Entry) (mets : List (Met L)) : Type 0 where
+    pub tied : IsTied setup h mets
+    pub given : Loses still left (links_of (starts_of mets))
+    pub returned : Gains back now (backs_of mets)
+    pub count : ((new ≡ record { port = port; sessions = sessions; given = length mets; back = length mets }) × ((faulted ≡ true) ⊎ (length mets ≡ sessions)))
+        ⊎ ((new ≡ old) × (length mets ≡ 0) × (faulted ≡ true))
+    pub cause : faulted ≡ true → Rose before after

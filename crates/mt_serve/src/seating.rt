@@ -1,0 +1,97 @@
+//! Seats split off the first one, and joined into it again.
+ghost use Rattle.std.specs.Prelude.{◌≡◌, ◌≤◌, ◌+◌, ◌-◌, ◌^◌, [], All, length};
+ghost use Rattle.std.specs.VecDeque.{deque_len, deque_capacity};
+ghost use Rattle.mt_desk.specs.Desk.{IsReady};
+ghost use Rattle.mt_io.specs.Door.{Gains};
+ghost use Rattle.mt_serve.specs.Seating.{HasJoined, HasSplit, views_of};
+ghost use Rattle.mt_serve.specs.Summary.{counted};
+ghost use Rattle.mt_serve.specs.Tied.{AreOver, backs_of, ends_of, gave_back};
+ghost use Rattle.mt_serve.specs.Working.{IsRested, rests_of};
+
+use crate::counts::Counts;
+use crate::sitting::{Back, Done};
+use crate::worked::Rested;
+use mt_desk::{Desk, Seat};
+use mt_io::Door;
+use std::collections::VecDeque;
+
+/// Splits so many seats off.
+pub(crate) fn split_all(desk: &Desk, first: &mut Seat, seats: &mut VecDeque<Seat>, many: u32)
+    requires ready { IsReady desk.now first.old }
+    requires first { first.old.view.number ≡ 0 }
+    requires few { length first.old.view.gave + many ≤ 2 ^ 31 }
+    requires room { many ≤ deque_capacity seats.old }
+    requires none { seats.old.items ≡ [] }
+    ensures ready { IsReady desk.now first.new }
+    ensures split { HasSplit desk.now first.old.view first.new.view seats.new.items }
+    ensures many { (length seats.new.items ≡ many) × (deque_len seats.new ≡ many) }
+{
+    for _ in 0..many {
+        let seat = desk.split(first);
+        seats.push_back_reserved(seat);
+    }
+}
+
+/// Joins these seats.
+pub(crate) fn join_seats(desk: &Desk, first: &mut Seat, mut seats: VecDeque<Seat>)
+    requires ready { IsReady desk.now first.old }
+    requires first { first.old.view.number ≡ 0 }
+    requires others { All (IsReady desk.now) seats.items }
+    ensures ready { IsReady desk.now first.new }
+    ensures joined { HasJoined first.old.view first.new.view (views_of seats.items) }
+{
+    while let Some(seat) = seats.pop_front() {
+        desk.join(first, seat);
+    }
+}
+
+/// Joins the workers' seats.
+pub(crate) fn join_workers(desk: &Desk, first: &mut Seat, mut resteds: VecDeque<Rested>)
+    requires ready { IsReady desk.now first.old }
+    requires first { first.old.view.number ≡ 0 }
+    requires others { All (λ w. IsReady desk.now w.from) resteds.items }
+    ensures ready { IsReady desk.now first.new }
+    ensures joined { HasJoined first.old.view first.new.view (views_of (rests_of resteds.items)) }
+    ensures worked { All IsRested resteds.items }
+{
+    while let Some(rested) = resteds.pop_front() {
+        let Rested { given: _, seat } = rested;
+        desk.join(first, seat);
+    }
+}
+
+/// Hands the links back, joins the sessions' seats, and counts the sessions by their outcomes.
+pub(crate) fn join_sessions<D: Door>(
+    desk: &Desk,
+    door: &mut D,
+    first: &mut Seat,
+    mut dones: VecDeque<Done<D::Link>>,
+) -> Counts
+    requires ready { IsReady desk.now first.old }
+    requires first { first.old.view.number ≡ 0 }
+    requires others { All (λ m. IsReady desk.now m.from.seat) dones.items }
+    requires given { length dones.items ≤ (D.count door.old).given - (D.count door.old).back }
+    requires few { length dones.items ≤ 2 ^ 31 }
+    ensures ready { IsReady desk.now first.new }
+    ensures joined { HasJoined first.old.view first.new.view (views_of (ends_of dones.items)) }
+    ensures served { AreOver D.Link.Source D.Link.Sink dones.items }
+    ensures count { D.count door.new ≡ gave_back (D.count door.old) (length dones.items) }
+    ensures still { D.still door.new ≡ D.still door.old }
+    ensures returned { Gains (D.returned door.old) (D.returned door.new) (backs_of dones.items) }
+    ensures faults { D.faults door.old ≤ D.faults door.new }
+    ensures counted { result ≡ counted dones.items }
+{
+    let mut counts = Counts::none();
+    while let Some(done) = dones.pop_front() {
+        let Done { given: _, back } = done;
+        let Back {
+            link,
+            seat,
+            outcome,
+        } = back;
+        counts.add(outcome);
+        door.back(link);
+        desk.join(first, seat);
+    }
+    counts
+}

@@ -1,0 +1,138 @@
+//! Workers begun and ended.
+ghost use Rattle.std.specs.Prelude.{◌≡◌, ◌≤◌, [], ◌++◌, All};
+ghost use Rattle.std.specs.Thread.{IsSync};
+ghost use Rattle.std.specs.VecDeque.{deque_len, deque_capacity};
+ghost use Rattle.mt_desk.specs.Desk.{IsReady};
+ghost use Rattle.mt_serve.specs.Working.{HasWorked, froms_of};
+
+use crate::worked::{Post, Rested, Working};
+use mt_desk::{Desk, Seat};
+use mt_io::Gate;
+use mt_workers::{JobReceiver, work};
+use std::collections::VecDeque;
+use std::snapshot::Snapshot;
+use std::sync::Wait;
+use std::sync::atomic::{AtomicU64, Ordering};
+use std::thread::{Scope, Threads};
+
+// Works until no job will come, where its place is below the limit; else it gives its seat back at once.
+fn work_below<R: Threads + Wait + Sync, G: Gate>(
+    rt: &R,
+    desk: &Desk,
+    seat: Seat,
+    jobs: JobReceiver,
+    place: u64,
+    limit: &AtomicU64,
+    gate: &G,
+) -> Seat
+    requires sync { IsSync R.row }
+    requires ready { IsReady desk.now seat }
+    ensures { HasWorked seat result }
+{
+    if limit.load(Ordering::SeqCst) <= place {
+        return seat;
+    }
+    let hand = desk.hand(seat);
+    work(rt, hand, jobs, gate).back()
+}
+
+// Starts a worker on a thread of its own. Where none can be started it does nothing, and neither does any at a later place.
+fn begin_work<'s, E, R: Threads + Wait + Sync, G: Gate + Sync>(
+    scope: &Scope<'s, E>,
+    rt: &'s R,
+    desk: &'s Desk,
+    seat: Seat,
+    jobs: JobReceiver,
+    place: u64,
+    limit: &'s AtomicU64,
+    gate: &'s G,
+) -> Working
+    requires sync { IsSync R.row }
+    requires ready { IsReady desk.now seat }
+    ensures { result ≡ seat }
+{
+    let promise = Post {
+        seat: Snapshot::of(&seat),
+    };
+    let given = Post {
+        seat: Snapshot::of(&seat),
+    };
+    match scope.spawn_with(
+        promise,
+        move ||
+            requires { IsSync R.row × IsReady desk.now seat }
+        { work_below(rt, desk, seat, jobs, place, limit, gate) },
+    ) {
+        Ok(handle) => Working {
+            given,
+            state: Ok(handle),
+        },
+        Err(refused) => {
+            // Its closure has the seat, and gives it back at once below this limit.
+            limit.store(place, Ordering::SeqCst);
+            let seat = (refused.value)();
+            Working {
+                given,
+                state: Err(seat),
+            }
+        }
+    }
+}
+
+// Waits for a worker.
+fn rest<R: Threads>(rt: &R, working: Working) -> Rested
+    ensures { result.from ≡ working }
+{
+    let Working { given, state } = working;
+    let seat = match state {
+        Ok(handle) => handle.join(rt),
+        Err(seat) => seat,
+    };
+    Rested { given, seat }
+}
+
+/// Starts a worker for each receiver, with the next seat.
+pub(crate) fn begin_all<'s, E, R: Threads + Wait + Sync, G: Gate + Sync>(
+    scope: &Scope<'s, E>,
+    rt: &'s R,
+    desk: &'s Desk,
+    limit: &'s AtomicU64,
+    gate: &'s G,
+    seats: &mut VecDeque<Seat>,
+    mut receivers: VecDeque<JobReceiver>,
+    workings: &mut VecDeque<Working>,
+)
+    requires sync { IsSync R.row }
+    requires ready { All (IsReady desk.now) seats.old.items }
+    requires room { deque_len seats.old ≤ deque_capacity workings.old }
+    requires none { workings.old.items ≡ [] }
+    ensures begun { seats.old.items ≡ workings.new.items ++ seats.new.items }
+    ensures ready { All (IsReady desk.now) seats.new.items }
+{
+    let mut place = 0;
+    while let Some(seat) = seats.pop_front() {
+        let Some(jobs) = receivers.pop_front() else {
+            seats.push_front_reserved(seat);
+            return;
+        };
+        let working = begin_work(scope, rt, desk, seat, jobs, place, limit, gate);
+        workings.push_back_reserved(working);
+        place += 1;
+    }
+}
+
+/// Waits for all workers, in order.
+pub(crate) fn rest_all<R: Threads>(
+    rt: &R,
+    mut workings: VecDeque<Working>,
+    resteds: &mut VecDeque<Rested>,
+)
+    requires room { deque_len workings ≤ deque_capacity resteds.old }
+    requires none { resteds.old.items ≡ [] }
+    ensures { froms_of resteds.new.items ≡ workings.items }
+{
+    while let Some(working) = workings.pop_front() {
+        let rested = rest(rt, working);
+        resteds.push_back_reserved(rested);
+    }
+}
