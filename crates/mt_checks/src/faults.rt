@@ -1,11 +1,13 @@
 //! The whole program over streams that fail: a source that fails after each byte, and a sink that is full after each byte.
 ghost use Rattle.std.specs.Prelude.{◌≤◌, None, vec_len};
+ghost use Rattle.std.specs.Thread.{IsSync};
 
 use mt_base::Words;
-use mt_io::{Failed, MemSink, MemSource, Source};
+use mt_io::{Failed, MemDoor, MemSink, MemSource, OpenGate, Source};
 use mt_top::{Status, run};
 use std::alloc::Global;
 use std::process::Abort;
+use std::sync::Wait;
 use std::thread::Threads;
 
 /// Room for all that is written.
@@ -84,18 +86,34 @@ fn first_lines(text: &str, count: usize) -> &str {
     text.strip_suffix(rest).unwrap_or(text)
 }
 
+// A door with no link.
+fn no_door(rt: &impl Abort, alloc: Global) -> MemDoor {
+    MemDoor::make(alloc, Vec::new(alloc)).expect(rt, "memory")
+}
+
 // An input that fails behind these bytes is answered up to its last whole line.
-fn torn_is_answered(
-    rt: &(impl Abort + Threads + Sync),
+fn torn_is_answered<R: Abort + Threads + Wait + Sync>(
+    rt: &R,
     alloc: Global,
     words: &Words,
     given: &[u8],
-) {
+)
+    requires sync { IsSync R.row }
+{
     let bytes = given.to_vec(alloc).expect(rt, "memory");
     let (at, faults) = (0, 0);
     let mut source = Torn { bytes, at, faults };
     let mut sink = MemSink::make(alloc, AMPLE).expect(rt, "memory");
-    let ended = run(rt, alloc, words, &mut source, &mut sink);
+    let mut door = no_door(rt, alloc);
+    let ended = run(
+        rt,
+        alloc,
+        words,
+        &mut source,
+        &mut sink,
+        &mut door,
+        &OpenGate,
+    );
     let whole = given.iter().filter(|byte| **byte == b'\n').count();
     assert_eq!(rt; ended, Status::ReadFault, "{}", given.len());
     assert_eq!(rt;
@@ -107,17 +125,28 @@ fn torn_is_answered(
 }
 
 // An output with room for this many bytes has taken these, and then fails.
-fn full_is_told(
-    rt: &(impl Abort + Threads + Sync),
+fn full_is_told<R: Abort + Threads + Wait + Sync>(
+    rt: &R,
     alloc: Global,
     words: &Words,
     room: u32,
     taken: &[u8],
-) {
+)
+    requires sync { IsSync R.row }
+{
     let bytes = INPUT.as_bytes().to_vec(alloc).expect(rt, "memory");
     let mut source = MemSource::of(bytes);
     let mut sink = MemSink::make(alloc, room).expect(rt, "memory");
-    let ended = run(rt, alloc, words, &mut source, &mut sink);
+    let mut door = no_door(rt, alloc);
+    let ended = run(
+        rt,
+        alloc,
+        words,
+        &mut source,
+        &mut sink,
+        &mut door,
+        &OpenGate,
+    );
     assert_eq!(rt; ended, Status::WriteFault, "{room}");
     assert_eq!(rt; sink.held(), taken, "{room}");
 }

@@ -25,9 +25,12 @@ mod case;
 mod run_case;
 mod script;
 
+ghost use Rattle.std.specs.Thread.{IsSync};
+
 use anyhow::{Context, Result};
 use case::read_cases;
 use run_case::tell_differences;
+use std::sync::Wait;
 use std::thread::Threads;
 use std::{env, fs};
 
@@ -38,11 +41,13 @@ fn subject_of(path: &str) -> &str {
 }
 
 /// Runs the cases of a text, and prints what is told of them.
-fn run_cases(
-    rt: &(impl Print + AllocGlobal + Threads + Sync),
+fn run_cases<R: Print + AllocGlobal + Threads + Wait + Sync>(
+    rt: &R,
     subject: &str,
     text: &str,
-) -> Result<()> {
+) -> Result<()>
+    requires sync { IsSync R.row }
+{
     let cases = read_cases(rt.alloc(), text)?;
     let mut replies: usize = 0;
     for case in &cases {

@@ -1,26 +1,41 @@
 //! A case is run, and its differences are told.
+ghost use Rattle.std.specs.Thread.{IsSync};
 
 use crate::case::Case;
 use anyhow::{Result, anyhow};
 use mt_base::Words;
-use mt_io::{MemSink, MemSource};
+use mt_io::{MemDoor, MemSink, MemSource, OpenGate};
 use mt_top::run;
 use std::alloc::Global;
 use std::str;
+use std::sync::Wait;
 use std::thread::Threads;
 
 /// Room for what a case writes, in bytes.
 const ROOM: u32 = 1 << 20;
 
-/// Runs a case, and prints what is otherwise than it wants.
-pub fn tell_differences(
-    rt: &(impl Print + AllocGlobal + Threads + Sync),
+/// Runs a case over a door with no link, and prints what is otherwise than it wants.
+pub fn tell_differences<R: Print + AllocGlobal + Threads + Wait + Sync>(
+    rt: &R,
     case: &Case<'_>,
-) -> Result<()> {
+) -> Result<()>
+    requires sync { IsSync R.row }
+{
     let words = words_of(rt.alloc(), case.words)?;
     let mut source = MemSource::of(case.input.clone()?);
     let mut sink = MemSink::make(rt.alloc(), ROOM).map_err(|_| anyhow!("memory"))?;
-    let status = run(rt, rt.alloc(), &words, &mut source, &mut sink).exit();
+    let links = Vec::new(rt.alloc());
+    let mut door = MemDoor::make(rt.alloc(), links).map_err(|_| anyhow!("memory"))?;
+    let status = run(
+        rt,
+        rt.alloc(),
+        &words,
+        &mut source,
+        &mut sink,
+        &mut door,
+        &OpenGate,
+    )
+    .exit();
     compare_lines(rt, case, sink.held())?;
     if status != case.status {
         println!(rt;

@@ -1,5 +1,7 @@
 pub mod OneReply
+pub mod OpeningTurns
 pub mod Replying
 pub mod Served
+pub mod SummedUp
 pub mod Turning
 pub mod WordLemmas

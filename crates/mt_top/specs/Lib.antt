@@ -1,4 +1,6 @@
 pub mod Load
+pub mod Opening
+pub mod Serve
 pub mod Run
 pub mod Script
 pub mod SoFar

@@ -6,13 +6,16 @@ use Rattle.mt_args.specs.declared.task.Task.{Task}
 use Rattle.mt_args.specs.declared.task.Task.TheVariants.{Load, Replay, Serve}
 use Rattle.mt_args.specs.Task.{task_of}
 use Rattle.mt_io.specs.Writing.{AppendsFront}
+use Rattle.mt_io.specs.declared.source.Source as Source
+use Rattle.mt_io.specs.declared.sink.Sink as Sink
 use Rattle.mt_lines.specs.Answering as answering
 use Rattle.mt_lines.specs.Given.{is_farewell}
 use Rattle.mt_write.specs.Reply.{reply_text}
 use Rattle.mt_top.specs.declared.status.Status.{Status}
-use Rattle.mt_top.specs.declared.status.Status.TheVariants.{Done, Usage, ReadFault, WriteFault, Spent, Memory}
+use Rattle.mt_top.specs.declared.status.Status.TheVariants.{Done, Usage, Setup, ReadFault, WriteFault, DoorFault, Spent, Memory}
 use Rattle.mt_top.specs.Load.{LoadMeans}
 use Rattle.mt_top.specs.Script.{IsFollowed, IsReplied}
+use Rattle.mt_top.specs.Serve.{Doorway, ServeMeans}
 use Rattle.mt_world.specs.World.{World, opening_world}
 
 -- A script is lines answered one by one, from the opening world on, up to the one that is answered with a farewell. At its end there is
@@ -47,6 +50,8 @@ ReplayMeans Spent input left written = (taken : List ℕ) × (length taken ≡ 2
 ReplayMeans WriteFault input left written = AnswersFront input written
 ReplayMeans Memory input left written = (left ≡ input) × (written ≡ [])
 ReplayMeans Usage input left written = ⊥
+ReplayMeans Setup input left written = ⊥
+ReplayMeans DoorFault input left written = ⊥
 
 -- the line that is written where the words are no command
 abbrev pub usage_line : List ℕ
@@ -60,6 +65,8 @@ UsageMeans Done input left written = ⊥
 UsageMeans ReadFault input left written = ⊥
 UsageMeans Spent input left written = ⊥
 UsageMeans Memory input left written = ⊥
+UsageMeans Setup input left written = ⊥
+UsageMeans DoorFault input left written = ⊥
 
 -- the same by what the output holds
 abbrev pub SaysUsage : Status → Option (List ℕ) → Option (List ℕ) → Type 0
@@ -69,22 +76,29 @@ SaysUsage Done before after = ⊥
 SaysUsage ReadFault before after = ⊥
 SaysUsage Spent before after = ⊥
 SaysUsage Memory before after = ⊥
+SaysUsage Setup before after = ⊥
+SaysUsage DoorFault before after = ⊥
 
--- What a run's status says, by what its words ask for; words that ask to serve are no command yet.
-abbrev pub TaskMeans : Option Task → Status → List ℕ → List ℕ → List ℕ → Type 0
-TaskMeans (Some Replay) status input left written = ReplayMeans status input left written
-TaskMeans (Some (Load flights number)) status input left written = LoadMeans flights number status input left written
-TaskMeans (Some (Serve port sessions workers)) status input left written = UsageMeans status input left written
-TaskMeans None status input left written = UsageMeans status input left written
+module _ {L : Type 0} (source : Source.Ghosts L) (sink : Sink.Ghosts L) (old new : Doorway L) (before now : ℕ) where
+  -- What a run's status says, by what its words ask for; only words that ask to serve call the door. `before` and `now` are what the output counts
+  -- of its faults.
+  abbrev pub TaskMeans : Option Task → Status → List ℕ → List ℕ → List ℕ → Type 0
+  TaskMeans (Some Replay) status input left written = ReplayMeans status input left written × (new ≡ old)
+  TaskMeans (Some (Load flights number)) status input left written = LoadMeans flights number status input left written × (new ≡ old)
+  TaskMeans (Some (Serve port sessions workers)) status input left written =
+      ServeMeans source sink port sessions old new before now status input left written
+  TaskMeans None status input left written = UsageMeans status input left written × (new ≡ old)
 
-abbrev pub RunMeans : List (List ℕ) → Status → List ℕ → List ℕ → List ℕ → Type 0
-RunMeans words status input left written = TaskMeans (task_of words) status input left written
+  abbrev pub RunMeans : List (List ℕ) → Status → List ℕ → List ℕ → List ℕ → Type 0
+  RunMeans words status input left written = TaskMeans (task_of words) status input left written
 
 -- no fault of the outside
 abbrev pub IsNoFault : Status → Type 0
 IsNoFault Done = Unit {0}
 IsNoFault Usage = Unit {0}
+IsNoFault Setup = Unit {0}
 IsNoFault Spent = Unit {0}
 IsNoFault Memory = Unit {0}
 IsNoFault ReadFault = ⊥
 IsNoFault WriteFault = ⊥
+IsNoFault DoorFault = ⊥

@@ -1,6 +1,7 @@
 //! A line of a script, and its reply.
-ghost use Rattle.std.specs.Prelude.{◌≤◌, length};
+ghost use Rattle.std.specs.Prelude.{◌≡◌, ◌≤◌, [], false, length};
 ghost use Rattle.mt_lines.specs.Fit.{IsFit};
+ghost use Rattle.mt_script.specs.Begun.{is_begin};
 ghost use Rattle.mt_top.specs.Script.{IsReplied};
 
 use mt_script::Script;
@@ -18,6 +19,7 @@ pub(crate) fn answer<R: Threads + Sync>(
     requires { length line.now ≤ 65536 }
     ensures replied { IsReplied script.old line.now result script.new }
     ensures fit { IsFit result }
+    ensures begins { script.old.begun ≡ false → (script.new.begun ≡ is_begin result) × (script.new.history ≡ []) }
 {
     match read_line(alloc, line, Place::Replay, &script.rules()) {
         Ok((who, request)) => script.serve(rt, alloc, who, &request),

@@ -4,7 +4,10 @@
 mod answering;
 mod laws;
 mod load;
+mod opened;
+mod opening;
 mod replay;
+mod serving;
 mod status;
 mod top_call;
 

@@ -17,7 +17,7 @@ use std::alloc::Global;
 use std::thread::Threads;
 
 /// The room for a reply that follows a change, taken before the first line.
-const ROOM: usize = 65_536;
+pub(crate) const ROOM: usize = 65_536;
 
 /// Answers the lines of the input on the output, to its end or to the line that ends the script.
 pub fn replay<R: Threads + Sync, S: Source, K: Sink>(

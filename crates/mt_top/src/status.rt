@@ -6,14 +6,19 @@ use mt_io::WriteFault;
 /// How a run ended, and so the program's exit status.
 #[derive(Clone, Copy, Debug, PartialEq, Eq)]
 pub enum Status {
-    /// The input was read to its end, and each line was answered.
+    /// What the words ask for was done: the input was read to its end, and each line was answered; or the large input was run; or all links
+    /// were served.
     Done,
     /// The words are no command.
     Usage,
+    /// The input ended before a picture had begun that links could be served over.
+    Setup,
     /// The input failed.
     ReadFault,
     /// The output failed.
     WriteFault,
+    /// The door failed.
+    DoorFault,
     /// 2^32 bytes were taken from the input, and no whole line is left in them.
     Spent,
     /// Memory was wanted outside a line.
@@ -28,8 +33,10 @@ impl Status {
         match self {
             Status::Done => 0,
             Status::Usage => 2,
+            Status::Setup => 3,
             Status::ReadFault => 4,
             Status::WriteFault => 5,
+            Status::DoorFault => 6,
             Status::Spent => 7,
             Status::Memory => 8,
         }

@@ -1,8 +1,8 @@
-//! `mtcd`: the words of the command line and the standard streams, handed to the top call.
+//! `mtcd`: the words of the command line, the standard streams and the door to loopback, handed to the top call.
 #![tactic(auto)]
 
 use mt_base::{Memory, Words};
-use mt_io::{StdIn, StdOut};
+use mt_io::{OpenGate, StdIn, StdOut, TcpDoor};
 use mt_top::{Status, run};
 use std::env;
 use std::io::ErrorKind;
@@ -29,6 +29,15 @@ fn main(rt: HostRuntime) -> ExitCode {
     };
     let mut input = StdIn::of(rt.stdin());
     let mut output = StdOut::of(rt.stdout());
-    let status = run(&rt, rt.alloc(), &words, &mut input, &mut output);
+    let mut door = TcpDoor::of(&rt);
+    let status = run(
+        &rt,
+        rt.alloc(),
+        &words,
+        &mut input,
+        &mut output,
+        &mut door,
+        &OpenGate,
+    );
     ExitCode::from(status.exit())
 }

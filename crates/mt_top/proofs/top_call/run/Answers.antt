@@ -1,22 +1,25 @@
-use Rattle.std.proofs.Common.{None, Some, ap, ◌∙◌}
+use Rattle.std.proofs.Common.{None, Some, ap, refl, ◌∙◌}
 use Rattle.mt_args.specs.declared.task.Task.TheVariants.{Load, Replay, Serve}
-use Rattle.mt_top.proofs.WordLemmas.{asked_for, summary_explained, usage_explained}
+use Rattle.mt_top.proofs.WordLemmas.{asked_for, summary_explained, uncalled, usage_explained}
 use Rattle.mt_top.proofs.top_call.run.Goals as goal
 
 pub returns-in_default-clause-means : goal.returns-in_default-clause-means
 returns-in_default-clause-means g c =
-    asked_for c.args.words.now None c.usage.result _ _ _ _ c.in_default.ensures.task (usage_explained c.usage.result _ _ _ c.usage.ensures.said)
+    asked_for g.D.Link.Source g.D.Link.Sink _ _ _ _ c.args.words.now None c.usage.result _ _ _ _ c.in_default.ensures.task
+    (uncalled _ _ _ _ _ _ _ refl (usage_explained c.usage.result _ _ _ c.usage.ensures.said))
 
 pub returns-in-Replay-clause-means : goal.returns-in-Replay-clause-means
 returns-in-Replay-clause-means g c =
-    asked_for c.args.words.now (Some Replay) c.replay.result _ _ _ _ (c.in-Ok.ensures.task ∙ ap Some c.in-Replay.is) c.replay.ensures.means
+    asked_for g.D.Link.Source g.D.Link.Sink _ _ _ _ c.args.words.now (Some Replay) c.replay.result _ _ _ _ (c.in-Ok.ensures.task ∙ ap Some c.in-Replay.is)
+    (uncalled _ _ _ _ _ _ _ refl c.replay.ensures.means)
 
 pub returns-in-Load-clause-means : goal.returns-in-Load-clause-means
 returns-in-Load-clause-means g c =
-    asked_for c.args.words.now (Some (Load c.in-Load.flights c.in-Load.number)) c.load.result _ _ _ _ (c.in-Ok.ensures.task ∙ ap Some c.in-Load.is)
-    (summary_explained c.in-Load.flights c.in-Load.number c.load.result _ _ _ c.load.ensures.said)
+    asked_for g.D.Link.Source g.D.Link.Sink _ _ _ _ c.args.words.now (Some (Load c.in-Load.flights c.in-Load.number)) c.load.result _ _ _ _
+    (c.in-Ok.ensures.task ∙ ap Some c.in-Load.is)
+    (uncalled _ _ _ _ _ _ _ refl (summary_explained c.in-Load.flights c.in-Load.number c.load.result _ _ _ c.load.ensures.said))
 
 pub returns-in-Serve-clause-means : goal.returns-in-Serve-clause-means
 returns-in-Serve-clause-means g c =
-    asked_for c.args.words.now (Some (Serve c.in-Serve.port c.in-Serve.sessions c.in-Serve.workers)) c.usage-in-Serve.result _ _ _ _
-    (c.in-Ok.ensures.task ∙ ap Some c.in-Serve.is) (usage_explained c.usage-in-Serve.result _ _ _ c.usage-in-Serve.ensures.said)
+    asked_for g.D.Link.Source g.D.Link.Sink _ _ _ _ c.args.words.now (Some (Serve c.in-Serve.port c.in-Serve.sessions c.in-Serve.workers)) c.serve.result _ _ _ _
+    (c.in-Ok.ensures.task ∙ ap Some c.in-Serve.is) c.serve.ensures.means

@@ -1,0 +1,84 @@
+-- What serving means: the lines that set a picture up, the links that were served over it, and the line that sums it up.
+use Rattle.std.specs.Prelude.{◌≡◌, ◌⊎◌, ℕ, Bool, true, false, List, [], ◌++◌, Option}
+use Rattle.std.specs.Io.KnownBytes.{Appends}
+use Rattle.mt_io.specs.Causes.{Rose}
+use Rattle.mt_io.specs.Door.{Count}
+use Rattle.mt_io.specs.declared.source.Source as Source
+use Rattle.mt_io.specs.declared.sink.Sink as Sink
+use Rattle.mt_picture.specs.Story.{Story}
+use Rattle.mt_serve.specs.Closing.{IsClosing, closing_text}
+use Rattle.mt_serve.specs.Summary.{HasServedWhole}
+use Rattle.mt_serve.specs.declared.closing.Closing.{Closing}
+use Rattle.mt_serve.specs.declared.counts.Counts.{Counts}
+use Rattle.mt_top.specs.Opening.{Begins, OpeningMeans}
+use Rattle.mt_top.specs.declared.status.Status.{Status}
+use Rattle.mt_top.specs.declared.status.Status.TheVariants.{Done, Usage, Setup, ReadFault, WriteFault, DoorFault, Spent, Memory}
+
+-- what is known of a door
+pub record Doorway (L : Type 0) : Type 0 where
+  pub count : Count
+  pub still : Option (List L)
+  pub returned : Option (List L)
+  pub faults : ℕ
+
+-- the line that sums up a closed picture, and sessions by how they ended
+pub record IsClosingLine (closed : Story) (counts : Counts) (line : List ℕ) : Type 0 where
+  pub closing : Closing
+  pub summed : IsClosing closed counts closing
+  pub line_is : line ≡ closing_text closing
+
+-- what was written of it: all of it; a front of it; all of it, or a front where the output failed; nothing
+abbrev pub IsFront : Story → Counts → List ℕ → Type 0
+IsFront closed counts shown = (rest : List ℕ) × IsClosingLine closed counts (shown ++ rest)
+
+abbrev pub IsShown : ℕ → ℕ → Story → Counts → List ℕ → Type 0
+IsShown before now closed counts shown = IsClosingLine closed counts shown ⊎ (Rose before now × IsFront closed counts shown)
+
+abbrev pub IsNothing : Story → Counts → List ℕ → Type 0
+IsNothing closed counts shown = shown ≡ []
+
+module _ {L : Type 0} (source : Source.Ghosts L) (sink : Sink.Ghosts L) (port sessions : ℕ) (old new : Doorway L) where
+  -- Lines of the input up to the one that begins a picture were answered. Links of the door were served over that picture: one legal history, that
+  -- of the closed picture, ties all that each was sent and answered. What sums it up was written behind the answers, as far as `Sums` says.
+  pub record AreServed (faulted : Bool) (Sums : Story → Counts → List ℕ → Type 0) (input left written : List ℕ) : Type 0 where
+    pub picture : Story
+    pub opened : List ℕ
+    pub begins : Begins input left opened picture
+    pub closed : Story
+    pub counts : Counts
+    pub served : HasServedWhole source sink picture.setup port sessions old.count new.count old.still new.still old.returned new.returned
+        old.faults new.faults faulted closed counts
+    pub shown : List ℕ
+    pub sums : Sums closed counts shown
+    pub written_is : written ≡ opened ++ shown
+
+  -- the picture has begun, and the door wasn't called
+  abbrev pub AreUnserved : List ℕ → List ℕ → List ℕ → Type 0
+  AreUnserved input left written = (picture : Story) × Begins input left written picture × (new ≡ old)
+
+  -- What a status says of serving, of the input, of what is left of it, and of the bytes written: before the picture has begun it is that of the
+  -- lines so far, and the door wasn't called. `before` and `now` are what the output counts of its faults.
+  abbrev pub ServeMeans : ℕ → ℕ → Status → List ℕ → List ℕ → List ℕ → Type 0
+  ServeMeans before now Done input left written = AreServed false IsClosingLine input left written
+  ServeMeans before now DoorFault input left written = AreServed true (IsShown before now) input left written
+  ServeMeans before now WriteFault input left written = (OpeningMeans WriteFault input left written × (new ≡ old)) ⊎ AreServed false IsFront input left written
+  ServeMeans before now Memory input left written = (OpeningMeans Memory input left written × (new ≡ old))
+      ⊎ AreUnserved input left written ⊎ ((faulted : Bool) × AreServed faulted IsNothing input left written)
+  ServeMeans before now Setup input left written = OpeningMeans Setup input left written × (new ≡ old)
+  ServeMeans before now ReadFault input left written = OpeningMeans ReadFault input left written × (new ≡ old)
+  ServeMeans before now Spent input left written = OpeningMeans Spent input left written × (new ≡ old)
+  ServeMeans before now Usage input left written = ⊥
+
+-- what is told once links were served, and what was appended of what sums it up
+abbrev pub Appended : (List ℕ → Type 0) → Option (List ℕ) → Option (List ℕ) → Type 0
+Appended Sums held after = (shown : List ℕ) × Sums shown × Appends held after shown
+
+abbrev pub SaysClosing : Story → Counts → Bool → ℕ → ℕ → Status → Option (List ℕ) → Option (List ℕ) → Type 0
+SaysClosing closed counts faulted before now Done held after = (faulted ≡ false) × Appended (IsClosingLine closed counts) held after
+SaysClosing closed counts faulted before now DoorFault held after = (faulted ≡ true) × Appended (IsShown before now closed counts) held after
+SaysClosing closed counts faulted before now WriteFault held after = (faulted ≡ false) × Appended (IsFront closed counts) held after
+SaysClosing closed counts faulted before now Memory held after = after ≡ held
+SaysClosing closed counts faulted before now Setup held after = ⊥
+SaysClosing closed counts faulted before now ReadFault held after = ⊥
+SaysClosing closed counts faulted before now Spent held after = ⊥
+SaysClosing closed counts faulted before now Usage held after = ⊥
