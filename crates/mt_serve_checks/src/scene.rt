@@ -1,0 +1,103 @@
+//! Runs of `serve` over objects in memory.
+ghost use Rattle.std.specs.Thread.{IsSync};
+
+use mt_base::Words;
+use mt_io::{Gate, MemDoor, MemLink, MemSink, MemSource};
+use mt_top::{Status, run};
+use std::alloc::Global;
+use std::process::Abort;
+use std::sync::Wait;
+use std::thread::Threads;
+
+/// The lines that set up four fixes and a type, and begin the picture.
+pub const SETUP: &str = r#"{"do":"fix","name":"Q0","x":0,"y":0}
+{"do":"fix","name":"Q1","x":480000,"y":0}
+{"do":"fix","name":"Q2","x":0,"y":500000}
+{"do":"fix","name":"Q3","x":480000,"y":500000}
+{"do":"type","name":"JA1","bands":[[410,480,2100,2100]]}
+{"do":"begin"}
+"#;
+
+/// What they are answered.
+pub const SET_UP: &str = r#"{"done":"fix"}
+{"done":"fix"}
+{"done":"fix"}
+{"done":"fix"}
+{"done":"type"}
+{"done":"begin"}
+"#;
+
+/// Room for all that is written.
+const AMPLE: u32 = 65_536;
+
+/// The words of a text, between its blanks.
+pub fn words_of(rt: &impl Abort, alloc: Global, text: &str) -> Words {
+    let mut words = Words::make(alloc).expect(rt, "memory");
+    for word in text.split(' ') {
+        words.add(alloc, word).expect(rt, "memory");
+    }
+    words
+}
+
+/// A link whose client sends this text, with room for all that is answered.
+pub fn link(rt: &impl Abort, alloc: Global, text: &str) -> MemLink {
+    narrow_link(rt, alloc, text, AMPLE)
+}
+
+/// A link whose client sends this text, with room for so many bytes.
+pub fn narrow_link(rt: &impl Abort, alloc: Global, text: &str, room: u32) -> MemLink {
+    let bytes = text.as_bytes().to_vec(alloc).expect(rt, "memory");
+    MemLink::make(alloc, bytes, room).expect(rt, "memory")
+}
+
+/// A door with one link.
+pub fn door_of(rt: &impl Abort, alloc: Global, link: MemLink) -> MemDoor {
+    let mut links = Vec::new(alloc);
+    links.push(link).expect(rt, "memory");
+    MemDoor::make(alloc, links).expect(rt, "memory")
+}
+
+/// A door with two links.
+pub fn door_of_two(rt: &impl Abort, alloc: Global, first: MemLink, second: MemLink) -> MemDoor {
+    let mut links = Vec::new(alloc);
+    links.push(first).expect(rt, "memory");
+    links.push(second).expect(rt, "memory");
+    MemDoor::make(alloc, links).expect(rt, "memory")
+}
+
+/// The input and the words of a run, and what it must end and be answered with.
+#[derive(Clone, Copy)]
+pub struct Case {
+    pub words: &'static str,
+    pub input: &'static str,
+    pub status: Status,
+    pub output: &'static str,
+}
+
+/// Runs a case over a door.
+pub fn check<R: Threads + Wait + Sync + Abort, G: Gate + Sync>(
+    rt: &R,
+    alloc: Global,
+    case: &Case,
+    door: &mut MemDoor,
+    gate: &G,
+)
+    requires sync { IsSync R.row }
+{
+    let words = words_of(rt, alloc, case.words);
+    let bytes = case.input.as_bytes().to_vec(alloc).expect(rt, "memory");
+    let mut input = MemSource::of(bytes);
+    let mut output = MemSink::make(alloc, AMPLE).expect(rt, "memory");
+    let status = run(rt, alloc, &words, &mut input, &mut output, door, gate);
+    assert_eq!(rt; status, case.status);
+    assert_eq!(rt; output.held(), case.output.as_bytes());
+}
+
+/// The links that are back have been answered so, and there are no others.
+pub fn check_links(rt: &impl Abort, door: &MemDoor, answers: &[&str]) {
+    let links = door.returned();
+    assert_eq!(rt; links.len(), answers.len());
+    for (link, answer) in links.iter().zip(answers) {
+        assert_eq!(rt; link.held(), answer.as_bytes());
+    }
+}
