@@ -18,15 +18,6 @@ pub const SETUP: &str = r#"{"do":"fix","name":"Q0","x":0,"y":0}
 {"do":"begin"}
 "#;
 
-/// What they are answered.
-pub const SET_UP: &str = r#"{"done":"fix"}
-{"done":"fix"}
-{"done":"fix"}
-{"done":"fix"}
-{"done":"type"}
-{"done":"begin"}
-"#;
-
 /// Room for all that is written.
 const AMPLE: u32 = 65_536;
 
