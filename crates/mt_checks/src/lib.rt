@@ -8,6 +8,8 @@ mod base;
 #[cfg(test)]
 mod book;
 #[cfg(test)]
+mod entries;
+#[cfg(test)]
 mod faults;
 #[cfg(test)]
 mod fractions;
@@ -17,6 +19,8 @@ mod json_lines;
 mod published;
 #[cfg(test)]
 mod snapshots;
+#[cfg(test)]
+mod strands;
 #[cfg(test)]
 mod streams;
 #[cfg(test)]

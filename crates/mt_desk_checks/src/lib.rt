@@ -1,4 +1,4 @@
-//! Tests of a desk on threads: two seats that file at once, and what is done with the turn not held.
+//! Tests of a desk on threads: two seats that file at once, and what is done with the turn not held; and of turns alone.
 #![tactic(auto)]
 
 #[cfg(test)]
@@ -7,3 +7,5 @@ mod filing;
 mod holding;
 #[cfg(test)]
 mod scene;
+#[cfg(test)]
+mod turns;

@@ -5,8 +5,6 @@ mod edge;
 mod edges;
 mod links;
 mod table;
-#[cfg(test)]
-mod tests;
 
 pub use edge::Edge;
 pub use edges::Edges;

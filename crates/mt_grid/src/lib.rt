@@ -6,8 +6,6 @@ mod laws;
 mod marks;
 mod nearness;
 mod placed;
-#[cfg(test)]
-mod tests;
 
 pub use grid::Grid;
 pub use laws::grid_laws;

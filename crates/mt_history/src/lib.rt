@@ -5,8 +5,6 @@ mod laws;
 mod printing;
 mod reading;
 mod rebuilding;
-#[cfg(test)]
-mod tests;
 
 pub use laws::history_printed_law;
 pub use mt_memory::Memory;

@@ -3,8 +3,6 @@
 
 mod page;
 mod paged;
-#[cfg(test)]
-mod tests;
 
 pub use mt_memory::Memory;
 pub use paged::Paged;

@@ -12,8 +12,6 @@ mod kept;
 mod plays;
 mod rule;
 mod seat;
-#[cfg(test)]
-mod tests;
 mod turn_table;
 mod view;
 

@@ -2,8 +2,6 @@
 #![tactic(auto)]
 
 mod laws;
-#[cfg(test)]
-mod tests;
 
 pub use laws::{entry_back_law, read_back_law};
 pub use mt_base::{FieldName, Role};

@@ -1,7 +1,8 @@
+//! Pairs of ends, found by either end and by their seconds, and dropped.
 ghost use Rattle.std.specs.Prelude.{◌≡◌};
 
-use crate::{Edge, Edges};
 use mt_base::Steps;
+use mt_edges::{Edge, Edges};
 use std::process::Abort;
 
 /// Adds a pair between two of four ends.

@@ -1,5 +1,6 @@
-use crate::{Roster, Segment, Strand};
+//! Strands, second by second around the borders of their segments; and the order of a roster.
 use mt_base::{Callsign, Kind, Row, Straight};
+use mt_track::{Roster, Segment, Strand};
 use std::process::Abort;
 use std::sync::Arc;
 

@@ -1,8 +1,10 @@
+//! Three seats on threads of their own, each of which takes 400 turns of one value.
 ghost use Rattle.std.specs.Prelude.{◌≡◌, ◌+◌, ◌^◌, ◌≤◌, [], ◌∷◌, ◌++◌, length, MatchBool, Some};
 ghost use Rattle.mt_turn.specs.declared.view.Phase.TheVariants.{Idle};
 ghost use Rattle.mt_turn.specs.Lending.{IsSameSeat};
 
-use super::*;
+use mt_turn::{Kept, Seat, Turn};
+use std::process::Abort;
 use std::sync::Wait;
 use std::test::Fail;
 use std::thread::{Threads, join};

@@ -1,5 +1,5 @@
 //! Texts of entries: each is read and written again, or refused.
-use crate::{LineNo, read_entry, write_entry};
+use mt_wire::{LineNo, read_entry, write_entry};
 use std::process::Abort;
 
 // Behind each text stands what comes of it: `read`, or the refusal with the field that it names.

@@ -2,7 +2,7 @@ use Rattle.std.proofs.Common.{◌≡◌, ℕ, zero, suc, [], ◌∷◌, ◌++◌
 use Rattle.mt_turn.specs.declared.view.View.{View}
 use Rattle.mt_turn.specs.Views.{joined_as, taker}
 use Rattle.mt_turn.specs.Lending.{IsJoined, AllJoined}
-use Rattle.mt_turn.proofs.tests.settle.Goals as goal
+use Rattle.mt_desk_checks.proofs.turns.settle.Goals as goal
 
 both_joined : {E F : Type 0} (v a b : View E F) → v.joined ≡ [] → a.number ≡ 1 → b.number ≡ 2 → (n : ℕ) → Contains (1 ∷ 2 ∷ []) n → IsJoined ((v.joined ++ joined_as a ∷ []) ++ joined_as b ∷ []) n
 both_joined v a b none one two n (zero, l, is) = subst (λ js. IsJoined ((js ++ joined_as a ∷ []) ++ joined_as b ∷ []) n) (sym none) (joined_as a, (0, omega arith, refl), one ∙ is)

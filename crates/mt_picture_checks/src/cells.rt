@@ -1,10 +1,11 @@
+//! The cells of trajectories, and which are near each other.
 ghost use Rattle.std.specs.Prelude.{◌≡◌, pos};
 ghost use Rattle.mt_base.specs.Bounds.{IsBoundedStretch, IsWithin};
 ghost use Rattle.mt_grid.specs.Lists.{AreInGrid};
 
-use crate::Grid;
 use mt_base::{Row, Rules, Second, Straight};
 use mt_cover::{Cover, cover};
+use mt_grid::Grid;
 use mt_track::Strand;
 use std::process::Abort;
 

@@ -1,6 +1,6 @@
 //! A small history as text: read, rebuilt, printed, and read and rebuilt once more; and texts that say none.
-use crate::{Bad, Wrong, print, read_all, rebuild};
 use mt_base::{Band, Callsign, Conflict, FixName, Kind, Refusal, Rules, TypeName};
+use mt_history::{Bad, Wrong, print, read_all, rebuild};
 use mt_picture::Picture;
 use mt_tables::Tables;
 use std::alloc::Global;

@@ -1,4 +1,5 @@
-use crate::Paged;
+//! Lists that share pages.
+use mt_paged::Paged;
 use std::process::Abort;
 use std::sync::Arc;
 
