@@ -1,5 +1,5 @@
 pub mod OneReply
-pub mod OpeningTurns
+pub mod Opened
 pub mod Replying
 pub mod Served
 pub mod SummedUp

@@ -1,9 +1,9 @@
 -- What a run means, by what its words ask for.
 use Rattle.std.proofs.Common.{◌≡◌, ℕ, List, [], refl, sym, subst}
 use Rattle.std.specs.declared.option.Option.{Option}
+use Rattle.std.specs.Io.KnownBytes.{Appends}
 use Rattle.mt_args.specs.declared.task.Task.{Task}
 use Rattle.mt_args.specs.Task.{task_of}
-use Rattle.mt_io.specs.HasRead.{Tells}
 use Rattle.mt_io.specs.declared.source.Source as Source
 use Rattle.mt_io.specs.declared.sink.Sink as Sink
 use Rattle.mt_io.proofs.HasRead.{told}
@@ -31,68 +31,38 @@ uncalled old new Means before after held held_after same explained =
     explained_as Means (λ input left written. Means input left written × (new ≡ old)) before after held held_after
     (λ input left written means. (means, same)) explained
 
+-- nothing was read, and these bytes were written
+wrote : (Means : List ℕ → List ℕ → List ℕ → Type 0) (before held held_after : Option (List ℕ)) (written : List ℕ) → Appends held held_after written
+    → ((left : List ℕ) → Means left left written) → Explains Means before before held held_after
+wrote Means before held held_after written appended means =
+    let (left, tells, tells_after, at_end) = told before before [] (consumes_none before) in
+    record { input = left; left = left; written = written; told = tells; told_after = tells; appended = appended; means = means left }
+
 -- words that are no command
-pub usage_explained : (status : Status) (before held_before held_after : Option (List ℕ)) → SaysUsage status held_before held_after
-    → Explains (UsageMeans status) before before held_before held_after
-usage_explained status before held_before held_after said =
-    let (left, tells, tells_after, at_end) = told before before [] (consumes_none before) in by_status status said left tells where
-      by_status : (status : Status) → SaysUsage status held_before held_after → (left : List ℕ) → Tells before left
-          → Explains (UsageMeans status) before before held_before held_after
-      by_status Usage appended left tells = record {
-        input = left;
-        left = left;
-        written = usage_line;
-        told = tells;
-        told_after = tells;
-        appended = appended;
-        means = (refl, refl);
-      }
-      by_status WriteFault (front, rest, line_is, appended) left tells = record {
-        input = left;
-        left = left;
-        written = front;
-        told = tells;
-        told_after = tells;
-        appended = appended;
-        means = (refl, (rest, line_is));
-      }
-      by_status Done none left tells = absurd none
-      by_status ReadFault none left tells = absurd none
-      by_status Spent none left tells = absurd none
-      by_status Setup none left tells = absurd none
-      by_status DoorFault none left tells = absurd none
-      by_status Memory none left tells = absurd none
+pub usage_explained : (status : Status) (before held held_after : Option (List ℕ)) → SaysUsage status held held_after
+    → Explains (UsageMeans status) before before held held_after
+usage_explained Usage before held held_after appended = wrote (UsageMeans Usage) before held held_after usage_line appended (λ left. (refl, refl))
+usage_explained WriteFault before held held_after (front, rest, line_is, appended) =
+    wrote (UsageMeans WriteFault) before held held_after front appended (λ left. (refl, (rest, line_is)))
+usage_explained Done before held held_after none = absurd none
+usage_explained ReadFault before held held_after none = absurd none
+usage_explained Spent before held held_after none = absurd none
+usage_explained Setup before held held_after none = absurd none
+usage_explained DoorFault before held held_after none = absurd none
+usage_explained Memory before held held_after none = absurd none
 
 -- a load run
-pub summary_explained : (flights number : ℕ) (status : Status) (before held_before held_after : Option (List ℕ)) → SaysSummary flights number status held_before held_after
-    → Explains (LoadMeans flights number status) before before held_before held_after
-summary_explained flights number status before held_before held_after said =
-    let (left, tells, tells_after, at_end) = told before before [] (consumes_none before) in by_status status said left tells where
-      by_status : (status : Status) → SaysSummary flights number status held_before held_after → (left : List ℕ) → Tells before left
-          → Explains (LoadMeans flights number status) before before held_before held_after
-      by_status Done (line, summed, appended) left tells = record {
-        input = left;
-        left = left;
-        written = line;
-        told = tells;
-        told_after = tells;
-        appended = appended;
-        means = (refl, summed);
-      }
-      by_status WriteFault (line, summed, (front, rest, line_is, appended)) left tells = record {
-        input = left;
-        left = left;
-        written = front;
-        told = tells;
-        told_after = tells;
-        appended = appended;
-        means = (refl, (rest, subst (IsSummaryLine flights number) line_is summed));
-      }
-      by_status Memory same left tells =
-          subst (λ (held : Option (List ℕ)). Explains (LoadMeans flights number Memory) before before held_before held) (sym same)
-          (nothing before held_before)
-      by_status Usage none left tells = absurd none
-      by_status ReadFault none left tells = absurd none
-      by_status Spent none left tells = absurd none
-      by_status Setup none left tells = absurd none
-      by_status DoorFault none left tells = absurd none
+pub summary_explained : (flights number : ℕ) (status : Status) (before held held_after : Option (List ℕ)) → SaysSummary flights number status held held_after
+    → Explains (LoadMeans flights number status) before before held held_after
+summary_explained flights number Done before held held_after (line, summed, appended) =
+    wrote (LoadMeans flights number Done) before held held_after line appended (λ left. (refl, summed))
+summary_explained flights number WriteFault before held held_after (line, summed, (front, rest, line_is, appended)) =
+    wrote (LoadMeans flights number WriteFault) before held held_after front appended
+    (λ left. (refl, (rest, subst (IsSummaryLine flights number) line_is summed)))
+summary_explained flights number Memory before held held_after same =
+    subst (λ (after : Option (List ℕ)). Explains (LoadMeans flights number Memory) before before held after) (sym same) (nothing before held)
+summary_explained flights number Usage before held held_after none = absurd none
+summary_explained flights number ReadFault before held held_after none = absurd none
+summary_explained flights number Spent before held held_after none = absurd none
+summary_explained flights number Setup before held held_after none = absurd none
+summary_explained flights number DoorFault before held held_after none = absurd none

@@ -1,7 +1,7 @@
+pub mod Lines
 pub mod Load
 pub mod Opening
 pub mod Serve
 pub mod Run
 pub mod Script
-pub mod SoFar
 pub mod Status

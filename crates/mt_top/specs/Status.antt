@@ -14,8 +14,14 @@ exit_status DoorFault = 6
 exit_status Spent = 7
 exit_status Memory = 8
 
--- the status with which a script ends once a reply was given, where it does: the reply was the last one, or the output failed
-abbrev pub ending : Result Bool Failed → Option Status
-ending (Ok true) = Some Done
-ending (Ok false) = None
-ending (Err failed) = Some WriteFault
+abbrev pub is_done : Status → Bool
+is_done Done = true
+is_done status = false
+
+-- The status with which lines end once a reply was given, where they do: the output failed; the reply was a farewell; or the picture has begun
+-- that the lines are to set up.
+abbrev pub ending : Result Bool Failed → Bool → Option Status
+ending (Err failed) is_set_up = Some WriteFault
+ending (Ok true) is_set_up = Some Done
+ending (Ok false) true = Some Done
+ending (Ok false) false = None

@@ -3,8 +3,8 @@
 
 mod answering;
 mod laws;
+mod lines;
 mod load;
-mod opened;
 mod opening;
 mod replay;
 mod serving;

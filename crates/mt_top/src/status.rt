@@ -1,5 +1,5 @@
 ghost use Rattle.std.specs.Prelude.{◌≡◌};
-ghost use Rattle.mt_top.specs.Status.{ending, exit_status};
+ghost use Rattle.mt_top.specs.Status.{ending, exit_status, is_done};
 
 use mt_io::WriteFault;
 
@@ -26,6 +26,13 @@ pub enum Status {
 }
 
 impl Status {
+    /// Whether it is `Done`.
+    pub(crate) fn is_done(self) -> bool
+        ensures { result ≡ is_done self }
+    {
+        matches!(self, Status::Done)
+    }
+
     /// The exit status of the program.
     pub fn exit(self) -> u8
         ensures { result ≡ exit_status self }
@@ -43,13 +50,15 @@ impl Status {
     }
 }
 
-/// The status with which a script ends once a reply was given, where it does.
-pub(crate) fn ending(given: Result<bool, WriteFault>) -> Option<Status>
-    ensures { result ≡ ending given }
+/// The status with which lines end once a reply was given, where they do: `Done` after a farewell, and where the picture has begun that they
+/// are to set up.
+pub(crate) fn ending(given: Result<bool, WriteFault>, is_set_up: bool) -> Option<Status>
+    ensures { result ≡ ending given is_set_up }
 {
     match given {
-        Ok(true) => Some(Status::Done),
-        Ok(false) => None,
         Err(_) => Some(Status::WriteFault),
+        Ok(true) => Some(Status::Done),
+        Ok(false) if is_set_up => Some(Status::Done),
+        Ok(false) => None,
     }
 }

@@ -1,0 +1,81 @@
+-- What lines that ended mean for a whole script, and for lines that set a picture up.
+use Rattle.std.proofs.Common.{◌≡◌, inl, inr, ⊎_elim, ℕ, true, false, List, [], refl, sym, ap, ◌∙◌, true≢false}
+use Rattle.std.specs.declared.option.Option.{Option}
+use Rattle.mt_lines.specs.Answering.{Explains}
+use Rattle.mt_lines.proofs.Answering as steps
+use Rattle.mt_picture.specs.Story.{Story}
+use Rattle.mt_top.specs.Lines.{LinesMean}
+use Rattle.mt_top.specs.Opening.{Begins, OpeningMeans}
+use Rattle.mt_top.specs.Run.{ReplayMeans}
+use Rattle.mt_top.specs.Status.{is_done}
+use Rattle.mt_top.specs.declared.status.Status.{Status}
+use Rattle.mt_top.specs.declared.status.Status.TheVariants.{Done, Usage, Setup, ReadFault, WriteFault, DoorFault, Spent, Memory}
+use Rattle.mt_world.specs.World.{World, setup_of}
+
+-- memory was wanted before the first line
+pub wanted : (before held : Option (List ℕ)) → Explains (ReplayMeans Memory) before before held held
+wanted before held = steps.explained_as _ (ReplayMeans Memory) before before held held (λ input left written none. none) (steps.nothing before held)
+
+pub unopened : (before held : Option (List ℕ)) → Explains (OpeningMeans Memory) before before held held
+unopened before held = steps.explained_as _ (OpeningMeans Memory) before before held held (λ input left written none. none) (steps.nothing before held)
+
+pub done_is : (status : Status) → is_done status ≡ true → status ≡ Done
+done_is Done is = refl
+done_is ReadFault is = absurd (true≢false (sym is))
+done_is Spent is = absurd (true≢false (sym is))
+done_is WriteFault is = absurd (true≢false (sym is))
+done_is Usage is = absurd (true≢false (sym is))
+done_is Setup is = absurd (true≢false (sym is))
+done_is DoorFault is = absurd (true≢false (sym is))
+done_is Memory is = absurd (true≢false (sym is))
+
+module _ (before after held held_after : Option (List ℕ)) (w : World) where
+  -- the lines are those of a whole script
+  whole_script : (status : Status) (input left written : List ℕ) → LinesMean false w status input left written → ReplayMeans status input left written
+  whole_script Done input left written answers = ⊎_elim (λ all. inl (w, all.0)) (λ last. inr (w, last)) answers
+  whole_script ReadFault input left written (taken, answers) = (taken, (w, answers))
+  whole_script Spent input left written (taken, all, answers) = (taken, all, (w, answers))
+  whole_script WriteFault input left written answers = (w, answers)
+  whole_script Usage input left written none = none
+  whole_script Setup input left written none = none
+  whole_script DoorFault input left written none = none
+  whole_script Memory input left written none = absurd none
+
+  pub replayed : (status : Status) → Explains (LinesMean false w status) before after held held_after → Explains (ReplayMeans status) before after held held_after
+  replayed status explained = steps.explained_as (LinesMean false w status) (ReplayMeans status) before after held held_after (whole_script status) explained
+
+  -- they set a picture up, and it has begun
+  begun_by : (picture : Story) → picture ≡ record { setup = setup_of w; history = w.history } → w.history ≡ [] → w.begun ≡ true
+      → (input left written : List ℕ) → LinesMean true w Done input left written → Begins input left written picture
+  begun_by picture is none begun input left written answers = ⊎_elim
+      (λ all. absurd (true≢false (sym begun ∙ all.1 refl)))
+      (λ last. record { end = w; answers = last; begun = begun; picture_is = is ∙ ap (λ entries. record { setup = setup_of w; history = entries }) none })
+      answers
+
+  pub begins : (picture : Story) → picture ≡ record { setup = setup_of w; history = w.history } → w.history ≡ [] → w.begun ≡ true
+      → Explains (LinesMean true w Done) before after held held_after
+      → Explains (λ input left written. Begins input left written picture) before after held held_after
+  begins picture is none begun explained =
+      steps.explained_as (LinesMean true w Done) (λ input left written. Begins input left written picture) before after held held_after
+      (begun_by picture is none begun) explained
+
+  -- they were to, and it hasn't
+  pub unbegun : w.begun ≡ false → Explains (LinesMean true w Done) before after held held_after → Explains (OpeningMeans Setup) before after held held_after
+  unbegun isnt explained = steps.explained_as (LinesMean true w Done) (OpeningMeans Setup) before after held held_after
+      (λ input left written answers. record { end = w; answers = ⊎_elim (λ all. inl all.0) (λ last. inr last) answers; unbegun = isnt })
+      explained
+
+  -- the input or the output failed
+  failed : (status : Status) → is_done status ≡ false → (input left written : List ℕ) → LinesMean true w status input left written → OpeningMeans status input left written
+  failed Done other input left written answers = absurd (true≢false other)
+  failed ReadFault other input left written (taken, answers) = (w, taken, answers)
+  failed Spent other input left written (taken, all, answers) = (w, taken, all, answers)
+  failed WriteFault other input left written answers = (w, answers)
+  failed Usage other input left written none = none
+  failed Setup other input left written none = absurd none
+  failed DoorFault other input left written none = none
+  failed Memory other input left written none = absurd none
+
+  pub over : (status : Status) → is_done status ≡ false → Explains (LinesMean true w status) before after held held_after
+      → Explains (OpeningMeans status) before after held held_after
+  over status other explained = steps.explained_as (LinesMean true w status) (OpeningMeans status) before after held held_after (failed status other) explained

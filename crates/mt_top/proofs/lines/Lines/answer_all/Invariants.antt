@@ -1,0 +1,20 @@
+use Rattle.std.proofs.Common.{◌≡◌, ◌≤◌, ◌^◌, ◌-◌, None, true, false, vec_capacity}
+use Rattle.mt_top.specs.Lines.{SoFar}
+use Rattle.mt_top.proofs.lines.Lines.answer_all.Given as goal
+
+abbrev pub invariant-loop-status : goal.invariant-loop-status
+invariant-loop-status g l = record {
+  so_far : SoFar l.fn.until_begun (g.S.Source.left l.fn.input) (g.S.Source.left l.input) (g.K.Sink.held l.fn.output) (g.K.Sink.held l.output)
+      l.self.reader l.self.script;
+  sound : l.self.reader.fault ≡ None;
+  bound : l.self.reader.given ≤ 2 ^ 32;
+  room : 65536 ≤ vec_capacity l.self.room;
+  unbegun : l.fn.until_begun ≡ true → l.self.script.begun ≡ false;
+  read : g.S.Source.faults l.fn.input ≤ g.S.Source.faults l.input;
+  written : g.K.Sink.faults l.fn.output ≤ g.K.Sink.faults l.output;
+  reads : g.S.Source.reads_to l.fn.input l.input;
+  writes : g.K.Sink.writes_to l.fn.output l.output;
+}
+
+abbrev pub decreases-loop-status : goal.decreases-loop-status
+decreases-loop-status g l = 2 ^ 32 - l.self.reader.given

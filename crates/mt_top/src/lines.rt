@@ -1,0 +1,136 @@
+//! Lines of a script, read from the input and answered on the output, up to the last one.
+ghost use Rattle.std.specs.Prelude.{◌≡◌, ◌≤◌, ◌^◌, ◌+◌, ◌&&◌, ℕ, List, [], None, Some, IfNone, IfOk, false, true, vec_capacity};
+ghost use Rattle.std.specs.declared.option.Option.{Option};
+ghost use Rattle.mt_io.specs.Causes.{Rose};
+ghost use Rattle.mt_io.specs.Reading.{fresh};
+ghost use Rattle.mt_lines.specs.Answering.{Explains};
+ghost use Rattle.mt_top.specs.Lines.{LinesMean, SoFar, Turned};
+ghost use Rattle.mt_top.specs.declared.status.Status.TheVariants.{ReadFault, WriteFault};
+ghost use Rattle.mt_world.specs.World.{opening_world, setup_of};
+
+use crate::answering::answer;
+use crate::status::{Status, ending};
+use mt_base::Memory;
+use mt_io::{Line, LineFault, LineReader, Sink, Source};
+use mt_lines::give;
+use mt_picture::Picture;
+use mt_script::Script;
+use mt_wire::Reply;
+use std::alloc::Global;
+use std::thread::Threads;
+
+/// The room for a reply that follows a change, in bytes.
+const ROOM: usize = 65_536;
+
+/// What reads the lines of a script, what answers them, and the room for replies, which has 65,536 bytes.
+#[derive(Drop)]
+pub(crate) struct Lines {
+    reader: LineReader,
+    script: Script,
+    room: Vec<u8>,
+}
+
+impl Lines {
+    /// All memory that is taken before the first line.
+    pub(crate) fn make(alloc: Global) -> Result<Lines, Memory>
+        ensures reader { IfOk result (λ lines. lines.reader ≡ fresh) }
+        ensures script { IfOk result (λ lines. lines.script ≡ opening_world) }
+        ensures room { IfOk result (λ lines. 65536 ≤ vec_capacity lines.room) }
+    {
+        Ok(Lines {
+            reader: LineReader::make(alloc)?,
+            script: Script::make(alloc)?,
+            room: Vec::with_capacity(alloc, ROOM)?,
+        })
+    }
+
+    /// Whether the picture has begun.
+    pub(crate) fn have_begun(&self) -> bool
+        ensures { result ≡ self.now.script.begun }
+    {
+        self.script.has_begun()
+    }
+
+    /// The picture that has begun, and the room.
+    pub(crate) fn into_picture(self) -> (Picture, Vec<u8>)
+        requires { self.script.begun ≡ true }
+        ensures picture { result.0 ≡ record { setup = setup_of self.script; history = self.script.history } }
+        ensures room { result.1 ≡ self.room }
+    {
+        let Lines { script, room, .. } = self;
+        (script.into_picture(), room)
+    }
+
+    /// Answers the lines of the input up to the last one: its end; a line that is answered with a farewell; or, where the lines are to set a
+    /// picture up, the one that begins it. Then that is `Done`. The definition is `LinesMean`.
+    pub(crate) fn answer_all<R: Threads + Sync, S: Source, K: Sink>(
+        &mut self,
+        rt: &R,
+        alloc: Global,
+        until_begun: bool,
+        input: &mut S,
+        output: &mut K,
+    ) -> Status
+        requires first { (self.old.reader ≡ fresh) × (self.old.script ≡ opening_world) }
+        requires room { 65536 ≤ vec_capacity self.old.room }
+        ensures means { Explains (LinesMean until_begun self.new.script result) (S.left input.old) (S.left input.new) (K.held output.old) (K.held output.new) }
+        ensures empty { until_begun ≡ true → self.new.script.begun ≡ true → self.new.script.history ≡ [] }
+        ensures room { 65536 ≤ vec_capacity self.new.room }
+        ensures read { result ≡ ReadFault → Rose (S.faults input.old) (S.faults input.new) }
+        ensures write { result ≡ WriteFault → Rose (K.faults output.old) (K.faults output.new) }
+        ensures later { (S.faults input.old ≤ S.faults input.new) × (K.faults output.old ≤ K.faults output.new) }
+        ensures reads { S.reads_to input.old input.new }
+        ensures writes { K.writes_to output.old output.new }
+    {
+        loop {
+            if let Some(status) = self.turn(rt, alloc, until_begun, input, output) {
+                return status;
+            }
+        }
+    }
+
+    // Reads one line and answers it; a status where it is the last one.
+    fn turn<R: Threads + Sync, S: Source, K: Sink>(
+        &mut self,
+        rt: &R,
+        alloc: Global,
+        until_begun: bool,
+        input: &mut S,
+        output: &mut K,
+    ) -> Option<Status>
+        requires sound { self.old.reader.fault ≡ None }
+        requires room { 65536 ≤ vec_capacity self.old.room }
+        requires unbegun { until_begun ≡ true → self.old.script.begun ≡ false }
+        ensures turned { (before held : Option (List ℕ))
+            → SoFar until_begun before (S.left input.old) held (K.held output.old) self.old.reader self.old.script
+            → Turned until_begun result before (S.left input.new) held (K.held output.new) self.new.reader self.new.script }
+        ensures rises { IfNone result ((self.new.reader.given ≡ self.old.reader.given + 1) × (self.new.reader.given ≤ 2 ^ 32) × (self.new.reader.fault ≡ None)
+            × (until_begun ≡ true → self.new.script.begun ≡ false)) }
+        ensures empty { until_begun ≡ true → self.new.script.begun ≡ true → self.new.script.history ≡ [] }
+        ensures room { 65536 ≤ vec_capacity self.new.room }
+        ensures read { result ≡ Some ReadFault → Rose (S.faults input.old) (S.faults input.new) }
+        ensures write { result ≡ Some WriteFault → Rose (K.faults output.old) (K.faults output.new) }
+        ensures later { (S.faults input.old ≤ S.faults input.new) × (K.faults output.old ≤ K.faults output.new) }
+        ensures reads { S.reads_to input.old input.new }
+        ensures writes { K.writes_to output.old output.new }
+    {
+        match self.reader.next(input) {
+            Ok(Line::Text(line)) => {
+                let reply = answer(rt, alloc, &mut self.script, line);
+                let given = give(alloc, &reply, &mut self.room, output);
+                ending(given, is_set_up(until_begun, &self.script))
+            }
+            Ok(Line::Long) => ending(give(alloc, &Reply::Long, &mut self.room, output), false),
+            Ok(Line::End) => Some(Status::Done),
+            Err(LineFault::ReadFault) => Some(Status::ReadFault),
+            Err(LineFault::Spent) => Some(Status::Spent),
+        }
+    }
+}
+
+// Whether the picture has begun that the lines are to set up.
+fn is_set_up(until_begun: bool, script: &Script) -> bool
+    ensures { result ≡ until_begun && script.now.begun }
+{
+    until_begun && script.has_begun()
+}
