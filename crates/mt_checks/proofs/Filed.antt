@@ -1,8 +1,7 @@
 -- A flight that a prep files can be put at an empty place.
-use Rattle.std.proofs.Common.{◌≡◌, ◌≢◌, ◌⊎◌, ⊎_elim, Bool, true, false, not, ℕ, ◌+◌, ◌<◌, ◌≤◌, List, [], ◌∷◌, ◌++◌, Option, Some, None, Ok, length, refl, sym, ◌∙◌, ap, subst, replicate, get_or, suc, zero, arith}
+use Rattle.std.proofs.Common.{◌≡◌, ◌⊎◌, ⊎_elim, ℕ, ◌+◌, ◌<◌, ◌≤◌, List, [], ◌∷◌, ◌++◌, Option, Some, None, Ok, length, refl, sym, ◌∙◌, ap, subst, replicate, get_or, suc, zero, arith}
 use Rattle.std.proofs.Math.ListN.{set}
 use Rattle.std.specs.Arc.{arc_value}
-use Rattle.std.specs.Prelude.{is_some, option_map}
 use Rattle.mt_base.specs.declared.command.Command.{Command}
 use Rattle.mt_base.specs.declared.command.Command.TheVariants.{Accept, Clear, Commit, Drop, External, Plan, Renew, Tentative, Tick, Withdraw}
 use Rattle.mt_base.specs.declared.command.Command.TheVariants as commands
@@ -11,15 +10,15 @@ use Rattle.mt_base.specs.declared.flight.Path.{Path}
 use Rattle.mt_base.specs.declared.flight.Path.TheVariants.{Outer, Planned}
 use Rattle.mt_base.specs.declared.flight.Record.{Record}
 use Rattle.mt_base.specs.Bounds.{IsSoundFlight}
-use Rattle.mt_base.specs.History.{call_of, course_of}
-use Rattle.mt_base.specs.Picture.{NamedTrajectory, State, flight_of, tentative_of, trajectories_of, trajectory_of}
+use Rattle.mt_base.specs.History.{course_of}
+use Rattle.mt_base.specs.Picture.{State, flight_of, tentative_of, trajectories_of, trajectory_of}
 use Rattle.mt_base.specs.Tables.{Setup}
 use Rattle.mt_probe.specs.declared.flight.Flight.{Flight}
 use Rattle.mt_probe.specs.declared.flight.Made.{Made}
 use Rattle.mt_probe.specs.Prepared.{IsPrepOf, IsPrepared, Prepared, flight_left, judged_aside, kind_made, path_made}
 use Rattle.mt_probe.specs.Putting.{Fits, IsFiledAt}
 use Rattle.mt_probe.specs.Shot.{Shot, flight_at, kept_of, state_of}
-use Rattle.mt_probe.specs.Standing.{IsSoundEntry, IsSoundShot}
+use Rattle.mt_probe.specs.Standing.{IsSoundShot}
 use Rattle.mt_probe.proofs.Left.{filed_is, is_none, passes}
 use Rattle.mt_probe.proofs.Placed.{at_new, filled_inside, found_there}
 use Rattle.mt_checks.specs.Filing.{Files, IsPutOf, WereFiled}

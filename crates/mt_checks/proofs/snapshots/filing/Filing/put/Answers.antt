@@ -1,4 +1,4 @@
-use Rattle.std.proofs.Common.{◌≡◌, ◌<◌, ◌≤◌, ◌+◌, None, Some, ap, length, subst, sym, arith}
+use Rattle.std.proofs.Common.{◌≡◌, ◌<◌, None, Some, ap, length, subst, sym, arith}
 use Rattle.mt_probe.specs.declared.flight.Flight.{Flight}
 use Rattle.mt_probe.specs.Prepared.{IsPrepOf}
 use Rattle.mt_probe.specs.Shot.{Shot, flight_at}
