@@ -10,8 +10,6 @@ mod book;
 #[cfg(test)]
 mod entries;
 #[cfg(test)]
-mod faults;
-#[cfg(test)]
 mod fractions;
 #[cfg(test)]
 mod json_lines;

@@ -1,6 +1,8 @@
-//! Tests of `serve` through the top call, each with sessions and workers on threads of their own.
+//! Tests through the top call: of scripts over streams that fail, and of `serve`, each with sessions and workers on threads of their own.
 #![tactic(auto)]
 
+#[cfg(test)]
+mod faults;
 #[cfg(test)]
 mod holding;
 #[cfg(test)]

@@ -2,6 +2,7 @@
 ghost use Rattle.std.specs.Prelude.{◌≤◌, None, vec_len};
 ghost use Rattle.std.specs.Thread.{IsSync};
 
+use crate::scene::words_of;
 use mt_base::Words;
 use mt_io::{Failed, MemDoor, MemSink, MemSource, OpenGate, Source};
 use mt_top::{Status, run};
@@ -64,14 +65,6 @@ impl Source for Torn {
     ghost reads_to_itself = { λ s. tt };
 
     ghost reads_on = { λ a b c ab bc. tt };
-}
-
-fn words_of(rt: &impl Abort, alloc: Global, text: &str) -> Words {
-    let mut words = Words::make(alloc).expect(rt, "memory");
-    for word in text.split_whitespace() {
-        words.add(alloc, word).expect(rt, "memory");
-    }
-    words
 }
 
 // The first lines of a text, as many as the count says, with their ends.
