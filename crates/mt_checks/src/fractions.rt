@@ -1,4 +1,6 @@
 //! Tables of cases whose answers come from a program with exact fractions.
+//!
+//! A line is a case, its values in order; a line that begins with `;` says what the next ones have in common.
 
 ghost use Rattle.std.specs.Prelude.{IsTrue};
 ghost use Rattle.mt_frac.specs.FractionOrder.{IsBefore};
@@ -7,194 +9,194 @@ ghost use Rattle.mt_frac.specs.Signs.{IsBoundedLine, IsBoundedQuad};
 use mt_frac::{Frac, Line, Quad};
 use std::cmp::Ordering;
 use std::process::Abort;
-
-// A numerator and a denominator.
-type Point = (i128, i128);
+use std::str::SplitWhitespace;
 
 // The coefficients a, b and c, the ends of the interval, and whether the quadratic is below 0 inside.
-const QUADRATICS: [(i128, i128, i128, Point, Point, bool); 49] = [
-    // double root at the lower end
-    (1, 0, 0, (0, 1), (1, 1), false),
-    // at the upper end
-    (1, -2, 1, (0, 1), (1, 1), false),
-    // inside
-    (4, -4, 1, (0, 1), (1, 1), false),
-    // before the lower end
-    (1, 2, 1, (0, 1), (1, 1), false),
-    // after the upper end
-    (1, -4, 4, (0, 1), (1, 1), false),
-    // the same, open downwards
-    (-1, 0, 0, (0, 1), (1, 1), true),
-    (-1, 2, -1, (0, 1), (1, 1), true),
-    (-4, 4, -1, (0, 1), (1, 1), true),
-    (-1, -2, -1, (0, 1), (1, 1), true),
-    (-1, 4, -4, (0, 1), (1, 1), true),
-    // roots at both ends
-    (1, -1, 0, (0, 1), (1, 1), true),
-    (-1, 1, 0, (0, 1), (1, 1), false),
-    (15, -11, 2, (1, 3), (2, 5), true),
-    (-15, 11, -2, (2, 6), (4, 10), false),
-    // one root at an end, one inside
-    (2, -1, 0, (0, 1), (1, 1), true),
-    (-2, 1, 0, (0, 1), (1, 1), true),
-    (2, -3, 1, (0, 1), (1, 1), true),
-    // one root at an end, one outside
-    (1, 1, 0, (0, 1), (1, 1), false),
-    (1, -2, 0, (0, 1), (1, 1), true),
-    (-1, -1, 0, (0, 1), (1, 1), true),
-    (-1, 2, 0, (0, 1), (1, 1), false),
-    // both roots inside
-    (100, -100, 24, (0, 1), (1, 1), true),
-    (-100, 100, -24, (0, 1), (1, 1), true),
-    // both before, both after, one on each side
-    (1, 3, 2, (0, 1), (1, 1), false),
-    (1, -5, 6, (0, 1), (1, 1), false),
-    (1, 0, -9, (-1, 2), (3, 2), true),
-    (-1, 0, 9, (-1, 2), (3, 2), false),
-    // no root
-    (1, 0, 1, (-1, 1), (1, 1), false),
-    (-1, 0, -1, (-1, 1), (1, 1), true),
-    // the least discriminant
-    (1, 1, 0, (-1, 1), (0, 1), true),
-    (1, 1, 0, (-3, 2), (-1, 2), true),
-    // a = 0, rising
-    (0, 1, 0, (0, 1), (1, 1), false),
-    (0, 1, -1, (0, 1), (1, 1), true),
-    (0, 2, -1, (0, 1), (1, 1), true),
-    (0, 1, 1, (0, 1), (1, 1), false),
-    // a = 0, falling
-    (0, -1, 0, (0, 1), (1, 1), true),
-    (0, -1, 1, (0, 1), (1, 1), false),
-    (0, -2, 1, (0, 1), (1, 1), true),
-    // a = b = 0
-    (0, 0, 0, (0, 1), (1, 1), false),
-    (0, 0, 1, (0, 1), (1, 1), false),
-    (0, 0, -1, (0, 1), (1, 1), true),
-    // at the bounds
-    (
-        67108863,
-        1099511627775,
-        1125899906842623,
-        (-4294967295, 1),
-        (4294967295, 1),
-        true,
-    ),
-    (
-        67108863,
-        -1099511627775,
-        1125899906842623,
-        (0, 1),
-        (4294967295, 262143),
-        true,
-    ),
-    (
-        67108863,
-        -1099511627775,
-        1125899906842623,
-        (4294967295, 262143),
-        (4294967295, 1),
-        false,
-    ),
-    (
-        -67108863,
-        -1099511627775,
-        -1125899906842623,
-        (4294967294, 262143),
-        (4294967295, 262143),
-        true,
-    ),
-    (
-        -67108863,
-        -1099511627775,
-        1125899906842623,
-        (-4294967295, 1),
-        (4294967295, 1),
-        true,
-    ),
-    (
-        67108863,
-        -1099511627775,
-        1125899906842623,
-        (1000, 1),
-        (16000, 1),
-        true,
-    ),
-    (
-        67108863,
-        0,
-        -1125899906842623,
-        (4294967295, 262143),
-        (4294967295, 262142),
-        false,
-    ),
-    (
-        0,
-        1099511627775,
-        -1125899906842623,
-        (1023, 1),
-        (1024, 1),
-        true,
-    ),
-];
+const QUADRATICS: &str = "\
+; double root at the lower end
+1 0 0 0/1 1/1 never
+; at the upper end
+1 -2 1 0/1 1/1 never
+; inside
+4 -4 1 0/1 1/1 never
+; before the lower end
+1 2 1 0/1 1/1 never
+; after the upper end
+1 -4 4 0/1 1/1 never
+; the same, open downwards
+-1 0 0 0/1 1/1 below
+-1 2 -1 0/1 1/1 below
+-4 4 -1 0/1 1/1 below
+-1 -2 -1 0/1 1/1 below
+-1 4 -4 0/1 1/1 below
+; roots at both ends
+1 -1 0 0/1 1/1 below
+-1 1 0 0/1 1/1 never
+15 -11 2 1/3 2/5 below
+-15 11 -2 2/6 4/10 never
+; one root at an end, one inside
+2 -1 0 0/1 1/1 below
+-2 1 0 0/1 1/1 below
+2 -3 1 0/1 1/1 below
+; one root at an end, one outside
+1 1 0 0/1 1/1 never
+1 -2 0 0/1 1/1 below
+-1 -1 0 0/1 1/1 below
+-1 2 0 0/1 1/1 never
+; both roots inside
+100 -100 24 0/1 1/1 below
+-100 100 -24 0/1 1/1 below
+; both before, both after, one on each side
+1 3 2 0/1 1/1 never
+1 -5 6 0/1 1/1 never
+1 0 -9 -1/2 3/2 below
+-1 0 9 -1/2 3/2 never
+; no root
+1 0 1 -1/1 1/1 never
+-1 0 -1 -1/1 1/1 below
+; the least discriminant
+1 1 0 -1/1 0/1 below
+1 1 0 -3/2 -1/2 below
+; a = 0, rising
+0 1 0 0/1 1/1 never
+0 1 -1 0/1 1/1 below
+0 2 -1 0/1 1/1 below
+0 1 1 0/1 1/1 never
+; a = 0, falling
+0 -1 0 0/1 1/1 below
+0 -1 1 0/1 1/1 never
+0 -2 1 0/1 1/1 below
+; a = b = 0
+0 0 0 0/1 1/1 never
+0 0 1 0/1 1/1 never
+0 0 -1 0/1 1/1 below
+; at the bounds
+67108863 1099511627775 1125899906842623 -4294967295/1 4294967295/1 below
+67108863 -1099511627775 1125899906842623 0/1 4294967295/262143 below
+67108863 -1099511627775 1125899906842623 4294967295/262143 4294967295/1 never
+-67108863 -1099511627775 -1125899906842623 4294967294/262143 4294967295/262143 below
+-67108863 -1099511627775 1125899906842623 -4294967295/1 4294967295/1 below
+67108863 -1099511627775 1125899906842623 1000/1 16000/1 below
+67108863 0 -1125899906842623 4294967295/262143 4294967295/262142 never
+0 1099511627775 -1125899906842623 1023/1 1024/1 below
+";
 
 // The coefficients b and c, the ends of the interval, and the ends of the part below 0.
-const LINES: [(i128, i128, Point, Point, Option<(Point, Point)>); 20] = [
-    // above
-    (0, 1, (0, 1), (1, 1), None),
-    (0, 0, (0, 1), (1, 1), None),
-    (0, -1, (0, 1), (1, 1), Some(((0, 1), (1, 1)))),
-    // rising
-    (1, 0, (0, 1), (1, 1), None),
-    (1, -1, (0, 1), (1, 1), Some(((0, 1), (1, 1)))),
-    (2, -1, (0, 1), (1, 1), Some(((0, 1), (1, 2)))),
-    (1, 1, (0, 1), (1, 1), None),
-    (1, -2, (0, 1), (1, 1), Some(((0, 1), (1, 1)))),
-    // falling
-    (-1, 0, (0, 1), (1, 1), Some(((0, 1), (1, 1)))),
-    (-1, 1, (0, 1), (1, 1), None),
-    (-2, 1, (0, 1), (1, 1), Some(((1, 2), (1, 1)))),
-    (-1, -1, (0, 1), (1, 1), Some(((0, 1), (1, 1)))),
-    (-1, 2, (0, 1), (1, 1), None),
-    (-7, 3, (1, 3), (1, 2), Some(((3, 7), (1, 2)))),
-    (7, -3, (2, 6), (2, 4), Some(((1, 3), (3, 7)))),
-    (-6, -4, (-1, 1), (0, 1), Some(((-2, 3), (0, 1)))),
-    // at the bounds
-    (
-        262143,
-        -4294967295,
-        (0, 1),
-        (4294967295, 1),
-        Some(((0, 1), (1431655765, 87381))),
-    ),
-    (
-        -262143,
-        4294967295,
-        (0, 1),
-        (4294967295, 1),
-        Some(((1431655765, 87381), (4294967295, 1))),
-    ),
-    (
-        262143,
-        4294967295,
-        (-4294967295, 1),
-        (4294967295, 262143),
-        Some(((-4294967295, 1), (-1431655765, 87381))),
-    ),
-    (
-        -262143,
-        -4294967295,
-        (-4294967295, 1),
-        (-4294967295, 262142),
-        None,
-    ),
-];
+const LINES: &str = "\
+; above
+0 1 0/1 1/1 never
+0 0 0/1 1/1 never
+0 -1 0/1 1/1 0/1 1/1
+; rising
+1 0 0/1 1/1 never
+1 -1 0/1 1/1 0/1 1/1
+2 -1 0/1 1/1 0/1 1/2
+1 1 0/1 1/1 never
+1 -2 0/1 1/1 0/1 1/1
+; falling
+-1 0 0/1 1/1 0/1 1/1
+-1 1 0/1 1/1 never
+-2 1 0/1 1/1 1/2 1/1
+-1 -1 0/1 1/1 0/1 1/1
+-1 2 0/1 1/1 never
+-7 3 1/3 1/2 3/7 1/2
+7 -3 2/6 2/4 1/3 3/7
+-6 -4 -1/1 0/1 -2/3 0/1
+; at the bounds
+262143 -4294967295 0/1 4294967295/1 0/1 1431655765/87381
+-262143 4294967295 0/1 4294967295/1 1431655765/87381 4294967295/1
+262143 4294967295 -4294967295/1 4294967295/262143 -4294967295/1 -1431655765/87381
+-262143 -4294967295 -4294967295/1 -4294967295/262142 never
+";
 
-fn fraction(rt: &impl Abort, (num, den): (i128, i128)) -> Frac {
+// The coefficients a, b and c, a fraction, and how the quadratic there compares with 0.
+const SIGNS: &str = "\
+1 0 0 0/1 equal
+1 -2 1 3/3 equal
+1 -2 1 9/10 greater
+2 -3 1 3/4 less
+-2 3 -1 3/4 greater
+0 3 -1 1/3 equal
+0 0 -5 7/2 less
+67108863 1099511627775 1125899906842623 -4294967295/262143 greater
+-67108863 -1099511627775 -1125899906842623 4294967295/262143 less
+67108863 -1099511627775 1125899906842623 4294967295/1 greater
+15 -11 2 -4/10 greater
+";
+
+// Two fractions, and how the first compares with the second.
+const ORDERS: &str = "\
+1/2 2/4 equal
+1/3 1/2 less
+3/2 4/3 greater
+-1/3 -1/2 greater
+-1/2 1/3 less
+0/1 0/7 equal
+4294967295/262143 4294967295/262142 less
+-4294967295/262143 -4294967295/262142 greater
+4294967295/1 4294967294/1 greater
+2/3 3/5 greater
+";
+
+/// The values of a case, read one after the other.
+type Values<'a> = SplitWhitespace<'a>;
+
+fn word<'a>(rt: &impl Abort, values: &mut Values<'a>) -> &'a str {
+    values.next().expect(rt, "a value")
+}
+
+fn number(rt: &impl Abort, word: &str) -> i128 {
+    word.parse().ok().expect(rt, "a number")
+}
+
+fn fraction(rt: &impl Abort, word: &str) -> Frac {
+    let (num, den) = word.split_once('/').expect(rt, "a fraction");
+    let (num, den) = (number(rt, num), number(rt, den));
     assert!(rt; num > -(1 << 32));
     assert!(rt; num < 1 << 32);
     assert!(rt; den >= 1);
     assert!(rt; den < 1 << 18);
     Frac { num, den }
+}
+
+fn quadratic(rt: &impl Abort, values: &mut Values<'_>) -> Quad
+    ensures { IsBoundedQuad result }
+{
+    let a = number(rt, word(rt, values));
+    let b = number(rt, word(rt, values));
+    let c = number(rt, word(rt, values));
+    let quad = Quad { a, b, c };
+    assert!(rt; is_bounded_quad(quad));
+    quad
+}
+
+fn line(rt: &impl Abort, values: &mut Values<'_>) -> Line
+    ensures { IsBoundedLine result }
+{
+    let b = number(rt, word(rt, values));
+    let c = number(rt, word(rt, values));
+    let line = Line { b, c };
+    assert!(rt; is_bounded_line(line));
+    line
+}
+
+/// Two fractions, of which the first is less.
+fn interval(rt: &impl Abort, values: &mut Values<'_>) -> (Frac, Frac)
+    ensures { IsBefore result.0 result.1 }
+{
+    let lo = fraction(rt, word(rt, values));
+    let hi = fraction(rt, word(rt, values));
+    assert!(rt; is_before(lo, hi));
+    (lo, hi)
+}
+
+fn ordering(rt: &impl Abort, word: &str) -> Ordering {
+    match word {
+        "less" => Ordering::Less,
+        "equal" => Ordering::Equal,
+        "greater" => Ordering::Greater,
+        _ => panic!(rt; "no ordering"),
+    }
 }
 
 fn is_bounded_quad(quad: Quad) -> bool
@@ -219,95 +221,56 @@ fn is_before(lo: Frac, hi: Frac) -> bool
 
 #[test]
 fn quadratics_below_zero(rt: HostRuntime) {
-    for (a, b, c, lo, hi, want) in QUADRATICS {
-        let quad = Quad { a, b, c };
-        let lo = fraction(&rt, lo);
-        let hi = fraction(&rt, hi);
-        assert!(rt; is_bounded_quad(quad));
-        assert!(rt; is_before(lo, hi));
-        assert_eq!(rt; quad.below_zero_in(lo, hi), want, "{a} {b} {c}");
+    for case in QUADRATICS.lines().filter(|case| !case.starts_with(';')) {
+        let mut values = case.split_whitespace();
+        let quad = quadratic(&rt, &mut values);
+        let (lo, hi) = interval(&rt, &mut values);
+        let wanted = word(&rt, &mut values) == "below";
+        assert_eq!(rt; quad.below_zero_in(lo, hi), wanted, "{case}");
     }
+}
+
+/// The part of a line is that from one fraction to the other.
+fn check_part(rt: &impl Abort, case: &str, part: (Frac, Frac), begin: Frac, end: Frac) {
+    assert_eq!(rt; part.0.compare(begin), Ordering::Equal, "{case}");
+    assert_eq!(rt; part.1.compare(end), Ordering::Equal, "{case}");
 }
 
 #[test]
 fn parts_of_lines(rt: HostRuntime) {
-    for (b, c, lo, hi, want) in LINES {
-        let line = Line { b, c };
-        let lo = fraction(&rt, lo);
-        let hi = fraction(&rt, hi);
-        assert!(rt; is_bounded_line(line));
-        assert!(rt; is_before(lo, hi));
+    for case in LINES.lines().filter(|case| !case.starts_with(';')) {
+        let mut values = case.split_whitespace();
+        let line = line(&rt, &mut values);
+        let (lo, hi) = interval(&rt, &mut values);
         let part = line.below_in(lo, hi);
-        assert_eq!(rt; part.is_some(), want.is_some(), "{b} {c}");
-        if let (Some((low, high)), Some((begin, end))) = (part, want) {
-            assert_eq!(rt;
-                low.compare(fraction(&rt, begin)),
-                Ordering::Equal,
-                "{b} {c}"
-            );
-            assert_eq!(rt;
-                high.compare(fraction(&rt, end)),
-                Ordering::Equal,
-                "{b} {c}"
-            );
+        let begin = word(&rt, &mut values);
+        assert_eq!(rt; part.is_none(), begin == "never", "{case}");
+        if let Some(part) = part {
+            let begin = fraction(&rt, begin);
+            let end = fraction(&rt, word(&rt, &mut values));
+            check_part(&rt, case, part, begin, end);
         }
     }
 }
 
 #[test]
-fn signs_and_orders(rt: HostRuntime) {
-    for (a, b, c, at, want) in [
-        (1, 0, 0, (0, 1), Ordering::Equal),
-        (1, -2, 1, (3, 3), Ordering::Equal),
-        (1, -2, 1, (9, 10), Ordering::Greater),
-        (2, -3, 1, (3, 4), Ordering::Less),
-        (-2, 3, -1, (3, 4), Ordering::Greater),
-        (0, 3, -1, (1, 3), Ordering::Equal),
-        (0, 0, -5, (7, 2), Ordering::Less),
-        (
-            67108863,
-            1099511627775,
-            1125899906842623,
-            (-4294967295, 262143),
-            Ordering::Greater,
-        ),
-        (
-            -67108863,
-            -1099511627775,
-            -1125899906842623,
-            (4294967295, 262143),
-            Ordering::Less,
-        ),
-        (
-            67108863,
-            -1099511627775,
-            1125899906842623,
-            (4294967295, 1),
-            Ordering::Greater,
-        ),
-        (15, -11, 2, (-4, 10), Ordering::Greater),
-    ] {
-        let quad = Quad { a, b, c };
-        assert!(rt; is_bounded_quad(quad));
-        assert_eq!(rt; quad.sign_at(fraction(&rt, at)), want, "{a} {b} {c}");
+fn signs_of_quadratics(rt: HostRuntime) {
+    for case in SIGNS.lines() {
+        let mut values = case.split_whitespace();
+        let quad = quadratic(&rt, &mut values);
+        let at = fraction(&rt, word(&rt, &mut values));
+        let wanted = ordering(&rt, word(&rt, &mut values));
+        assert_eq!(rt; quad.sign_at(at), wanted, "{case}");
     }
-    for (left, right, want) in [
-        ((1, 2), (2, 4), Ordering::Equal),
-        ((1, 3), (1, 2), Ordering::Less),
-        ((3, 2), (4, 3), Ordering::Greater),
-        ((-1, 3), (-1, 2), Ordering::Greater),
-        ((-1, 2), (1, 3), Ordering::Less),
-        ((0, 1), (0, 7), Ordering::Equal),
-        ((4294967295, 262143), (4294967295, 262142), Ordering::Less),
-        (
-            (-4294967295, 262143),
-            (-4294967295, 262142),
-            Ordering::Greater,
-        ),
-        ((4294967295, 1), (4294967294, 1), Ordering::Greater),
-        ((2, 3), (3, 5), Ordering::Greater),
-    ] {
-        let order = fraction(&rt, left).compare(fraction(&rt, right));
-        assert_eq!(rt; order, want, "{left:?} {right:?}");
+}
+
+#[test]
+fn orders_of_fractions(rt: HostRuntime) {
+    for case in ORDERS.lines() {
+        let mut values = case.split_whitespace();
+        let left = fraction(&rt, word(&rt, &mut values));
+        let right = fraction(&rt, word(&rt, &mut values));
+        let wanted = ordering(&rt, word(&rt, &mut values));
+        assert_eq!(rt; left.compare(right), wanted, "{case}");
     }
 }
