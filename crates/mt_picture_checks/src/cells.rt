@@ -3,6 +3,7 @@ ghost use Rattle.std.specs.Prelude.{◌≡◌, pos};
 ghost use Rattle.mt_base.specs.Bounds.{IsBoundedStretch, IsWithin};
 ghost use Rattle.mt_grid.specs.Lists.{AreInGrid};
 
+use crate::commands::STILL;
 use mt_base::{Row, Rules, Second, Straight};
 use mt_cover::{Cover, cover};
 use mt_grid::Grid;
@@ -14,14 +15,7 @@ const AT_EDGE: Row = Row {
     x: 9_000,
     y: 50_000,
     z: 2_400_000,
-    r: 0,
-    w: 0,
-    vx: 0,
-    vy: 0,
-    vz: 0,
-    gr: 0,
-    gw: 0,
-    leg: 0,
+    ..STILL
 };
 
 const OVER_EDGE: Row = Row {

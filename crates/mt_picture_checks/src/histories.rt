@@ -1,8 +1,8 @@
 //! A small history as text: read, rebuilt, printed, and read and rebuilt once more; and texts that say none.
-use mt_base::{Band, Callsign, Conflict, FixName, Kind, Refusal, Rules, TypeName};
+use crate::commands::{named, small_tables};
+use mt_base::{Conflict, Kind, Refusal, Rules};
 use mt_history::{Bad, Wrong, print, read_all, rebuild};
 use mt_picture::Picture;
-use mt_tables::Tables;
 use std::alloc::Global;
 use std::process::Abort;
 use std::sync::Arc;
@@ -22,28 +22,6 @@ const WITHDRAWN: &str = r#"{"call":"III1","do":"clear","eff":0,"level":370,"who"
 {"call":"DDD1","do":"withdraw","force":false,"who":1}
 "#;
 
-fn fix(rt: &impl Abort, text: &[u8]) -> FixName {
-    FixName::of(text).expect(rt, "a fix")
-}
-
-// Two pairs of fixes, one 500,000 units north of the other, those of a pair 480,000 units apart; and a type of one band.
-fn small_tables(rt: &impl Abort, alloc: Global) -> Arc<Tables> {
-    let mut tables = Tables::make(alloc).expect(rt, "memory");
-    let band = [Band {
-        top: 410,
-        speed: 480,
-        climb: 2_100,
-        descent: 2_100,
-    }];
-    assert!(rt; tables.add_fix(fix(rt, b"Q0"), 0, 0).is_ok());
-    assert!(rt; tables.add_fix(fix(rt, b"Q1"), 480_000, 0).is_ok());
-    assert!(rt; tables.add_fix(fix(rt, b"Q2"), 0, 500_000).is_ok());
-    assert!(rt; tables.add_fix(fix(rt, b"Q3"), 480_000, 500_000).is_ok());
-    let kind = TypeName::of(b"JA1").expect(rt, "a type");
-    assert!(rt; tables.add_type(kind, &band).is_ok());
-    Arc::new(alloc, tables).ok().expect(rt, "memory")
-}
-
 // What is rebuilt of the entries that a text says.
 fn rebuilt(
     rt: &(impl Abort + Threads + Sync),
@@ -51,7 +29,9 @@ fn rebuilt(
     text: &[u8],
 ) -> Result<Picture, Wrong> {
     let entries = read_all(alloc, text).ok().expect(rt, "entries");
-    let tables = small_tables(rt, alloc);
+    let tables = Arc::new(alloc, small_tables(rt, alloc))
+        .ok()
+        .expect(rt, "memory");
     rebuild(rt, alloc, Rules::usual(), tables, &entries)
 }
 
@@ -59,8 +39,8 @@ fn rebuilt(
 fn conflict_ahead(rt: &impl Abort) -> Conflict {
     Conflict {
         first: 129,
-        a: Callsign::of(b"DDD1").expect(rt, "a callsign"),
-        b: Callsign::of(b"JJJ1").expect(rt, "a callsign"),
+        a: named(rt, b"DDD1"),
+        b: named(rt, b"JJJ1"),
         ka: Kind::Tentative,
         kb: Kind::Actual,
         last: 171,
