@@ -1,5 +1,5 @@
 -- Which command a text is the word of, and where it may be given.
-use Rattle.std.specs.Prelude.{ℕ, Bool, true, false, List, [], ◌∷◌, map, Option, Some, None, if◌then◌else◌}
+use Rattle.std.specs.Prelude.{ℕ, Bool, true, false, List, [], ◌∷◌, option_map, Option, Some, None, if◌then◌else◌}
 use Rattle.std.specs.Str.{bytes_eq}
 use Rattle.mt_read.specs.declared.request.Place.{Place}
 use Rattle.mt_read.specs.declared.request.Place.TheVariants as place
@@ -11,7 +11,7 @@ use Rattle.mt_read.specs.declared.word.Group.{Group}
 use Rattle.mt_read.specs.declared.word.Group.TheVariants as group
 use Rattle.mt_read.specs.declared.word.Word.{Word}
 use Rattle.mt_read.specs.declared.word.Word.TheVariants as word
-use Rattle.mt_read.specs.Table.{entry_layout, layout_of}
+use Rattle.mt_read.specs.Table.{change_layout, entry_layout, layout_of}
 
 -- the first of some commands whose word a text is
 abbrev pub named_by : {A : Type 0} → (A → List ℕ) → List A → List ℕ → Option A
@@ -23,17 +23,29 @@ changes =
     change.Plan ∷ change.External ∷ change.Drop ∷ change.Report ∷ change.Tick ∷ change.Renew ∷ change.Clear ∷ change.Tentative ∷
     change.Withdraw ∷ change.Commit ∷ []
 
-abbrev pub words : List Word
-words =
+-- the commands of a line that are no change by themselves
+abbrev pub own_words : List Word
+own_words =
     word.Fix ∷ word.TypeLine ∷ word.Rule ∷ word.Begin ∷ word.Take ∷ word.Probe ∷ word.Accept ∷ word.Advise ∷ word.Hello ∷ word.List ∷
-    word.Check ∷ word.Due ∷ word.Flight ∷ word.History ∷ word.Settle ∷ word.Bye ∷ map word.Change changes
+    word.Check ∷ word.Due ∷ word.Flight ∷ word.History ∷ word.Settle ∷ word.Bye ∷ []
+
+unfoldable pub own_word_of : List ℕ → Option Word
+own_word_of = named_by (λ w. (layout_of w).text) own_words
+
+unfoldable pub change_word_of : List ℕ → Option Change
+change_word_of = named_by (λ c. (change_layout c).text) changes
+
+-- that word, or else the change's
+abbrev pub own_or_change : Option Word → Option Change → Option Word
+own_or_change (Some w) c = Some w
+own_or_change None c = option_map word.Change c
 
 -- the command of a line, and of an entry
 unfoldable pub word_of : List ℕ → Option Word
-word_of = named_by (λ w. (layout_of w).text) words
+word_of text = own_or_change (own_word_of text) (change_word_of text)
 
 unfoldable pub entry_word_of : List ℕ → Option EntryWord
-entry_word_of = named_by (λ w. (entry_layout w).text) (entries.Accepted ∷ map entries.Change changes)
+entry_word_of text = if bytes_eq text (entry_layout entries.Accepted).text then Some entries.Accepted else option_map entries.Change (change_word_of text)
 
 -- A script has every command, a session none that is a script's alone, and the feed's and a position's only in that role.
 abbrev pub may_give : Place → Group → Bool

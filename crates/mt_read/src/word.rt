@@ -1,7 +1,7 @@
 ghost use Rattle.std.specs.Prelude.{◌≡◌};
 ghost use Rattle.mt_read.specs.Line.{keys_of};
 ghost use Rattle.mt_read.specs.Table.{change_layout, entry_layout, layout_of};
-ghost use Rattle.mt_read.specs.Words.{entry_word_of, is_allowed, may_give, word_of};
+ghost use Rattle.mt_read.specs.Words.{change_word_of, entry_word_of, is_allowed, may_give, own_word_of, word_of};
 ghost use Rattle.mt_read.specs.declared.origin.Origin.TheVariants.{Line, Entry};
 ghost use Rattle.mt_read.specs.declared.request.Place.TheVariants.{Replay, Plain};
 
@@ -65,10 +65,10 @@ pub(crate) enum Group {
     Any,
 }
 
-/// The command of a line that a text is the word of.
-#[tactic(auto, unfolding(crate::specs::Words::word_of))]
-pub(crate) fn word_of(text: &str) -> Option<Word>
-    ensures { result ≡ word_of text.now }
+// The command, no change by itself, that a text is the word of.
+#[tactic(auto, unfolding(crate::specs::Words::own_word_of))]
+fn own_word_of(text: &str) -> Option<Word>
+    ensures { result ≡ own_word_of text.now }
 {
     match text {
         "fix" => Some(Word::Fix),
@@ -87,17 +87,38 @@ pub(crate) fn word_of(text: &str) -> Option<Word>
         "history" => Some(Word::History),
         "settle" => Some(Word::Settle),
         "bye" => Some(Word::Bye),
-        "plan" => Some(Word::Change(Change::Plan)),
-        "external" => Some(Word::Change(Change::External)),
-        "drop" => Some(Word::Change(Change::Drop)),
-        "report" => Some(Word::Change(Change::Report)),
-        "tick" => Some(Word::Change(Change::Tick)),
-        "renew" => Some(Word::Change(Change::Renew)),
-        "clear" => Some(Word::Change(Change::Clear)),
-        "tentative" => Some(Word::Change(Change::Tentative)),
-        "withdraw" => Some(Word::Change(Change::Withdraw)),
-        "commit" => Some(Word::Change(Change::Commit)),
         _ => None,
+    }
+}
+
+// The change that a text is the word of.
+#[tactic(auto, unfolding(crate::specs::Words::change_word_of))]
+fn change_word_of(text: &str) -> Option<Change>
+    ensures { result ≡ change_word_of text.now }
+{
+    match text {
+        "plan" => Some(Change::Plan),
+        "external" => Some(Change::External),
+        "drop" => Some(Change::Drop),
+        "report" => Some(Change::Report),
+        "tick" => Some(Change::Tick),
+        "renew" => Some(Change::Renew),
+        "clear" => Some(Change::Clear),
+        "tentative" => Some(Change::Tentative),
+        "withdraw" => Some(Change::Withdraw),
+        "commit" => Some(Change::Commit),
+        _ => None,
+    }
+}
+
+/// The command of a line that a text is the word of.
+#[tactic(auto, unfolding(crate::specs::Words::word_of))]
+pub(crate) fn word_of(text: &str) -> Option<Word>
+    ensures { result ≡ word_of text.now }
+{
+    match own_word_of(text) {
+        Some(word) => Some(word),
+        None => Some(Word::Change(change_word_of(text)?)),
     }
 }
 
@@ -106,20 +127,10 @@ pub(crate) fn word_of(text: &str) -> Option<Word>
 pub(crate) fn entry_word_of(text: &str) -> Option<EntryWord>
     ensures { result ≡ entry_word_of text.now }
 {
-    match text {
-        "accept" => Some(EntryWord::Accepted),
-        "plan" => Some(EntryWord::Change(Change::Plan)),
-        "external" => Some(EntryWord::Change(Change::External)),
-        "drop" => Some(EntryWord::Change(Change::Drop)),
-        "report" => Some(EntryWord::Change(Change::Report)),
-        "tick" => Some(EntryWord::Change(Change::Tick)),
-        "renew" => Some(EntryWord::Change(Change::Renew)),
-        "clear" => Some(EntryWord::Change(Change::Clear)),
-        "tentative" => Some(EntryWord::Change(Change::Tentative)),
-        "withdraw" => Some(EntryWord::Change(Change::Withdraw)),
-        "commit" => Some(EntryWord::Change(Change::Commit)),
-        _ => None,
+    if text == "accept" {
+        return Some(EntryWord::Accepted);
     }
+    Some(EntryWord::Change(change_word_of(text)?))
 }
 
 fn group_of_change(change: Change) -> Group

@@ -14,7 +14,7 @@ use Rattle.mt_base.specs.Bounds.{IsBoundedCommand, IsBoundedReport, IsBoundedStr
 use Rattle.mt_base.specs.Name.{is_name, name_of}
 use Rattle.mt_read.specs.Entry.{held_in}
 use Rattle.mt_read.specs.Field.{as_fix, each_of}
-use Rattle.mt_read.specs.Words.{entry_word_of}
+use Rattle.mt_read.specs.Words.{change_word_of, entry_word_of}
 use Rattle.mt_read.proofs.EntryReading.{HoldCommand, counted, is_held, tested}
 use Rattle.mt_write.specs.Entry.{entry_members, values}
 use Rattle.mt_wire.specs.Complete.{HasNames, IsFixName, IsTimed}
@@ -60,7 +60,7 @@ call_alone command call h = ap command (name_is 1 7 call h)
 plan_held : (who : ℕ) (call kind : List ℕ) (route : List (List ℕ)) (at from level : ℕ) → HasNames (command.Plan call kind route at from level)
     → IsBoundedCommand (command.Plan call kind route at from level)
     → HoldCommand (entry_members who (command.Plan call kind route at from level)) who (command.Plan call kind route at from level)
-unfolding entry_word_of
+unfolding entry_word_of change_word_of
 plan_held who call kind route at from level h b = record {
   word = refl;
   keys = refl;
@@ -78,7 +78,7 @@ row_is row leg =
 
 external_held : (who : ℕ) (call : List ℕ) (s : Straight) → is_name 1 7 call ≡ true → IsBoundedStretch s
     → HoldCommand (entry_members who (command.External call s)) who (command.External call s)
-unfolding entry_word_of
+unfolding entry_word_of change_word_of
 external_held who call s h b =
     let f = s.first in
     let k = b.kept in
@@ -187,7 +187,7 @@ report_is report = rw (again_is report.x, again_is report.y, again_is report.z) 
 
 report_held : (who : ℕ) (call : List ℕ) (report : Report) → is_name 1 7 call ≡ true → IsBoundedReport report
     → HoldCommand (entry_members who (command.Report call report)) who (command.Report call report)
-unfolding entry_word_of
+unfolding entry_word_of change_word_of
 report_held who call report h b = record {
   word = refl;
   keys = refl;
@@ -202,7 +202,7 @@ report_held who call report h b = record {
 
 -- each command, complete and within its bounds
 held : (who : ℕ) (c : Command) → HasNames c → IsTimed c → IsBoundedCommand c → HoldCommand (entry_members who c) who c
-unfolding entry_word_of
+unfolding entry_word_of change_word_of
 held who (command.Plan call kind route at from level) h t b = plan_held who call kind route at from level h b
 held who (command.External call s) h t b = external_held who call s h b
 held who (command.Drop call) h t b =
