@@ -1,15 +1,13 @@
 //! Tables of cases whose answers come from a program with exact fractions.
-//!
-//! A line is a case, its values in order; a line that begins with `;` says what the next ones have in common.
 
 ghost use Rattle.std.specs.Prelude.{IsTrue};
 ghost use Rattle.mt_frac.specs.FractionOrder.{IsBefore};
 ghost use Rattle.mt_frac.specs.Signs.{IsBoundedLine, IsBoundedQuad};
 
+use crate::cases::{Values, is_case, number, parsed, word};
 use mt_frac::{Frac, Line, Quad};
 use std::cmp::Ordering;
 use std::process::Abort;
-use std::str::SplitWhitespace;
 
 // The coefficients a, b and c, the ends of the interval, and whether the quadratic is below 0 inside.
 const QUADRATICS: &str = "\
@@ -138,20 +136,9 @@ const ORDERS: &str = "\
 2/3 3/5 greater
 ";
 
-/// The values of a case, read one after the other.
-type Values<'a> = SplitWhitespace<'a>;
-
-fn word<'a>(rt: &impl Abort, values: &mut Values<'a>) -> &'a str {
-    values.next().expect(rt, "a value")
-}
-
-fn number(rt: &impl Abort, word: &str) -> i128 {
-    word.parse().ok().expect(rt, "a number")
-}
-
 fn fraction(rt: &impl Abort, word: &str) -> Frac {
     let (num, den) = word.split_once('/').expect(rt, "a fraction");
-    let (num, den) = (number(rt, num), number(rt, den));
+    let (num, den) = (parsed(rt, num), parsed(rt, den));
     assert!(rt; num > -(1 << 32));
     assert!(rt; num < 1 << 32);
     assert!(rt; den >= 1);
@@ -162,9 +149,9 @@ fn fraction(rt: &impl Abort, word: &str) -> Frac {
 fn quadratic(rt: &impl Abort, values: &mut Values<'_>) -> Quad
     ensures { IsBoundedQuad result }
 {
-    let a = number(rt, word(rt, values));
-    let b = number(rt, word(rt, values));
-    let c = number(rt, word(rt, values));
+    let a = number(rt, values);
+    let b = number(rt, values);
+    let c = number(rt, values);
     let quad = Quad { a, b, c };
     assert!(rt; is_bounded_quad(quad));
     quad
@@ -173,8 +160,8 @@ fn quadratic(rt: &impl Abort, values: &mut Values<'_>) -> Quad
 fn line(rt: &impl Abort, values: &mut Values<'_>) -> Line
     ensures { IsBoundedLine result }
 {
-    let b = number(rt, word(rt, values));
-    let c = number(rt, word(rt, values));
+    let b = number(rt, values);
+    let c = number(rt, values);
     let line = Line { b, c };
     assert!(rt; is_bounded_line(line));
     line
@@ -221,7 +208,7 @@ fn is_before(lo: Frac, hi: Frac) -> bool
 
 #[test]
 fn quadratics_below_zero(rt: HostRuntime) {
-    for case in QUADRATICS.lines().filter(|case| !case.starts_with(';')) {
+    for case in QUADRATICS.lines().filter(|line| is_case(line)) {
         let mut values = case.split_whitespace();
         let quad = quadratic(&rt, &mut values);
         let (lo, hi) = interval(&rt, &mut values);
@@ -238,7 +225,7 @@ fn check_part(rt: &impl Abort, case: &str, part: (Frac, Frac), begin: Frac, end:
 
 #[test]
 fn parts_of_lines(rt: HostRuntime) {
-    for case in LINES.lines().filter(|case| !case.starts_with(';')) {
+    for case in LINES.lines().filter(|line| is_case(line)) {
         let mut values = case.split_whitespace();
         let line = line(&rt, &mut values);
         let (lo, hi) = interval(&rt, &mut values);

@@ -8,6 +8,8 @@ mod base;
 #[cfg(test)]
 mod book;
 #[cfg(test)]
+mod cases;
+#[cfg(test)]
 mod entries;
 #[cfg(test)]
 mod fractions;

@@ -1,22 +1,27 @@
 //! Strands, second by second around the borders of their segments; and the order of a roster.
+use crate::cases::{check_end, number, numbers, word};
 use mt_base::{Callsign, Kind, Row, Straight};
 use mt_track::{Roster, Segment, Strand};
 use std::process::Abort;
 use std::sync::Arc;
 
 /// The values of a row at its start, and its leg.
-type Values = (i64, i64, i64, i64, i64, u32);
-
-fn values(row: &Row) -> Values {
-    (row.x, row.y, row.z, row.r, row.w, row.leg)
+fn values(row: &Row) -> [i64; 6] {
+    [row.x, row.y, row.z, row.r, row.w, i64::from(row.leg)]
 }
 
-/// What the strand says of each second of the table, and its first and last second.
-fn check(rt: &impl Abort, strand: &Strand, ends: (u32, u32), table: &[(u32, Option<Values>)]) {
+/// What the strand says of each second of the table, and its first second and the one after its last. A line of the table is a second and either
+/// the x, y, z, r, w and leg of its row, or `none`.
+fn check(rt: &impl Abort, strand: &Strand, ends: (u32, u32), table: &str) {
     assert_eq!(rt; (strand.start(), strand.end()), ends);
-    for (k, wanted) in table {
-        let row = strand.at(*k);
-        assert!(rt; row.as_ref().map(values) == *wanted, "at second {k}");
+    for line in table.lines() {
+        let mut case = line.split_whitespace();
+        let row = strand.at(number(rt, &mut case));
+        match row.as_ref().map(values) {
+            None => assert!(rt; word(rt, &mut case) == "none", "at second {line}"),
+            Some(found) => assert!(rt; found == numbers(rt, &mut case), "at second {line}"),
+        }
+        check_end(rt, &mut case);
     }
 }
 
@@ -74,32 +79,48 @@ const DESCENT: Segment = Segment {
     },
 };
 
+const WITHOUT_SEGMENTS: &str = "\
+9 none
+10 none
+11 none
+";
+
+const AT_BORDERS: &str = "\
+0 none
+9 none
+10 100 -7 6000 10 50 1
+11 105 -7 6100 12 57 1
+12 110 -7 6200 14 64 1
+13 115 -7 6300 16 0 1
+14 112 -3 6300 16 3 2
+15 112 -4 6250 17 4 2
+17 112 -6 6150 19 6 2
+18 none
+4294967295 none
+";
+
 #[test]
 fn rows_stand_at_and_around_each_border(rt: HostRuntime) {
     let mut strand = Strand::empty(rt.alloc(), 10);
-    check(&rt, &strand, (10, 10), &[(9, None), (10, None), (11, None)]);
+    check(&rt, &strand, (10, 10), WITHOUT_SEGMENTS);
     strand.push(CLIMB).expect(&rt, "memory");
     strand.push(LEVEL).expect(&rt, "memory");
     strand.push(DESCENT).expect(&rt, "memory");
-    let table = [
-        (0, None),
-        (9, None),
-        (10, Some((100, -7, 6000, 10, 50, 1))),
-        (11, Some((105, -7, 6100, 12, 57, 1))),
-        (12, Some((110, -7, 6200, 14, 64, 1))),
-        (13, Some((115, -7, 6300, 16, 0, 1))),
-        (14, Some((112, -3, 6300, 16, 3, 2))),
-        (15, Some((112, -4, 6250, 17, 4, 2))),
-        (17, Some((112, -6, 6150, 19, 6, 2))),
-        (18, None),
-        (u32::MAX, None),
-    ];
-    check(&rt, &strand, (10, 18), &table);
+    check(&rt, &strand, (10, 18), AT_BORDERS);
     assert!(rt; strand.segments() == [CLIMB, LEVEL, DESCENT].as_slice());
     let copy = strand.copy().expect(&rt, "memory");
-    check(&rt, &copy, (10, 18), &table);
+    check(&rt, &copy, (10, 18), AT_BORDERS);
     assert!(rt; copy.segments() == strand.segments());
 }
+
+const GROWING: &str = "\
+4 none
+5 -480 0 2400000 0 0 0
+6 0 0 2400000 15 100 0
+7 480 0 2400000 30 200 0
+8 960 0 2400000 45 300 0
+9 none
+";
 
 #[test]
 fn a_straight_stretch_has_growing_margins(rt: HostRuntime) {
@@ -121,15 +142,7 @@ fn a_straight_stretch_has_growing_margins(rt: HostRuntime) {
         },
     };
     let strand = Strand::straight(rt.alloc(), &stretch).expect(&rt, "memory");
-    let table = [
-        (4, None),
-        (5, Some((-480, 0, 2_400_000, 0, 0, 0))),
-        (6, Some((0, 0, 2_400_000, 15, 100, 0))),
-        (7, Some((480, 0, 2_400_000, 30, 200, 0))),
-        (8, Some((960, 0, 2_400_000, 45, 300, 0))),
-        (9, None),
-    ];
-    check(&rt, &strand, (5, 9), &table);
+    check(&rt, &strand, (5, 9), GROWING);
 }
 
 #[test]

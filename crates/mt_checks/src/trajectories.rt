@@ -11,6 +11,7 @@ mod margins;
 mod renewals;
 mod segments;
 
+use crate::cases::{check_end, number, numbers};
 use mt_base::{Band, Place, Point, Row, Rules};
 use mt_predict::fly_route;
 use mt_track::Strand;
@@ -18,9 +19,7 @@ use std::alloc::Global;
 use std::process::Abort;
 
 /// The values of a row, in the order of its fields.
-type Values = [i64; 11];
-
-fn values(row: &Row) -> Values {
+fn values(row: &Row) -> [i64; 11] {
     [
         row.x,
         row.y,
@@ -123,20 +122,21 @@ fn fly(
     fly_route(alloc, &rules, bands, level, fixes, next, at, from).expect(rt, "memory")
 }
 
-/// What the strand says of each second of the table, its first second and the one after its last, and how many segments it has.
-fn check(
-    rt: &impl Abort,
-    strand: Strand,
-    ends: (u32, u32),
-    segments: usize,
-    table: &[(u32, Values)],
-) {
+/// What the strand says of each second of the table, its first second and the one after its last, and how many segments it has. A line of the
+/// table is a second and the values of its row: x, y, z, r and w, what each of them gains, and the leg.
+fn check(rt: &impl Abort, strand: Strand, ends: (u32, u32), segments: usize, table: &str) {
     assert_eq!(rt; (strand.start(), strand.end()), ends);
     assert_eq!(rt; strand.segments().len(), segments);
     assert!(rt; strand.at(ends.1).is_none());
-    for (k, wanted) in table {
-        let row = strand.at(*k);
-        assert!(rt; row.as_ref().map(values) == Some(*wanted), "at second {k}");
+    for line in table.lines() {
+        let mut case = line.split_whitespace();
+        let row = strand.at(number(rt, &mut case));
+        let wanted = numbers(rt, &mut case);
+        check_end(rt, &mut case);
+        assert!(rt;
+            row.as_ref().map(values) == Some(wanted),
+            "at second {line}"
+        );
     }
 }
 

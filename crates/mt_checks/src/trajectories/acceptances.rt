@@ -5,6 +5,7 @@ ghost use Rattle.mt_predict.specs.Looking.{HasStrandOfPlanned};
 
 use super::climbing::{course, tables};
 use super::courses::is_sound;
+use crate::cases::{check_end, number, parsed, word};
 use mt_base::{
     Callsign, Clearance, Command, Kind, Path, Record, Refusal, Row, Rules, Second, Straight,
 };
@@ -47,35 +48,58 @@ fn accept(call: Callsign, level: u32, eff: Second) -> Command {
     }
 }
 
-/// The moment, how many entries are held, the level, the second from which it holds, and what is told.
-type Case = (Second, u64, u32, Option<Second>, Result<(), Refusal>);
+/// What a word of a table tells of a flight.
+fn read_told(rt: &impl Abort, call: Callsign, word: &str) -> Result<(), Refusal> {
+    Err(match word {
+        "taken" => return Ok(()),
+        "unknown-call" => Refusal::UnknownCall(call),
+        "fixed" => Refusal::Fixed,
+        "ended" => Refusal::Ended,
+        "ceiling" => Refusal::Ceiling,
+        "future" => Refusal::Future,
+        "history-full" => Refusal::HistoryFull,
+        _ => panic!(rt; "no refusal"),
+    })
+}
 
-/// What is told of each level of the table, accepted, on what is looked at but for the moment and the entries.
+/// What is told of each acceptance of a table, on what is looked at but for the moment and the entries. A line of the table is the moment, how
+/// many entries are held, the level, the second from which it holds, or `now`, and what is told.
 fn check(
     rt: &impl Abort,
     tables: &Tables,
     rules: &Rules,
     looked: &Looked,
     call: Callsign,
-    table: &[Case],
+    table: &str,
 )
     requires { HasStrandOfPlanned (record { rules = rules.now; tables = tables.now }) looked.now }
 {
-    for (now, entries, level, eff, wanted) in table {
+    for line in table.lines() {
+        let mut case = line.split_whitespace();
+        let now = number(rt, &mut case);
+        let entries = number(rt, &mut case);
+        let level = number(rt, &mut case);
+        let eff = match word(rt, &mut case) {
+            "now" => now,
+            second => parsed(rt, second),
+        };
+        let wanted = read_told(rt, call, word(rt, &mut case));
+        check_end(rt, &mut case);
         let looked = Looked {
-            now: *now,
-            entries: *entries,
+            now,
+            entries,
             ..*looked
         };
-        let command = accept(call, *level, eff.unwrap_or(*now));
+        let command = accept(call, level, eff);
         let told = judge(tables, rules, &looked, 1, &command);
-        assert!(rt; told == *wanted, "{level} at {now}");
+        assert!(rt; told == wanted, "{line}");
     }
 }
 
-fn unknown(call: Callsign) -> Result<(), Refusal> {
-    Err(Refusal::UnknownCall(call))
-}
+const UNKNOWN: &str = "\
+140 4194304 411 now unknown-call
+140 4194304 411 141 unknown-call
+";
 
 #[test]
 fn an_acceptance_wants_a_flight(rt: HostRuntime) {
@@ -89,12 +113,13 @@ fn an_acceptance_wants_a_flight(rt: HostRuntime) {
         flight: None,
         strand: None,
     };
-    let table = [
-        (140, FULL, 411, None, unknown(call)),
-        (140, FULL, 411, Some(141), unknown(call)),
-    ];
-    check(&rt, &tables, &rules, &looked, call, &table);
+    check(&rt, &tables, &rules, &looked, call, UNKNOWN);
 }
+
+const FIXED: &str = "\
+140 4194304 411 now fixed
+140 4194304 411 141 fixed
+";
 
 #[test]
 fn an_acceptance_wants_a_planned_flight(rt: HostRuntime) {
@@ -110,28 +135,22 @@ fn an_acceptance_wants_a_planned_flight(rt: HostRuntime) {
         flight: Some(&external),
         strand: None,
     };
-    let table = [
-        (140, FULL, 411, None, Err(Refusal::Fixed)),
-        (140, FULL, 411, Some(141), Err(Refusal::Fixed)),
-    ];
-    check(&rt, &tables, &rules, &looked, call, &table);
+    check(&rt, &tables, &rules, &looked, call, FIXED);
 }
 
-fn first_faults() -> [Case; 11] {
-    [
-        (140, FULL - 1, 410, None, Ok(())),
-        (140, FULL - 1, 410, Some(140), Ok(())),
-        (140, FULL - 1, 410, Some(99), Ok(())),
-        (140, FULL, 410, None, Err(Refusal::HistoryFull)),
-        (140, FULL, 410, Some(140), Err(Refusal::HistoryFull)),
-        (140, FULL, 410, Some(141), Err(Refusal::Future)),
-        (140, FULL, 411, None, Err(Refusal::Ceiling)),
-        (140, FULL, 411, Some(141), Err(Refusal::Ceiling)),
-        (700, FULL, 411, None, Err(Refusal::Ended)),
-        (700, FULL, 411, Some(700), Err(Refusal::Ended)),
-        (700, FULL, 411, Some(99), Err(Refusal::Ceiling)),
-    ]
-}
+const FIRST_FAULTS: &str = "\
+140 4194303 410 now taken
+140 4194303 410 140 taken
+140 4194303 410 99 taken
+140 4194304 410 now history-full
+140 4194304 410 140 history-full
+140 4194304 410 141 future
+140 4194304 411 now ceiling
+140 4194304 411 141 ceiling
+700 4194304 411 now ended
+700 4194304 411 700 ended
+700 4194304 411 99 ceiling
+";
 
 #[test]
 fn an_acceptance_is_checked_before_the_room(rt: HostRuntime) {
@@ -151,5 +170,5 @@ fn an_acceptance_is_checked_before_the_room(rt: HostRuntime) {
         flight: Some(&flight),
         strand: Some(&strand),
     };
-    check(&rt, &tables, &rules, &looked, call, &first_faults());
+    check(&rt, &tables, &rules, &looked, call, FIRST_FAULTS);
 }

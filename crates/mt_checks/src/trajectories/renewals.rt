@@ -1,6 +1,7 @@
 //! Where the flight of `climbing` begins anew.
 
 use super::climbing::flown;
+use crate::cases::{check_end, number};
 use mt_base::{Base, Course, Report, Rules};
 use mt_predict::renewed;
 use mt_track::Strand;
@@ -25,21 +26,25 @@ fn rules() -> Rules {
     }
 }
 
-/// For each second of the table, the place of the route that is flown to from a report at it.
-fn check(rt: &impl Abort, course: &mut Course, strand: &Strand, table: &[(u32, u32)]) {
-    for (at, next) in table {
-        course.last = Some(report(*at));
+/// What is told of a report at each second of the table. A line of the table is the second, and the place of the route that is flown to from then.
+fn check(rt: &impl Abort, course: &mut Course, strand: &Strand, table: &str) {
+    for line in table.lines() {
+        let mut case = line.split_whitespace();
+        let at = number(rt, &mut case);
+        let next = number(rt, &mut case);
+        check_end(rt, &mut case);
+        course.last = Some(report(at));
         let wanted = Base {
-            at: *at,
+            at,
             x: 1_000,
             y: -2_000,
             z: 300_000,
             r: 50,
             w: 70,
-            next: *next,
+            next,
         };
         let told = renewed(&rules(), course, strand);
-        assert!(rt; told == Some(wanted), "at second {at}");
+        assert!(rt; told == Some(wanted), "at second {line}");
     }
 }
 
@@ -54,25 +59,32 @@ fn a_flight_that_is_not_due_keeps_its_trajectory(rt: HostRuntime) {
     assert!(rt; renewed(&rules(), &course, &strand).is_none());
 }
 
+const OF_STRAND: &str = "\
+0 9
+99 9
+100 1
+199 1
+200 2
+399 3
+400 4
+699 5
+700 5
+701 5
+10000000 5
+";
+
+const OF_EMPTY_STRAND: &str = "\
+99 9
+100 9
+700 9
+";
+
 #[test]
 fn a_flight_that_is_due_begins_anew_at_its_report(rt: HostRuntime) {
     let (_, mut course, strand) = flown(&rt, rt.alloc());
     course.base.next = 9;
     course.due = true;
-    let table = [
-        (0, 9),
-        (99, 9),
-        (100, 1),
-        (199, 1),
-        (200, 2),
-        (399, 3),
-        (400, 4),
-        (699, 5),
-        (700, 5),
-        (701, 5),
-        (10_000_000, 5),
-    ];
-    check(&rt, &mut course, &strand, &table);
+    check(&rt, &mut course, &strand, OF_STRAND);
     let empty = Strand::empty(rt.alloc(), 100);
-    check(&rt, &mut course, &empty, &[(99, 9), (100, 9), (700, 9)]);
+    check(&rt, &mut course, &empty, OF_EMPTY_STRAND);
 }

@@ -1,337 +1,137 @@
 //! How few segments trajectories have: those of plans, from no margins.
 
 use super::{at, band, fly, over};
+use crate::cases::{check_end, is_case, number};
 use mt_base::{Band, Point};
 use std::alloc::Global;
 use std::process::Abort;
 
-/// The tops, speeds, rates of climb and of descent of a type's bands; from which flight level to which; the fixes; the first second and the
-/// one after the last; and how many segments that takes.
-type Flown = (
-    &'static [(u32, i64, i64, i64)],
-    u32,
-    u32,
-    &'static [(i64, i64)],
-    (u32, u32),
-    usize,
-);
+// From which flight level to which, the first second and the one after the last, and how many segments that takes; the bands of a type, each its
+// top, its speed, and its rates of climb and of descent; and the fixes, each its x and y.
+const FLOWN: &str = "\
+; one more north in the last three
+350 350 0 4 2 | 410 300 2100 2100 | 0 0, 1000 7
+; exactly ten seconds
+350 350 0 10 1 | 410 500 2100 2100 | 0 0, 3000 4000
+; north west
+350 350 0 19 3 | 410 411 2100 2100 | 0 0, -7001 3333
+; south west
+350 350 0 11 3 | 410 499 2100 2100 | 0 0, -3000 -4000
+; south east
+350 350 0 19 3 | 410 411 2100 2100 | 100000 -250000, 107001 -253333
+; east
+350 350 0 100 1 | 410 480 2100 2100 | 0 0, 48000 0
+; west
+350 350 0 101 2 | 410 480 2100 2100 | 0 0, -48001 0
+; south
+350 350 0 16 2 | 410 777 2100 2100 | 5 5, 5 -12340
+; no displacement and then east
+350 350 0 2 1 | 410 300 2100 2100 | 0 0, 0 0, 600 0
+; no displacement alone
+350 350 0 0 0 | 410 300 2100 2100 | 12 34, 12 34
+; one knot
+350 350 0 9 3 | 410 1 2100 2100 | 0 0, 7 5
+; a thousand knots
+350 350 0 4 2 | 410 1000 2100 2100 | 0 0, 3600 1
+; across the plane
+350 350 0 10427 3 | 410 1000 2100 2100 | -3686400 -3686400, 3686400 3686400
+; back across the plane
+350 350 0 11573 3 | 410 901 2100 2100 | 3686400 3686400, -3686400 -3686400
+; the latest begin
+350 350 10000000 10000031 3 | 410 300 2100 2100 | 0 0, 9000 50
+; a leg of all seconds and one behind it
+350 350 0 14400 2 | 410 1 2100 2100 | 0 0, 14400 0, 14400 10
+; a leg that is cut by one second
+350 350 0 14400 2 | 410 1 2100 2100 | 0 0, 14401 0
+; the second leg is cut
+350 350 77 14477 6 | 410 1000 2100 2100 | -3686400 0, 3686400 3, -3686400 0
+; up by what is left at last
+350 360 0 1000 4 | 410 480 2100 2100 | 0 0, 480000 0
+; down
+350 340 0 1000 4 | 410 480 2100 2100 | 0 0, 480000 0
+; a rate that divides the height
+350 360 0 1000 3 | 410 480 2000 1500 | 0 0, 480000 0
+; a rate that does not
+350 341 0 1000 4 | 410 480 1999 1701 | 0 0, 480000 0
+; the same level
+350 350 0 11 3 | 410 480 2100 2100 | 0 0, 4801 1
+; through the first top
+299 301 0 1000 4 | 300 480 2000 2000, 410 480 1000 1000 | 0 0, 480000 0
+; to the first top
+299 300 0 20 2 | 300 480 2000 2000, 410 480 1000 1000 | 0 0, 9600 0
+; from the first top down
+300 299 0 20 2 | 300 480 2000 2000, 410 480 1000 1000 | 0 0, 9600 0
+; from above the first top down
+301 299 0 20 3 | 300 480 2000 2000, 410 480 1000 1000 | 0 0, 9600 0
+; up at the speed where each leg begins
+0 600 0 1601 15 | 50 200 3000 1500, 100 250 2800 1800, 180 300 2500 2000, 250 380 2200 2400, 300 420 1900 2600, 350 450 1500 2800, 410 470 1000 3000, 600 440 500 3500 | 0 0, 60000 100, 60000 90000, 480000 90000
+; down at the speed where each leg begins
+600 0 0 1236 15 | 50 200 3000 1500, 100 250 2800 1800, 180 300 2500 2000, 250 380 2200 2400, 300 420 1900 2600, 350 450 1500 2800, 410 470 1000 3000, 600 440 500 3500 | 0 0, 60000 100, 60000 90000, 480000 90000
+; a climb through two bands and a second leg
+299 301 0 1063 6 | 300 480 2000 2000, 410 480 1000 1000 | 0 0, 480000 0, 480000 30000
+; along the longest route
+350 350 0 1026 178 | 410 480 2100 2100 | \
+    0 0, 1611 -4057, 5548 -11475, -1079 -2916, -6995 66, 3101 -7034, 10728 -8999, 2956 -15183, 8165 -10481, \
+    1454 -11595, -4574 -6685, -11638 -11629, -13323 -18602, -3413 -14604, -10789 -16360, -18263 -20997, -17774 -16263, -22048 -7546, \
+    -27189 -6438, -17831 -9516, -23455 -12360, -20253 -18168, -11305 -25111, -1812 -32158, 9471 -34410, 16737 -25987, 21748 -24694, \
+    28004 -18845, 30852 -18023, 29992 -21133, 28990 -27451, 38812 -26613, 47021 -19390, 49276 -13683, 49711 -20285, 44579 -12510, \
+    49280 -16105, 51488 -20125, 58510 -15307, 50794 -21764, 60081 -20484, 62226 -18010, 72702 -10735, 82704 -4787, 75957 -10721, \
+    75802 -4186, 68931 -11198, 70076 -5596, 70401 -1955, 72771 -10216, 78899 -7569, 75405 -12733, 82582 -19802, 80732 -19384, \
+    75970 -20271, 80008 -16461, 87277 -22821, 83728 -17103, 87889 -16999, 83375 -11892, 92404 -11769, 97012 -9013, 100478 -10452, \
+    96423 -16733
+";
 
-const ONE: [(u32, i64, i64, i64); 1] = [(410, 480, 2_100, 2_100)];
-
-const TWO: [(u32, i64, i64, i64); 2] = [(300, 480, 2_000, 2_000), (410, 480, 1_000, 1_000)];
-
-const EIGHT: [(u32, i64, i64, i64); 8] = [
-    (50, 200, 3000, 1500),
-    (100, 250, 2800, 1800),
-    (180, 300, 2500, 2000),
-    (250, 380, 2200, 2400),
-    (300, 420, 1900, 2600),
-    (350, 450, 1500, 2800),
-    (410, 470, 1000, 3000),
-    (600, 440, 500, 3500),
-];
-
-const FLOWN: [Flown; 30] = [
-    // one more north in the last three
-    (
-        &[(410, 300, 2100, 2100)],
-        350,
-        350,
-        &[(0, 0), (1000, 7)],
-        (0, 4),
-        2,
-    ),
-    // exactly ten seconds
-    (
-        &[(410, 500, 2100, 2100)],
-        350,
-        350,
-        &[(0, 0), (3000, 4000)],
-        (0, 10),
-        1,
-    ),
-    // north west
-    (
-        &[(410, 411, 2100, 2100)],
-        350,
-        350,
-        &[(0, 0), (-7001, 3333)],
-        (0, 19),
-        3,
-    ),
-    // south west
-    (
-        &[(410, 499, 2100, 2100)],
-        350,
-        350,
-        &[(0, 0), (-3000, -4000)],
-        (0, 11),
-        3,
-    ),
-    // south east
-    (
-        &[(410, 411, 2100, 2100)],
-        350,
-        350,
-        &[(100_000, -250_000), (107_001, -253_333)],
-        (0, 19),
-        3,
-    ),
-    // east
-    (&ONE, 350, 350, &[(0, 0), (48_000, 0)], (0, 100), 1),
-    // west
-    (&ONE, 350, 350, &[(0, 0), (-48_001, 0)], (0, 101), 2),
-    // south
-    (
-        &[(410, 777, 2100, 2100)],
-        350,
-        350,
-        &[(5, 5), (5, -12_340)],
-        (0, 16),
-        2,
-    ),
-    // no displacement and then east
-    (
-        &[(410, 300, 2100, 2100)],
-        350,
-        350,
-        &[(0, 0), (0, 0), (600, 0)],
-        (0, 2),
-        1,
-    ),
-    // no displacement alone
-    (
-        &[(410, 300, 2100, 2100)],
-        350,
-        350,
-        &[(12, 34), (12, 34)],
-        (0, 0),
-        0,
-    ),
-    // one knot
-    (
-        &[(410, 1, 2100, 2100)],
-        350,
-        350,
-        &[(0, 0), (7, 5)],
-        (0, 9),
-        3,
-    ),
-    // a thousand knots
-    (
-        &[(410, 1000, 2100, 2100)],
-        350,
-        350,
-        &[(0, 0), (3600, 1)],
-        (0, 4),
-        2,
-    ),
-    // across the plane
-    (
-        &[(410, 1000, 2100, 2100)],
-        350,
-        350,
-        &[(-3_686_400, -3_686_400), (3_686_400, 3_686_400)],
-        (0, 10_427),
-        3,
-    ),
-    // back across the plane
-    (
-        &[(410, 901, 2100, 2100)],
-        350,
-        350,
-        &[(3_686_400, 3_686_400), (-3_686_400, -3_686_400)],
-        (0, 11_573),
-        3,
-    ),
-    // the latest begin
-    (
-        &[(410, 300, 2100, 2100)],
-        350,
-        350,
-        &[(0, 0), (9000, 50)],
-        (10_000_000, 10_000_031),
-        3,
-    ),
-    // a leg of all seconds and one behind it
-    (
-        &[(410, 1, 2100, 2100)],
-        350,
-        350,
-        &[(0, 0), (14_400, 0), (14_400, 10)],
-        (0, 14_400),
-        2,
-    ),
-    // a leg that is cut by one second
-    (
-        &[(410, 1, 2100, 2100)],
-        350,
-        350,
-        &[(0, 0), (14_401, 0)],
-        (0, 14_400),
-        2,
-    ),
-    // the second leg is cut
-    (
-        &[(410, 1000, 2100, 2100)],
-        350,
-        350,
-        &[(-3_686_400, 0), (3_686_400, 3), (-3_686_400, 0)],
-        (77, 14_477),
-        6,
-    ),
-    // up by what is left at last
-    (&ONE, 350, 360, &[(0, 0), (480_000, 0)], (0, 1000), 4),
-    // down
-    (&ONE, 350, 340, &[(0, 0), (480_000, 0)], (0, 1000), 4),
-    // a rate that divides the height
-    (
-        &[(410, 480, 2000, 1500)],
-        350,
-        360,
-        &[(0, 0), (480_000, 0)],
-        (0, 1000),
-        3,
-    ),
-    // a rate that does not
-    (
-        &[(410, 480, 1999, 1701)],
-        350,
-        341,
-        &[(0, 0), (480_000, 0)],
-        (0, 1000),
-        4,
-    ),
-    // the same level
-    (&ONE, 350, 350, &[(0, 0), (4801, 1)], (0, 11), 3),
-    // through the first top
-    (&TWO, 299, 301, &[(0, 0), (480_000, 0)], (0, 1000), 4),
-    // to the first top
-    (&TWO, 299, 300, &[(0, 0), (9600, 0)], (0, 20), 2),
-    // from the first top down
-    (&TWO, 300, 299, &[(0, 0), (9600, 0)], (0, 20), 2),
-    // from above the first top down
-    (&TWO, 301, 299, &[(0, 0), (9600, 0)], (0, 20), 3),
-    // up at the speed where each leg begins
-    (
-        &EIGHT,
-        0,
-        600,
-        &[(0, 0), (60_000, 100), (60_000, 90_000), (480_000, 90_000)],
-        (0, 1601),
-        15,
-    ),
-    // down at the speed where each leg begins
-    (
-        &EIGHT,
-        600,
-        0,
-        &[(0, 0), (60_000, 100), (60_000, 90_000), (480_000, 90_000)],
-        (0, 1236),
-        15,
-    ),
-    // a climb through two bands and a second leg
-    (
-        &TWO,
-        299,
-        301,
-        &[(0, 0), (480_000, 0), (480_000, 30_000)],
-        (0, 1063),
-        6,
-    ),
-];
-
-const ROUTE: [(i64, i64); 64] = [
-    (0, 0),
-    (1611, -4057),
-    (5548, -11_475),
-    (-1079, -2916),
-    (-6995, 66),
-    (3101, -7034),
-    (10_728, -8999),
-    (2956, -15_183),
-    (8165, -10_481),
-    (1454, -11_595),
-    (-4574, -6685),
-    (-11_638, -11_629),
-    (-13_323, -18_602),
-    (-3413, -14_604),
-    (-10_789, -16_360),
-    (-18_263, -20_997),
-    (-17_774, -16_263),
-    (-22_048, -7546),
-    (-27_189, -6438),
-    (-17_831, -9516),
-    (-23_455, -12_360),
-    (-20_253, -18_168),
-    (-11_305, -25_111),
-    (-1812, -32_158),
-    (9471, -34_410),
-    (16_737, -25_987),
-    (21_748, -24_694),
-    (28_004, -18_845),
-    (30_852, -18_023),
-    (29_992, -21_133),
-    (28_990, -27_451),
-    (38_812, -26_613),
-    (47_021, -19_390),
-    (49_276, -13_683),
-    (49_711, -20_285),
-    (44_579, -12_510),
-    (49_280, -16_105),
-    (51_488, -20_125),
-    (58_510, -15_307),
-    (50_794, -21_764),
-    (60_081, -20_484),
-    (62_226, -18_010),
-    (72_702, -10_735),
-    (82_704, -4787),
-    (75_957, -10_721),
-    (75_802, -4186),
-    (68_931, -11_198),
-    (70_076, -5596),
-    (70_401, -1955),
-    (72_771, -10_216),
-    (78_899, -7569),
-    (75_405, -12_733),
-    (82_582, -19_802),
-    (80_732, -19_384),
-    (75_970, -20_271),
-    (80_008, -16_461),
-    (87_277, -22_821),
-    (83_728, -17_103),
-    (87_889, -16_999),
-    (83_375, -11_892),
-    (92_404, -11_769),
-    (97_012, -9013),
-    (100_478, -10_452),
-    (96_423, -16_733),
-];
-
-/// The ends and the number of segments of a trajectory are as wanted.
-fn check_segments(rt: &impl Abort, alloc: Global, flown: &Flown) {
-    let (bands, from, level, fixes, ends, segments) = flown;
-    let mut held: Vec<Band> = Vec::new(alloc);
-    for (top, speed, climb, descent) in *bands {
-        held.push(band(*top, *speed, *climb, *descent))
+fn read_bands(rt: &impl Abort, alloc: Global, text: &str) -> Vec<Band> {
+    let mut bands = Vec::new(alloc);
+    for text in text.split(", ") {
+        let mut values = text.split_whitespace();
+        let top = number(rt, &mut values);
+        let speed = number(rt, &mut values);
+        let climb = number(rt, &mut values);
+        let descent = number(rt, &mut values);
+        check_end(rt, &mut values);
+        bands
+            .push(band(top, speed, climb, descent))
             .expect(rt, "memory");
     }
-    let mut points: Vec<Point> = Vec::new(alloc);
-    for (x, y) in *fixes {
-        points.push(at(*x, *y)).expect(rt, "memory");
+    bands
+}
+
+fn read_fixes(rt: &impl Abort, alloc: Global, text: &str) -> Vec<Point> {
+    let mut fixes = Vec::new(alloc);
+    for text in text.split(", ") {
+        let mut values = text.split_whitespace();
+        let x = number(rt, &mut values);
+        let y = number(rt, &mut values);
+        check_end(rt, &mut values);
+        fixes.push(at(x, y)).expect(rt, "memory");
     }
-    assert!(rt; !points.is_empty());
-    let first = over(points[0].x, points[0].y, 6_000 * i64::from(*from));
-    let strand = fly(rt, alloc, &held, *level, &points, 1, ends.0, first);
-    assert_eq!(rt; (strand.start(), strand.end()), *ends);
-    assert_eq!(rt; strand.segments().len(), *segments);
+    fixes
+}
+
+/// The ends and the number of segments of a trajectory are as wanted.
+fn check_segments(rt: &impl Abort, alloc: Global, case: &str) {
+    let (values, flown) = case.split_once(" | ").expect(rt, "three columns");
+    let (bands, fixes) = flown.split_once(" | ").expect(rt, "three columns");
+    let mut values = values.split_whitespace();
+    let from: u32 = number(rt, &mut values);
+    let level = number(rt, &mut values);
+    let start = number(rt, &mut values);
+    let end = number(rt, &mut values);
+    let segments: usize = number(rt, &mut values);
+    check_end(rt, &mut values);
+    let bands = read_bands(rt, alloc, bands);
+    let fixes = read_fixes(rt, alloc, fixes);
+    let first = fixes.first().expect(rt, "a fix");
+    let begin = over(first.x, first.y, 6_000 * i64::from(from));
+    let strand = fly(rt, alloc, &bands, level, &fixes, 1, start, begin);
+    assert_eq!(rt; (strand.start(), strand.end()), (start, end), "{case}");
+    assert_eq!(rt; strand.segments().len(), segments, "{case}");
 }
 
 #[test]
 fn trajectories_have_few_segments(rt: HostRuntime) {
-    for flown in &FLOWN {
-        check_segments(&rt, rt.alloc(), flown);
+    for case in FLOWN.lines().filter(|line| is_case(line)) {
+        check_segments(&rt, rt.alloc(), case);
     }
-    let along: Flown = (&ONE, 350, 350, &ROUTE, (0, 1_026), 178);
-    check_segments(&rt, rt.alloc(), &along);
 }
