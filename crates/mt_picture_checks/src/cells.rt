@@ -1,6 +1,6 @@
 //! The cells of trajectories, and which are near each other.
-ghost use Rattle.std.specs.Prelude.{◌≡◌, pos};
-ghost use Rattle.mt_base.specs.Bounds.{IsBoundedStretch, IsWithin};
+ghost use Rattle.std.specs.Prelude.{◌≡◌, ◌<◌};
+ghost use Rattle.mt_base.specs.Bounds.{IsBoundedStretch};
 ghost use Rattle.mt_grid.specs.Lists.{AreInGrid};
 
 use crate::commands::STILL;
@@ -179,37 +179,26 @@ fn strands_on_both_sides_of_an_edge_are_near_up_to_the_minimum(rt: HostRuntime) 
     assert!(rt; is_near(&rt, ABOVE_MINIMUM, OVER_EDGE));
 }
 
-/// Puts a lane into the grid, in which nothing is near it, so far north.
-fn with_lane(rt: &(impl AllocGlobal + Abort), grid: Grid, item: u32, y: i64) -> Grid
-    requires { IsWithin (pos 0) (pos 3400000) y }
+/// Puts the lane of a number into the grid, in which nothing is near it.
+fn with_lane(rt: &(impl AllocGlobal + Abort), grid: Grid, number: u32) -> Grid
+    requires { number < 18 }
 {
-    let lane = covered(rt, 0, 1200, Row { y, ..LANE });
+    let first = Row {
+        y: 200_000 * i64::from(number),
+        ..LANE
+    };
+    let lane = covered(rt, 0, 1200, first);
     assert!(rt; grid.near(&lane).expect(rt, "memory").is_empty());
-    let grid = grid.put(item, &lane).expect(rt, "memory");
-    assert!(rt; grid.near(&lane).expect(rt, "memory").as_slice() == [item].as_slice());
+    let grid = grid.put(number, &lane).expect(rt, "memory");
+    assert!(rt; grid.near(&lane).expect(rt, "memory").as_slice() == [number].as_slice());
     grid
 }
 
 #[test]
 fn eighteen_lanes_share_no_cell(rt: HostRuntime) {
-    let grid = Grid::make(rt.alloc()).expect(&rt, "memory");
-    let grid = with_lane(&rt, grid, 0, 0);
-    let grid = with_lane(&rt, grid, 1, 200_000);
-    let grid = with_lane(&rt, grid, 2, 400_000);
-    let grid = with_lane(&rt, grid, 3, 600_000);
-    let grid = with_lane(&rt, grid, 4, 800_000);
-    let grid = with_lane(&rt, grid, 5, 1_000_000);
-    let grid = with_lane(&rt, grid, 6, 1_200_000);
-    let grid = with_lane(&rt, grid, 7, 1_400_000);
-    let grid = with_lane(&rt, grid, 8, 1_600_000);
-    let grid = with_lane(&rt, grid, 9, 1_800_000);
-    let grid = with_lane(&rt, grid, 10, 2_000_000);
-    let grid = with_lane(&rt, grid, 11, 2_200_000);
-    let grid = with_lane(&rt, grid, 12, 2_400_000);
-    let grid = with_lane(&rt, grid, 13, 2_600_000);
-    let grid = with_lane(&rt, grid, 14, 2_800_000);
-    let grid = with_lane(&rt, grid, 15, 3_000_000);
-    let grid = with_lane(&rt, grid, 16, 3_200_000);
-    let grid = with_lane(&rt, grid, 17, 3_400_000);
+    let mut grid = Grid::make(rt.alloc()).expect(&rt, "memory");
+    for number in 0..18 {
+        grid = with_lane(&rt, grid, number);
+    }
     assert!(rt; grid.share().is_ok());
 }

@@ -1,6 +1,6 @@
 //! The tables of the tests, and the commands that they enter.
 ghost use Rattle.std.specs.Prelude.{◌≤◌, ℕ, IfSome};
-ghost use Rattle.mt_base.specs.Bounds.{IsBoundedCommand, IsBoundedStretch};
+ghost use Rattle.mt_base.specs.Bounds.{IsAskedFor, IsBoundedCommand, IsBoundedStretch};
 ghost use Rattle.mt_base.specs.History.{IsInTime};
 ghost use Rattle.mt_probe.specs.Prepared.{MakesStrand};
 
@@ -76,6 +76,7 @@ pub fn plan(
     requires { level ≤ 600 }
     ensures makes { MakesStrand result }
     ensures bounded { IsBoundedCommand result }
+    ensures asked_for { IsAskedFor result }
     ensures in_time { (place : ℕ) → IsInTime place result }
 {
     let mut route = Route::make(alloc).expect(rt, "memory");

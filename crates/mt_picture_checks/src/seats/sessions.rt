@@ -2,8 +2,9 @@
 ghost use Rattle.std.specs.Prelude.{◌≡◌};
 ghost use Rattle.std.specs.Thread.{IsSync};
 
-use crate::seated::seated;
-use mt_base::{Calls, Callsign};
+use super::seated::seated;
+use crate::commands::named;
+use mt_base::Calls;
 use mt_io::{MemLink, OpenGate};
 use mt_plain_board::PlainBoard;
 use mt_session::{Outcome, session};
@@ -112,9 +113,7 @@ fn worker_renews_a_flight(rt: HostRuntime) {
     let alloc = rt.alloc();
     let (board, _jobs) = reported(&rt, alloc, 1);
     let mut calls = Calls::make(alloc).expect(&rt, "memory");
-    calls
-        .push(Callsign::of(b"DDD1").expect(&rt, "a callsign"))
-        .expect(&rt, "memory");
+    calls.push(named(&rt, b"DDD1")).expect(&rt, "memory");
     let board = work(&rt, board, MemInbox::of(calls), &OpenGate);
     list(&rt, alloc, board, "{\"conflicts\":[],\"version\":4}\n");
 }

@@ -6,7 +6,6 @@ ghost use Rattle.mt_turn.specs.Lending.{IsSameSeat};
 use mt_turn::{Kept, Seat, Turn};
 use std::process::Abort;
 use std::sync::Wait;
-use std::test::Fail;
 use std::thread::{Threads, join};
 
 /// The seat that made an entry, and how many it had made before.
@@ -91,7 +90,7 @@ fn take_turns<R: Wait>(rt: &R, turn: &Turn<Register>, mut seat: Seat<Register>) 
 }
 
 #[test]
-fn three_seats_keep_each_entry_once_and_in_order(rt: HostRuntime) -> Result<(), Fail> {
+fn three_seats_keep_each_entry_once_and_in_order(rt: HostRuntime) {
     let register = Register {
         entries: Vec::new(rt.alloc()),
     };
@@ -108,7 +107,6 @@ fn three_seats_keep_each_entry_once_and_in_order(rt: HostRuntime) -> Result<(), 
     let (first, (second, third)) = take_three(&rt, &turn, first, second, third);
     let register = settle(turn, first, second, third);
     assert!(rt; register.counts() == Some([200, 200, 200]));
-    Ok(())
 }
 
 /// Two threads, each with a seat.

@@ -2,7 +2,7 @@
 ghost use Rattle.std.specs.Prelude.{◌≡◌, ◌≤◌};
 ghost use Rattle.std.specs.Thread.{IsSync};
 
-use crate::seated::seated;
+use super::seated::seated;
 use mt_io::{Door, OpenGate, TcpDoor};
 use mt_session::{Outcome, session};
 use mt_workers::MemOutbox;

@@ -2,9 +2,9 @@
 ghost use Rattle.std.specs.Prelude.{◌≡◌, ◌<◌, [], ◌∷◌};
 ghost use Rattle.std.specs.Thread.{IsSync};
 ghost use Rattle.mt_desk.specs.Desk.{IsReady};
-ghost use Rattle.mt_desk_checks.specs.Same.{IsSameHand, IsSameSeat};
+ghost use Rattle.mt_picture_checks.specs.Same.{IsSameHand, IsSameSeat};
 
-use crate::scene::{opened, outer};
+use super::opening::{opened, outer};
 use mt_base::{Callsign, Command, Conflicts, Tally};
 use mt_board::{Answer, Ask, Board};
 use mt_desk::{Desk, Hand, Seat};

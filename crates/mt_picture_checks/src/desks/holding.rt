@@ -4,7 +4,8 @@ ghost use Rattle.std.specs.Prelude.{◌≡◌};
 ghost use Rattle.std.specs.Thread.{IsSync};
 ghost use Rattle.mt_desk.specs.Desk.{IsReady};
 
-use crate::scene::{named, opened, outer, plan};
+use super::opening::{opened, outer};
+use crate::commands::{named, plan};
 use mt_base::{Clearance, Command};
 use mt_board::{Board, Probed};
 use mt_desk::{Desk, Seat};
@@ -43,7 +44,7 @@ fn file<R: Threads + Wait + Sync + Abort>(rt: &R, alloc: Global, desk: &Desk, se
     ensures { IsReady desk.now result }
 {
     let mut hand = desk.hand(seat);
-    let filed = hand.change(rt, plan(rt, alloc, b"DDD1"), &OpenGate);
+    let filed = hand.change(rt, plan(rt, alloc, b"DDD1", b"Q0", b"Q1", 350), &OpenGate);
     assert!(rt; filed.is_ok());
     hand.back()
 }
@@ -129,29 +130,33 @@ fn versions<R: Threads + Wait + Sync + Abort>(
     )
 }
 
+/// The work names this version, though the flight was entered meanwhile with that one.
+fn check_held<R: Threads + Wait + Sync + Abort>(
+    rt: &R,
+    alloc: Global,
+    work: Work,
+    wanted: (u64, u64),
+)
+    requires sync { IsSync R.row }
+{
+    let (desk, first, second) = opened(rt, alloc);
+    let first = file(rt, alloc, &desk, first);
+    let meeting = Barrier::new(2);
+    let named = versions(rt, &desk, first, second, &meeting, work);
+    assert!(rt; named == wanted);
+}
+
 #[test]
 fn probe_holds_no_turn(rt: HostRuntime) {
-    let (desk, first, second) = opened(&rt, rt.alloc());
-    let first = file(&rt, rt.alloc(), &desk, first);
-    let meeting = Barrier::new(2);
-    let named = versions(&rt, &desk, first, second, &meeting, Work::Probe);
-    assert!(&rt; named == (1, 2));
+    check_held(&rt, rt.alloc(), Work::Probe, (1, 2));
 }
 
 #[test]
 fn advice_holds_no_turn(rt: HostRuntime) {
-    let (desk, first, second) = opened(&rt, rt.alloc());
-    let first = file(&rt, rt.alloc(), &desk, first);
-    let meeting = Barrier::new(2);
-    let named = versions(&rt, &desk, first, second, &meeting, Work::Advice);
-    assert!(&rt; named == (1, 2));
+    check_held(&rt, rt.alloc(), Work::Advice, (1, 2));
 }
 
 #[test]
 fn preparing_a_change_holds_no_turn(rt: HostRuntime) {
-    let (desk, first, second) = opened(&rt, rt.alloc());
-    let first = file(&rt, rt.alloc(), &desk, first);
-    let meeting = Barrier::new(2);
-    let named = versions(&rt, &desk, first, second, &meeting, Work::Change);
-    assert!(&rt; named == (3, 2));
+    check_held(&rt, rt.alloc(), Work::Change, (3, 2));
 }

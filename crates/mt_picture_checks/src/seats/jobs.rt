@@ -1,15 +1,11 @@
 //! Jobs from many ends to many: none is lost, none is given twice, and none comes once all senders are gone.
 
+use crate::commands::named;
 use mt_base::Callsign;
 use mt_workers::{Inbox, Job, JobReceiver, JobSender, Outbox, jobs};
 use std::process::Abort;
 use std::sync::Wait;
 use std::thread::{Threads, join};
-
-/// The flight of that name.
-fn flight(rt: &impl Abort, call: &[u8]) -> Callsign {
-    Callsign::of(call).expect(rt, "a callsign")
-}
 
 /// Hands the job of a flight on, and says whether it was taken; one that is given back is the same.
 fn is_handed<R: Threads + Wait + Sync + Abort>(
@@ -89,7 +85,7 @@ fn count_by_both<R: Threads + Wait + Sync>(
 #[test]
 fn job_without_a_place_is_given_back(rt: HostRuntime) {
     let (mut outbox, mut inbox) = jobs(rt.alloc(), 1).expect(&rt, "memory");
-    let (one, two) = (flight(&rt, b"DDD1"), flight(&rt, b"EEE1"));
+    let (one, two) = (named(&rt, b"DDD1"), named(&rt, b"EEE1"));
     assert!(&rt; is_handed(&rt, &mut outbox, &one));
     assert!(&rt; !is_handed(&rt, &mut outbox, &two));
     assert!(&rt; is_next(&rt, &mut inbox, &one));
@@ -104,7 +100,7 @@ fn jobs_of_two_senders_come_to_two_receivers_once(rt: HostRuntime) {
     let (first, here) = jobs(rt.alloc(), 200).expect(&rt, "memory");
     let second = first.share().expect(&rt, "memory");
     let there = here.share().expect(&rt, "memory");
-    let call = flight(&rt, b"DDD1");
+    let call = named(&rt, b"DDD1");
     let (handed, came) = join(
         &rt,
         || hand_by_both(&rt, first, second, call),
