@@ -1,50 +1,57 @@
 //! Names, copies, words, the order of conflicts, and the bounds of rules.
 
+use crate::cases::word;
 use mt_base::{
     Base, Callsign, Command, Conflict, Conflicts, Course, Entry, FixName, Kind, Path, Record,
     Route, RuleName, Rules, TypeName, Words, history_laws, one_published_list_law,
 };
 use std::process::Abort;
 
+// A text, and whether it is a callsign.
+const CALLSIGNS: &str = r#"
+"" no
+"A" yes
+"AAA1" yes
+"Z9Z9Z9Z" yes
+"Z9Z9Z9Z9" no
+"aaa1" no
+"AA 1" no
+"AA@1" no
+"AA[1" no
+"#;
+
 #[test]
 fn callsigns_are_one_to_seven_capitals_and_digits(rt: HostRuntime) {
-    let cases: [(&[u8], bool); 9] = [
-        (b"", false),
-        (b"A", true),
-        (b"AAA1", true),
-        (b"Z9Z9Z9Z", true),
-        (b"Z9Z9Z9Z9", false),
-        (b"aaa1", false),
-        (b"AA 1", false),
-        (b"AA@1", false),
-        (b"AA[1", false),
-    ];
-    for (text, is_one) in cases {
+    for case in CALLSIGNS.lines().skip(1) {
+        let (text, is_one) = case.rsplit_once(' ').expect(&rt, "two columns");
+        let text = text.trim_matches('"').as_bytes();
         let call = Callsign::of(text);
-        assert_eq!(rt; call.is_some(), is_one);
-        if let Some(call) = call {
-            assert!(rt; call.bytes() == text);
-        }
+        assert_eq!(rt; call.is_some(), is_one == "yes", "{case}");
+        assert!(rt; call.is_none_or(|call| call.bytes() == text), "{case}");
     }
 }
 
+// A text, and whether it is the name of a fix and of a type.
+const NAMES: &str = "\
+Q no no
+Q0 yes yes
+JA1X yes yes
+JA1XY yes no
+JA1XYZ no no
+q0 no no
+Q- no no
+";
+
 #[test]
 fn fixes_and_types_have_short_names(rt: HostRuntime) {
-    let cases: [(&[u8], bool, bool); 7] = [
-        (b"Q", false, false),
-        (b"Q0", true, true),
-        (b"JA1X", true, true),
-        (b"JA1XY", true, false),
-        (b"JA1XYZ", false, false),
-        (b"q0", false, false),
-        (b"Q-", false, false),
-    ];
-    for (text, is_fix, is_type) in cases {
-        let fix = FixName::of(text);
-        let kind = TypeName::of(text);
-        assert_eq!(rt; (fix.is_some(), kind.is_some()), (is_fix, is_type));
-        assert!(rt; fix.is_none_or(|name| name.bytes() == text));
-        assert!(rt; kind.is_none_or(|name| name.bytes() == text));
+    for line in NAMES.lines() {
+        let mut case = line.split_whitespace();
+        let text = word(&rt, &mut case).as_bytes();
+        let (fix, kind) = (FixName::of(text), TypeName::of(text));
+        assert_eq!(rt; fix.is_some(), word(&rt, &mut case) == "yes", "{line}");
+        assert_eq!(rt; kind.is_some(), word(&rt, &mut case) == "yes", "{line}");
+        assert!(rt; fix.is_none_or(|name| name.bytes() == text), "{line}");
+        assert!(rt; kind.is_none_or(|name| name.bytes() == text), "{line}");
     }
 }
 
