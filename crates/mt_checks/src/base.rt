@@ -1,9 +1,9 @@
 //! Names, copies, words, the order of conflicts, and the bounds of rules.
 
-use crate::cases::word;
+use crate::cases::{check_end, number, read_kind, word};
 use mt_base::{
-    Base, Callsign, Command, Conflict, Conflicts, Course, Entry, FixName, Kind, Path, Record,
-    Route, RuleName, Rules, TypeName, Words, history_laws, one_published_list_law,
+    Base, Callsign, Command, Conflict, Conflicts, Course, Entry, FixName, Path, Record, Route,
+    RuleName, Rules, TypeName, Words, history_laws, one_published_list_law,
 };
 use std::process::Abort;
 
@@ -126,37 +126,64 @@ fn words_are_kept_in_order(rt: HostRuntime) {
     assert!(rt; words.word(1) == "");
 }
 
-fn conflict(first: u32, a: &[u8], b: &[u8], kinds: (Kind, Kind)) -> Option<Conflict> {
-    let (ka, kb) = kinds;
-    Some(Conflict {
-        first,
-        a: Callsign::of(a)?,
-        b: Callsign::of(b)?,
-        ka,
-        kb,
+// Conflicts in order: the first second, the two flights, and their kinds.
+const ORDERED: &str = "\
+1 B C actual actual
+2 A B actual tentative
+2 A B tentative actual
+2 A BA actual actual
+2 AA B actual actual
+";
+
+fn read_call(rt: &impl Abort, word: &str) -> Callsign {
+    Callsign::of(word.as_bytes()).expect(rt, "a callsign")
+}
+
+/// The conflict of a line.
+fn read_conflict(rt: &impl Abort, line: &str) -> Conflict {
+    let mut case = line.split_whitespace();
+    Conflict {
+        first: number(rt, &mut case),
+        a: read_call(rt, word(rt, &mut case)),
+        b: read_call(rt, word(rt, &mut case)),
+        ka: read_kind(rt, word(rt, &mut case)),
+        kb: read_kind(rt, word(rt, &mut case)),
         last: 200,
-    })
+    }
 }
 
 #[test]
 fn conflicts_are_put_in_order_each_once(rt: HostRuntime) {
     one_published_list_law();
-    let ordered = [
-        conflict(1, b"B", b"C", (Kind::Actual, Kind::Actual)),
-        conflict(2, b"A", b"B", (Kind::Actual, Kind::Tentative)),
-        conflict(2, b"A", b"B", (Kind::Tentative, Kind::Actual)),
-        conflict(2, b"A", b"BA", (Kind::Actual, Kind::Actual)),
-        conflict(2, b"AA", b"B", (Kind::Actual, Kind::Actual)),
-    ];
     let mut conflicts = Conflicts::make(rt.alloc()).expect(&rt, "memory");
     for place in [4, 2, 0, 3, 1, 2] {
-        let conflict = ordered[place].expect(&rt, "a callsign");
+        let line = ORDERED.lines().nth(place).expect(&rt, "a line");
+        let conflict = read_conflict(&rt, line);
         conflicts.push(conflict).expect(&rt, "memory");
     }
     conflicts.order();
     assert_eq!(rt; conflicts.items().len(), 5);
-    for (place, conflict) in conflicts.items().iter().enumerate() {
-        assert!(rt; ordered.get(place) == Some(&Some(*conflict)));
+    for (conflict, line) in conflicts.items().iter().zip(ORDERED.lines()) {
+        assert!(rt; *conflict == read_conflict(&rt, line), "{line}");
+    }
+}
+
+fn read_rule(rt: &impl Abort, word: &str) -> RuleName {
+    match word {
+        "sh" => RuleName::Sh,
+        "sv" => RuleName::Sv,
+        "r0" => RuleName::R0,
+        "gh" => RuleName::Gh,
+        "rmax" => RuleName::Rmax,
+        "w0" => RuleName::W0,
+        "gv" => RuleName::Gv,
+        "wmax" => RuleName::Wmax,
+        "tc" => RuleName::Tc,
+        "ta" => RuleName::Ta,
+        "tv" => RuleName::Tv,
+        "flights" => RuleName::Flights,
+        "history" => RuleName::History,
+        _ => panic!(rt; "no rule"),
     }
 }
 
@@ -182,32 +209,44 @@ fn usual_but(name: RuleName, value: i64) -> Rules {
     rules
 }
 
-/// One rule set to a value, and the rule that is then named as outside its bounds.
-const RULES: [(RuleName, i64, Option<RuleName>); 17] = [
-    (RuleName::Sh, 72_000, None),
-    (RuleName::Sh, 0, Some(RuleName::Sh)),
-    (RuleName::Sv, 600_001, Some(RuleName::Sv)),
-    (RuleName::R0, 9_000, None),
-    (RuleName::R0, 9_001, Some(RuleName::R0)),
-    (RuleName::Rmax, -1, Some(RuleName::R0)),
-    (RuleName::Rmax, 72_001, Some(RuleName::Rmax)),
-    (RuleName::Gh, 1_001, Some(RuleName::Gh)),
-    (RuleName::W0, 30_001, Some(RuleName::W0)),
-    (RuleName::Gv, -1, Some(RuleName::Gv)),
-    (RuleName::Wmax, 600_001, Some(RuleName::Wmax)),
-    (RuleName::Tc, 360_001, Some(RuleName::Tc)),
-    (RuleName::Ta, -1, Some(RuleName::Ta)),
-    (RuleName::Tv, 600_001, Some(RuleName::Tv)),
-    (RuleName::Flights, 1_025, Some(RuleName::Flights)),
-    (RuleName::History, 4_194_304, None),
-    (RuleName::History, 0, Some(RuleName::History)),
-];
+// One rule set to a value, and the rule that is then named as outside its bounds.
+const RULES: &str = "\
+sh 72000 none
+sh 0 sh
+sv 600001 sv
+r0 9000 none
+r0 9001 r0
+rmax -1 r0
+rmax 72001 rmax
+gh 1001 gh
+w0 30001 w0
+gv -1 gv
+wmax 600001 wmax
+tc 360001 tc
+ta -1 ta
+tv 600001 tv
+flights 1025 flights
+history 4194304 none
+history 0 history
+";
+
+fn read_outside(rt: &impl Abort, word: &str) -> Option<RuleName> {
+    match word {
+        "none" => None,
+        name => Some(read_rule(rt, name)),
+    }
+}
 
 #[test]
 fn the_first_rule_outside_its_bounds_is_named(rt: HostRuntime) {
     history_laws();
     assert!(rt; Rules::usual().check() == Ok(()));
-    for (name, value, outside) in RULES {
-        assert!(rt; usual_but(name, value).check().err() == outside);
+    for line in RULES.lines() {
+        let mut case = line.split_whitespace();
+        let name = read_rule(&rt, word(&rt, &mut case));
+        let rules = usual_but(name, number(&rt, &mut case));
+        let outside = read_outside(&rt, word(&rt, &mut case));
+        check_end(&rt, &mut case);
+        assert!(rt; rules.check().err() == outside, "{line}");
     }
 }

@@ -3,6 +3,7 @@
 mod flights;
 mod names;
 mod probes;
+mod refusals;
 mod replies;
 mod sessions;
 mod texts;

@@ -1,63 +1,79 @@
-use super::names::callsign;
+use super::names::{callsign, fix_name, type_name};
 use super::texts::check_reply;
-use mt_base::{
-    Command, Conflict, Conflicts, Entered, Entries, Entry, Kind, Refusal, Row, Straight,
-};
+use crate::cases::{Values, check_end, number, read_kind, word};
+use mt_base::{Command, Conflict, Conflicts, Entered, Entries, Entry, Row, Straight};
 use mt_wire::{
     DoneWord, FieldName, NO_MEMORY, Reply, Role, no_memory_law, read_back_law, short_replies_law,
     write_short,
 };
 use std::process::Abort;
 
-fn refused(refusal: Refusal, version: u64) -> Reply {
-    Reply::Refused { refusal, version }
+// A reply without a list, with what it names, and its text.
+const REPLIES: &str = r#"
+rule => {"done":"rule"}
+begin => {"done":"begin"}
+bye => {"done":"bye"}
+fix => {"done":"fix"}
+type => {"done":"type"}
+feed => {"role":"feed"}
+position => {"role":"position"}
+entered 41 => {"entered":41}
+taken 0 => {"taken":0}
+taken 18446744073709551615 => {"taken":18446744073709551615}
+json => {"no":"json"}
+long => {"no":"long"}
+begun => {"no":"begun"}
+unbegun => {"no":"unbegun"}
+memory => {"no":"memory"}
+bands => {"no":"bands"}
+tables-full => {"no":"tables-full"}
+taken-fix Q0123 => {"name":"Q0123","no":"taken"}
+taken-type J1 => {"name":"J1","no":"taken"}
+"#;
+
+fn read_reply(rt: &impl Abort, case: &mut Values<'_>) -> Reply {
+    match word(rt, case) {
+        "rule" => Reply::Done(DoneWord::Rule),
+        "begin" => Reply::Done(DoneWord::Begin),
+        "bye" => Reply::Done(DoneWord::Bye),
+        "fix" => Reply::Done(DoneWord::Fix),
+        "type" => Reply::Done(DoneWord::TypeLine),
+        "feed" => Reply::Hello(Role::Feed),
+        "position" => Reply::Hello(Role::Position),
+        "entered" => Reply::Entered(Entered {
+            version: number(rt, case),
+            verdict: None,
+        }),
+        "taken" => Reply::Taken {
+            version: number(rt, case),
+        },
+        other => read_no(rt, other, case),
+    }
+}
+
+fn read_no(rt: &impl Abort, no: &str, case: &mut Values<'_>) -> Reply {
+    match no {
+        "json" => Reply::Json,
+        "long" => Reply::Long,
+        "begun" => Reply::Begun,
+        "unbegun" => Reply::Unbegun,
+        "memory" => Reply::Memory,
+        "bands" => Reply::Bands,
+        "tables-full" => Reply::TablesFull,
+        "taken-fix" => Reply::TakenFix(fix_name(rt, word(rt, case))),
+        "taken-type" => Reply::TakenType(type_name(rt, word(rt, case))),
+        _ => panic!(rt; "no reply"),
+    }
 }
 
 #[test]
 fn replies_without_a_list(rt: HostRuntime) {
-    let call = callsign(&rt, b"AAA1");
-    let version = u64::MAX;
-    let cases = [
-        (Reply::Done(DoneWord::Rule), "{\"done\":\"rule\"}\n"),
-        (Reply::Done(DoneWord::Begin), "{\"done\":\"begin\"}\n"),
-        (Reply::Done(DoneWord::Bye), "{\"done\":\"bye\"}\n"),
-        (Reply::Hello(Role::Feed), "{\"role\":\"feed\"}\n"),
-        (Reply::Hello(Role::Position), "{\"role\":\"position\"}\n"),
-        (
-            Reply::Entered(Entered {
-                version: 41,
-                verdict: None,
-            }),
-            "{\"entered\":41}\n",
-        ),
-        (Reply::Json, "{\"no\":\"json\"}\n"),
-        (Reply::Long, "{\"no\":\"long\"}\n"),
-        (Reply::Begun, "{\"no\":\"begun\"}\n"),
-        (Reply::Unbegun, "{\"no\":\"unbegun\"}\n"),
-        (Reply::Memory, "{\"no\":\"memory\"}\n"),
-        (
-            refused(Refusal::HeldCall, 1),
-            "{\"no\":\"held-call\",\"version\":1}\n",
-        ),
-        (
-            refused(Refusal::UnknownCall(call), 0),
-            "{\"name\":\"AAA1\",\"no\":\"unknown-call\",\"version\":0}\n",
-        ),
-        (
-            refused(Refusal::Full, 10),
-            "{\"no\":\"full\",\"version\":10}\n",
-        ),
-        (
-            refused(Refusal::HistoryFull, version),
-            "{\"no\":\"history-full\",\"version\":18446744073709551615}\n",
-        ),
-        (
-            refused(Refusal::Backward, 2),
-            "{\"no\":\"backward\",\"version\":2}\n",
-        ),
-    ];
-    for (reply, wanted) in &cases {
-        check_reply(&rt, reply, wanted);
+    for line in REPLIES.lines().skip(1) {
+        let (case, wanted) = line.split_once(" => ").expect(&rt, "two columns");
+        let mut case = case.split_whitespace();
+        let reply = read_reply(&rt, &mut case);
+        check_end(&rt, &mut case);
+        check_reply(&rt, &reply, wanted);
     }
     no_memory_law();
     assert_eq!(rt; NO_MEMORY, b"{\"no\":\"memory\"}\n".as_slice());
@@ -65,7 +81,7 @@ fn replies_without_a_list(rt: HostRuntime) {
 
 // The line that refuses a field for this.
 fn refused_field(rt: &(impl Abort + AllocGlobal), field: &str, why: &str) -> String {
-    format!(in rt.alloc(); "{{\"field\":\"{field}\",\"no\":\"{why}\"}}\n").expect(rt, "memory")
+    format!(in rt.alloc(); "{{\"field\":\"{field}\",\"no\":\"{why}\"}}").expect(rt, "memory")
 }
 
 #[test]
@@ -87,40 +103,49 @@ fn refusals_that_name_a_field(rt: HostRuntime) {
     }
 }
 
-fn conflict(rt: &impl Abort, first: u32, b: &[u8], ka: Kind, kb: Kind, last: u32) -> Conflict {
+// A conflict of AAA1: its first second, with whom, the kinds of the two, and its last second.
+const CONFLICTS: &str = "\
+131 BBB1 actual actual 168
+0 B tentative actual 4294967295
+7 Z9Z9Z9Z actual tentative 7
+";
+
+fn read_conflict(rt: &impl Abort, case: &mut Values<'_>) -> Conflict {
     Conflict {
-        first,
-        a: callsign(rt, b"AAA1"),
-        b: callsign(rt, b),
-        ka,
-        kb,
-        last,
+        first: number(rt, case),
+        a: callsign(rt, "AAA1"),
+        b: callsign(rt, word(rt, case)),
+        ka: read_kind(rt, word(rt, case)),
+        kb: read_kind(rt, word(rt, case)),
+        last: number(rt, case),
     }
+}
+
+fn read_conflicts(rt: &(impl Abort + AllocGlobal), text: &str) -> Conflicts {
+    let mut conflicts = Conflicts::make(rt.alloc()).expect(rt, "memory");
+    for line in text.lines() {
+        let conflict = read_conflict(rt, &mut line.split_whitespace());
+        conflicts.push(conflict).expect(rt, "memory");
+    }
+    conflicts
 }
 
 #[test]
 fn conflicts_of_a_list(rt: HostRuntime) {
     let none = Reply::List {
-        conflicts: Conflicts::make(rt.alloc()).expect(&rt, "memory"),
+        conflicts: read_conflicts(&rt, ""),
         version: 0,
     };
-    check_reply(&rt, &none, "{\"conflicts\":[],\"version\":0}\n");
-    let mut conflicts = Conflicts::make(rt.alloc()).expect(&rt, "memory");
-    for listed in [
-        conflict(&rt, 131, b"BBB1", Kind::Actual, Kind::Actual, 168),
-        conflict(&rt, 0, b"B", Kind::Tentative, Kind::Actual, 4294967295),
-        conflict(&rt, 7, b"Z9Z9Z9Z", Kind::Actual, Kind::Tentative, 7),
-    ] {
-        conflicts.push(listed).expect(&rt, "memory");
-    }
+    check_reply(&rt, &none, r#"{"conflicts":[],"version":0}"#);
     let list = Reply::List {
-        conflicts,
+        conflicts: read_conflicts(&rt, CONFLICTS),
         version: 40,
     };
-    let wanted =
-        "{\"conflicts\":[{\"first\":131,\"kinds\":\"aa\",\"last\":168,\"pair\":[\"AAA1\",\"BBB1\"]},{\"first\":0,\"kinds\":\"ta\",\"last\":4294967295,\"pair\":[\"AAA1\",\"B\"]},{\"first\":7,\"kinds\":\"at\",\"last\":7,\"pair\":[\"AAA1\",\"Z9Z9Z9Z\"]}],\"version\":40}\n";
-    check_reply(&rt, &list, wanted);
+    check_reply(&rt, &list, LISTED);
 }
+
+const LISTED: &str =
+    r#"{"conflicts":[{"first":131,"kinds":"aa","last":168,"pair":["AAA1","BBB1"]},{"first":0,"kinds":"ta","last":4294967295,"pair":["AAA1","B"]},{"first":7,"kinds":"at","last":7,"pair":["AAA1","Z9Z9Z9Z"]}],"version":40}"#;
 
 fn straight() -> Straight {
     Straight {
@@ -142,40 +167,30 @@ fn straight() -> Straight {
     }
 }
 
+fn push(rt: &impl Abort, entries: &mut Entries, who: u32, command: Command) {
+    entries.push(Entry { who, command }).expect(rt, "memory");
+}
+
 #[test]
 fn entries_of_a_history(rt: HostRuntime) {
     read_back_law();
-    let call = callsign(&rt, b"AAA1");
+    let call = callsign(&rt, "AAA1");
+    let straight = straight();
     let mut entries = Entries::make(rt.alloc()).expect(&rt, "memory");
-    entries
-        .push(Entry {
-            who: 4294967295,
-            command: Command::External {
-                call,
-                straight: straight(),
-            },
-        })
-        .expect(&rt, "memory");
-    entries
-        .push(Entry {
-            who: 0,
-            command: Command::Drop { call },
-        })
-        .expect(&rt, "memory");
-    entries
-        .push(Entry {
-            who: 15,
-            command: Command::Tick { now: 10000000 },
-        })
-        .expect(&rt, "memory");
-    let history = Reply::History {
-        entries,
-        version: 3,
-    };
-    let wanted =
-        "{\"entries\":[{\"call\":\"AAA1\",\"do\":\"external\",\"from\":60,\"gr\":0,\"gw\":12,\"r\":72000,\"to\":14460,\"vx\":1000,\"vy\":-1000,\"vz\":-10000,\"w\":600000,\"who\":4294967295,\"x\":-3686400,\"y\":3686400,\"z\":3600000},{\"call\":\"AAA1\",\"do\":\"drop\",\"who\":0},{\"do\":\"tick\",\"now\":10000000,\"who\":15}],\"version\":3}\n";
-    check_reply(&rt, &history, wanted);
+    push(
+        &rt,
+        &mut entries,
+        4294967295,
+        Command::External { call, straight },
+    );
+    push(&rt, &mut entries, 0, Command::Drop { call });
+    push(&rt, &mut entries, 15, Command::Tick { now: 10000000 });
+    let version = 3;
+    check_reply(&rt, &Reply::History { entries, version }, HISTORY);
 }
+
+const HISTORY: &str =
+    r#"{"entries":[{"call":"AAA1","do":"external","from":60,"gr":0,"gw":12,"r":72000,"to":14460,"vx":1000,"vy":-1000,"vz":-10000,"w":600000,"who":4294967295,"x":-3686400,"y":3686400,"z":3600000},{"call":"AAA1","do":"drop","who":0},{"do":"tick","now":10000000,"who":15}],"version":3}"#;
 
 #[test]
 fn a_short_reply_in_a_room(rt: HostRuntime) {

@@ -1,4 +1,4 @@
-//! What replies and entries are written as.
+//! What replies and entries are written as: a text and a 0x0A.
 use mt_base::Entry;
 use mt_wire::{Reply, write_entry, write_reply};
 use std::process::Abort;
@@ -6,11 +6,15 @@ use std::process::Abort;
 /// Asserts the text of a reply.
 pub(super) fn check_reply(rt: &(impl Abort + AllocGlobal), reply: &Reply, wanted: &str) {
     let line = write_reply(rt.alloc(), reply).expect(rt, "memory");
-    assert_eq!(rt; line.as_slice(), wanted.as_bytes());
+    check_line(rt, &line, wanted);
 }
 
 /// Asserts the text of an entry.
 pub(super) fn check_entry(rt: &(impl Abort + AllocGlobal), entry: &Entry, wanted: &str) {
     let line = write_entry(rt.alloc(), entry).expect(rt, "memory");
-    assert_eq!(rt; line.as_slice(), wanted.as_bytes());
+    check_line(rt, &line, wanted);
+}
+
+fn check_line(rt: &impl Abort, line: &[u8], wanted: &str) {
+    assert_eq!(rt; line.strip_suffix(b"\n"), Some(wanted.as_bytes()));
 }
