@@ -7,27 +7,29 @@ use mt_base::{
 };
 use std::process::Abort;
 
-// A text, and whether it is a callsign.
-const CALLSIGNS: &str = r#"
-"" no
-"A" yes
-"AAA1" yes
-"Z9Z9Z9Z" yes
-"Z9Z9Z9Z9" no
-"aaa1" no
-"AA 1" no
-"AA@1" no
-"AA[1" no
-"#;
+const CALLSIGNS: &str = "\
+A
+AAA1
+Z9Z9Z9Z
+";
+
+// The first line is empty.
+const NO_CALLSIGNS: &str = "
+Z9Z9Z9Z9
+aaa1
+AA 1
+AA@1
+AA[1
+";
 
 #[test]
 fn callsigns_are_one_to_seven_capitals_and_digits(rt: HostRuntime) {
-    for case in CALLSIGNS.lines().skip(1) {
-        let (text, is_one) = case.rsplit_once(' ').expect(&rt, "two columns");
-        let text = text.trim_matches('"').as_bytes();
-        let call = Callsign::of(text);
-        assert_eq!(rt; call.is_some(), is_one == "yes", "{case}");
-        assert!(rt; call.is_none_or(|call| call.bytes() == text), "{case}");
+    for text in CALLSIGNS.lines() {
+        let call = Callsign::of(text.as_bytes()).expect(&rt, "a callsign");
+        assert!(rt; call.bytes() == text.as_bytes(), "{text}");
+    }
+    for text in NO_CALLSIGNS.lines() {
+        assert!(rt; Callsign::of(text.as_bytes()).is_none(), "{text}");
     }
 }
 
@@ -42,16 +44,33 @@ q0 no no
 Q- no no
 ";
 
+/// Whether a text is the name of a fix, which then says that text.
+fn is_fix(rt: &impl Abort, text: &[u8]) -> bool {
+    let Some(name) = FixName::of(text) else {
+        return false;
+    };
+    assert!(rt; name.bytes() == text);
+    true
+}
+
+/// Whether a text is the name of a type, which then says that text.
+fn is_type(rt: &impl Abort, text: &[u8]) -> bool {
+    let Some(name) = TypeName::of(text) else {
+        return false;
+    };
+    assert!(rt; name.bytes() == text);
+    true
+}
+
 #[test]
 fn fixes_and_types_have_short_names(rt: HostRuntime) {
     for line in NAMES.lines() {
         let mut case = line.split_whitespace();
         let text = word(&rt, &mut case).as_bytes();
-        let (fix, kind) = (FixName::of(text), TypeName::of(text));
-        assert_eq!(rt; fix.is_some(), word(&rt, &mut case) == "yes", "{line}");
-        assert_eq!(rt; kind.is_some(), word(&rt, &mut case) == "yes", "{line}");
-        assert!(rt; fix.is_none_or(|name| name.bytes() == text), "{line}");
-        assert!(rt; kind.is_none_or(|name| name.bytes() == text), "{line}");
+        let wanted_fix = word(&rt, &mut case) == "yes";
+        let wanted_type = word(&rt, &mut case) == "yes";
+        assert!(rt; is_fix(&rt, text) == wanted_fix, "{line}");
+        assert!(rt; is_type(&rt, text) == wanted_type, "{line}");
     }
 }
 

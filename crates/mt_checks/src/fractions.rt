@@ -217,10 +217,13 @@ fn quadratics_below_zero(rt: HostRuntime) {
     }
 }
 
+fn is_equal(left: Frac, right: Frac) -> bool {
+    matches!(left.compare(right), Ordering::Equal)
+}
+
 /// The part of a line is that from one fraction to the other.
-fn check_part(rt: &impl Abort, case: &str, part: (Frac, Frac), begin: Frac, end: Frac) {
-    assert_eq!(rt; part.0.compare(begin), Ordering::Equal, "{case}");
-    assert_eq!(rt; part.1.compare(end), Ordering::Equal, "{case}");
+fn is_part(part: (Frac, Frac), begin: Frac, end: Frac) -> bool {
+    is_equal(part.0, begin) && is_equal(part.1, end)
 }
 
 #[test]
@@ -235,7 +238,7 @@ fn parts_of_lines(rt: HostRuntime) {
         if let Some(part) = part {
             let begin = fraction(&rt, begin);
             let end = fraction(&rt, word(&rt, &mut values));
-            check_part(&rt, case, part, begin, end);
+            assert!(rt; is_part(part, begin, end), "{case}");
         }
     }
 }

@@ -108,46 +108,33 @@ fn covered(rt: &(impl AllocGlobal + Abort), from: Second, to: Second, first: Row
     cover(rt.alloc(), &strand, &Rules::usual()).expect(rt, "memory")
 }
 
-/// The stays of that stretch are those wanted: cell, first second, second after the last.
-fn check(
-    rt: &(impl AllocGlobal + Abort),
-    from: Second,
-    to: Second,
-    first: Row,
-    wanted: &[(u32, Second, Second)],
-)
+/// The stays of that stretch are those wanted, each with its cell, its first second and the one after its last.
+fn check(rt: &(impl AllocGlobal + Abort), from: Second, to: Second, first: Row, wanted: &str)
     requires { IsBoundedStretch (record { from = from; to = to; first = first }) }
 {
     let cover = covered(rt, from, to, first);
-    assert_eq!(rt; cover.stays().len(), wanted.len());
-    for (stay, wanted) in cover.stays().iter().zip(wanted) {
-        assert!(rt; (stay.cell, stay.from, stay.to) == *wanted);
+    let mut stays = cover.stays().iter();
+    for wanted in wanted.split(", ") {
+        let stay = stays.next().expect(rt, "a stay");
+        let found = format!(in rt.alloc(); "{} {} {}", stay.cell, stay.from, stay.to);
+        assert_eq!(rt; found.expect(rt, "memory").as_str(), wanted);
     }
+    assert!(rt; stays.next().is_none());
 }
 
 #[test]
 fn covers_are_those_worked_out_row_by_row(rt: HostRuntime) {
-    check(&rt, 0, 300, AT_EDGE, &[(2080, 0, 256), (2080, 256, 300)]);
-    check(&rt, 0, 256, OVER_EDGE, &[(2079, 0, 256), (2080, 0, 256)]);
-    check(&rt, 0, 256, REACHING, &[(2079, 0, 256), (2080, 0, 256)]);
-    check(&rt, 0, 256, SHORT, &[(2079, 0, 256)]);
-    check(&rt, 0, 256, GROWN, &[(2080, 0, 256)]);
-    check(&rt, 0, 256, OUTGROWN, &[(2079, 0, 256), (2080, 0, 256)]);
-    check(&rt, 0, 300, CORNER, &[(63, 0, 256), (63, 256, 300)]);
-    check(
-        &rt,
-        300,
-        700,
-        FALLING,
-        &[(2016, 300, 556), (2080, 300, 556), (2016, 556, 700)],
-    );
-    let first = [
-        (2013, 100, 356),
-        (2014, 100, 356),
-        (2077, 100, 356),
-        (2078, 100, 356),
-    ];
-    check(&rt, 100, 356, ALONG, &first);
+    check(&rt, 0, 300, AT_EDGE, "2080 0 256, 2080 256 300");
+    check(&rt, 0, 256, OVER_EDGE, "2079 0 256, 2080 0 256");
+    check(&rt, 0, 256, REACHING, "2079 0 256, 2080 0 256");
+    check(&rt, 0, 256, SHORT, "2079 0 256");
+    check(&rt, 0, 256, GROWN, "2080 0 256");
+    check(&rt, 0, 256, OUTGROWN, "2079 0 256, 2080 0 256");
+    check(&rt, 0, 300, CORNER, "63 0 256, 63 256 300");
+    let falling = "2016 300 556, 2080 300 556, 2016 556 700";
+    check(&rt, 300, 700, FALLING, falling);
+    let along = "2013 100 356, 2014 100 356, 2077 100 356, 2078 100 356";
+    check(&rt, 100, 356, ALONG, along);
 }
 
 /// Whether the second stretch is near the first, once it is put into an empty grid; before that and after it is taken it isn't.
