@@ -1,9 +1,9 @@
 //! Names, copies, words, the order of conflicts, and the bounds of rules.
 
-use crate::cases::{check_end, number, read_kind, word};
+use crate::cases::{check_end, number, word};
 use mt_base::{
-    Base, Callsign, Command, Conflict, Conflicts, Course, Entry, FixName, Path, Record, Route,
-    RuleName, Rules, TypeName, Words, history_laws, one_published_list_law,
+    Base, Callsign, Command, Conflict, Conflicts, Course, Entry, FixName, Kind, Path, Record,
+    Route, RuleName, Rules, TypeName, Words, history_laws, one_published_list_law,
 };
 use std::process::Abort;
 
@@ -145,45 +145,37 @@ fn words_are_kept_in_order(rt: HostRuntime) {
     assert!(rt; words.word(1) == "");
 }
 
-// Conflicts in order: the first second, the two flights, and their kinds.
-const ORDERED: &str = "\
-1 B C actual actual
-2 A B actual tentative
-2 A B tentative actual
-2 A BA actual actual
-2 AA B actual actual
-";
-
-fn read_call(rt: &impl Abort, word: &str) -> Callsign {
-    Callsign::of(word.as_bytes()).expect(rt, "a callsign")
-}
-
-/// The conflict of a line.
-fn read_conflict(rt: &impl Abort, line: &str) -> Conflict {
-    let mut case = line.split_whitespace();
-    Conflict {
-        first: number(rt, &mut case),
-        a: read_call(rt, word(rt, &mut case)),
-        b: read_call(rt, word(rt, &mut case)),
-        ka: read_kind(rt, word(rt, &mut case)),
-        kb: read_kind(rt, word(rt, &mut case)),
+fn conflict(first: u32, a: &[u8], b: &[u8], kinds: (Kind, Kind)) -> Option<Conflict> {
+    let (ka, kb) = kinds;
+    Some(Conflict {
+        first,
+        a: Callsign::of(a)?,
+        b: Callsign::of(b)?,
+        ka,
+        kb,
         last: 200,
-    }
+    })
 }
 
 #[test]
 fn conflicts_are_put_in_order_each_once(rt: HostRuntime) {
     one_published_list_law();
+    let ordered = [
+        conflict(1, b"B", b"C", (Kind::Actual, Kind::Actual)),
+        conflict(2, b"A", b"B", (Kind::Actual, Kind::Tentative)),
+        conflict(2, b"A", b"B", (Kind::Tentative, Kind::Actual)),
+        conflict(2, b"A", b"BA", (Kind::Actual, Kind::Actual)),
+        conflict(2, b"AA", b"B", (Kind::Actual, Kind::Actual)),
+    ];
     let mut conflicts = Conflicts::make(rt.alloc()).expect(&rt, "memory");
     for place in [4, 2, 0, 3, 1, 2] {
-        let line = ORDERED.lines().nth(place).expect(&rt, "a line");
-        let conflict = read_conflict(&rt, line);
+        let conflict = ordered[place].expect(&rt, "a callsign");
         conflicts.push(conflict).expect(&rt, "memory");
     }
     conflicts.order();
     assert_eq!(rt; conflicts.items().len(), 5);
-    for (conflict, line) in conflicts.items().iter().zip(ORDERED.lines()) {
-        assert!(rt; *conflict == read_conflict(&rt, line), "{line}");
+    for (place, conflict) in conflicts.items().iter().enumerate() {
+        assert!(rt; ordered.get(place) == Some(&Some(*conflict)));
     }
 }
 

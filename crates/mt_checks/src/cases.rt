@@ -1,7 +1,6 @@
 //! Readers of cases that are written as text: a line is a case, its values in order with blanks between them. A line that begins with `;` says what
 //! the next ones have in common.
 
-use mt_base::Kind;
 use std::process::Abort;
 use std::str::{FromStr, SplitWhitespace};
 
@@ -41,15 +40,6 @@ where
     N::Err: Drop,
 {
     text.parse().ok().expect(rt, "a number")
-}
-
-/// The kind of a trajectory that a word says.
-pub fn read_kind(rt: &impl Abort, word: &str) -> Kind {
-    match word {
-        "actual" => Kind::Actual,
-        "tentative" => Kind::Tentative,
-        _ => panic!(rt; "no kind"),
-    }
 }
 
 /// The case has no further value.

@@ -13,7 +13,7 @@ use mt_base::{
     TypeName,
 };
 use mt_board::{No, Probed};
-use mt_probe::{Snapshot, what_if};
+use mt_probe::{Probe, Snapshot, what_if};
 use mt_tables::Tables;
 use std::alloc::Global;
 use std::process::Abort;
@@ -117,14 +117,8 @@ fn outer(rt: &impl Abort, call: &[u8], from: Second, to: Second, first: Row) -> 
     }
 }
 
-// Climbing the plan to flight level 360 is tried at the moment of the snapshot. It has these hits, each by its seconds, and names the version.
-fn check_hits(
-    rt: &impl Abort,
-    alloc: Global,
-    snapshot: &Snapshot,
-    wanted: &[(Second, Second)],
-    tests: &mut Tally,
-) {
+// Climbing the plan to flight level 360 is tried at the moment of the snapshot.
+fn tried(rt: &impl Abort, alloc: Global, snapshot: &Snapshot, tests: &mut Tally) -> Probe {
     let tried = what_if(
         alloc,
         snapshot,
@@ -135,7 +129,18 @@ fn check_hits(
         None,
         tests,
     );
-    let probe = tried.ok().expect(rt, "a probe");
+    tried.ok().expect(rt, "a probe")
+}
+
+// That climb has these hits, each by its seconds, and names the version.
+fn check_hits(
+    rt: &impl Abort,
+    alloc: Global,
+    snapshot: &Snapshot,
+    wanted: &[(Second, Second)],
+    tests: &mut Tally,
+) {
+    let probe = tried(rt, alloc, snapshot, tests);
     assert!(rt; probe.version() == snapshot.version());
     assert!(rt; probe.eff() == snapshot.now());
     assert!(rt; probe.hits().len() == wanted.len());

@@ -1,7 +1,7 @@
 use super::names::{callsign, fix_name, type_name};
 use super::texts::check_reply;
-use crate::cases::{Values, check_end, number, read_kind, word};
-use mt_base::{Command, Conflict, Conflicts, Entered, Entries, Entry, Row, Straight};
+use crate::cases::{Values, check_end, number, word};
+use mt_base::{Command, Conflict, Conflicts, Entered, Entries, Entry, Kind, Row, Straight};
 use mt_wire::{
     DoneWord, FieldName, NO_MEMORY, Reply, Role, no_memory_law, read_back_law, short_replies_law,
     write_short,
@@ -109,6 +109,14 @@ const CONFLICTS: &str = "\
 0 B tentative actual 4294967295
 7 Z9Z9Z9Z actual tentative 7
 ";
+
+fn read_kind(rt: &impl Abort, word: &str) -> Kind {
+    match word {
+        "actual" => Kind::Actual,
+        "tentative" => Kind::Tentative,
+        _ => panic!(rt; "no kind"),
+    }
+}
 
 fn read_conflict(rt: &impl Abort, case: &mut Values<'_>) -> Conflict {
     Conflict {
