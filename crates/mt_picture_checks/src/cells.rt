@@ -137,6 +137,15 @@ fn covers_are_those_worked_out_row_by_row(rt: HostRuntime) {
     check(&rt, 100, 356, ALONG, along);
 }
 
+/// Whether the item 7 is near a cover in a grid that has no other.
+fn is_found(rt: &impl Abort, grid: &Grid, cover: &Cover) -> bool
+    requires { AreInGrid cover.now }
+{
+    let near = grid.near(cover).expect(rt, "memory");
+    assert!(rt; near.is_empty() || near.as_slice() == [7].as_slice());
+    !near.is_empty()
+}
+
 /// Whether the second stretch is near the first, once it is put into an empty grid; before that and after it is taken it isn't.
 fn is_near(rt: &(impl AllocGlobal + Abort), one: Row, other: Row) -> bool
     requires one { IsBoundedStretch (record { from = 0; to = 300; first = one }) }
@@ -147,15 +156,9 @@ fn is_near(rt: &(impl AllocGlobal + Abort), one: Row, other: Row) -> bool
     let empty = Grid::make(rt.alloc()).expect(rt, "memory");
     let grid = empty.put(7, &other).expect(rt, "memory");
     let gone = grid.take(7, &other).expect(rt, "memory");
-    assert!(rt; empty.near(&one).expect(rt, "memory").is_empty());
-    assert!(rt; gone.near(&one).expect(rt, "memory").is_empty());
-    let near = grid
-        .share()
-        .expect(rt, "memory")
-        .near(&one)
-        .expect(rt, "memory");
-    assert!(rt; near.is_empty() || near.as_slice() == [7].as_slice());
-    !near.is_empty()
+    let shared = grid.share().expect(rt, "memory");
+    assert!(rt; !is_found(rt, &empty, &one) && !is_found(rt, &gone, &one));
+    is_found(rt, &shared, &one)
 }
 
 #[test]
