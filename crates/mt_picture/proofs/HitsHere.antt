@@ -19,10 +19,10 @@ use Rattle.mt_base.specs.WhatIf.{AreHitsOf, IsHit}
 use Rattle.mt_edges.specs.declared.edge.Edge.{Edge}
 use Rattle.mt_kept.specs.declared.open_pair.OpenPair.{OpenPair}
 use Rattle.mt_kept.specs.Finds.{AreFinds}
-use Rattle.mt_kept.specs.Losing.{Loses}
+use Rattle.mt_kept.specs.Losing.{IsPair, Loses, TouchesSlot}
 use Rattle.mt_kept.specs.Made.{is_open}
 use Rattle.mt_kept.specs.Places.{at}
-use Rattle.mt_kept.specs.Window.{IsFoundOf, IsOpen, edge_of}
+use Rattle.mt_kept.specs.Window.{IsFoundOf, IsOpen, IsShown, edge_of}
 use Rattle.mt_kept.proofs.Elements.{Contains-map_cases, Contains-none, take_push}
 use Rattle.mt_kept.proofs.Keeping.{even_half, is_open_is}
 use Rattle.mt_kept.proofs.Windows.{IsLossSecond-sym, IsSpanOfLoss-sym, is_open_at, one_span}
@@ -222,13 +222,10 @@ module _ (shot : Shot) (slot : ℕ) (f : Flight) (finds : List OpenPair) (sound 
       (subst (λ (k : ℕ). IsSpanOfLoss rules mine.path t.path shot.now (window_end shot.now) k hit.last) (sym s.first)
       (subst (λ (k : ℕ). IsSpanOfLoss rules mine.path t.path shot.now (window_end shot.now) s.conflict.first k) (sym s.last) w.span))
 
-  to : (hit : Hit) → IsHitOfOne finds call shot.now hit → IsHit shot.setup (state_in shot) call (arc_value f.actual.strand) hit
-  to hit one =
-      let o = one.pair in
-      let s = hit_back o call shot.now hit one.is in
-      let facts = are.sound o one.held in
-      let pair = facts.1 in
-      let shown = facts.2 s.opened in
+  -- one that shows a hit of its slot shows one of mine
+  to_shown : (o : OpenPair) (hit : Hit) → IsShownBy o call shot.now hit → TouchesSlot slot o.edge → IsPair rules after o.edge
+      → IsShown rules after shot.now o.edge o.conflict → IsHit shot.setup (state_in shot) call (arc_value f.actual.strand) hit
+  to_shown o hit s touches pair shown =
       let found : Either shown.left shown.right s.conflict = subst (λ (x : Option Conflict). IsFoundOf rules shot.now shown.left shown.right x) s.shown shown.found in
       let a = half_even o.edge.a s.even_a in
       let b = half_even o.edge.b s.even_b in
@@ -255,7 +252,54 @@ module _ (shot : Shot) (slot : ℕ) (f : Flight) (finds : List OpenPair) (sound 
       shown_is_hit o hit s (o.edge.a / 2) shown.left away (ap (at after) (sym a) ∙ shown.left_is)
       (λ same. apart (same ∙ sym (ap (λ (u : NamedTrajectory). u.call) mine_is)))
       (swap shown.left mine s.conflict (subst (λ (u : NamedTrajectory). Either shown.left u s.conflict) mine_is found)))
-      facts.0
+      touches
+
+  to : (hit : Hit) → IsHitOfOne finds call shot.now hit → IsHit shot.setup (state_in shot) call (arc_value f.actual.strand) hit
+  to hit one =
+      let s = hit_back one.pair call shot.now hit one.is in
+      let facts = are.sound one.pair one.held in
+      to_shown one.pair hit s facts.0 facts.1 (facts.2 s.opened)
+
+  -- a pair of two places is open where their trajectories have a loss second in the window
+  opened_of : (i j k : ℕ) (s t : NamedTrajectory) (o : OpenPair) → o.edge.a ≡ 2 * i → o.edge.b ≡ 2 * j → at after (2 * i) ≡ Some s → at after (2 * j) ≡ Some t
+      → shot.now ≤ k → k < window_end shot.now → IsLossSecond rules s.path t.path k → IsPair rules after o.edge → IsOpen shot.now o.edge
+  opened_of i j k s t o a_is b_is s_is t_is low high loss pair =
+      let l : Some pair.left ≡ Some s = sym pair.left_is ∙ ap (at after) a_is ∙ s_is in
+      let r : Some pair.right ≡ Some t = sym pair.right_is ∙ ap (at after) b_is ∙ t_is in
+      let left : pair.left ≡ s = cc in
+      let right : pair.right ≡ t = cc in
+      let loss_pair : IsLossSecond rules pair.left.path pair.right.path k =
+      subst (λ (u : NamedTrajectory). IsLossSecond rules u.path pair.right.path k) (sym left)
+      (subst (λ (u : NamedTrajectory). IsLossSecond rules s.path u.path k) (sym right) loss) in
+      is_open_at rules pair.left.path pair.right.path shot.now k o.edge sound.early pair.span low high loss_pair
+
+  -- and it shows what is found of them
+  found_of : (i j : ℕ) (s t : NamedTrajectory) (o : OpenPair) → o.edge.a ≡ 2 * i → o.edge.b ≡ 2 * j → at after (2 * i) ≡ Some s → at after (2 * j) ≡ Some t
+      → IsShown rules after shot.now o.edge o.conflict → IsFoundOf rules shot.now s t o.conflict
+  found_of i j s t o a_is b_is s_is t_is shown =
+      let l : Some shown.left ≡ Some s = sym shown.left_is ∙ ap (at after) a_is ∙ s_is in
+      let r : Some shown.right ≡ Some t = sym shown.right_is ∙ ap (at after) b_is ∙ t_is in
+      let left : shown.left ≡ s = cc in
+      let right : shown.right ≡ t = cc in
+      subst (λ (u : NamedTrajectory). IsFoundOf rules shot.now u t o.conflict) left
+      (subst (λ (u : NamedTrajectory). IsFoundOf rules shot.now shown.left u o.conflict) right shown.found)
+
+  found_in : (i j k : ℕ) (s t : NamedTrajectory) (o : OpenPair) (e : Edge) → Contains finds o → edge_of o ≡ e → (e.a ≡ 2 * i) × (e.b ≡ 2 * j)
+      → at after (2 * i) ≡ Some s → at after (2 * j) ≡ Some t → shot.now ≤ k → k < window_end shot.now → IsLossSecond rules s.path t.path k
+      → IsFoundAt rules shot.now finds i j s t
+  found_in i j k s t o e held is ends s_is t_is low high loss =
+      let facts = are.sound o held in
+      let a_is : o.edge.a ≡ 2 * i = ap (λ (e : Edge). e.a) is ∙ ends.0 in
+      let b_is : o.edge.b ≡ 2 * j = ap (λ (e : Edge). e.b) is ∙ ends.1 in
+      let opened : IsOpen shot.now o.edge = opened_of i j k s t o a_is b_is s_is t_is low high loss facts.1 in
+      record {
+        pair = o;
+        held = held;
+        a_is = a_is;
+        b_is = b_is;
+        opened = opened;
+        found = found_of i j s t o a_is b_is s_is t_is (facts.2 opened);
+      }
 
   found_at : (i j k : ℕ) (s t : NamedTrajectory) → 2 * i < 2 * j → (i ≡ slot) ⊎ (j ≡ slot) → at after (2 * i) ≡ Some s → at after (2 * j) ≡ Some t
       → s.call ≢ t.call → shot.now ≤ k → k < window_end shot.now → IsLossSecond rules s.path t.path k → IsFoundAt rules shot.now finds i j s t
@@ -265,33 +309,7 @@ module _ (shot : Shot) (slot : ℕ) (f : Flight) (finds : List OpenPair) (sound 
       let joined = are.complete (2 * i) (2 * j) k before
       (⊎_elim (λ e. inl (even_half i ∙ e)) (λ e. inr (even_half j ∙ e)) touches) lost in
       let x = Contains-map_cases edge_of finds joined.edge joined.held in
-      let o = x.of in
-      let facts = are.sound o x.held in
-      let a_is : o.edge.a ≡ 2 * i = ap (λ (e : Edge). e.a) x.is ∙ joined.ends.0 in
-      let b_is : o.edge.b ≡ 2 * j = ap (λ (e : Edge). e.b) x.is ∙ joined.ends.1 in
-      let pair = facts.1 in
-      let l : Some pair.left ≡ Some s = sym pair.left_is ∙ ap (at after) a_is ∙ s_is in
-      let r : Some pair.right ≡ Some t = sym pair.right_is ∙ ap (at after) b_is ∙ t_is in
-      let left : pair.left ≡ s = cc in
-      let right : pair.right ≡ t = cc in
-      let loss_pair : IsLossSecond rules pair.left.path pair.right.path k =
-      subst (λ (u : NamedTrajectory). IsLossSecond rules u.path pair.right.path k) (sym left)
-      (subst (λ (u : NamedTrajectory). IsLossSecond rules s.path u.path k) (sym right) loss) in
-      let opened = is_open_at rules pair.left.path pair.right.path shot.now k o.edge early pair.span low high loss_pair in
-      let shown = facts.2 opened in
-      let sl : Some shown.left ≡ Some s = sym shown.left_is ∙ ap (at after) a_is ∙ s_is in
-      let sr : Some shown.right ≡ Some t = sym shown.right_is ∙ ap (at after) b_is ∙ t_is in
-      let same_left : shown.left ≡ s = cc in
-      let same_right : shown.right ≡ t = cc in
-      record {
-        pair = o;
-        held = x.held;
-        a_is = a_is;
-        b_is = b_is;
-        opened = opened;
-        found = subst (λ (u : NamedTrajectory). IsFoundOf rules shot.now u t o.conflict) same_left
-            (subst (λ (u : NamedTrajectory). IsFoundOf rules shot.now shown.left u o.conflict) same_right shown.found);
-      }
+      found_in i j k s t x.of joined.edge x.held x.is joined.ends s_is t_is low high loss
 
   even_is : (n i : ℕ) → n ≡ 2 * i → n % 2 ≡ 0
   even_is n i is = omega (arith, is)

@@ -1,6 +1,7 @@
-use Rattle.std.proofs.Common.{ap, is_some, sym, ◌∙◌, refl, arith}
+use Rattle.std.proofs.Common.{None, ap, is_some, sym, ◌∙◌, refl, arith}
 use Rattle.mt_probe.specs.Shot.{flight_at, records_in}
 use Rattle.mt_probe.specs.Shot.{state_of as state_in}
+use Rattle.mt_picture.proofs.Bounding.{none_within}
 use Rattle.mt_picture.proofs.Passing.{drop_there, few_entries, found_place, plain_other, tick_later}
 use Rattle.mt_picture.proofs.Ticking.{ticked}
 use Rattle.mt_picture.proofs.enter.enter_plain.Goals as goal
@@ -43,3 +44,8 @@ returns-in-Tick-clause-counted c =
     let shot = c.args.held.now.snapshot in
     rw c.in-Tick.is (ticked shot c.version-version.ensures.kept (record { setup = shot.setup; history = c.args.held.now.history.items }) c.in-Tick.now _ _ refl
     c.requires.held.stands c.tick.ensures.counted)
+
+pub returns-in_default-clause-counted : goal.returns-in_default-clause-counted
+returns-in_default-clause-counted c =
+    let shot = c.args.held.now.snapshot in
+    none_within (record { setup = shot.setup; history = c.args.held.now.history.items }) c.args.who c.args.command.now None _ _ refl

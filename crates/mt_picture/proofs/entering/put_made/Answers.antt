@@ -27,3 +27,6 @@ returns-clause-hits c = λ probed.
     ) at c.in_ok-change.ensures.finds in
     first_here shot c.args.slot c.args.flight c.in_ok-change.change.finds.items None c.version-version.ensures.kept c.requires.put.inside finds c.requires.put.was
     (rw (c.deref.ensures.value, c.now-now.ensures.now, none, c.callsign-call.ensures) at (c.in_ok-first.ensures.probed probed))
+
+pub returns-then-is_some-clause-free : goal.returns-then-is_some-clause-free
+returns-then-is_some-clause-free c = c.in_ok-first.ensures.free

@@ -1,5 +1,4 @@
-use Rattle.std.proofs.Common.{◌≡◌, ◌++◌, ◌∷◌, [], Some, ◌∙◌, List, subst, sym, refl, arith}
-use Rattle.std.proofs.lemmas.Grind.{common_steps}
+use Rattle.std.proofs.Common.{◌≡◌, ◌++◌, ◌∷◌, [], Some, ◌∙◌, List, subst, sym, refl}
 use Rattle.mt_base.specs.declared.command.Entry.{Entry}
 use Rattle.mt_picture.specs.Stamps.{IsPicture}
 use Rattle.mt_picture.proofs.Slotted.{places_same}
@@ -11,7 +10,7 @@ returns-clause-held c =
     let shot = c.args.held.now.snapshot in
     let h = c.args.held.now.history.items in
     let e : Entry = c.args.entry in
-    let entered : c.push_reserved.new.self.items ≡ h ++ e ∷ [] = grind (arith, common_steps) in
+    let entered : c.push_reserved.new.self.items ≡ h ++ e ∷ [] = cc in
     let places = c.requires.held.places_are ∙ sym (places_same shot.slots c.args.slot (Some c.args.flight) c.requires.first c.requires.second) in
     subst (λ (g : List Entry). IsPicture c.in_ok-snapshot.snapshot g c.args.held.now.kept) (sym entered)
     (picture_put shot c.in_ok-snapshot.snapshot h e c.args.slot c.args.flight c.requires.held.stands c.requires.put c.in_ok-snapshot.ensures.value

@@ -1,5 +1,4 @@
 use Rattle.std.proofs.Common.{◌≡◌, ◌++◌, ◌∷◌, [], Some, ap, length, List, subst, sym, arith}
-use Rattle.std.proofs.lemmas.Grind.{common_steps}
 use Rattle.mt_base.specs.declared.command.Entry.{Entry}
 use Rattle.mt_picture.specs.Stamps.{IsPicture}
 use Rattle.mt_picture.proofs.Slotted.{length_places, places_set}
@@ -18,7 +17,7 @@ returns-clause-held c =
     let shot = c.args.held.now.snapshot in
     let h = c.args.held.now.history.items in
     let e : Entry = c.args.entry in
-    let entered : c.push_reserved.new.self.items ≡ h ++ e ∷ [] = grind (arith, common_steps) in
+    let entered : c.push_reserved.new.self.items ≡ h ++ e ∷ [] = cc in
     let places = rw (
       c.requires.held.places_are,
       c.requires.first,

@@ -1,5 +1,4 @@
 use Rattle.std.proofs.Common.{◌≡◌, ◌++◌, ◌∷◌, [], List, None, ap, length, subst, sym, arith}
-use Rattle.std.proofs.lemmas.Grind.{common_steps}
 use Rattle.mt_base.specs.declared.command.Command.TheVariants.{Drop}
 use Rattle.mt_base.specs.declared.command.Entry.{Entry}
 use Rattle.mt_probe.specs.Shot.{flight_at}
@@ -23,7 +22,7 @@ returns-clause-held c =
     let e : Entry = record { who = c.args.who; command = Drop c.args.call } in
     let it = there (flight_at shot c.args.slot) c.args.call c.requires.there in
     let inside = filled_inside shot.slots c.args.slot it.flight it.at_is in
-    let entered : c.push_reserved.new.self.items ≡ h ++ e ∷ [] = grind (arith, common_steps) in
+    let entered : c.push_reserved.new.self.items ≡ h ++ e ∷ [] = cc in
     let places = rw (c.requires.held.places_are, ← places_set shot.slots c.args.slot None inside) at c.in_ok-remove.ensures.ok in
     subst (λ (g : List Entry). IsPicture c.in_ok-snapshot.snapshot g c.remove.new.self) (sym entered)
     (picture_drop shot c.in_ok-snapshot.snapshot h c.args.who c.args.slot c.args.call it.flight c.args.held.now.kept c.remove.new.self c.requires.held
