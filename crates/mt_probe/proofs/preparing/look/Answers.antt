@@ -1,4 +1,4 @@
-use Rattle.std.proofs.Common.{◌≡◌, None, ℕ, option_copied, refl, subst}
+use Rattle.std.proofs.Common.{◌≡◌, None, ℕ, option_copied, refl, rules, subst}
 use Rattle.std.specs.Prelude.{option_and_then}
 use Rattle.mt_base.specs.declared.conflict.Kind.TheVariants.{Actual}
 use Rattle.mt_predict.specs.declared.judging.Looked.{Looked}
@@ -26,3 +26,6 @@ returns-clause-strand c =
           let looked : Looked = record { now = c.now.result; held = 0; entries = 0; flight = None; strand = c.match-slot-2.strand } in
           rw w.flight-is (nothing_looked shot.setup looked c.args.command.now refl)
     ]
+
+pub returns-clause-look : goal.returns-clause-look
+returns-clause-look c = search rules

@@ -15,3 +15,7 @@ returns-in_ok-prep_of-in-Ok-clause-counted c =
 
 pub returns-in-Err-clause-counted : goal.returns-in-Err-clause-counted
 returns-in-Err-clause-counted c = few_quiet c.args.snapshot.now c.args.who c.args.command.now c.args.tests.now
+
+-- the refusal names the version of the snapshot
+pub returns-in-Err-clause-refused : goal.returns-in-Err-clause-refused
+returns-in-Err-clause-refused c = (rw c.in-Err.is at c.in_ok-card.ensures, c.version.ensures.version)
