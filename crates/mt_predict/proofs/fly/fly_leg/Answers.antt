@@ -1,7 +1,11 @@
-use Rattle.std.proofs.Common.{◌-◌, length, refl, arith}
+use Rattle.std.proofs.Common.{◌-◌, length, refl, arith, rules}
 use Rattle.mt_predict.specs.Manners.{manner}
 use Rattle.mt_predict.proofs.Legs.{IsNext, first_bounded, margin_within, place_flown, rows_flown, stretch_bounded, stretch_flown, stretch_follows}
 use Rattle.mt_predict.proofs.fly.fly_leg.Goals as goal
+
+-- all seconds of the leg are left
+pub loop-left-init : goal.loop-left-init
+loop-left-init c = search rules
 
 pub row_on-row-requires-clause-bounded : goal.row_on-row-requires-clause-bounded
 row_on-row-requires-clause-bounded c = first_bounded _ _ _ _ (omega (arith, c.loop-left-test.true)) c.loop-left.invariant.bounded
