@@ -1,5 +1,5 @@
 use Rattle.mt_base.specs.Tables.{setup_with}
-use Rattle.std.proofs.Common.{◌∙◌, ap}
+use Rattle.std.proofs.Common.{◌∙◌, ap, rules}
 use Rattle.mt_base.specs.Picture.{State}
 use Rattle.mt_machine.specs.contracts.plain.Plain.{the_view}
 use Rattle.mt_machine.proofs.Effects.{filled_is, passed, sound_counted}
@@ -17,3 +17,10 @@ pub returns-clause-sound : goal.returns-clause-sound
 returns-clause-sound c = sound_counted (setup_with c.args.rules.now c.args.tables.now) c.args.self.now (the_view c.self.inside)
     c.args.entry.now c.requires.decided c.requires.rules (rw c.self.view_is c.in_ok-verdict.ensures.sound)
     (ap (λ (s : State). s.version) (c.self.view_is ∙ c.in_ok-verdict.ensures.ok))
+
+-- the version is that with the entry
+pub returns-clause-entered : goal.returns-clause-entered
+returns-clause-entered c = search rules
+
+pub returns-clause-ok : goal.returns-clause-ok
+returns-clause-ok c = search rules

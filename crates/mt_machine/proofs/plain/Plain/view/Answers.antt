@@ -1,5 +1,5 @@
 use Rattle.mt_base.specs.Tables.{setup_with}
-use Rattle.std.proofs.Common.{sym, ◌∙◌, option_copied, ap}
+use Rattle.std.proofs.Common.{sym, ◌∙◌, option_copied, ap, rules}
 use Rattle.std.specs.Str.{bytes_eq}
 use Rattle.mt_base.specs.Bounds.{IsSoundFlight}
 use Rattle.mt_machine.proofs.Found.{found}
@@ -9,3 +9,7 @@ pub strand_of-requires-clause-sound : goal.strand_of-requires-clause-sound
 strand_of-requires-clause-sound c = found (IsSoundFlight (setup_with c.args.rules.now c.args.tables.now))
     (λ flight. bytes_eq flight.call c.args.call) c.args.self.now.records c.in-Some.flight.now c.requires.sound.sound
     (sym c.flight.ensures ∙ ap option_copied c.in-Some.is)
+
+-- the second that was asked for, or the moment
+pub returns : goal.returns
+returns c = search rules
