@@ -26,7 +26,7 @@ use Rattle.mt_read.specs.declared.request.Request.{Request}
 use Rattle.mt_read.specs.declared.request.Request.TheVariants as requests
 use Rattle.mt_write.specs.declared.reply.Reply.{Reply}
 use Rattle.mt_write.specs.declared.reply.Reply.TheVariants as replies
-use Rattle.mt_session.specs.Following.{job_if, job_of}
+use Rattle.mt_session.specs.Following.{IsDone, Standing, job_if, job_of}
 use Rattle.mt_session.specs.Served.{IsAcceptedOf, IsAnswered, IsCommanded, IsGiven, IsLeft, IsRepliedTo, IsServed, IsStarvedOf, IsTold, IsTried, entered_reply, is_empty}
 use Rattle.mt_session.specs.Session.{Session, asked, or_reply, place_of, with_seat}
 
@@ -151,8 +151,11 @@ given_job a reply given for = ⊎_elim
 pub long_replied : (s : Session) (line : List ℕ) → 65536 < length line → IsRepliedTo s line replies.Long s
 long_replied s line long = inl (rw (lt-ltb 65536 (length line) long) (record { reply_is = refl; next_is = refl }))
 
-pub long_job : (s : Session) (line : List ℕ) → 65536 < length line → job_of (asked s.role line) replies.Long ≡ None
+long_job : (s : Session) (line : List ℕ) → 65536 < length line → job_of (asked s.role line) replies.Long ≡ None
 long_job s line long = rw (lt-ltb 65536 (length line) long) refl
+
+pub long_done : (s : Session) (line : List ℕ) → 65536 < length line → (w : Standing) → IsDone (job_of (asked s.role line) replies.Long) w w
+long_done s line long w = rw (long_job s line long) refl
 
 -- what a line that isn't too long asks for
 asked_as : (s : Session) (line : List ℕ) (a : Result (ℕ × Request) LineNo) → length line ≤ 65536 → a ≡ read_as (place_of s.role) usual_rules line

@@ -1,7 +1,8 @@
-use Rattle.std.proofs.Common.{refl}
+use Rattle.std.proofs.Math.Nat.{le_trans}
 use Rattle.mt_io.specs.declared.line.LineFault.TheVariants as faults
 use Rattle.mt_write.specs.declared.reply.Reply.TheVariants as replies
-use Rattle.mt_session.proofs.Replying.{long_job, long_replied}
+use Rattle.mt_session.proofs.Stays.{stays_itself, stays_on}
+use Rattle.mt_session.proofs.Replying.{long_done, long_replied}
 use Rattle.mt_session.proofs.Turning.{at_cut, at_end, at_fault, at_last, at_line}
 use Rattle.mt_session.proofs.over_link.turn.Goals as goal
 
@@ -21,7 +22,8 @@ returns-in-Ok-false-clause-turned g c =
     let held = g.met.L.Duplex.reading_keeps_held _ _ c.next.ensures.kept in
     let gives = rw (c.in-Ok-false.field-0-test, held) at c.in-Ok-false.ensures.given in
     λ start before held_first so_far. rw left (at_line start before _ _ held_first _ _ _ _ _ c.in-Ok-Text.line.now c.answer-reply.result.0 c.answer-reply.new.self.session
-    so_far line.1 c.answer-reply.ensures.replied (λ _. line.0) _ gives (rw c.answer-reply.ensures.job at c.follow.ensures.done))
+    so_far line.1 c.answer-reply.ensures.replied (λ _. line.0)
+    (record { session = c.follow.new.self.session; jobs = g.O.Outbox.jobs c.follow.new.jobs }) gives (rw c.answer-reply.ensures.job at c.follow.ensures.done))
 
 pub returns-in-Ok-Text-clause-turned : goal.returns-in-Ok-Text-clause-turned
 returns-in-Ok-Text-clause-turned g c =
@@ -39,7 +41,8 @@ returns-in-Ok-false-give-clause-turned g c =
     let held = g.met.L.Duplex.reading_keeps_held _ _ c.next.ensures.kept in
     let gives = rw (c.in-Ok-false-give.field-0-test, held) at c.in-Ok-false-give.ensures.given in
     λ start before held_first so_far. rw left (at_line start before _ _ held_first _ _ _ _ _ line replies.Long c.args.serving.now.session
-    so_far takes (long_replied c.args.serving.now.session line long) (λ not_brief. cc) _ gives (rw (long_job c.args.serving.now.session line long) refl))
+    so_far takes (long_replied c.args.serving.now.session line long) (λ not_brief. cc)
+    (record { session = c.args.serving.now.session; jobs = g.O.Outbox.jobs c.args.jobs.now }) gives (long_done c.args.serving.now.session line long _))
 
 pub returns-in-Ok-Long-clause-turned : goal.returns-in-Ok-Long-clause-turned
 returns-in-Ok-Long-clause-turned g c =
@@ -67,3 +70,147 @@ returns-clause-turned g c =
     let stop = rw (c.in-Err-Spent.is, c.in-Err-Spent.field-0-is) at c.next.follows.holds-at-none in
     let held = g.met.L.Duplex.reading_keeps_held _ _ c.next.ensures.kept in
     λ start before held_first so_far. rw held (at_fault start before _ _ held_first _ _ _ _ faults.Spent so_far stop)
+
+pub returns-in-Ok-true-clause-room : goal.returns-in-Ok-true-clause-room
+returns-in-Ok-true-clause-room g c = c.give.ensures.room
+
+pub returns-in-Ok-true-clause-later : goal.returns-in-Ok-true-clause-later
+returns-in-Ok-true-clause-later g c = (
+  le_trans c.next.ensures.later (g.met.L.Duplex.writing_keeps_count _ _ c.give.ensures.kept),
+  le_trans (g.met.L.Duplex.reading_keeps_count _ _ c.next.ensures.kept) c.give.ensures.cause.later,
+)
+
+pub returns-in-Ok-false-clause-room : goal.returns-in-Ok-false-clause-room
+returns-in-Ok-false-clause-room g c = c.give.ensures.room
+
+pub returns-in-Ok-false-clause-later : goal.returns-in-Ok-false-clause-later
+returns-in-Ok-false-clause-later g c = (
+  le_trans c.next.ensures.later (g.met.L.Duplex.writing_keeps_count _ _ c.give.ensures.kept),
+  le_trans (g.met.L.Duplex.reading_keeps_count _ _ c.next.ensures.kept) c.give.ensures.cause.later,
+)
+
+pub returns-in-Ok-Text-clause-room : goal.returns-in-Ok-Text-clause-room
+returns-in-Ok-Text-clause-room g c = c.give.ensures.room
+
+pub returns-in-Ok-Text-clause-later : goal.returns-in-Ok-Text-clause-later
+returns-in-Ok-Text-clause-later g c = (
+  le_trans c.next.ensures.later (g.met.L.Duplex.writing_keeps_count _ _ c.give.ensures.kept),
+  le_trans (g.met.L.Duplex.reading_keeps_count _ _ c.next.ensures.kept) c.give.ensures.cause.later,
+)
+
+pub returns-in-Ok-true-give-clause-room : goal.returns-in-Ok-true-give-clause-room
+returns-in-Ok-true-give-clause-room g c = c.give-in-Ok-Long.ensures.room
+
+pub returns-in-Ok-true-give-clause-later : goal.returns-in-Ok-true-give-clause-later
+returns-in-Ok-true-give-clause-later g c = (
+  le_trans c.next.ensures.later (g.met.L.Duplex.writing_keeps_count _ _ c.give-in-Ok-Long.ensures.kept),
+  le_trans (g.met.L.Duplex.reading_keeps_count _ _ c.next.ensures.kept) c.give-in-Ok-Long.ensures.cause.later,
+)
+
+pub returns-in-Ok-false-give-clause-room : goal.returns-in-Ok-false-give-clause-room
+returns-in-Ok-false-give-clause-room g c = c.give-in-Ok-Long.ensures.room
+
+pub returns-in-Ok-false-give-clause-later : goal.returns-in-Ok-false-give-clause-later
+returns-in-Ok-false-give-clause-later g c = (
+  le_trans c.next.ensures.later (g.met.L.Duplex.writing_keeps_count _ _ c.give-in-Ok-Long.ensures.kept),
+  le_trans (g.met.L.Duplex.reading_keeps_count _ _ c.next.ensures.kept) c.give-in-Ok-Long.ensures.cause.later,
+)
+
+pub returns-in-Ok-Long-clause-room : goal.returns-in-Ok-Long-clause-room
+returns-in-Ok-Long-clause-room g c = c.give-in-Ok-Long.ensures.room
+
+pub returns-in-Ok-Long-clause-later : goal.returns-in-Ok-Long-clause-later
+returns-in-Ok-Long-clause-later g c = (
+  le_trans c.next.ensures.later (g.met.L.Duplex.writing_keeps_count _ _ c.give-in-Ok-Long.ensures.kept),
+  le_trans (g.met.L.Duplex.reading_keeps_count _ _ c.next.ensures.kept) c.give-in-Ok-Long.ensures.cause.later,
+)
+
+pub returns-in-Ok-End-clause-room : goal.returns-in-Ok-End-clause-room
+returns-in-Ok-End-clause-room g c = c.requires.room
+
+pub returns-in-Ok-End-clause-later : goal.returns-in-Ok-End-clause-later
+returns-in-Ok-End-clause-later g c = (c.next.ensures.later, g.met.L.Duplex.reading_keeps_count _ _ c.next.ensures.kept)
+
+pub returns-in-Err-ReadFault-clause-room : goal.returns-in-Err-ReadFault-clause-room
+returns-in-Err-ReadFault-clause-room g c = c.requires.room
+
+pub returns-in-Err-ReadFault-clause-later : goal.returns-in-Err-ReadFault-clause-later
+returns-in-Err-ReadFault-clause-later g c = (c.next.ensures.later, g.met.L.Duplex.reading_keeps_count _ _ c.next.ensures.kept)
+
+pub returns-clause-room : goal.returns-clause-room
+returns-clause-room g c = c.requires.room
+
+pub returns-clause-later : goal.returns-clause-later
+returns-clause-later g c = (c.next.ensures.later, g.met.L.Duplex.reading_keeps_count _ _ c.next.ensures.kept)
+
+pub returns-in-Ok-true-clause-on : goal.returns-in-Ok-true-clause-on
+returns-in-Ok-true-clause-on g c = c.answer-reply.ensures.on
+
+pub returns-in-Ok-Text-clause-on : goal.returns-in-Ok-Text-clause-on
+returns-in-Ok-Text-clause-on g c = c.answer-reply.ensures.on
+
+pub returns-in-Ok-false-clause-on : goal.returns-in-Ok-false-clause-on
+returns-in-Ok-false-clause-on g c = stays_on _ _ _ c.answer-reply.ensures.on c.follow.ensures.on
+
+pub returns-in-Ok-true-give-clause-on : goal.returns-in-Ok-true-give-clause-on
+returns-in-Ok-true-give-clause-on g c = stays_itself _
+
+pub returns-in-Ok-false-give-clause-on : goal.returns-in-Ok-false-give-clause-on
+returns-in-Ok-false-give-clause-on g c = stays_itself _
+
+pub returns-in-Ok-Long-clause-on : goal.returns-in-Ok-Long-clause-on
+returns-in-Ok-Long-clause-on g c = stays_itself _
+
+pub returns-in-Ok-End-clause-on : goal.returns-in-Ok-End-clause-on
+returns-in-Ok-End-clause-on g c = stays_itself _
+
+pub returns-in-Err-ReadFault-clause-on : goal.returns-in-Err-ReadFault-clause-on
+returns-in-Err-ReadFault-clause-on g c = stays_itself _
+
+pub returns-clause-on : goal.returns-clause-on
+returns-clause-on g c = stays_itself _
+
+pub returns-in-Ok-true-clause-read : goal.returns-in-Ok-true-clause-read
+returns-in-Ok-true-clause-read g c = λ is. cc
+
+pub returns-in-Ok-false-clause-read : goal.returns-in-Ok-false-clause-read
+returns-in-Ok-false-clause-read g c = λ is. cc
+
+pub returns-in-Ok-Text-clause-read : goal.returns-in-Ok-Text-clause-read
+returns-in-Ok-Text-clause-read g c = λ is. cc
+
+pub returns-in-Ok-true-give-clause-read : goal.returns-in-Ok-true-give-clause-read
+returns-in-Ok-true-give-clause-read g c = λ is. cc
+
+pub returns-in-Ok-false-give-clause-read : goal.returns-in-Ok-false-give-clause-read
+returns-in-Ok-false-give-clause-read g c = λ is. cc
+
+pub returns-in-Ok-Long-clause-read : goal.returns-in-Ok-Long-clause-read
+returns-in-Ok-Long-clause-read g c = λ is. cc
+
+pub returns-in-Ok-End-clause-read : goal.returns-in-Ok-End-clause-read
+returns-in-Ok-End-clause-read g c = λ is. cc
+
+pub returns-clause-read : goal.returns-clause-read
+returns-clause-read g c = λ is. cc
+
+pub returns-in-Ok-true-clause-write : goal.returns-in-Ok-true-clause-write
+returns-in-Ok-true-clause-write g c = λ is. cc
+
+pub returns-in-Ok-false-clause-write : goal.returns-in-Ok-false-clause-write
+returns-in-Ok-false-clause-write g c = λ is. cc
+
+pub returns-in-Ok-true-give-clause-write : goal.returns-in-Ok-true-give-clause-write
+returns-in-Ok-true-give-clause-write g c = λ is. cc
+
+pub returns-in-Ok-false-give-clause-write : goal.returns-in-Ok-false-give-clause-write
+returns-in-Ok-false-give-clause-write g c = λ is. cc
+
+pub returns-in-Ok-End-clause-write : goal.returns-in-Ok-End-clause-write
+returns-in-Ok-End-clause-write g c = λ is. cc
+
+pub returns-in-Err-ReadFault-clause-write : goal.returns-in-Err-ReadFault-clause-write
+returns-in-Err-ReadFault-clause-write g c = λ is. cc
+
+pub returns-clause-write : goal.returns-clause-write
+returns-clause-write g c = λ is. cc

@@ -1,4 +1,4 @@
-use Rattle.std.proofs.Common.{inl, refl, Ok, Err}
+use Rattle.std.proofs.Common.{inl, inr, refl, Ok, Err}
 use Rattle.mt_session.proofs.serving.Serving.probe.Goals as goal
 
 pub returns-in-Ok-copied-clause-probed : goal.returns-in-Ok-copied-clause-probed
@@ -27,4 +27,13 @@ returns-in-Err-clause-probed g c =
           next_is = c.in-Err.ensures.kept;
         },
       );
+    })
+
+-- with no memory for the hits no probe is kept
+pub returns-in_default-clause-probed : goal.returns-in_default-clause-probed
+returns-in_default-clause-probed g c =
+    inr (record {
+      seat = c.what_if.new.self.session.seat;
+      left = c.in-Ok.ensures.probed.seen.looked;
+      given = record { reply_is = refl; next_is = c.in-Ok.ensures.kept };
     })
