@@ -1,4 +1,5 @@
-use Rattle.std.proofs.Common.{◌≡◌, ◌∙◌, ap, subst}
+use Rattle.std.proofs.Common.{◌≡◌, ◌∙◌, ap, arith, subst}
+use Rattle.std.proofs.lemmas.Grind.{common_steps}
 use Rattle.mt_base.specs.Tables.{Setup}
 use Rattle.mt_base.specs.declared.command.Entry.{Entry}
 use Rattle.mt_turn.specs.declared.view.Phase.TheVariants.{Holds}
@@ -15,6 +16,10 @@ publish-result-requires-clause-free g c =
     let begins = c.enter-held.ensures.lent.begins in
     rw (c.value_mut.ensures.value, fixed) (free_on c.args.self.now.fixed c.args.seat.now.view.seen c.enter-held.result.value.history c.args.command.now
     (begins.0, begins.1) c.requires.in_time c.requires.free)
+
+-- it was prepared for this seat
+pub publish-result-requires-clause-prepared : goal.publish-result-requires-clause-prepared
+publish-result-requires-clause-prepared g c = grind (arith, common_steps)
 
 pub leave-requires-clause-holds : goal.leave-requires-clause-holds
 leave-requires-clause-holds g c = has_turn c.args.seat.now.view c.enter-held.new.seat.view c.enter-held.result.lent.history c.enter-held.ensures.holds
