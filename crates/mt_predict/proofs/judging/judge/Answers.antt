@@ -11,6 +11,9 @@ use Rattle.mt_predict.proofs.judging.judge.Goals as goal
 pub returns-in-Plan : goal.returns-in-Plan
 returns-in-Plan c = rw c.in-Plan.is (c.check_plan.ensures c.args.who c.in-Plan.call c.in-Plan.at)
 
+pub returns-in-External : goal.returns-in-External
+returns-in-External c = rw c.in-External.is c.check_external.ensures
+
 pub returns-in-Drop : goal.returns-in-Drop
 returns-in-Drop c = rw c.in-Drop.is (c.check_drop.ensures c.args.who c.args.tables.now)
 
