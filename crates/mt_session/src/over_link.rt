@@ -1,7 +1,9 @@
 //! A session, from its first line to its last.
 ghost use Rattle.std.specs.Prelude.{◌≡◌, ◌≤◌, ◌^◌, ◌+◌, ℕ, List, None, Some, IfNone, vec_capacity};
 ghost use Rattle.std.specs.declared.option.Option.{Option};
-ghost use Rattle.mt_io.specs.Causes.{Rose};
+ghost use Rattle.mt_io.specs.Causes.{HasCause, Rose};
+ghost use Rattle.mt_lines.specs.Fit.{IsFit};
+ghost use Rattle.mt_lines.specs.Given.{Gives};
 ghost use Rattle.std.specs.Thread.{IsSync};
 ghost use Rattle.mt_session.specs.Following.{Standing};
 ghost use Rattle.mt_session.specs.Keeping.{StaysOn};
@@ -13,7 +15,7 @@ ghost use Rattle.mt_session.specs.declared.outcome.Outcome.TheVariants.{ReadFaul
 use crate::outcome::Outcome;
 use crate::serving::Serving;
 use mt_board::Board;
-use mt_io::{Duplex, Gate, Line, LineFault, LineReader};
+use mt_io::{Duplex, Gate, Line, LineFault, LineReader, Sink};
 use mt_lines::give;
 use mt_machine::Book;
 use mt_wire::Reply;
@@ -97,6 +99,23 @@ fn serve_link<R: Threads + Wait + Sync, B: Board, L: Duplex, O: Outbox, G: Gate>
     }
 }
 
+// Gives a reply, and is done with it.
+fn give_whole<K: Sink>(
+    alloc: Global,
+    reply: Reply,
+    room: &mut Vec<u8>,
+    output: &mut K,
+) -> Result<bool, mt_io::WriteFault>
+    requires room { 65536 ≤ vec_capacity room.old }
+    requires fit { IsFit reply }
+    ensures given { Gives reply result (K.held output.old) (K.held output.new) }
+    ensures room { 65536 ≤ vec_capacity room.new }
+    ensures cause { HasCause (K.faults output.old) (K.faults output.new) result }
+    ensures kept { K.writes_to output.old output.new }
+{
+    give(alloc, &reply, room, output)
+}
+
 // Reads one line and answers it; an outcome where the session ends with it.
 fn turn<R: Threads + Wait + Sync, B: Board, L: Duplex, O: Outbox, G: Gate>(
     rt: &R,
@@ -124,7 +143,7 @@ fn turn<R: Threads + Wait + Sync, B: Board, L: Duplex, O: Outbox, G: Gate>(
     match reader.next(link) {
         Ok(Line::Text(line)) => {
             let (reply, job) = serving.answer(rt, alloc, line, gate);
-            match give(alloc, &reply, room, link) {
+            match give_whole(alloc, reply, room, link) {
                 Ok(true) => Some(Outcome::Ended),
                 Ok(false) => {
                     serving.follow(rt, job, jobs, gate);
@@ -133,7 +152,7 @@ fn turn<R: Threads + Wait + Sync, B: Board, L: Duplex, O: Outbox, G: Gate>(
                 Err(_) => Some(Outcome::WriteFault),
             }
         }
-        Ok(Line::Long) => match give(alloc, &Reply::Long, room, link) {
+        Ok(Line::Long) => match give_whole(alloc, Reply::Long, room, link) {
             Ok(true) => Some(Outcome::Ended),
             Ok(false) => None,
             Err(_) => Some(Outcome::WriteFault),

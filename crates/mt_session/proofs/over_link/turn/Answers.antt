@@ -9,7 +9,7 @@ use Rattle.mt_session.proofs.over_link.turn.Goals as goal
 pub returns-in-Ok-true-clause-turned : goal.returns-in-Ok-true-clause-turned
 returns-in-Ok-true-clause-turned g c =
     let line = rw (c.in-Ok-Text.is, c.in-Ok-Text.field-0-is) at c.next.follows.holds-at-none in
-    let left = g.met.L.Duplex.writing_keeps_left _ _ c.give.ensures.kept in
+    let left = g.met.L.Duplex.writing_keeps_left _ _ c.give_whole.ensures.kept in
     let held = g.met.L.Duplex.reading_keeps_held _ _ c.next.ensures.kept in
     let gives = rw (c.in-Ok-true.field-0-test, held) at c.in-Ok-true.ensures.given in
     λ start before held_first so_far. rw left (at_last start before _ _ held_first _ _ _ _ _ c.in-Ok-Text.line.now c.answer-reply.result.0 c.answer-reply.new.self.session
@@ -18,38 +18,38 @@ returns-in-Ok-true-clause-turned g c =
 pub returns-in-Ok-false-clause-turned : goal.returns-in-Ok-false-clause-turned
 returns-in-Ok-false-clause-turned g c =
     let line = rw (c.in-Ok-Text.is, c.in-Ok-Text.field-0-is) at c.next.follows.holds-at-none in
-    let left = g.met.L.Duplex.writing_keeps_left _ _ c.give.ensures.kept in
+    let left = g.met.L.Duplex.writing_keeps_left _ _ c.give_whole.ensures.kept in
     let held = g.met.L.Duplex.reading_keeps_held _ _ c.next.ensures.kept in
     let gives = rw (c.in-Ok-false.field-0-test, held) at c.in-Ok-false.ensures.given in
     λ start before held_first so_far. rw left (at_line start before _ _ held_first _ _ _ _ _ c.in-Ok-Text.line.now c.answer-reply.result.0 c.answer-reply.new.self.session
     so_far line.1 c.answer-reply.ensures.replied (λ _. line.0)
     (record { session = c.follow.new.self.session; jobs = g.O.Outbox.jobs c.follow.new.jobs }) gives (rw c.answer-reply.ensures.job at c.follow.ensures.done))
 
-pub returns-in-Ok-Text-clause-turned : goal.returns-in-Ok-Text-clause-turned
-returns-in-Ok-Text-clause-turned g c =
+pub returns-in-Err-clause-turned : goal.returns-in-Err-clause-turned
+returns-in-Err-clause-turned g c =
     let line = rw (c.in-Ok-Text.is, c.in-Ok-Text.field-0-is) at c.next.follows.holds-at-none in
-    let left = g.met.L.Duplex.writing_keeps_left _ _ c.give.ensures.kept in
+    let left = g.met.L.Duplex.writing_keeps_left _ _ c.give_whole.ensures.kept in
     let held = g.met.L.Duplex.reading_keeps_held _ _ c.next.ensures.kept in
     let gives = rw held at c.in-Err.ensures.given in
     λ start before held_first so_far. rw left (at_cut start before _ _ held_first _ _ _ _ _ c.in-Ok-Text.line.now c.answer-reply.result.0 c.answer-reply.new.self.session
     so_far line.1 c.answer-reply.ensures.replied (λ _. line.0) _ gives)
 
-pub returns-in-Ok-false-give-clause-turned : goal.returns-in-Ok-false-give-clause-turned
-returns-in-Ok-false-give-clause-turned g c =
+pub returns-in-Ok-false-give_whole-clause-turned : goal.returns-in-Ok-false-give_whole-clause-turned
+returns-in-Ok-false-give_whole-clause-turned g c =
     let (line, long, takes) = rw (c.in-Ok-Long.is, c.in-Ok-Long.field-0-is) at c.next.follows.holds-at-none in
-    let left = g.met.L.Duplex.writing_keeps_left _ _ c.give-in-Ok-Long.ensures.kept in
+    let left = g.met.L.Duplex.writing_keeps_left _ _ c.give_whole-in-Ok-Long.ensures.kept in
     let held = g.met.L.Duplex.reading_keeps_held _ _ c.next.ensures.kept in
-    let gives = rw (c.in-Ok-false-give.field-0-test, held) at c.in-Ok-false-give.ensures.given in
+    let gives = rw (c.in-Ok-false-give_whole.field-0-test, held) at c.in-Ok-false-give_whole.ensures.given in
     λ start before held_first so_far. rw left (at_line start before _ _ held_first _ _ _ _ _ line replies.Long c.args.serving.now.session
     so_far takes (long_replied c.args.serving.now.session line long) (λ not_brief. cc)
     (record { session = c.args.serving.now.session; jobs = g.O.Outbox.jobs c.args.jobs.now }) gives (long_done c.args.serving.now.session line long _))
 
-pub returns-in-Ok-Long-clause-turned : goal.returns-in-Ok-Long-clause-turned
-returns-in-Ok-Long-clause-turned g c =
+pub returns-in-Err-give_whole-clause-turned : goal.returns-in-Err-give_whole-clause-turned
+returns-in-Err-give_whole-clause-turned g c =
     let (line, long, takes) = rw (c.in-Ok-Long.is, c.in-Ok-Long.field-0-is) at c.next.follows.holds-at-none in
-    let left = g.met.L.Duplex.writing_keeps_left _ _ c.give-in-Ok-Long.ensures.kept in
+    let left = g.met.L.Duplex.writing_keeps_left _ _ c.give_whole-in-Ok-Long.ensures.kept in
     let held = g.met.L.Duplex.reading_keeps_held _ _ c.next.ensures.kept in
-    let gives = rw held at c.in-Err-give.ensures.given in
+    let gives = rw held at c.in-Err-give_whole.ensures.given in
     λ start before held_first so_far. rw left (at_cut start before _ _ held_first _ _ _ _ _ line replies.Long c.args.serving.now.session
     so_far takes (long_replied c.args.serving.now.session line long) (λ not_brief. cc) _ gives)
 
@@ -65,64 +65,64 @@ returns-in-Err-ReadFault-clause-turned g c =
     let held = g.met.L.Duplex.reading_keeps_held _ _ c.next.ensures.kept in
     λ start before held_first so_far. rw held (at_fault start before _ _ held_first _ _ _ _ faults.ReadFault so_far stop)
 
-pub returns-clause-turned : goal.returns-clause-turned
-returns-clause-turned g c =
+pub returns-in-Err-Spent-clause-turned : goal.returns-in-Err-Spent-clause-turned
+returns-in-Err-Spent-clause-turned g c =
     let stop = rw (c.in-Err-Spent.is, c.in-Err-Spent.field-0-is) at c.next.follows.holds-at-none in
     let held = g.met.L.Duplex.reading_keeps_held _ _ c.next.ensures.kept in
     λ start before held_first so_far. rw held (at_fault start before _ _ held_first _ _ _ _ faults.Spent so_far stop)
 
 pub returns-in-Ok-true-clause-room : goal.returns-in-Ok-true-clause-room
-returns-in-Ok-true-clause-room g c = c.give.ensures.room
+returns-in-Ok-true-clause-room g c = c.give_whole.ensures.room
 
 pub returns-in-Ok-true-clause-later : goal.returns-in-Ok-true-clause-later
 returns-in-Ok-true-clause-later g c = (
-  le_trans c.next.ensures.later (g.met.L.Duplex.writing_keeps_count _ _ c.give.ensures.kept),
-  le_trans (g.met.L.Duplex.reading_keeps_count _ _ c.next.ensures.kept) c.give.ensures.cause.later,
+  le_trans c.next.ensures.later (g.met.L.Duplex.writing_keeps_count _ _ c.give_whole.ensures.kept),
+  le_trans (g.met.L.Duplex.reading_keeps_count _ _ c.next.ensures.kept) c.give_whole.ensures.cause.later,
 )
 
 pub returns-in-Ok-false-clause-room : goal.returns-in-Ok-false-clause-room
-returns-in-Ok-false-clause-room g c = c.give.ensures.room
+returns-in-Ok-false-clause-room g c = c.give_whole.ensures.room
 
 pub returns-in-Ok-false-clause-later : goal.returns-in-Ok-false-clause-later
 returns-in-Ok-false-clause-later g c = (
-  le_trans c.next.ensures.later (g.met.L.Duplex.writing_keeps_count _ _ c.give.ensures.kept),
-  le_trans (g.met.L.Duplex.reading_keeps_count _ _ c.next.ensures.kept) c.give.ensures.cause.later,
+  le_trans c.next.ensures.later (g.met.L.Duplex.writing_keeps_count _ _ c.give_whole.ensures.kept),
+  le_trans (g.met.L.Duplex.reading_keeps_count _ _ c.next.ensures.kept) c.give_whole.ensures.cause.later,
 )
 
-pub returns-in-Ok-Text-clause-room : goal.returns-in-Ok-Text-clause-room
-returns-in-Ok-Text-clause-room g c = c.give.ensures.room
+pub returns-in-Err-clause-room : goal.returns-in-Err-clause-room
+returns-in-Err-clause-room g c = c.give_whole.ensures.room
 
-pub returns-in-Ok-Text-clause-later : goal.returns-in-Ok-Text-clause-later
-returns-in-Ok-Text-clause-later g c = (
-  le_trans c.next.ensures.later (g.met.L.Duplex.writing_keeps_count _ _ c.give.ensures.kept),
-  le_trans (g.met.L.Duplex.reading_keeps_count _ _ c.next.ensures.kept) c.give.ensures.cause.later,
+pub returns-in-Err-clause-later : goal.returns-in-Err-clause-later
+returns-in-Err-clause-later g c = (
+  le_trans c.next.ensures.later (g.met.L.Duplex.writing_keeps_count _ _ c.give_whole.ensures.kept),
+  le_trans (g.met.L.Duplex.reading_keeps_count _ _ c.next.ensures.kept) c.give_whole.ensures.cause.later,
 )
 
-pub returns-in-Ok-true-give-clause-room : goal.returns-in-Ok-true-give-clause-room
-returns-in-Ok-true-give-clause-room g c = c.give-in-Ok-Long.ensures.room
+pub returns-in-Ok-true-give_whole-clause-room : goal.returns-in-Ok-true-give_whole-clause-room
+returns-in-Ok-true-give_whole-clause-room g c = c.give_whole-in-Ok-Long.ensures.room
 
-pub returns-in-Ok-true-give-clause-later : goal.returns-in-Ok-true-give-clause-later
-returns-in-Ok-true-give-clause-later g c = (
-  le_trans c.next.ensures.later (g.met.L.Duplex.writing_keeps_count _ _ c.give-in-Ok-Long.ensures.kept),
-  le_trans (g.met.L.Duplex.reading_keeps_count _ _ c.next.ensures.kept) c.give-in-Ok-Long.ensures.cause.later,
+pub returns-in-Ok-true-give_whole-clause-later : goal.returns-in-Ok-true-give_whole-clause-later
+returns-in-Ok-true-give_whole-clause-later g c = (
+  le_trans c.next.ensures.later (g.met.L.Duplex.writing_keeps_count _ _ c.give_whole-in-Ok-Long.ensures.kept),
+  le_trans (g.met.L.Duplex.reading_keeps_count _ _ c.next.ensures.kept) c.give_whole-in-Ok-Long.ensures.cause.later,
 )
 
-pub returns-in-Ok-false-give-clause-room : goal.returns-in-Ok-false-give-clause-room
-returns-in-Ok-false-give-clause-room g c = c.give-in-Ok-Long.ensures.room
+pub returns-in-Ok-false-give_whole-clause-room : goal.returns-in-Ok-false-give_whole-clause-room
+returns-in-Ok-false-give_whole-clause-room g c = c.give_whole-in-Ok-Long.ensures.room
 
-pub returns-in-Ok-false-give-clause-later : goal.returns-in-Ok-false-give-clause-later
-returns-in-Ok-false-give-clause-later g c = (
-  le_trans c.next.ensures.later (g.met.L.Duplex.writing_keeps_count _ _ c.give-in-Ok-Long.ensures.kept),
-  le_trans (g.met.L.Duplex.reading_keeps_count _ _ c.next.ensures.kept) c.give-in-Ok-Long.ensures.cause.later,
+pub returns-in-Ok-false-give_whole-clause-later : goal.returns-in-Ok-false-give_whole-clause-later
+returns-in-Ok-false-give_whole-clause-later g c = (
+  le_trans c.next.ensures.later (g.met.L.Duplex.writing_keeps_count _ _ c.give_whole-in-Ok-Long.ensures.kept),
+  le_trans (g.met.L.Duplex.reading_keeps_count _ _ c.next.ensures.kept) c.give_whole-in-Ok-Long.ensures.cause.later,
 )
 
-pub returns-in-Ok-Long-clause-room : goal.returns-in-Ok-Long-clause-room
-returns-in-Ok-Long-clause-room g c = c.give-in-Ok-Long.ensures.room
+pub returns-in-Err-give_whole-clause-room : goal.returns-in-Err-give_whole-clause-room
+returns-in-Err-give_whole-clause-room g c = c.give_whole-in-Ok-Long.ensures.room
 
-pub returns-in-Ok-Long-clause-later : goal.returns-in-Ok-Long-clause-later
-returns-in-Ok-Long-clause-later g c = (
-  le_trans c.next.ensures.later (g.met.L.Duplex.writing_keeps_count _ _ c.give-in-Ok-Long.ensures.kept),
-  le_trans (g.met.L.Duplex.reading_keeps_count _ _ c.next.ensures.kept) c.give-in-Ok-Long.ensures.cause.later,
+pub returns-in-Err-give_whole-clause-later : goal.returns-in-Err-give_whole-clause-later
+returns-in-Err-give_whole-clause-later g c = (
+  le_trans c.next.ensures.later (g.met.L.Duplex.writing_keeps_count _ _ c.give_whole-in-Ok-Long.ensures.kept),
+  le_trans (g.met.L.Duplex.reading_keeps_count _ _ c.next.ensures.kept) c.give_whole-in-Ok-Long.ensures.cause.later,
 )
 
 pub returns-in-Ok-End-clause-room : goal.returns-in-Ok-End-clause-room
@@ -137,29 +137,29 @@ returns-in-Err-ReadFault-clause-room g c = c.requires.room
 pub returns-in-Err-ReadFault-clause-later : goal.returns-in-Err-ReadFault-clause-later
 returns-in-Err-ReadFault-clause-later g c = (c.next.ensures.later, g.met.L.Duplex.reading_keeps_count _ _ c.next.ensures.kept)
 
-pub returns-clause-room : goal.returns-clause-room
-returns-clause-room g c = c.requires.room
+pub returns-in-Err-Spent-clause-room : goal.returns-in-Err-Spent-clause-room
+returns-in-Err-Spent-clause-room g c = c.requires.room
 
-pub returns-clause-later : goal.returns-clause-later
-returns-clause-later g c = (c.next.ensures.later, g.met.L.Duplex.reading_keeps_count _ _ c.next.ensures.kept)
+pub returns-in-Err-Spent-clause-later : goal.returns-in-Err-Spent-clause-later
+returns-in-Err-Spent-clause-later g c = (c.next.ensures.later, g.met.L.Duplex.reading_keeps_count _ _ c.next.ensures.kept)
 
 pub returns-in-Ok-true-clause-on : goal.returns-in-Ok-true-clause-on
 returns-in-Ok-true-clause-on g c = c.answer-reply.ensures.on
 
-pub returns-in-Ok-Text-clause-on : goal.returns-in-Ok-Text-clause-on
-returns-in-Ok-Text-clause-on g c = c.answer-reply.ensures.on
+pub returns-in-Err-clause-on : goal.returns-in-Err-clause-on
+returns-in-Err-clause-on g c = c.answer-reply.ensures.on
 
 pub returns-in-Ok-false-clause-on : goal.returns-in-Ok-false-clause-on
 returns-in-Ok-false-clause-on g c = stays_on _ _ _ c.answer-reply.ensures.on c.follow.ensures.on
 
-pub returns-in-Ok-true-give-clause-on : goal.returns-in-Ok-true-give-clause-on
-returns-in-Ok-true-give-clause-on g c = stays_itself _
+pub returns-in-Ok-true-give_whole-clause-on : goal.returns-in-Ok-true-give_whole-clause-on
+returns-in-Ok-true-give_whole-clause-on g c = stays_itself _
 
-pub returns-in-Ok-false-give-clause-on : goal.returns-in-Ok-false-give-clause-on
-returns-in-Ok-false-give-clause-on g c = stays_itself _
+pub returns-in-Ok-false-give_whole-clause-on : goal.returns-in-Ok-false-give_whole-clause-on
+returns-in-Ok-false-give_whole-clause-on g c = stays_itself _
 
-pub returns-in-Ok-Long-clause-on : goal.returns-in-Ok-Long-clause-on
-returns-in-Ok-Long-clause-on g c = stays_itself _
+pub returns-in-Err-give_whole-clause-on : goal.returns-in-Err-give_whole-clause-on
+returns-in-Err-give_whole-clause-on g c = stays_itself _
 
 pub returns-in-Ok-End-clause-on : goal.returns-in-Ok-End-clause-on
 returns-in-Ok-End-clause-on g c = stays_itself _
@@ -167,8 +167,8 @@ returns-in-Ok-End-clause-on g c = stays_itself _
 pub returns-in-Err-ReadFault-clause-on : goal.returns-in-Err-ReadFault-clause-on
 returns-in-Err-ReadFault-clause-on g c = stays_itself _
 
-pub returns-clause-on : goal.returns-clause-on
-returns-clause-on g c = stays_itself _
+pub returns-in-Err-Spent-clause-on : goal.returns-in-Err-Spent-clause-on
+returns-in-Err-Spent-clause-on g c = stays_itself _
 
 pub returns-in-Ok-true-clause-read : goal.returns-in-Ok-true-clause-read
 returns-in-Ok-true-clause-read g c = λ is. cc
@@ -176,23 +176,23 @@ returns-in-Ok-true-clause-read g c = λ is. cc
 pub returns-in-Ok-false-clause-read : goal.returns-in-Ok-false-clause-read
 returns-in-Ok-false-clause-read g c = λ is. cc
 
-pub returns-in-Ok-Text-clause-read : goal.returns-in-Ok-Text-clause-read
-returns-in-Ok-Text-clause-read g c = λ is. cc
+pub returns-in-Err-clause-read : goal.returns-in-Err-clause-read
+returns-in-Err-clause-read g c = λ is. cc
 
-pub returns-in-Ok-true-give-clause-read : goal.returns-in-Ok-true-give-clause-read
-returns-in-Ok-true-give-clause-read g c = λ is. cc
+pub returns-in-Ok-true-give_whole-clause-read : goal.returns-in-Ok-true-give_whole-clause-read
+returns-in-Ok-true-give_whole-clause-read g c = λ is. cc
 
-pub returns-in-Ok-false-give-clause-read : goal.returns-in-Ok-false-give-clause-read
-returns-in-Ok-false-give-clause-read g c = λ is. cc
+pub returns-in-Ok-false-give_whole-clause-read : goal.returns-in-Ok-false-give_whole-clause-read
+returns-in-Ok-false-give_whole-clause-read g c = λ is. cc
 
-pub returns-in-Ok-Long-clause-read : goal.returns-in-Ok-Long-clause-read
-returns-in-Ok-Long-clause-read g c = λ is. cc
+pub returns-in-Err-give_whole-clause-read : goal.returns-in-Err-give_whole-clause-read
+returns-in-Err-give_whole-clause-read g c = λ is. cc
 
 pub returns-in-Ok-End-clause-read : goal.returns-in-Ok-End-clause-read
 returns-in-Ok-End-clause-read g c = λ is. cc
 
-pub returns-clause-read : goal.returns-clause-read
-returns-clause-read g c = λ is. cc
+pub returns-in-Err-Spent-clause-read : goal.returns-in-Err-Spent-clause-read
+returns-in-Err-Spent-clause-read g c = λ is. cc
 
 pub returns-in-Ok-true-clause-write : goal.returns-in-Ok-true-clause-write
 returns-in-Ok-true-clause-write g c = λ is. cc
@@ -200,11 +200,11 @@ returns-in-Ok-true-clause-write g c = λ is. cc
 pub returns-in-Ok-false-clause-write : goal.returns-in-Ok-false-clause-write
 returns-in-Ok-false-clause-write g c = λ is. cc
 
-pub returns-in-Ok-true-give-clause-write : goal.returns-in-Ok-true-give-clause-write
-returns-in-Ok-true-give-clause-write g c = λ is. cc
+pub returns-in-Ok-true-give_whole-clause-write : goal.returns-in-Ok-true-give_whole-clause-write
+returns-in-Ok-true-give_whole-clause-write g c = λ is. cc
 
-pub returns-in-Ok-false-give-clause-write : goal.returns-in-Ok-false-give-clause-write
-returns-in-Ok-false-give-clause-write g c = λ is. cc
+pub returns-in-Ok-false-give_whole-clause-write : goal.returns-in-Ok-false-give_whole-clause-write
+returns-in-Ok-false-give_whole-clause-write g c = λ is. cc
 
 pub returns-in-Ok-End-clause-write : goal.returns-in-Ok-End-clause-write
 returns-in-Ok-End-clause-write g c = λ is. cc
@@ -212,5 +212,5 @@ returns-in-Ok-End-clause-write g c = λ is. cc
 pub returns-in-Err-ReadFault-clause-write : goal.returns-in-Err-ReadFault-clause-write
 returns-in-Err-ReadFault-clause-write g c = λ is. cc
 
-pub returns-clause-write : goal.returns-clause-write
-returns-clause-write g c = λ is. cc
+pub returns-in-Err-Spent-clause-write : goal.returns-in-Err-Spent-clause-write
+returns-in-Err-Spent-clause-write g c = λ is. cc
