@@ -76,8 +76,8 @@ pub(crate) fn serve<R: Threads + Wait + Sync, S: Source, K: Sink, D: Door, G: Ga
         Ok(opened) => opened,
         Err(status) => return status,
     };
-    let Ok(served) = mt_serve::serve(rt, alloc, picture, port, sessions, workers, door, gate) else {
-        return Status::Memory;
-    };
-    close(&mut room, &served, output)
+    match mt_serve::serve(rt, alloc, picture, port, sessions, workers, door, gate) {
+        Ok(served) => close(&mut room, &served, output),
+        Err(_) => Status::Memory,
+    }
 }
