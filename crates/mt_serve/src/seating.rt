@@ -1,12 +1,13 @@
 //! Seats split off the first one, and joined into it again.
-ghost use Rattle.std.specs.Prelude.{◌≡◌, ◌≤◌, ◌+◌, ◌-◌, ◌^◌, [], All, length};
+ghost use Rattle.std.specs.Prelude.{◌≡◌, ◌<◌, ◌≤◌, ◌+◌, ◌-◌, ◌^◌, [], ◌∷◌, All, length};
 ghost use Rattle.std.specs.VecDeque.{deque_len, deque_capacity};
 ghost use Rattle.mt_desk.specs.Desk.{IsReady};
-ghost use Rattle.mt_io.specs.Door.{Gains};
+ghost use Rattle.mt_io.specs.Door.{Gains, took_one};
 ghost use Rattle.mt_serve.specs.Seating.{HasJoined, HasSplit, views_of};
-ghost use Rattle.mt_serve.specs.Summary.{counted};
+ghost use Rattle.mt_serve.specs.Summary.{counted, with_outcome};
 ghost use Rattle.mt_serve.specs.Tied.{AreOver, backs_of, ends_of, gave_back};
 ghost use Rattle.mt_serve.specs.Working.{IsRested, rests_of};
+ghost use Rattle.mt_turn.specs.Views.{taker};
 
 use crate::counts::Counts;
 use crate::sitting::{Back, Done};
@@ -60,6 +61,38 @@ pub(crate) fn join_workers(desk: &Desk, first: &mut Seat, mut resteds: VecDeque<
     }
 }
 
+// Hands the link of one session back, joins its seat, and counts it by its outcome.
+fn join_session<D: Door>(
+    desk: &Desk,
+    door: &mut D,
+    first: &mut Seat,
+    counts: &mut Counts,
+    back: Back<D::Link>,
+)
+    requires ready { IsReady desk.now first.old }
+    requires first { first.old.view.number ≡ 0 }
+    requires other { IsReady desk.now back.seat }
+    requires given { (D.count door.old).back < (D.count door.old).given }
+    requires room { counts.old.sessions < 2 ^ 32 }
+    requires parts { (counts.old.faulted ≤ counts.old.sessions) × (counts.old.starved ≤ counts.old.sessions) }
+    ensures ready { IsReady desk.now first.new }
+    ensures joins { first.new.view ≡ taker first.old.view back.seat.view }
+    ensures count { D.count door.new ≡ took_one (D.count door.old) }
+    ensures still { D.still door.new ≡ D.still door.old }
+    ensures returned { Gains (D.returned door.old) (D.returned door.new) (back.link ∷ []) }
+    ensures faults { D.faults door.old ≤ D.faults door.new }
+    ensures counted { counts.new ≡ with_outcome back.outcome counts.old }
+{
+    let Back {
+        link,
+        seat,
+        outcome,
+    } = back;
+    counts.add(outcome);
+    door.back(link);
+    desk.join(first, seat);
+}
+
 /// Hands the links back, joins the sessions' seats, and counts the sessions by their outcomes.
 pub(crate) fn join_sessions<D: Door>(
     desk: &Desk,
@@ -84,14 +117,7 @@ pub(crate) fn join_sessions<D: Door>(
     let mut counts = Counts::none();
     while let Some(done) = dones.pop_front() {
         let Done { given: _, back } = done;
-        let Back {
-            link,
-            seat,
-            outcome,
-        } = back;
-        counts.add(outcome);
-        door.back(link);
-        desk.join(first, seat);
+        join_session(desk, door, first, &mut counts, back);
     }
     counts
 }

@@ -1,8 +1,44 @@
-use Rattle.std.proofs.Common.{refl, ◌∙◌, rules, arith}
+use Rattle.std.proofs.Common.{◌≡◌, ◌<◌, ◌≤◌, ◌+◌, ◌-◌, List, [], ◌∷◌, ◌++◌, length, Option, refl, sym, ap, ◌∙◌, subst, append-nil, length-append, rules, arith}
+use Rattle.mt_base.specs.Tables.{Setup}
+use Rattle.mt_base.specs.declared.command.Entry.{Entry}
+use Rattle.mt_desk.specs.Desk.{Desk, IsReady}
+use Rattle.mt_io.specs.Door.{Count, Gains}
+use Rattle.mt_io.specs.declared.source.Source as Source
+use Rattle.mt_io.specs.declared.sink.Sink as Sink
+use Rattle.mt_turn.specs.declared.view.View.{View}
+use Rattle.mt_serve.specs.declared.counts.Counts.{Counts}
+use Rattle.mt_serve.specs.Joining.{JoinsSessions}
+use Rattle.mt_serve.specs.Seating.{HasJoined, views_of}
 use Rattle.mt_serve.specs.Sitting.{Met}
-use Rattle.mt_serve.proofs.Joins.{sessions_none, sessions_more, sessions_over, counts_over, counts_room}
+use Rattle.mt_serve.specs.Tied.{backs_of, ends_of, gave_back}
+use Rattle.mt_serve.proofs.Accepts.{all_front}
+use Rattle.mt_serve.proofs.Joins.{done_ready, sessions_none, sessions_more, sessions_over, counts_over, counts_room}
 use Rattle.mt_serve.proofs.Counting.{counted_parts}
 use Rattle.mt_serve.proofs.seating.join_sessions.Goals as goal
+
+module _ {L : Type 0} (source : Source.Ghosts L) (sink : Sink.Ghosts L) where
+  module _ (desk : Desk) (v w : View Entry Setup) (all rest : List (Met L)) (c d : Count) (back now : Option (List L)) (counts : Counts) (so : JoinsSessions source sink desk v w all rest c d back now counts) where
+    past_is : rest ≡ [] → so.past ≡ all
+    past_is none = sym (so.parts ∙ ap (λ zs. so.past ++ zs) none ∙ append-nil so.past)
+
+    joined_over : rest ≡ [] → HasJoined v w (views_of (ends_of all))
+    joined_over none = subst (λ ms. HasJoined v w (views_of (ends_of ms))) (past_is none) so.joined
+
+    count_over : rest ≡ [] → d ≡ gave_back c (length all)
+    count_over none = so.count ∙ ap (λ (ms : List (Met L)). gave_back c (length ms)) (past_is none)
+
+    returned_over : rest ≡ [] → Gains back now (backs_of all)
+    returned_over none = subst (λ ms. Gains back now (backs_of ms)) (past_is none) so.returned
+
+  -- where a session is left, so is a link
+  link_out : (desk : Desk) (v w : View Entry Setup) (all rest rest' : List (Met L)) (c d : Count) (back now : Option (List L)) (counts : Counts) (y : Met L)
+      → JoinsSessions source sink desk v w all rest c d back now counts → rest ≡ y ∷ rest' → length all ≤ c.given - c.back → d.back < d.given
+  link_out desk v w all rest rest' c d back now counts y so front few =
+      let kept : d.back ≡ c.back + length so.past = ap (λ (z : Count). z.back) so.count in
+      let given : d.given ≡ c.given = ap (λ (z : Count). z.given) so.count in
+      let parts : length all ≡ length so.past + length rest = ap (λ (xs : List (Met L)). length xs) so.parts ∙ length-append so.past rest in
+      let many : length rest ≡ length (y ∷ rest') = ap (λ (xs : List (Met L)). length xs) front in
+      omega (arith, kept, given, parts, many, few)
 
 pub loop-done-init : goal.loop-done-init
 loop-done-init g c =
@@ -12,10 +48,10 @@ pub loop-done-preserved : goal.loop-done-preserved
 loop-done-preserved g c =
     let x : Met g.row.D-Link.Denot = record { from = record { link = c.done.inside.given.link.value; seat = c.done.inside.given.seat.value }; link = c.done.inside.back.link; seat = c.done.inside.back.seat; outcome = c.done.inside.back.outcome } in
     let was = c.loop-done.invariant in (
-      sessions_more g.D.Link.Source g.D.Link.Sink _ _ _ _ _ _ _ _ _ _ _ _ _ _ _ x c.in-Some.done was.0 c.in-Some.ensures.items c.done.view_is c.join.ensures.joins c.done.invariant c.back.ensures.count c.back.ensures.returned c.add.ensures,
-      c.join.ensures.ready,
-      c.back.ensures.still ∙ was.2,
-      omega (arith, was.3, c.back.ensures.faults),
+      sessions_more g.D.Link.Source g.D.Link.Sink _ _ _ _ _ _ _ _ _ _ _ _ _ _ _ x c.in-Some.done was.0 c.in-Some.ensures.items c.done.view_is c.join_session.ensures.joins c.done.invariant c.join_session.ensures.count c.join_session.ensures.returned c.join_session.ensures.counted,
+      c.join_session.ensures.ready,
+      c.join_session.ensures.still ∙ was.2,
+      omega (arith, was.3, c.join_session.ensures.faults),
     )
 
 pub returns-clause-served : goal.returns-clause-served
@@ -24,9 +60,32 @@ returns-clause-served g c = sessions_over g.D.Link.Source g.D.Link.Sink _ _ _ _ 
 pub returns-clause-counted : goal.returns-clause-counted
 returns-clause-counted g c = counts_over g.D.Link.Source g.D.Link.Sink _ _ _ _ _ _ _ _ _ _ c.loop-done.invariant.0 (search rules)
 
-pub add-requires-clause-room : goal.add-requires-clause-room
-add-requires-clause-room g c =
+pub returns-clause-joined : goal.returns-clause-joined
+returns-clause-joined g c = joined_over g.D.Link.Source g.D.Link.Sink _ _ _ _ _ _ _ _ _ _ c.loop-done.invariant.0 (search rules)
+
+pub returns-clause-count : goal.returns-clause-count
+returns-clause-count g c = count_over g.D.Link.Source g.D.Link.Sink _ _ _ _ _ _ _ _ _ _ c.loop-done.invariant.0 (search rules)
+
+pub returns-clause-returned : goal.returns-clause-returned
+returns-clause-returned g c = returned_over g.D.Link.Source g.D.Link.Sink _ _ _ _ _ _ _ _ _ _ c.loop-done.invariant.0 (search rules)
+
+pub join_session-requires-clause-first : goal.join_session-requires-clause-first
+join_session-requires-clause-first g c κs within = c.loop-done.invariant.0.joined.number ∙ c.requires.first
+
+pub join_session-requires-clause-other : goal.join_session-requires-clause-other
+join_session-requires-clause-other g c κs within =
+    let y : Met g.row.D-Link.Denot = record { from = record { link = c.done.inside.given.link.value; seat = c.done.inside.given.seat.value }; link = c.done.inside.back.link; seat = c.done.inside.back.seat; outcome = c.done.inside.back.outcome } in
+    let from = all_front (λ (m : Met g.row.D-Link.Denot). IsReady c.args.desk.now m.from.seat) c.in-Some.done _ _ c.loop-done.invariant.0.ready c.in-Some.ensures.items in
+    done_ready g.D.Link.Source g.D.Link.Sink c.args.desk.now y.from.link y.from.seat y.link y.seat y.outcome c.done.invariant
+    (subst (λ (m : Met g.row.D-Link.Denot). IsReady c.args.desk.now m.from.seat) (sym c.done.view_is) from)
+
+pub join_session-requires-clause-given : goal.join_session-requires-clause-given
+join_session-requires-clause-given g c κs within =
+    link_out g.D.Link.Source g.D.Link.Sink _ _ _ _ _ _ _ _ _ _ _ _ c.loop-done.invariant.0 c.in-Some.ensures.items c.requires.given
+
+pub join_session-requires-clause-room : goal.join_session-requires-clause-room
+join_session-requires-clause-room g c κs within =
     counts_room g.D.Link.Source g.D.Link.Sink _ _ _ _ _ _ _ _ _ _ _ _ c.loop-done.invariant.0 c.in-Some.ensures.items c.requires.few
 
-pub add-requires-clause-parts : goal.add-requires-clause-parts
-add-requires-clause-parts g c = counted_parts _ _ c.loop-done.invariant.0.counts_are
+pub join_session-requires-clause-parts : goal.join_session-requires-clause-parts
+join_session-requires-clause-parts g c κs within = counted_parts _ _ c.loop-done.invariant.0.counts_are

@@ -1,3 +1,6 @@
+use Rattle.std.proofs.Common.{◌∙◌, subst}
+use Rattle.mt_base.specs.History.{IsLegal}
+use Rattle.mt_base.specs.Tables.{Setup}
 use Rattle.mt_serve.proofs.Binding.{ready_mets, ready_rest, ready_works, ready_hands, are_joined, all_joined, tied}
 use Rattle.mt_serve.proofs.service.settle.Goals as goal
 
@@ -25,3 +28,45 @@ returns-clause-tied g c =
     (are_joined g.D.Link.Source g.D.Link.Sink c.args.desk c.args.first.view c.join_sessions-counts.new.first.view c.join_seats.new.first.view c.join_workers.new.first.view c.join_seats-2.new.first.view c.args.left.dones.items c.args.left.seats.items c.args.left.resteds.items c.args.left.hands.items
     c.requires.split c.join_sessions-counts.ensures.joined c.join_seats.ensures.joined c.join_workers.ensures.joined c.join_seats-2.ensures.joined c.join_sessions-counts.ensures.served c.join_workers.ensures.worked)
     c.close.result.history c.close.ensures.history
+
+pub join_sessions-counts-requires-clause-first : goal.join_sessions-counts-requires-clause-first
+join_sessions-counts-requires-clause-first g c κs within = c.requires.split.number
+
+pub join_seats-requires-clause-first : goal.join_seats-requires-clause-first
+join_seats-requires-clause-first g c = c.join_sessions-counts.ensures.joined.number ∙ c.requires.split.number
+
+pub join_workers-requires-clause-first : goal.join_workers-requires-clause-first
+join_workers-requires-clause-first g c = c.join_seats.ensures.joined.number ∙ c.join_sessions-counts.ensures.joined.number ∙ c.requires.split.number
+
+pub join_seats-requires-2-clause-first : goal.join_seats-requires-2-clause-first
+join_seats-requires-2-clause-first g c =
+    c.join_workers.ensures.joined.number ∙ c.join_seats.ensures.joined.number ∙ c.join_sessions-counts.ensures.joined.number ∙ c.requires.split.number
+
+pub close-requires-clause-first : goal.close-requires-clause-first
+close-requires-clause-first g c =
+    c.join_seats-2.ensures.joined.number ∙ c.join_workers.ensures.joined.number ∙ c.join_seats.ensures.joined.number ∙ c.join_sessions-counts.ensures.joined.number
+    ∙ c.requires.split.number
+
+pub close-requires-clause-ready : goal.close-requires-clause-ready
+close-requires-clause-ready g c = c.join_seats-2.ensures.ready
+
+pub returns-clause-setup : goal.returns-clause-setup
+returns-clause-setup g c = c.close.ensures.fixed
+
+pub returns-clause-legal : goal.returns-clause-legal
+returns-clause-legal g c = subst (λ (s : Setup). IsLegal s c.close.result.history) c.close.ensures.fixed c.close.ensures.legal
+
+pub returns-clause-counted : goal.returns-clause-counted
+returns-clause-counted g c = c.join_sessions-counts.ensures.counted
+
+pub returns-clause-count : goal.returns-clause-count
+returns-clause-count g c = c.join_sessions-counts.ensures.count
+
+pub returns-clause-still : goal.returns-clause-still
+returns-clause-still g c = c.join_sessions-counts.ensures.still
+
+pub returns-clause-returned : goal.returns-clause-returned
+returns-clause-returned g c = c.join_sessions-counts.ensures.returned
+
+pub returns-clause-faults : goal.returns-clause-faults
+returns-clause-faults g c = c.join_sessions-counts.ensures.faults
