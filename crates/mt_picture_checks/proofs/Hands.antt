@@ -1,16 +1,8 @@
--- Hands that are handed back, and seats that are joined.
-use Rattle.std.proofs.Common.{◌≡◌, ℕ, zero, suc, List, [], ◌∷◌, map, Contains, Some, sym, refl, ap, ◌∙◌, subst, arith}
-use Rattle.mt_base.specs.declared.command.Entry.{Entry}
-use Rattle.mt_base.specs.Tables.{Setup}
+-- Seats that are joined.
+use Rattle.std.proofs.Common.{◌≡◌, ℕ, zero, suc, List, [], ◌∷◌, map, Contains, sym, refl, subst, arith}
 use Rattle.mt_turn.specs.declared.view.Joined.{Joined}
 use Rattle.mt_turn.specs.declared.view.View.{View}
 use Rattle.mt_turn.specs.Lending.{AllJoined, IsJoined}
-use Rattle.mt_turn.specs.Places.{Place}
-use Rattle.mt_desk.specs.Desk.{Desk, IsReady}
-
--- a seat that is ready at a desk is ready at one of the same turn, with the same rules and tables
-pub ready_at : (d e : Desk) (p : Place Entry Setup) → d.home ≡ e.home → d.fixed ≡ e.fixed → IsReady d p → IsReady e p
-ready_at d e p home fixed ready = record { home_is = ready.home_is ∙ home; idle = ready.idle; fixed_is = ready.fixed_is ∙ ap Some fixed }
 
 one_of : {E : Type 0} (js : List (Joined E)) (n : ℕ) → Contains (map (λ j. j.number) js) n → IsJoined js n
 one_of [] n (k, l, is) = absurd (omega arith)
