@@ -5,20 +5,35 @@ use crate::script::{Script, Step, read_scripts};
 use anyhow::{Context, Result, bail};
 use std::alloc::Global;
 
-/// A line out that is wanted, with its end, and its number in the file.
+/// Room for what the program writes, and for what a link is answered, in bytes.
+const STREAM_ROOM: u32 = 1 << 20;
+
+const LINK_ROOM: u32 = 1 << 16;
+
+/// A line out that is wanted, with its end where it has one, and its number in the file.
 #[derive(Drop)]
 pub struct Reply {
     pub number: u32,
     pub bytes: Vec<u8>,
 }
 
-/// A case: its name, the words of the command line, the bytes in, the lines out that are wanted, and the exit status.
+/// What one end sends, and the lines out that it wants: the two streams of the program, or a link of its door. There is room for so many
+/// bytes of lines out.
+#[derive(Drop)]
+pub struct End {
+    pub input: Vec<u8>,
+    pub replies: Vec<Reply>,
+    pub room: u32,
+    pub is_served: bool,
+}
+
+/// A case: its name, the words of the command line, its streams, the links of its door in order, and the exit status.
 #[derive(Drop)]
 pub struct Case<'a> {
     pub name: &'a str,
     pub words: &'a str,
-    pub input: Vec<u8>,
-    pub replies: Vec<Reply>,
+    pub streams: End,
+    pub links: Vec<End>,
     pub status: u8,
 }
 
@@ -34,13 +49,22 @@ pub fn read_cases(alloc: Global, text: &str) -> Result<Vec<Case<'_>>> {
 }
 
 impl<'a> Case<'a> {
+    /// How many lines out it wants.
+    pub fn replies(&self) -> usize {
+        let mut count = self.streams.replies.len();
+        for link in &self.links {
+            count = count.saturating_add(link.replies.len());
+        }
+        count
+    }
+
     // The case that a script says.
     fn of(alloc: Global, script: &Script<'a>) -> Result<Case<'a>> {
         let mut case = Case {
             name: script.name,
             words: "replay",
-            input: Vec::new(alloc),
-            replies: Vec::new(alloc),
+            streams: End::of(alloc, STREAM_ROOM, true),
+            links: Vec::new(alloc),
             status: 0,
         };
         for step in &script.steps {
@@ -49,14 +73,38 @@ impl<'a> Case<'a> {
         Ok(case)
     }
 
-    // Takes a line of the script.
+    // Takes a line of the script. What goes in and out behind a link is that link's.
     fn take(&mut self, alloc: Global, step: &Step<'a>) -> Result<()> {
+        match step.mark {
+            "$" => self.words = step.text,
+            "?" => self.status = step.text.parse()?,
+            "@" => self.links.push(End::of(alloc, room_of(step.text)?, true))?,
+            "@-" => self.links.push(End::of(alloc, LINK_ROOM, false))?,
+            _ => match self.links.last_mut() {
+                Some(link) => link.take(alloc, step)?,
+                None => self.streams.take(alloc, step)?,
+            },
+        }
+        Ok(())
+    }
+}
+
+impl End {
+    fn of(alloc: Global, room: u32, is_served: bool) -> End {
+        End {
+            input: Vec::new(alloc),
+            replies: Vec::new(alloc),
+            room,
+            is_served,
+        }
+    }
+
+    // Takes a line in or out.
+    fn take(&mut self, alloc: Global, step: &Step<'_>) -> Result<()> {
         match step.mark {
             ">" | ">-" => self.input.extend_from_slice(step.text.as_bytes())?,
             ">>" => push_escaped(&mut self.input, step.text)?,
-            "<" | "<<" => self.replies.push(reply_of(alloc, step)?)?,
-            "$" => self.words = step.text,
-            "?" => self.status = step.text.parse()?,
+            "<" | "<-" | "<<" => self.replies.push(reply_of(alloc, step)?)?,
             _ => bail!("no mark of a line"),
         }
         if step.mark == ">" || step.mark == ">>" {
@@ -64,6 +112,14 @@ impl<'a> Case<'a> {
         }
         Ok(())
     }
+}
+
+// The room of a link for its lines out.
+fn room_of(text: &str) -> Result<u32> {
+    if text.is_empty() {
+        return Ok(LINK_ROOM);
+    }
+    Ok(text.parse()?)
 }
 
 // The line out that is wanted by a line of a script.
@@ -74,7 +130,9 @@ fn reply_of(alloc: Global, step: &Step<'_>) -> Result<Reply> {
     } else {
         bytes.extend_from_slice(step.text.as_bytes())?;
     }
-    bytes.push(b'\n')?;
+    if step.mark != "<-" {
+        bytes.push(b'\n')?;
+    }
     Ok(Reply {
         number: step.number,
         bytes,

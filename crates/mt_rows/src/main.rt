@@ -13,7 +13,9 @@
 //! | `>` | a line in |
 //! | `<` | a line out |
 //! | `>>`, `<<` | the same, but `\xHH` stands for the byte of that hexadecimal number and `\xHH{N}` for N of them |
-//! | `>-` | a line in without its end, the last one |
+//! | `>-`, `<-` | a line in, or out, without its end, the last one |
+//! | `@` | a link of the door begins: the lines in and out behind it are its own. It has room for so many bytes out, or for 65,536 |
+//! | `@-` | the same, but the link isn't served |
 //! | `$` | the words of the command line, where they aren't `replay` |
 //! | `?` | the exit status, where it isn't 0 |
 //!
@@ -51,7 +53,7 @@ fn run_cases<R: Print + AllocGlobal + Threads + Wait + Sync>(
     let cases = read_cases(rt.alloc(), text)?;
     let mut replies: usize = 0;
     for case in &cases {
-        replies = replies.saturating_add(case.replies.len());
+        replies = replies.saturating_add(case.replies());
     }
     println!(rt; "{subject}: {} cases, {replies} lines out", cases.len())?;
     for case in &cases {

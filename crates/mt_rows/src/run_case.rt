@@ -1,20 +1,17 @@
 //! A case is run, and its differences are told.
 ghost use Rattle.std.specs.Thread.{IsSync};
 
-use crate::case::Case;
+use crate::case::{Case, End};
 use anyhow::{Result, anyhow};
 use mt_base::Words;
-use mt_io::{MemDoor, MemSink, MemSource, OpenGate};
+use mt_io::{MemDoor, MemLink, MemSink, MemSource, OpenGate};
 use mt_top::run;
 use std::alloc::Global;
 use std::str;
 use std::sync::Wait;
 use std::thread::Threads;
 
-/// Room for what a case writes, in bytes.
-const ROOM: u32 = 1 << 20;
-
-/// Runs a case over a door with no link, and prints what is otherwise than it wants.
+/// Runs a case over a door with its links, and prints what is otherwise than it wants.
 pub fn tell_differences<R: Print + AllocGlobal + Threads + Wait + Sync>(
     rt: &R,
     case: &Case<'_>,
@@ -22,10 +19,10 @@ pub fn tell_differences<R: Print + AllocGlobal + Threads + Wait + Sync>(
     requires sync { IsSync R.row }
 {
     let words = words_of(rt.alloc(), case.words)?;
-    let mut source = MemSource::of(case.input.clone()?);
-    let mut sink = MemSink::make(rt.alloc(), ROOM).map_err(|_| anyhow!("memory"))?;
-    let links = Vec::new(rt.alloc());
-    let mut door = MemDoor::make(rt.alloc(), links).map_err(|_| anyhow!("memory"))?;
+    let mut source = MemSource::of(case.streams.input.clone()?);
+    let room = case.streams.room;
+    let mut sink = MemSink::make(rt.alloc(), room).map_err(|_| anyhow!("memory"))?;
+    let mut door = door_of(rt.alloc(), &case.links)?;
     let status = run(
         rt,
         rt.alloc(),
@@ -36,7 +33,8 @@ pub fn tell_differences<R: Print + AllocGlobal + Threads + Wait + Sync>(
         &OpenGate,
     )
     .exit();
-    compare_lines(rt, case, sink.held())?;
+    compare_lines(rt, case.name, &case.streams, sink.held())?;
+    compare_links(rt, case, door.returned())?;
     if status != case.status {
         println!(rt;
             "{}: exit status {status}, wanted {}",
@@ -44,6 +42,19 @@ pub fn tell_differences<R: Print + AllocGlobal + Threads + Wait + Sync>(
         )?;
     }
     Ok(())
+}
+
+// A door with these links.
+fn door_of(alloc: Global, ends: &[End]) -> Result<MemDoor> {
+    let mut links = Vec::new(alloc);
+    for end in ends {
+        links.push(link_of(alloc, end)?)?;
+    }
+    MemDoor::make(alloc, links).map_err(|_| anyhow!("memory"))
+}
+
+fn link_of(alloc: Global, end: &End) -> Result<MemLink> {
+    MemLink::make(alloc, end.input.clone()?, end.room).map_err(|_| anyhow!("memory"))
 }
 
 // The words of a command line.
@@ -55,23 +66,45 @@ fn words_of(alloc: Global, text: &str) -> Result<Words> {
     Ok(words)
 }
 
-// Compares what was written with the lines that are wanted, one by one.
-fn compare_lines(
+// Compares what was answered over the links that came back with what those that are to be served want.
+fn compare_links(
     rt: &(impl Print + AllocGlobal + Threads + Sync),
     case: &Case<'_>,
+    links: &[MemLink],
+) -> Result<()> {
+    let mut links = links.iter();
+    for end in &case.links {
+        if end.is_served {
+            match links.next() {
+                Some(link) => compare_lines(rt, case.name, end, link.held())?,
+                None => println!(rt; "{}: a link that was not served", case.name)?,
+            }
+        }
+    }
+    if links.next().is_some() {
+        println!(rt; "{}: a link more was served", case.name)?;
+    }
+    Ok(())
+}
+
+// Compares what was written at an end with the lines that it wants, one by one.
+fn compare_lines(
+    rt: &(impl Print + AllocGlobal + Threads + Sync),
+    name: &str,
+    end: &End,
     written: &[u8],
 ) -> Result<()> {
     let mut lines = written.split_inclusive(|byte| *byte == b'\n');
-    for reply in &case.replies {
+    for reply in &end.replies {
         let line = lines.next().unwrap_or_default();
         if line != reply.bytes.as_slice() {
-            println!(rt; "{}, line {}", case.name, reply.number)?;
+            println!(rt; "{name}, line {}", reply.number)?;
             println!(rt; "  wanted {}", text_of(&reply.bytes))?;
             println!(rt; "  got    {}", text_of(line))?;
         }
     }
     for line in lines {
-        println!(rt; "{}, behind the last line that is wanted", case.name)?;
+        println!(rt; "{name}, behind the last line that is wanted")?;
         println!(rt; "  got    {}", text_of(line))?;
     }
     Ok(())
