@@ -1,1 +1,3 @@
 pub mod Filed
+pub mod Growth
+pub mod Hands

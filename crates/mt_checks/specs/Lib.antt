@@ -1,1 +1,3 @@
 pub mod Filing
+pub mod Growing
+pub mod Same

@@ -10,13 +10,29 @@ mod book;
 #[cfg(test)]
 mod cases;
 #[cfg(test)]
+mod cells;
+#[cfg(test)]
+mod commands;
+#[cfg(test)]
+mod desks;
+#[cfg(test)]
 mod entries;
 #[cfg(test)]
 mod fractions;
 #[cfg(test)]
 mod json_lines;
 #[cfg(test)]
+mod pages;
+#[cfg(test)]
+mod pairs;
+#[cfg(test)]
+mod picture;
+#[cfg(test)]
 mod published;
+#[cfg(test)]
+mod seats;
+#[cfg(test)]
+mod serving;
 #[cfg(test)]
 mod snapshots;
 #[cfg(test)]

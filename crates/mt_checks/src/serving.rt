@@ -1,0 +1,8 @@
+//! Tests through the top call: of scripts over streams that fail, and of `serve`, each with sessions and workers on threads of their own.
+
+mod faults;
+mod holding;
+mod loopback;
+mod scene;
+mod sessions;
+mod workers;

@@ -1,0 +1,86 @@
+//! A client over loopback.
+ghost use Rattle.std.specs.Thread.{IsSync};
+
+use super::scene::words_of;
+use mt_io::{MemSink, MemSource, OpenGate, TcpDoor};
+use mt_top::{Status, run};
+use std::alloc::Global;
+use std::io::{Read, Write};
+use std::net::{Ipv4Addr, Net, TcpListener, TcpStream};
+use std::process::Abort;
+use std::sync::Wait;
+use std::thread;
+use std::thread::Threads;
+
+/// Room for all that is written.
+const AMPLE: u32 = 65_536;
+
+/// The port that is served.
+const PORT: u16 = 7_711;
+
+/// What the client sends.
+const SENT: &str = r#"{"do":"hello","role":"feed"}
+{"do":"external","call":"AAA1","from":0,"to":1200,"x":0,"y":0,"z":2100000,"vx":480}
+{"do":"bye"}
+"#;
+
+/// What it is answered.
+const ANSWERED: &[u8] = b"{\"role\":\"feed\"}\n{\"entered\":1}\n{\"done\":\"bye\"}\n";
+
+/// What the program writes.
+const WRITTEN: &[u8] =
+    b"{\"done\":\"begin\"}\n{\"conflicts\":0,\"entries\":1,\"faulted\":0,\"flights\":1,\"sessions\":1,\"starved\":0}\n";
+
+/// A connection to the port, as soon as it is served.
+fn connection<N: Net<Listener = TcpListener, Stream = TcpStream>>(net: &N) -> Option<TcpStream> {
+    for _ in 0..1_000_000u32 {
+        if let Ok(stream) = TcpStream::connect(net, (Ipv4Addr::LOCALHOST, PORT)) {
+            return Some(stream);
+        }
+        thread::yield_now();
+    }
+    None
+}
+
+/// Whether a client is answered as it should.
+fn speak<N: Net<Listener = TcpListener, Stream = TcpStream>>(net: &N) -> bool {
+    let Some(mut stream) = connection(net) else {
+        return false;
+    };
+    let mut answered = [0u8; 45];
+    stream.write_all(SENT.as_bytes()).is_ok()
+        && stream.read_exact(&mut answered).is_ok()
+        && answered.as_slice() == ANSWERED
+}
+
+/// Whether the program serves one session as it should.
+fn serve<R: Net<Listener = TcpListener, Stream = TcpStream> + Threads + Wait + Sync + Abort>(
+    rt: &R,
+    alloc: Global,
+) -> bool
+    requires sync { IsSync R.row }
+{
+    let words = words_of(rt, alloc, "serve --port=7711 --sessions=1");
+    let begin = b"{\"do\":\"begin\"}\n".to_vec(alloc).expect(rt, "memory");
+    let mut input = MemSource::of(begin);
+    let mut output = MemSink::make(alloc, AMPLE).expect(rt, "memory");
+    let mut door = TcpDoor::of(rt);
+    let status = run(
+        rt,
+        alloc,
+        &words,
+        &mut input,
+        &mut output,
+        &mut door,
+        &OpenGate,
+    );
+    status == Status::Done && output.held() == WRITTEN
+}
+
+#[test]
+fn a_client_over_loopback(rt: HostRuntime) {
+    let alloc = rt.alloc();
+    let (served, spoke) = thread::join(&rt, || serve(&rt, alloc), || speak(&rt));
+    assert!(&rt; served);
+    assert!(&rt; spoke);
+}
