@@ -1,48 +1,34 @@
 //! Names, copies, words, the order of conflicts, and the bounds of rules.
 
-use crate::cases::{check_end, number, word};
+use crate::names::{callsign, fix_name, type_name};
 use mt_base::{
     Base, Callsign, Command, Conflict, Conflicts, Course, Entry, FixName, Kind, Path, Record,
     Route, RuleName, Rules, TypeName, Words, history_laws, one_published_list_law,
 };
 use std::process::Abort;
 
-const CALLSIGNS: &str = "\
-A
-AAA1
-Z9Z9Z9Z
-";
+/// A text that is a callsign, which then says that text.
+fn check_callsign(rt: &impl Abort, text: &[u8]) {
+    let call = callsign(rt, text);
+    assert!(rt; call.bytes() == text);
+}
 
-// The first line is empty.
-const NO_CALLSIGNS: &str = "
-Z9Z9Z9Z9
-aaa1
-AA 1
-AA@1
-AA[1
-";
+fn check_no_callsign(rt: &impl Abort, text: &[u8]) {
+    assert!(rt; Callsign::of(text).is_none());
+}
 
 #[test]
 fn callsigns_are_one_to_seven_capitals_and_digits(rt: HostRuntime) {
-    for text in CALLSIGNS.lines() {
-        let call = Callsign::of(text.as_bytes()).expect(&rt, "a callsign");
-        assert!(rt; call.bytes() == text.as_bytes(), "{text}");
-    }
-    for text in NO_CALLSIGNS.lines() {
-        assert!(rt; Callsign::of(text.as_bytes()).is_none(), "{text}");
-    }
+    check_callsign(&rt, b"A");
+    check_callsign(&rt, b"AAA1");
+    check_callsign(&rt, b"Z9Z9Z9Z");
+    check_no_callsign(&rt, b"");
+    check_no_callsign(&rt, b"Z9Z9Z9Z9");
+    check_no_callsign(&rt, b"aaa1");
+    check_no_callsign(&rt, b"AA 1");
+    check_no_callsign(&rt, b"AA@1");
+    check_no_callsign(&rt, b"AA[1");
 }
-
-// A text, and whether it is the name of a fix and of a type.
-const NAMES: &str = "\
-Q no no
-Q0 yes yes
-JA1X yes yes
-JA1XY yes no
-JA1XYZ no no
-q0 no no
-Q- no no
-";
 
 /// Whether a text is the name of a fix, which then says that text.
 fn is_fix(rt: &impl Abort, text: &[u8]) -> bool {
@@ -62,140 +48,155 @@ fn is_type(rt: &impl Abort, text: &[u8]) -> bool {
     true
 }
 
+/// Whether a text is the name of a fix, and of a type.
+fn check_name(rt: &impl Abort, text: &[u8], fix: bool, kind: bool) {
+    assert!(rt; is_fix(rt, text) == fix);
+    assert!(rt; is_type(rt, text) == kind);
+}
+
 #[test]
 fn fixes_and_types_have_short_names(rt: HostRuntime) {
-    for line in NAMES.lines() {
-        let mut case = line.split_whitespace();
-        let text = word(&rt, &mut case).as_bytes();
-        let wanted_fix = word(&rt, &mut case) == "yes";
-        let wanted_type = word(&rt, &mut case) == "yes";
-        assert!(rt; is_fix(&rt, text) == wanted_fix, "{line}");
-        assert!(rt; is_type(&rt, text) == wanted_type, "{line}");
-    }
+    check_name(&rt, b"Q", false, false);
+    check_name(&rt, b"Q0", true, true);
+    check_name(&rt, b"JA1X", true, true);
+    check_name(&rt, b"JA1XY", true, false);
+    check_name(&rt, b"JA1XYZ", false, false);
+    check_name(&rt, b"q0", false, false);
+    check_name(&rt, b"Q-", false, false);
 }
 
 /// A route of two fixes.
 fn route(rt: &(impl AllocGlobal + Abort)) -> Route {
     let mut route = Route::make(rt.alloc()).expect(rt, "memory");
     for name in [b"Q0", b"Q1"] {
-        let fix = FixName::of(name).expect(rt, "a fix name");
-        route.push(fix).expect(rt, "memory");
+        route.push(fix_name(rt, name)).expect(rt, "memory");
     }
     route
 }
 
-#[test]
-fn copies_have_the_same_route(rt: HostRuntime) {
-    let alloc = rt.alloc();
-    let call = Callsign::of(b"DDD1").expect(&rt, "a callsign");
-    let kind = TypeName::of(b"JA1").expect(&rt, "a type name");
-    let entry = Entry {
+/// A plan along that route by the actor 2.
+fn entry(rt: &(impl AllocGlobal + Abort)) -> Entry {
+    Entry {
         who: 2,
         command: Command::Plan {
-            call,
-            kind,
-            route: route(&rt),
+            call: callsign(rt, b"DDD1"),
+            kind: type_name(rt, b"JA1"),
+            route: route(rt),
             at: 7,
             from: 350,
             level: 360,
         },
+    }
+}
+
+const BASE: Base = Base {
+    at: 7,
+    x: 0,
+    y: 0,
+    z: 2_100_000,
+    r: 0,
+    w: 0,
+    next: 1,
+};
+
+/// A flight along that route.
+fn record(rt: &(impl AllocGlobal + Abort)) -> Record {
+    let course = Course {
+        kind: type_name(rt, b"JA1"),
+        route: route(rt),
+        base: BASE,
+        level: 360,
+        last: None,
+        due: false,
+        mark: None,
     };
-    let copy = entry.copy(alloc).expect(&rt, "memory");
-    assert!(rt; copy.who == 2 && copy.command.call() == Some(call));
-    let Command::Plan { route: names, .. } = &copy.command else {
-        panic!(rt; "another command");
-    };
-    assert!(rt; names.items() == route(&rt).items());
-    let record = Record {
-        call,
-        path: Path::Planned(Course {
-            kind,
-            route: route(&rt),
-            base: Base {
-                at: 7,
-                x: 0,
-                y: 0,
-                z: 2_100_000,
-                r: 0,
-                w: 0,
-                next: 1,
-            },
-            level: 360,
-            last: None,
-            due: false,
-            mark: None,
-        }),
-    };
-    let copy = record.copy(alloc).expect(&rt, "memory");
-    let Path::Planned(course) = &copy.path else {
-        panic!(rt; "another path");
-    };
-    assert!(rt; copy.call == call && course.kind == kind && course.base.at == 7);
-    assert!(rt; course.route.items() == route(&rt).items());
+    Record {
+        call: callsign(rt, b"DDD1"),
+        path: Path::Planned(course),
+    }
+}
+
+fn check_route(rt: &(impl AllocGlobal + Abort), found: &Route) {
+    let wanted = route(rt);
+    assert!(rt; found.items() == wanted.items());
+}
+
+fn check_entry(rt: &(impl AllocGlobal + Abort), entry: &Entry) {
+    assert!(rt; entry.who == 2);
+    assert!(rt; entry.command.call() == Some(callsign(rt, b"DDD1")));
+    match &entry.command {
+        Command::Plan { route, .. } => check_route(rt, route),
+        _ => panic!(rt; "another command"),
+    }
+}
+
+fn check_course(rt: &(impl AllocGlobal + Abort), course: &Course) {
+    assert!(rt; course.kind == type_name(rt, b"JA1"));
+    assert!(rt; course.base.at == 7);
+    check_route(rt, &course.route);
+}
+
+fn check_record(rt: &(impl AllocGlobal + Abort), record: &Record) {
+    assert!(rt; record.call == callsign(rt, b"DDD1"));
+    match &record.path {
+        Path::Planned(course) => check_course(rt, course),
+        _ => panic!(rt; "another path"),
+    }
+}
+
+#[test]
+fn copies_have_the_same_route(rt: HostRuntime) {
+    let copy = entry(&rt).copy(rt.alloc()).expect(&rt, "memory");
+    check_entry(&rt, &copy);
+    let copy = record(&rt).copy(rt.alloc()).expect(&rt, "memory");
+    check_record(&rt, &copy);
 }
 
 #[test]
 fn words_are_kept_in_order(rt: HostRuntime) {
     let mut words = Words::make(rt.alloc()).expect(&rt, "memory");
-    assert_eq!(rt; words.count(), 0);
+    assert!(rt; words.count() == 0);
     words.add(rt.alloc(), "replay").expect(&rt, "memory");
     words.add(rt.alloc(), "").expect(&rt, "memory");
-    assert_eq!(rt; words.count(), 2);
+    assert!(rt; words.count() == 2);
     assert!(rt; words.word(0) == "replay");
     assert!(rt; words.word(1) == "");
 }
 
-fn conflict(first: u32, a: &[u8], b: &[u8], kinds: (Kind, Kind)) -> Option<Conflict> {
-    let (ka, kb) = kinds;
-    Some(Conflict {
+/// A conflict of two flights.
+fn conflict(rt: &impl Abort, first: u32, a: (&[u8], Kind), b: (&[u8], Kind)) -> Conflict {
+    Conflict {
         first,
-        a: Callsign::of(a)?,
-        b: Callsign::of(b)?,
-        ka,
-        kb,
+        a: callsign(rt, a.0),
+        b: callsign(rt, b.0),
+        ka: a.1,
+        kb: b.1,
         last: 200,
-    })
+    }
+}
+
+/// Conflicts in their order.
+fn ordered(rt: &impl Abort) -> [Conflict; 5] {
+    [
+        conflict(rt, 1, (b"B", Kind::Actual), (b"C", Kind::Actual)),
+        conflict(rt, 2, (b"A", Kind::Actual), (b"B", Kind::Tentative)),
+        conflict(rt, 2, (b"A", Kind::Tentative), (b"B", Kind::Actual)),
+        conflict(rt, 2, (b"A", Kind::Actual), (b"BA", Kind::Actual)),
+        conflict(rt, 2, (b"AA", Kind::Actual), (b"B", Kind::Actual)),
+    ]
 }
 
 #[test]
 fn conflicts_are_put_in_order_each_once(rt: HostRuntime) {
     one_published_list_law();
-    let ordered = [
-        conflict(1, b"B", b"C", (Kind::Actual, Kind::Actual)),
-        conflict(2, b"A", b"B", (Kind::Actual, Kind::Tentative)),
-        conflict(2, b"A", b"B", (Kind::Tentative, Kind::Actual)),
-        conflict(2, b"A", b"BA", (Kind::Actual, Kind::Actual)),
-        conflict(2, b"AA", b"B", (Kind::Actual, Kind::Actual)),
-    ];
+    let ordered = ordered(&rt);
+    let [first, second, third, fourth, last] = ordered;
     let mut conflicts = Conflicts::make(rt.alloc()).expect(&rt, "memory");
-    for place in [4, 2, 0, 3, 1, 2] {
-        let conflict = ordered[place].expect(&rt, "a callsign");
+    for conflict in [last, third, first, fourth, second, third] {
         conflicts.push(conflict).expect(&rt, "memory");
     }
     conflicts.order();
-    assert_eq!(rt; conflicts.items().len(), 5);
-    for (place, conflict) in conflicts.items().iter().enumerate() {
-        assert!(rt; ordered.get(place) == Some(&Some(*conflict)));
-    }
-}
-
-fn read_rule(rt: &impl Abort, word: &str) -> RuleName {
-    match word {
-        "sh" => RuleName::Sh,
-        "sv" => RuleName::Sv,
-        "r0" => RuleName::R0,
-        "gh" => RuleName::Gh,
-        "rmax" => RuleName::Rmax,
-        "w0" => RuleName::W0,
-        "gv" => RuleName::Gv,
-        "wmax" => RuleName::Wmax,
-        "tc" => RuleName::Tc,
-        "ta" => RuleName::Ta,
-        "tv" => RuleName::Tv,
-        "flights" => RuleName::Flights,
-        "history" => RuleName::History,
-        _ => panic!(rt; "no rule"),
-    }
+    assert!(rt; conflicts.items() == ordered.as_slice());
 }
 
 /// The usual rules with one of them set.
@@ -220,44 +221,30 @@ fn usual_but(name: RuleName, value: i64) -> Rules {
     rules
 }
 
-// One rule set to a value, and the rule that is then named as outside its bounds.
-const RULES: &str = "\
-sh 72000 none
-sh 0 sh
-sv 600001 sv
-r0 9000 none
-r0 9001 r0
-rmax -1 r0
-rmax 72001 rmax
-gh 1001 gh
-w0 30001 w0
-gv -1 gv
-wmax 600001 wmax
-tc 360001 tc
-ta -1 ta
-tv 600001 tv
-flights 1025 flights
-history 4194304 none
-history 0 history
-";
-
-fn read_outside(rt: &impl Abort, word: &str) -> Option<RuleName> {
-    match word {
-        "none" => None,
-        name => Some(read_rule(rt, name)),
-    }
+/// With one rule set to a value, that rule is named as outside its bounds.
+fn check_rule(rt: &impl Abort, name: RuleName, value: i64, outside: Option<RuleName>) {
+    assert!(rt; usual_but(name, value).check().err() == outside, "{value}");
 }
 
 #[test]
 fn the_first_rule_outside_its_bounds_is_named(rt: HostRuntime) {
     history_laws();
     assert!(rt; Rules::usual().check() == Ok(()));
-    for line in RULES.lines() {
-        let mut case = line.split_whitespace();
-        let name = read_rule(&rt, word(&rt, &mut case));
-        let rules = usual_but(name, number(&rt, &mut case));
-        let outside = read_outside(&rt, word(&rt, &mut case));
-        check_end(&rt, &mut case);
-        assert!(rt; rules.check().err() == outside, "{line}");
-    }
+    check_rule(&rt, RuleName::Sh, 72_000, None);
+    check_rule(&rt, RuleName::Sh, 0, Some(RuleName::Sh));
+    check_rule(&rt, RuleName::Sv, 600_001, Some(RuleName::Sv));
+    check_rule(&rt, RuleName::R0, 9_000, None);
+    check_rule(&rt, RuleName::R0, 9_001, Some(RuleName::R0));
+    check_rule(&rt, RuleName::Rmax, -1, Some(RuleName::R0));
+    check_rule(&rt, RuleName::Rmax, 72_001, Some(RuleName::Rmax));
+    check_rule(&rt, RuleName::Gh, 1_001, Some(RuleName::Gh));
+    check_rule(&rt, RuleName::W0, 30_001, Some(RuleName::W0));
+    check_rule(&rt, RuleName::Gv, -1, Some(RuleName::Gv));
+    check_rule(&rt, RuleName::Wmax, 600_001, Some(RuleName::Wmax));
+    check_rule(&rt, RuleName::Tc, 360_001, Some(RuleName::Tc));
+    check_rule(&rt, RuleName::Ta, -1, Some(RuleName::Ta));
+    check_rule(&rt, RuleName::Tv, 600_001, Some(RuleName::Tv));
+    check_rule(&rt, RuleName::Flights, 1_025, Some(RuleName::Flights));
+    check_rule(&rt, RuleName::History, 4_194_304, None);
+    check_rule(&rt, RuleName::History, 0, Some(RuleName::History));
 }

@@ -5,7 +5,7 @@ ghost use Rattle.mt_grid.specs.Lists.{AreInGrid};
 
 use crate::commands::STILL;
 use mt_base::{Row, Rules, Second, Straight};
-use mt_cover::{Cover, cover};
+use mt_cover::{Cover, Stay, cover};
 use mt_grid::Grid;
 use mt_track::Strand;
 use std::process::Abort;
@@ -108,6 +108,12 @@ fn covered(rt: &(impl AllocGlobal + Abort), from: Second, to: Second, first: Row
     cover(rt.alloc(), &strand, &Rules::usual()).expect(rt, "memory")
 }
 
+/// A stay has that cell, first second and the one after its last.
+fn check_stay(rt: &(impl AllocGlobal + Abort), stay: &Stay, wanted: &str) {
+    let found = format!(in rt.alloc(); "{} {} {}", stay.cell, stay.from, stay.to);
+    assert!(rt; found.expect(rt, "memory").as_str() == wanted);
+}
+
 /// The stays of that stretch are those wanted, each with its cell, its first second and the one after its last.
 fn check(rt: &(impl AllocGlobal + Abort), from: Second, to: Second, first: Row, wanted: &str)
     requires { IsBoundedStretch (record { from = from; to = to; first = first }) }
@@ -115,9 +121,7 @@ fn check(rt: &(impl AllocGlobal + Abort), from: Second, to: Second, first: Row, 
     let cover = covered(rt, from, to, first);
     let mut stays = cover.stays().iter();
     for wanted in wanted.split(", ") {
-        let stay = stays.next().expect(rt, "a stay");
-        let found = format!(in rt.alloc(); "{} {} {}", stay.cell, stay.from, stay.to);
-        assert_eq!(rt; found.expect(rt, "memory").as_str(), wanted);
+        check_stay(rt, stays.next().expect(rt, "a stay"), wanted);
     }
     assert!(rt; stays.next().is_none());
 }

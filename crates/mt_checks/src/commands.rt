@@ -2,11 +2,12 @@
 ghost use Rattle.std.specs.Prelude.{◌≤◌, ℕ, IfSome};
 ghost use Rattle.mt_base.specs.Bounds.{IsAskedFor, IsBoundedCommand, IsBoundedStretch};
 ghost use Rattle.mt_base.specs.History.{IsInTime};
+ghost use Rattle.mt_change.specs.Altered.{IsBoundedBesides};
 ghost use Rattle.mt_probe.specs.Prepared.{MakesStrand};
+ghost use Rattle.mt_checks.specs.Filing.{Files};
 
-use mt_base::{
-    Band, Callsign, Clearance, Command, FixName, Route, Row, Second, Straight, TypeName,
-};
+use crate::names::{callsign, fix_name, type_name};
+use mt_base::{Band, Clearance, Command, Route, Row, Second, Straight};
 use mt_tables::Tables;
 use std::alloc::Global;
 use std::process::Abort;
@@ -37,14 +38,22 @@ pub const AHEAD: Row = Row {
     ..STILL
 };
 
-/// The callsign of that text.
-pub fn named(rt: &impl Abort, text: &[u8]) -> Callsign {
-    Callsign::of(text).expect(rt, "a callsign")
-}
+/// Flights far north of that one, which are near no other; the first is at flight level 360.
+pub const NORTH: Row = Row {
+    y: 1_000_000,
+    z: 2_160_000,
+    ..EAST
+};
 
-fn fix(rt: &impl Abort, text: &[u8]) -> FixName {
-    FixName::of(text).expect(rt, "a fix")
-}
+pub const FARTHER: Row = Row {
+    y: 1_200_000,
+    ..EAST
+};
+
+pub const FARTHEST: Row = Row {
+    y: 1_400_000,
+    ..EAST
+};
 
 /// Two pairs of fixes, one 500,000 units north of the other, those of a pair 480,000 units apart; and a type of one band.
 pub fn small_tables(rt: &impl Abort, alloc: Global) -> Tables {
@@ -55,12 +64,15 @@ pub fn small_tables(rt: &impl Abort, alloc: Global) -> Tables {
         climb: 2_100,
         descent: 2_100,
     }];
-    assert!(rt; tables.add_fix(fix(rt, b"Q0"), 0, 0).is_ok());
-    assert!(rt; tables.add_fix(fix(rt, b"Q1"), 480_000, 0).is_ok());
-    assert!(rt; tables.add_fix(fix(rt, b"Q2"), 0, 500_000).is_ok());
-    assert!(rt; tables.add_fix(fix(rt, b"Q3"), 480_000, 500_000).is_ok());
-    let kind = TypeName::of(b"JA1").expect(rt, "a type");
-    assert!(rt; tables.add_type(kind, &band).is_ok());
+    assert!(rt; tables.add_fix(fix_name(rt, b"Q0"), 0, 0).is_ok());
+    assert!(rt; tables.add_fix(fix_name(rt, b"Q1"), 480_000, 0).is_ok());
+    assert!(rt; tables.add_fix(fix_name(rt, b"Q2"), 0, 500_000).is_ok());
+    assert!(rt;
+        tables
+            .add_fix(fix_name(rt, b"Q3"), 480_000, 500_000)
+            .is_ok()
+    );
+    assert!(rt; tables.add_type(type_name(rt, b"JA1"), &band).is_ok());
     tables
 }
 
@@ -74,17 +86,19 @@ pub fn plan(
     level: u32,
 ) -> Command
     requires { level ≤ 600 }
+    ensures files { Files result }
     ensures makes { MakesStrand result }
     ensures bounded { IsBoundedCommand result }
+    ensures besides { IsBoundedBesides result }
     ensures asked_for { IsAskedFor result }
     ensures in_time { (place : ℕ) → IsInTime place result }
 {
     let mut route = Route::make(alloc).expect(rt, "memory");
-    route.push(fix(rt, first)).expect(rt, "memory");
-    route.push(fix(rt, last)).expect(rt, "memory");
+    route.push(fix_name(rt, first)).expect(rt, "memory");
+    route.push(fix_name(rt, last)).expect(rt, "memory");
     Command::Plan {
-        call: named(rt, call),
-        kind: TypeName::of(b"JA1").expect(rt, "a type"),
+        call: callsign(rt, call),
+        kind: type_name(rt, b"JA1"),
         route,
         at: 0,
         from: level,
@@ -95,12 +109,14 @@ pub fn plan(
 /// An external flight.
 pub fn outer(rt: &impl Abort, call: &[u8], from: Second, to: Second, first: Row) -> Command
     requires { IsBoundedStretch (record { from = from; to = to; first = first }) }
+    ensures files { Files result }
     ensures makes { MakesStrand result }
     ensures bounded { IsBoundedCommand result }
+    ensures besides { IsBoundedBesides result }
     ensures in_time { (place : ℕ) → IsInTime place result }
 {
     Command::External {
-        call: named(rt, call),
+        call: callsign(rt, call),
         straight: Straight { from, to, first },
     }
 }
@@ -114,7 +130,7 @@ pub fn clear(rt: &impl Abort, call: &[u8], level: u32, eff: Option<Second>) -> C
     ensures in_time { (place : ℕ) → IsInTime place result }
 {
     Command::Clear {
-        call: named(rt, call),
+        call: callsign(rt, call),
         clearance: Clearance::Level(level),
         eff,
     }
@@ -128,7 +144,7 @@ pub fn tentative(rt: &impl Abort, call: &[u8], level: u32) -> Command
     ensures in_time { (place : ℕ) → IsInTime place result }
 {
     Command::Tentative {
-        call: named(rt, call),
+        call: callsign(rt, call),
         clearance: Clearance::Level(level),
         eff: None,
     }
@@ -140,7 +156,7 @@ pub fn withdraw(rt: &impl Abort, call: &[u8]) -> Command
     ensures bounded { IsBoundedCommand result }
 {
     Command::Withdraw {
-        call: named(rt, call),
+        call: callsign(rt, call),
         force: false,
     }
 }
@@ -151,7 +167,7 @@ pub fn drop_flight(rt: &impl Abort, call: &[u8]) -> Command
     ensures bounded { IsBoundedCommand result }
 {
     Command::Drop {
-        call: named(rt, call),
+        call: callsign(rt, call),
     }
 }
 

@@ -206,14 +206,20 @@ fn is_before(lo: Frac, hi: Frac) -> bool
     matches!(lo.compare(hi), Ordering::Less)
 }
 
+fn check_quadratic(rt: &impl Abort, case: &str) {
+    let mut values = case.split_whitespace();
+    let quad = quadratic(rt, &mut values);
+    let (lo, hi) = interval(rt, &mut values);
+    let wanted = word(rt, &mut values) == "below";
+    assert!(rt; quad.below_zero_in(lo, hi) == wanted, "{case}");
+}
+
 #[test]
 fn quadratics_below_zero(rt: HostRuntime) {
-    for case in QUADRATICS.lines().filter(|line| is_case(line)) {
-        let mut values = case.split_whitespace();
-        let quad = quadratic(&rt, &mut values);
-        let (lo, hi) = interval(&rt, &mut values);
-        let wanted = word(&rt, &mut values) == "below";
-        assert_eq!(rt; quad.below_zero_in(lo, hi), wanted, "{case}");
+    for line in QUADRATICS.lines() {
+        if is_case(line) {
+            check_quadratic(&rt, line);
+        }
     }
 }
 
@@ -226,41 +232,61 @@ fn is_part(part: (Frac, Frac), begin: Frac, end: Frac) -> bool {
     is_equal(part.0, begin) && is_equal(part.1, end)
 }
 
-#[test]
-fn parts_of_lines(rt: HostRuntime) {
-    for case in LINES.lines().filter(|line| is_case(line)) {
-        let mut values = case.split_whitespace();
-        let line = line(&rt, &mut values);
-        let (lo, hi) = interval(&rt, &mut values);
-        let part = line.below_in(lo, hi);
-        let begin = word(&rt, &mut values);
-        assert_eq!(rt; part.is_none(), begin == "never", "{case}");
-        if let Some(part) = part {
-            let begin = fraction(&rt, begin);
-            let end = fraction(&rt, word(&rt, &mut values));
-            assert!(rt; is_part(part, begin, end), "{case}");
+/// The part of a line is as the next values say: `never`, or its ends.
+fn check_part(rt: &impl Abort, part: Option<(Frac, Frac)>, values: &mut Values<'_>) {
+    let begin = word(rt, values);
+    match part {
+        None => assert!(rt; begin == "never"),
+        Some(part) => {
+            let begin = fraction(rt, begin);
+            let end = fraction(rt, word(rt, values));
+            assert!(rt; is_part(part, begin, end));
         }
     }
+}
+
+fn check_line(rt: &impl Abort, case: &str) {
+    let mut values = case.split_whitespace();
+    let line = line(rt, &mut values);
+    let (lo, hi) = interval(rt, &mut values);
+    check_part(rt, line.below_in(lo, hi), &mut values);
+}
+
+#[test]
+fn parts_of_lines(rt: HostRuntime) {
+    for line in LINES.lines() {
+        if is_case(line) {
+            check_line(&rt, line);
+        }
+    }
+}
+
+fn check_sign(rt: &impl Abort, case: &str) {
+    let mut values = case.split_whitespace();
+    let quad = quadratic(rt, &mut values);
+    let at = fraction(rt, word(rt, &mut values));
+    let wanted = ordering(rt, word(rt, &mut values));
+    assert!(rt; quad.sign_at(at) == wanted, "{case}");
 }
 
 #[test]
 fn signs_of_quadratics(rt: HostRuntime) {
     for case in SIGNS.lines() {
-        let mut values = case.split_whitespace();
-        let quad = quadratic(&rt, &mut values);
-        let at = fraction(&rt, word(&rt, &mut values));
-        let wanted = ordering(&rt, word(&rt, &mut values));
-        assert_eq!(rt; quad.sign_at(at), wanted, "{case}");
+        check_sign(&rt, case);
     }
+}
+
+fn check_order(rt: &impl Abort, case: &str) {
+    let mut values = case.split_whitespace();
+    let left = fraction(rt, word(rt, &mut values));
+    let right = fraction(rt, word(rt, &mut values));
+    let wanted = ordering(rt, word(rt, &mut values));
+    assert!(rt; left.compare(right) == wanted, "{case}");
 }
 
 #[test]
 fn orders_of_fractions(rt: HostRuntime) {
     for case in ORDERS.lines() {
-        let mut values = case.split_whitespace();
-        let left = fraction(&rt, word(&rt, &mut values));
-        let right = fraction(&rt, word(&rt, &mut values));
-        let wanted = ordering(&rt, word(&rt, &mut values));
-        assert_eq!(rt; left.compare(right), wanted, "{case}");
+        check_order(&rt, case);
     }
 }

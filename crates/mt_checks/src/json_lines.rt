@@ -2,6 +2,7 @@
 
 use mt_json::{Builder, Fields};
 use serde_json::Value;
+use std::process::Abort;
 
 // An object, and what its key "k" is as a text, a truth value, a whole number from -5 to 5, one of any size, and a list, by its length.
 const FIELDS: &str = r#"
@@ -39,23 +40,35 @@ const FIELDS: &str = r#"
 {"\\u006b":4} | Err(Missing) Err(Missing) Err(Missing) Err(Missing) Err(Missing)
 "#;
 
+/// The value that the text says.
+fn value(rt: &(impl Abort + AllocGlobal), text: &str) -> Value {
+    Value::from_str(rt.alloc(), text).ok().expect(rt, "a value")
+}
+
+/// What the key "k" is in each way.
+fn answers(rt: &(impl Abort + AllocGlobal), fields: &Fields<'_>) -> String {
+    let word = fields.word("k");
+    let flag = fields.flag("k");
+    let small = fields.whole("k", -5, 5);
+    let whole = fields.whole("k", i64::MIN, i64::MAX);
+    let length = match fields.list("k") {
+        Ok(items) => Ok(items.len()),
+        Err(wrong) => Err(wrong),
+    };
+    format!(in rt.alloc(); "{word:?} {flag:?} {small:?} {whole:?} {length:?}").expect(rt, "memory")
+}
+
+fn check_field(rt: &(impl Abort + AllocGlobal), case: &str) {
+    let (text, wanted) = case.split_once(" | ").expect(rt, "two columns");
+    let value = value(rt, text);
+    let fields = Fields::of(&value).expect(rt, "an object");
+    assert!(rt; answers(rt, &fields).as_str() == wanted, "{text}");
+}
+
 #[test]
 fn a_field_is_by_its_value(rt: HostRuntime) {
     for case in FIELDS.lines().skip(1) {
-        let (text, wanted) = case.split_once(" | ").expect(&rt, "two columns");
-        let value = Value::from_str(rt.alloc(), text)
-            .ok()
-            .expect(&rt, "a value");
-        let fields = Fields::of(&value).expect(&rt, "an object");
-        let word = fields.word("k");
-        let flag = fields.flag("k");
-        let small = fields.whole("k", -5, 5);
-        let whole = fields.whole("k", i64::MIN, i64::MAX);
-        let length = fields.list("k").map(|items| items.len());
-        let found = format!(in rt.alloc();
-            "{word:?} {flag:?} {small:?} {whole:?} {length:?}"
-        ).expect(&rt, "memory");
-        assert_eq!(rt; found.as_str(), wanted, "{text}");
+        check_field(&rt, case);
     }
 }
 
@@ -79,41 +92,52 @@ const KEYS: &str = r#"
 {"\ufb00":1,"\ud800\udc00":2} |  | Err(Extra { place: 0 }) Some("ﬀ")
 "#;
 
+/// Whether these keys are allowed alone, and else the least other key.
+fn outcome(rt: &(impl Abort + AllocGlobal), fields: &Fields<'_>, allowed: &str) -> String {
+    let outcome = fields.only(allowed);
+    let key = match outcome {
+        Ok(()) => None,
+        Err(extra) => fields.key(extra.place),
+    };
+    format!(in rt.alloc(); "{outcome:?} {key:?}").expect(rt, "memory")
+}
+
+fn check_keys(rt: &(impl Abort + AllocGlobal), case: &str) {
+    let (text, rest) = case.split_once(" | ").expect(rt, "three columns");
+    let (allowed, wanted) = rest.split_once(" | ").expect(rt, "three columns");
+    let value = value(rt, text);
+    let fields = Fields::of(&value).expect(rt, "an object");
+    assert!(rt; outcome(rt, &fields, allowed).as_str() == wanted, "{text}");
+}
+
 #[test]
 fn the_least_key_that_is_not_allowed(rt: HostRuntime) {
     for case in KEYS.lines().skip(1) {
-        let (text, rest) = case.split_once(" | ").expect(&rt, "three columns");
-        let (allowed, wanted) = rest.split_once(" | ").expect(&rt, "three columns");
-        let value = Value::from_str(rt.alloc(), text)
-            .ok()
-            .expect(&rt, "a value");
-        let fields = Fields::of(&value).expect(&rt, "an object");
-        let outcome = fields.only(allowed);
-        let key = outcome.err().and_then(|extra| fields.key(extra.place));
-        let found = format!(in rt.alloc(); "{outcome:?} {key:?}").expect(&rt, "memory");
-        assert_eq!(rt; found.as_str(), wanted, "{text}");
+        check_keys(&rt, case);
     }
+}
+
+fn check_no_object(rt: &(impl Abort + AllocGlobal), text: &str) {
+    let value = value(rt, text);
+    assert!(rt; Fields::of(&value).is_none());
 }
 
 #[test]
 fn what_is_no_object_has_no_fields(rt: HostRuntime) {
-    for text in ["null", "true", "1", "\"a\"", "[{}]"] {
-        let value = Value::from_str(rt.alloc(), text)
-            .ok()
-            .expect(&rt, "a value");
-        assert!(rt; Fields::of(&value).is_none(), "{text}");
-    }
-    let value = Value::from_str(rt.alloc(), r#"{"b":1,"a":2}"#)
-        .ok()
-        .expect(&rt, "a value");
+    check_no_object(&rt, "null");
+    check_no_object(&rt, "true");
+    check_no_object(&rt, "1");
+    check_no_object(&rt, "\"a\"");
+    check_no_object(&rt, "[{}]");
+    let value = value(&rt, r#"{"b":1,"a":2}"#);
     let fields = Fields::of(&value).expect(&rt, "an object");
-    assert_eq!(rt; (fields.key(1), fields.key(2)), (Some("b"), None));
+    assert!(rt; fields.key(1) == Some("b"));
+    assert!(rt; fields.key(2).is_none());
 }
 
 #[test]
 fn a_line_has_its_pairs_in_byte_order(rt: HostRuntime) {
-    let nested = Value::from_str(rt.alloc(), r#"{"y": [null, true, -3, 1.5], "x": {}}"#);
-    let nested = nested.ok().expect(&rt, "a value");
+    let nested = value(&rt, r#"{"y": [null, true, -3, 1.5], "x": {}}"#);
     let mut builder = Builder::make(rt.alloc()).expect(&rt, "memory");
     builder.text("é", "x\n\"\\\u{1}é/").expect(&rt, "memory");
     builder.number("b", 1).expect(&rt, "memory");
@@ -124,5 +148,5 @@ fn a_line_has_its_pairs_in_byte_order(rt: HostRuntime) {
     let bytes = builder.line().expect(&rt, "memory");
     let wanted =
         "{\"B\":{\"x\":{},\"y\":[null,true,-3,1.5]},\"a\":9223372036854775807,\"a\\t\":-9223372036854775808,\"b\":-7,\"é\":\"x\\n\\\"\\\\\\u0001é/\"}\n";
-    assert_eq!(rt; bytes.as_slice(), wanted.as_bytes());
+    assert!(rt; bytes.as_slice() == wanted.as_bytes());
 }

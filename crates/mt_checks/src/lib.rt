@@ -22,6 +22,8 @@ mod fractions;
 #[cfg(test)]
 mod json_lines;
 #[cfg(test)]
+mod names;
+#[cfg(test)]
 mod pages;
 #[cfg(test)]
 mod pairs;
@@ -29,6 +31,8 @@ mod pairs;
 mod picture;
 #[cfg(test)]
 mod published;
+#[cfg(test)]
+mod reports;
 #[cfg(test)]
 mod seats;
 #[cfg(test)]

@@ -1,28 +1,16 @@
 //! Tentative trajectories among those that are flown: what is published, in order, and how many pairs were tested.
+ghost use Rattle.std.specs.Prelude.{◌≤◌};
 ghost use Rattle.mt_base.specs.Bounds.{IsBoundedStretch};
 
-use mt_base::{Callsign, Conflict, Kind, Row, Rules, Straight, Tally};
+use crate::commands::EAST;
+use crate::names::callsign;
+use mt_base::{Conflict, Kind, Row, Rules, Second, Straight, Tally};
 use mt_plain::all_pairs;
 use mt_track::{Roster, Strand};
 use std::process::Abort;
 use std::sync::Arc;
 
-/// It flies east along y = 0 at 480 knots and flight level 350, without margins.
-const EAST: Row = Row {
-    x: 0,
-    y: 0,
-    z: 2_100_000,
-    r: 0,
-    w: 0,
-    vx: 480,
-    vy: 0,
-    vz: 0,
-    gr: 0,
-    gw: 0,
-    leg: 0,
-};
-
-/// It flies towards it, from 40 nautical miles away.
+/// It flies towards `EAST`, from 40 nautical miles away.
 const WEST: Row = Row {
     x: 144_000,
     vx: -480,
@@ -53,47 +41,66 @@ fn strand(rt: &(impl AllocGlobal + Abort), first: Row) -> Arc<Strand>
     Arc::new(rt.alloc(), strand).ok().expect(rt, "memory")
 }
 
-#[test]
-fn conflicts_come_in_order_and_each_pair_is_tested_once(rt: HostRuntime) {
-    let alloc = rt.alloc();
-    let a = Callsign::of(b"AAA1").expect(&rt, "a callsign");
-    let b = Callsign::of(b"BBB1").expect(&rt, "a callsign");
-    let c = Callsign::of(b"CCC1").expect(&rt, "a callsign");
-    let east = strand(&rt, EAST);
-    let west = strand(&rt, WEST);
-    let beside = strand(&rt, BESIDE);
-    let north = strand(&rt, NORTH);
-    let mut roster = Roster::make(alloc).expect(&rt, "memory");
+/// Adds the strand that begins with that row.
+fn add(rt: &(impl AllocGlobal + Abort), roster: &mut Roster, call: &[u8], kind: Kind, first: Row)
+    requires { IsBoundedStretch (record { from = 0; to = 3600; first = first }) }
+{
+    let strand = strand(rt, first);
     roster
-        .add(c, Kind::Tentative, &beside)
-        .expect(&rt, "memory");
-    roster.add(b, Kind::Actual, &west).expect(&rt, "memory");
-    roster.add(c, Kind::Actual, &north).expect(&rt, "memory");
-    roster.add(a, Kind::Actual, &east).expect(&rt, "memory");
-    let conflict = |first, a, b, kb, last| Conflict {
-        first,
-        a,
-        b,
+        .add(callsign(rt, call), kind, &strand)
+        .expect(rt, "memory");
+}
+
+/// Three flights, of which the last has a tentative trajectory too.
+fn roster(rt: &(impl AllocGlobal + Abort)) -> Roster {
+    let mut roster = Roster::make(rt.alloc()).expect(rt, "memory");
+    add(rt, &mut roster, b"CCC1", Kind::Tentative, BESIDE);
+    add(rt, &mut roster, b"BBB1", Kind::Actual, WEST);
+    add(rt, &mut roster, b"CCC1", Kind::Actual, NORTH);
+    add(rt, &mut roster, b"AAA1", Kind::Actual, EAST);
+    roster
+}
+
+/// A conflict of two flights, of which the first flies.
+fn conflict(rt: &impl Abort, seconds: (Second, Second), a: &[u8], b: &[u8], kb: Kind) -> Conflict {
+    Conflict {
+        first: seconds.0,
+        a: callsign(rt, a),
+        b: callsign(rt, b),
         ka: Kind::Actual,
         kb,
-        last,
-    };
+        last: seconds.1,
+    }
+}
+
+/// These conflicts are found from a second on.
+fn check_found(
+    rt: &(impl AllocGlobal + Abort),
+    roster: &Roster,
+    now: Second,
+    wanted: &[Conflict],
+    tests: &mut Tally,
+)
+    requires { now ≤ 10000000 }
+{
+    let found = all_pairs(rt.alloc(), roster, now, &Rules::usual(), tests).expect(rt, "memory");
+    assert!(rt; found.items() == wanted);
+}
+
+#[test]
+fn conflicts_come_in_order_and_each_pair_is_tested_once(rt: HostRuntime) {
     let mut tests = Tally::new(&rt);
-    let rules = Rules::usual();
-    let early = all_pairs(alloc, &roster, 0, &rules, &mut tests).expect(&rt, "memory");
-    let wanted = [
-        conflict(0, a, c, Kind::Tentative, 1199),
-        conflict(131, a, b, Kind::Actual, 168),
-        conflict(143, b, c, Kind::Tentative, 156),
-    ];
-    assert!(rt; early.items() == wanted.as_slice());
+    let roster = roster(&rt);
+    let east_and_beside = conflict(&rt, (0, 1199), b"AAA1", b"CCC1", Kind::Tentative);
+    let east_and_west = conflict(&rt, (131, 168), b"AAA1", b"BBB1", Kind::Actual);
+    let west_and_beside = conflict(&rt, (143, 156), b"BBB1", b"CCC1", Kind::Tentative);
+    let early = [east_and_beside, east_and_west, west_and_beside];
+    check_found(&rt, &roster, 0, &early, &mut tests);
     // of six pairs one is of one flight
-    assert_eq!(rt; tests.get(), 5);
-    let late = all_pairs(alloc, &roster, 160, &rules, &mut tests).expect(&rt, "memory");
-    let wanted = [
-        conflict(160, a, b, Kind::Actual, 168),
-        conflict(160, a, c, Kind::Tentative, 1359),
-    ];
-    assert!(rt; late.items() == wanted.as_slice());
-    assert_eq!(rt; tests.get(), 10);
+    assert!(rt; tests.get() == 5);
+    let east_and_west = conflict(&rt, (160, 168), b"AAA1", b"BBB1", Kind::Actual);
+    let east_and_beside = conflict(&rt, (160, 1359), b"AAA1", b"CCC1", Kind::Tentative);
+    let late = [east_and_west, east_and_beside];
+    check_found(&rt, &roster, 160, &late, &mut tests);
+    assert!(rt; tests.get() == 10);
 }

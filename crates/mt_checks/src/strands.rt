@@ -1,6 +1,7 @@
 //! Strands, second by second around the borders of their segments; and the order of a roster.
 use crate::cases::{check_end, number, numbers, word};
-use mt_base::{Callsign, Kind, Row, Straight};
+use crate::names::callsign;
+use mt_base::{Kind, Row, Straight};
 use mt_track::{Roster, Segment, Strand};
 use std::process::Abort;
 use std::sync::Arc;
@@ -10,18 +11,23 @@ fn values(row: &Row) -> [i64; 6] {
     [row.x, row.y, row.z, row.r, row.w, i64::from(row.leg)]
 }
 
+/// What the strand says of one second.
+fn check_row(rt: &impl Abort, strand: &Strand, line: &str) {
+    let mut case = line.split_whitespace();
+    match strand.at(number(rt, &mut case)) {
+        None => assert!(rt; word(rt, &mut case) == "none", "at second {line}"),
+        Some(row) => assert!(rt; values(&row) == numbers(rt, &mut case), "at second {line}"),
+    }
+    check_end(rt, &mut case);
+}
+
 /// What the strand says of each second of the table, and its first second and the one after its last. A line of the table is a second and either
 /// the x, y, z, r, w and leg of its row, or `none`.
 fn check(rt: &impl Abort, strand: &Strand, ends: (u32, u32), table: &str) {
-    assert_eq!(rt; (strand.start(), strand.end()), ends);
+    assert!(rt; strand.start() == ends.0);
+    assert!(rt; strand.end() == ends.1);
     for line in table.lines() {
-        let mut case = line.split_whitespace();
-        let row = strand.at(number(rt, &mut case));
-        match row.as_ref().map(values) {
-            None => assert!(rt; word(rt, &mut case) == "none", "at second {line}"),
-            Some(found) => assert!(rt; found == numbers(rt, &mut case), "at second {line}"),
-        }
-        check_end(rt, &mut case);
+        check_row(rt, strand, line);
     }
 }
 
@@ -145,33 +151,38 @@ fn a_straight_stretch_has_growing_margins(rt: HostRuntime) {
     check(&rt, &strand, (5, 9), GROWING);
 }
 
+/// A strand without segments that begins at a second.
+fn empty_from(rt: &(impl AllocGlobal + Abort), start: u32) -> Arc<Strand> {
+    Arc::new(rt.alloc(), Strand::empty(rt.alloc(), start))
+        .ok()
+        .expect(rt, "memory")
+}
+
+/// Adds such a strand of a flight.
+fn add(rt: &(impl AllocGlobal + Abort), roster: &mut Roster, call: &[u8], kind: Kind, start: u32) {
+    let strand = empty_from(rt, start);
+    roster
+        .add(callsign(rt, call), kind, &strand)
+        .expect(rt, "memory");
+}
+
+/// The strand at a place of the roster.
+fn check_item(rt: &impl Abort, roster: &Roster, place: usize, call: &[u8], kind: Kind, start: u32) {
+    let item = roster.items().get(place).expect(rt, "a strand");
+    assert!(rt; item.call == callsign(rt, call));
+    assert!(rt; item.kind == kind);
+    assert!(rt; item.strand.start() == start);
+}
+
 #[test]
 fn a_roster_keeps_its_order(rt: HostRuntime) {
-    let second = Callsign::of(b"BAW1").expect(&rt, "a callsign");
-    let first = Callsign::of(b"AAA1").expect(&rt, "a callsign");
-    let early = Arc::new(rt.alloc(), Strand::empty(rt.alloc(), 20))
-        .ok()
-        .expect(&rt, "memory");
-    let late = Arc::new(rt.alloc(), Strand::empty(rt.alloc(), 30))
-        .ok()
-        .expect(&rt, "memory");
     let mut roster = Roster::make(rt.alloc()).expect(&rt, "memory");
     assert!(rt; roster.items().is_empty());
-    roster
-        .add(second, Kind::Tentative, &late)
-        .expect(&rt, "memory");
-    roster.add(first, Kind::Actual, &late).expect(&rt, "memory");
-    roster
-        .add(second, Kind::Actual, &early)
-        .expect(&rt, "memory");
-    let items = roster.items();
-    let wanted = [
-        (second, Kind::Tentative, 30),
-        (first, Kind::Actual, 30),
-        (second, Kind::Actual, 20),
-    ];
-    assert_eq!(rt; items.len(), wanted.len());
-    for (item, (call, kind, start)) in items.iter().zip(wanted) {
-        assert!(rt; item.call == call && item.kind == kind && item.strand.start() == start);
-    }
+    add(&rt, &mut roster, b"BAW1", Kind::Tentative, 30);
+    add(&rt, &mut roster, b"AAA1", Kind::Actual, 30);
+    add(&rt, &mut roster, b"BAW1", Kind::Actual, 20);
+    assert!(rt; roster.items().len() == 3);
+    check_item(&rt, &roster, 0, b"BAW1", Kind::Tentative, 30);
+    check_item(&rt, &roster, 1, b"AAA1", Kind::Actual, 30);
+    check_item(&rt, &roster, 2, b"BAW1", Kind::Actual, 20);
 }

@@ -5,7 +5,6 @@ use mt_io::{
     Failed, Line, LineFault, LineReader, MemSink, MemSource, Sink, Source, StdIn, StdOut,
     laws_of_lines, put_all,
 };
-use std::alloc::Global;
 use std::process::Abort;
 
 /// Gives at most `most` bytes a call. The call with the number `failing`, from 1, fails.
@@ -96,147 +95,185 @@ fn source_of(bytes: Vec<u8>, most: usize, failing: u64) -> Dripping
     }
 }
 
-// The reader gives these lines and then the end, twice.
+/// Whether the next line is that text.
+fn is_next<S: Source>(reader: &mut LineReader, source: &mut S, text: &[u8]) -> bool {
+    match reader.next(source) {
+        Ok(Line::Text(found)) => found == text,
+        _ => false,
+    }
+}
+
+/// Whether there is no further line.
+fn is_end<S: Source>(reader: &mut LineReader, source: &mut S) -> bool {
+    matches!(reader.next(source), Ok(Line::End))
+}
+
+/// The reader gives these lines and then the end, twice.
 fn gives<S: Source>(rt: &(impl AllocGlobal + Abort), source: &mut S, want: &[&[u8]]) {
     let mut reader = LineReader::make(rt.alloc()).expect(rt, "memory");
     for line in want {
-        let is_next = matches!(reader.next(source), Ok(Line::Text(text)) if text == *line);
-        assert!(rt; is_next, "{line:?}");
+        assert!(rt; is_next(&mut reader, source, line));
     }
-    assert!(rt; matches!(reader.next(source), Ok(Line::End)));
-    assert!(rt; matches!(reader.next(source), Ok(Line::End)));
-    assert_eq!(rt; reader.lines(), want.len() as u64);
+    assert!(rt; is_end(&mut reader, source));
+    assert!(rt; is_end(&mut reader, source));
+    assert!(rt; reader.lines() == want.len() as u64);
+}
+
+/// The lines of an input, of which each call gives so many bytes at most.
+fn check_dripping(rt: &(impl AllocGlobal + Abort), input: &[u8], most: usize, want: &[&[u8]])
+    requires { 0 < most }
+{
+    let bytes = input.to_vec(rt.alloc()).expect(rt, "memory");
+    gives(rt, &mut source_of(bytes, most, 0), want);
+}
+
+/// The lines of an input, however many bytes a call gives.
+fn check_lines(rt: &(impl AllocGlobal + Abort), input: &[u8], want: &[&[u8]]) {
+    check_dripping(rt, input, 1, want);
+    check_dripping(rt, input, 2, want);
+    check_dripping(rt, input, 3, want);
+    check_dripping(rt, input, 100, want);
+    let bytes = input.to_vec(rt.alloc()).expect(rt, "memory");
+    gives(rt, &mut MemSource::of(bytes), want);
 }
 
 #[test]
 fn lines_of_small_inputs(rt: HostRuntime) {
-    let alloc = rt.alloc();
-    let rows: [(&[u8], &[&[u8]]); 8] = [
-        (b"", &[]),
-        (b"\n", &[b""]),
-        (b"a", &[b"a"]),
-        (b"a\n", &[b"a"]),
-        (b"\n\n", &[b"", b""]),
-        (b"ab\ncd", &[b"ab", b"cd"]),
-        (b"ab\n\ncd\n", &[b"ab", b"", b"cd"]),
-        (
-            b"{\"t\":1}\r\n\xff\n tail",
-            &[b"{\"t\":1}\r", b"\xff", b" tail"],
-        ),
-    ];
-    for (input, want) in rows {
-        for most in [1, 2, 3, 100] {
-            let mut source = source_of(input.to_vec(alloc).expect(&rt, "memory"), most, 0);
-            gives(&rt, &mut source, want);
-        }
-        let mut whole = MemSource::of(input.to_vec(alloc).expect(&rt, "memory"));
-        gives(&rt, &mut whole, want);
-    }
+    check_lines(&rt, b"", &[]);
+    check_lines(&rt, b"\n", &[b""]);
+    check_lines(&rt, b"a", &[b"a"]);
+    check_lines(&rt, b"a\n", &[b"a"]);
+    check_lines(&rt, b"\n\n", &[b"", b""]);
+    check_lines(&rt, b"ab\ncd", &[b"ab", b"cd"]);
+    check_lines(&rt, b"ab\n\ncd\n", &[b"ab", b"", b"cd"]);
+    check_lines(
+        &rt,
+        b"{\"t\":1}\r\n\xff\n tail",
+        &[b"{\"t\":1}\r", b"\xff", b" tail"],
+    );
     laws_of_lines();
+}
+
+/// A line of so many bytes `x`, and what is behind it.
+fn long_line(rt: &(impl AllocGlobal + Abort), count: usize, behind: &[u8]) -> Vec<u8> {
+    let mut bytes = vec![in rt.alloc(); b'x'; count].expect(rt, "memory");
+    bytes.extend_from_slice(behind).expect(rt, "memory");
+    bytes
+}
+
+/// Whether the next line is given, which has so many bytes; one that is not is too long.
+fn is_given(rt: &impl Abort, reader: &mut LineReader, source: &mut Dripping, count: usize) -> bool {
+    match reader.next(source) {
+        Ok(Line::Text(text)) => {
+            assert!(rt; text.len() == count);
+            true
+        }
+        Ok(Line::Long) => false,
+        _ => panic!(rt; "no line"),
+    }
+}
+
+/// A line of so many bytes is given or not, and so is what follows it, of which each call gives so many bytes at most.
+fn check_long(rt: &(impl AllocGlobal + Abort), count: usize, more: bool, given: bool, most: usize)
+    requires { 0 < most }
+{
+    let behind = if more { b"\nyz".as_slice() } else { b"" };
+    let mut source = source_of(long_line(rt, count, behind), most, 0);
+    let mut reader = LineReader::make(rt.alloc()).expect(rt, "memory");
+    assert!(rt;
+        is_given(rt, &mut reader, &mut source, count) == given,
+        "{count}"
+    );
+    assert!(rt;
+        !more || is_next(&mut reader, &mut source, b"yz"),
+        "{count}"
+    );
+    assert!(rt; is_end(&mut reader, &mut source), "{count}");
+}
+
+/// The same for calls that give less than the longest line, and as much.
+fn check_longest(rt: &(impl AllocGlobal + Abort), count: usize, more: bool, given: bool) {
+    check_long(rt, count, more, given, 40_000);
+    check_long(rt, count, more, given, 65_536);
 }
 
 #[test]
 fn the_longest_line(rt: HostRuntime) {
-    let alloc = rt.alloc();
-    // how many bytes, whether a 0x0A and a further line follow, whether the line is given
-    let rows = [
-        (65_536, false, true),
-        (65_536, true, true),
-        (65_537, false, false),
-        (65_537, true, false),
-        (131_072, true, false),
-    ];
-    for (count, more, given) in rows {
-        for most in [40_000, 65_536] {
-            let mut bytes = vec![in alloc; b'x'; count].expect(&rt, "memory");
-            if more {
-                bytes.extend_from_slice(b"\nyz").expect(&rt, "memory");
-            }
-            let mut source = source_of(bytes, most, 0);
-            let mut reader = LineReader::make(alloc).expect(&rt, "memory");
-            match reader.next(&mut source) {
-                Ok(Line::Text(text)) => assert!(rt; given && text.len() == count, "{count}"),
-                Ok(Line::Long) => assert!(rt; !given, "{count}"),
-                _ => assert!(rt; false, "{count}"),
-            }
-            if more {
-                let is_next =
-                    matches!(reader.next(&mut source), Ok(Line::Text(text)) if text == b"yz".as_slice());
-                assert!(rt; is_next, "{count}");
-            }
-            assert!(rt;
-                matches!(reader.next(&mut source), Ok(Line::End)),
-                "{count}"
-            );
-        }
-    }
+    check_longest(&rt, 65_536, false, true);
+    check_longest(&rt, 65_536, true, true);
+    check_longest(&rt, 65_537, false, false);
+    check_longest(&rt, 65_537, true, false);
+    check_longest(&rt, 131_072, true, false);
+}
+
+/// Reading fails, as it did before, and no further call is made.
+fn check_fault(rt: &impl Abort, reader: &mut LineReader, source: &mut Dripping) {
+    assert!(rt; matches!(reader.next(source), Err(LineFault::ReadFault)));
+    assert!(rt; source.read_faults() == 1);
+    assert!(rt; source.calls == 3);
+    assert!(rt; reader.lines() == 1);
 }
 
 #[test]
 fn a_fault_in_mid_stream(rt: HostRuntime) {
-    let alloc = rt.alloc();
     // the third read fails, when "ab", 0x0A and "c" were given
-    let mut source = source_of(b"ab\ncd\n".to_vec(alloc).expect(&rt, "memory"), 2, 3);
-    let mut reader = LineReader::make(alloc).expect(&rt, "memory");
-    let is_first =
-        matches!(reader.next(&mut source), Ok(Line::Text(text)) if text == b"ab".as_slice());
-    assert!(rt; is_first);
-    for _ in 0..3 {
-        assert!(rt; matches!(reader.next(&mut source), Err(LineFault::ReadFault)));
-        assert_eq!(rt; source.read_faults(), 1);
-        assert_eq!(rt; source.calls, 3);
-        assert_eq!(rt; reader.lines(), 1);
-    }
+    let bytes = b"ab\ncd\n".to_vec(rt.alloc()).expect(&rt, "memory");
+    let mut source = source_of(bytes, 2, 3);
+    let mut reader = LineReader::make(rt.alloc()).expect(&rt, "memory");
+    assert!(rt; is_next(&mut reader, &mut source, b"ab"));
+    check_fault(&rt, &mut reader, &mut source);
+    check_fault(&rt, &mut reader, &mut source);
+    check_fault(&rt, &mut reader, &mut source);
+}
+
+/// What a sink holds whose call of that number fails, and how many faults it counted.
+fn check_write(rt: &(impl AllocGlobal + Abort), failing: u64, held: &[u8], faults: u64) {
+    let mut sink = Trickling {
+        bytes: Vec::new(rt.alloc()),
+        calls: 0,
+        failing,
+        faults: 0,
+    };
+    let is_whole = put_all(&mut sink, b"abc").is_ok();
+    assert!(rt; is_whole == (faults == 0), "{failing}");
+    assert!(rt; sink.bytes.as_slice() == held, "{failing}");
+    assert!(rt; sink.write_faults() == faults, "{failing}");
+}
+
+/// What a sink with so much room holds after two writes, and how many faults it counted.
+fn check_room(rt: &(impl AllocGlobal + Abort), room: u32, held: &[u8], faults: u64) {
+    let mut sink = MemSink::make(rt.alloc(), room).expect(rt, "memory");
+    let is_first = put_all(&mut sink, b"abc").is_ok();
+    let is_second = put_all(&mut sink, b"de").is_ok();
+    assert!(rt; is_first == (room > 2), "{room}");
+    assert!(rt; is_second == (room > 4), "{room}");
+    assert!(rt; sink.held() == held, "{room}");
+    assert!(rt; sink.write_faults() == faults, "{room}");
 }
 
 #[test]
 fn a_whole_write(rt: HostRuntime) {
-    let alloc = rt.alloc();
-    // the call that fails, what is held then, and how many faults were counted
-    let rows: [(u64, &[u8], u64); 4] = [(0, b"abc", 0), (1, b"", 1), (3, b"ab", 1), (4, b"abc", 0)];
-    for (failing, held, faults) in rows {
-        let mut sink = Trickling {
-            bytes: Vec::new(alloc),
-            calls: 0,
-            failing,
-            faults: 0,
-        };
-        assert_eq!(rt;
-            put_all(&mut sink, b"abc").is_ok(),
-            faults == 0,
-            "{failing}"
-        );
-        assert_eq!(rt; sink.bytes.as_slice(), held, "{failing}");
-        assert_eq!(rt; sink.write_faults(), faults, "{failing}");
-    }
-    // the room, what is held after two writes, and how many faults were counted
-    let rooms: [(u32, &[u8], u64); 4] = [
-        (0, b"", 2),
-        (2, b"ab", 2),
-        (4, b"abcd", 1),
-        (5, b"abcde", 0),
-    ];
-    for (room, held, faults) in rooms {
-        let mut sink = MemSink::make(alloc, room).expect(&rt, "memory");
-        let first = put_all(&mut sink, b"abc");
-        let second = put_all(&mut sink, b"de");
-        assert_eq!(rt;
-            (first.is_ok(), second.is_ok()),
-            (room > 2, room > 4),
-            "{room}"
-        );
-        assert_eq!(rt; sink.held(), held, "{room}");
-        assert_eq!(rt; sink.write_faults(), faults, "{room}");
-    }
+    check_write(&rt, 0, b"abc", 0);
+    check_write(&rt, 1, b"", 1);
+    check_write(&rt, 3, b"ab", 1);
+    check_write(&rt, 4, b"abc", 0);
+    check_room(&rt, 0, b"", 2);
+    check_room(&rt, 2, b"ab", 2);
+    check_room(&rt, 4, b"abcd", 1);
+    check_room(&rt, 5, b"abcde", 0);
+}
+
+/// The standard input has ended.
+fn check_input(rt: &impl Abort, mut input: StdIn) {
+    let mut buf = [0; 8];
+    assert!(rt; input.read_some(&mut buf) == Ok(0));
+    assert!(rt; input.read_faults() == 0);
 }
 
 #[test]
 fn the_standard_streams(rt: HostRuntime) {
-    let mut input = StdIn::of(rt.stdin());
-    let mut buf = [0; 8];
-    assert_eq!(rt; input.read_some(&mut buf), Ok(0));
-    assert_eq!(rt; input.read_faults(), 0);
+    check_input(&rt, StdIn::of(rt.stdin()));
     let mut output = StdOut::of(rt.stdout());
-    assert_eq!(rt; put_all(&mut output, b"a line\n"), Ok(()));
-    assert_eq!(rt; output.write_faults(), 0);
+    assert!(rt; put_all(&mut output, b"a line\n") == Ok(()));
+    assert!(rt; output.write_faults() == 0);
 }

@@ -2,17 +2,11 @@
 ghost use Rattle.std.specs.Prelude.{pos, ◌≤◌, ◌≤ℤ◌};
 ghost use Rattle.mt_base.specs.Bounds.{AreBoundedBands, IsBoundedBand};
 
-use mt_base::{Band, FixName, Point, TypeName};
+use crate::names::{fix_name, type_name};
+use mt_base::{Band, Point, TypeName};
 use mt_tables::{AddNo, Tables};
+use std::alloc::Global;
 use std::process::Abort;
-
-fn fix_name(rt: &impl Abort, text: &[u8]) -> FixName {
-    FixName::of(text).expect(rt, "a fix name")
-}
-
-fn type_name(rt: &impl Abort, text: &[u8]) -> TypeName {
-    TypeName::of(text).expect(rt, "a type name")
-}
 
 /// A band up to that level, at that speed.
 fn band(top: u32, speed: i64) -> Band
@@ -61,67 +55,94 @@ fn digits(n: u32) -> [u8; 5] {
     ]
 }
 
+/// Adds so many fixes, named by their numbers.
+fn add_fixes(rt: &impl Abort, tables: &mut Tables, count: u32)
+    requires { count ≤ 20000 }
+{
+    for n in 0..count {
+        let name = fix_name(rt, &digits(n));
+        assert!(rt; tables.add_fix(name, i64::from(n), 0) == Ok(()), "fix {n}");
+    }
+}
+
 #[test]
 fn the_tables_take_20_000_fixes(rt: HostRuntime) {
     let mut tables = Tables::make(rt.alloc()).expect(&rt, "memory");
-    for n in 0..20_000 {
-        let name = fix_name(&rt, &digits(n));
-        assert!(rt; tables.add_fix(name, i64::from(n), 0) == Ok(()), "fix {n}");
-    }
+    add_fixes(&rt, &mut tables, 20_000);
     assert!(rt; tables.add_fix(fix_name(&rt, b"AA"), 0, 0) == Err(AddNo::Full));
     assert!(rt; tables.add_fix(fix_name(&rt, b"19999"), 0, 0) == Err(AddNo::Taken));
     assert!(rt; tables.fix(fix_name(&rt, b"12345")) == Some(Point { x: 12_345, y: 0 }));
     assert!(rt; tables.fix(fix_name(&rt, b"20000")).is_none());
 }
 
+/// Adds so many types, named by their numbers.
+fn add_types(rt: &impl Abort, tables: &mut Tables, count: u32)
+    requires { count ≤ 1000 }
+{
+    let bands = one_band(600);
+    for n in 0..count {
+        let name = type_name(rt, &digits(n)[1..]);
+        assert!(rt; tables.add_type(name, &bands) == Ok(()), "type {n}");
+    }
+}
+
 #[test]
 fn the_tables_take_1_000_types(rt: HostRuntime) {
     let mut tables = Tables::make(rt.alloc()).expect(&rt, "memory");
+    add_types(&rt, &mut tables, 1_000);
     let bands = one_band(600);
-    for n in 0..1_000 {
-        let name = type_name(&rt, &digits(n)[1..]);
-        assert!(rt; tables.add_type(name, &bands) == Ok(()), "type {n}");
-    }
     assert!(rt; tables.add_type(type_name(&rt, b"AA"), &bands) == Err(AddNo::Full));
     assert!(rt; tables.add_type(type_name(&rt, b"0999"), &bands) == Err(AddNo::Taken));
     assert!(rt; tables.ceiling(type_name(&rt, b"0500")) == Some(600));
     assert!(rt; tables.ceiling(type_name(&rt, b"1000")).is_none());
 }
 
-#[test]
-fn each_height_has_its_band(rt: HostRuntime) {
-    let mut tables = Tables::make(rt.alloc()).expect(&rt, "memory");
-    let (slow, fast, other) = (
-        type_name(&rt, b"C172"),
-        type_name(&rt, b"B7"),
-        type_name(&rt, b"B77"),
-    );
+/// The tables with a slow type C172 and a fast type B7.
+fn two_types(rt: &impl Abort, alloc: Global) -> Tables {
+    let mut tables = Tables::make(alloc).expect(rt, "memory");
+    let slow = type_name(rt, b"C172");
+    let fast = type_name(rt, b"B7");
     assert!(rt; tables.add_type(slow, &one_band(100)) == Ok(()));
     assert!(rt; tables.add_type(fast, &three_bands((100, 240, 410))) == Ok(()));
-    assert!(rt; tables.ceiling(slow) == Some(100));
-    assert!(rt; tables.ceiling(fast) == Some(410));
-    assert!(rt; tables.ceiling(other).is_none());
-    // a height in 1/60 of a foot, and the speeds in the bands of the two types that hold it
-    let heights = [
-        (0, 110, 250),
-        (600_000, 110, 250),
-        (600_001, 110, 320),
-        (1_440_000, 110, 320),
-        (1_440_001, 110, 480),
-        (2_460_000, 110, 480),
-        (2_460_001, 110, 480),
-        (3_600_000, 110, 480),
-    ];
-    for (height, slowly, fastly) in heights {
-        check_speed(&rt, &tables, (slow, height), Some(slowly));
-        check_speed(&rt, &tables, (fast, height), Some(fastly));
-        check_speed(&rt, &tables, (other, height), None);
+    tables
+}
+
+/// The speed of the type's band at a height.
+fn speed(tables: &Tables, name: TypeName, height: u32) -> Option<i64> {
+    match tables.band(name, i64::from(height)) {
+        Some(band) => Some(band.speed),
+        None => None,
     }
 }
 
-/// Compares the speed of the type's band at a height.
-fn check_speed(rt: &impl Abort, tables: &Tables, place: (TypeName, u32), wanted: Option<i64>) {
-    let (name, height) = place;
-    let band = tables.band(name, i64::from(height));
-    assert!(rt; band.map(|band| band.speed) == wanted, "at {height}");
+/// Compares the speeds of the two types at a height in 1/60 of a foot; a type that is not in the tables has none.
+fn check_speeds(rt: &impl Abort, tables: &Tables, height: u32, slowly: i64, fastly: i64) {
+    assert!(rt;
+        speed(tables, type_name(rt, b"C172"), height) == Some(slowly),
+        "at {height}"
+    );
+    assert!(rt;
+        speed(tables, type_name(rt, b"B7"), height) == Some(fastly),
+        "at {height}"
+    );
+    assert!(rt;
+        speed(tables, type_name(rt, b"B77"), height).is_none(),
+        "at {height}"
+    );
+}
+
+#[test]
+fn each_height_has_its_band(rt: HostRuntime) {
+    let tables = two_types(&rt, rt.alloc());
+    assert!(rt; tables.ceiling(type_name(&rt, b"C172")) == Some(100));
+    assert!(rt; tables.ceiling(type_name(&rt, b"B7")) == Some(410));
+    assert!(rt; tables.ceiling(type_name(&rt, b"B77")).is_none());
+    check_speeds(&rt, &tables, 0, 110, 250);
+    check_speeds(&rt, &tables, 600_000, 110, 250);
+    check_speeds(&rt, &tables, 600_001, 110, 320);
+    check_speeds(&rt, &tables, 1_440_000, 110, 320);
+    check_speeds(&rt, &tables, 1_440_001, 110, 480);
+    check_speeds(&rt, &tables, 2_460_000, 110, 480);
+    check_speeds(&rt, &tables, 2_460_001, 110, 480);
+    check_speeds(&rt, &tables, 3_600_000, 110, 480);
 }

@@ -122,21 +122,24 @@ fn fly(
     fly_route(alloc, &rules, bands, level, fixes, next, at, from).expect(rt, "memory")
 }
 
+/// What the strand says of one second.
+fn check_row(rt: &impl Abort, strand: &Strand, line: &str) {
+    let mut case = line.split_whitespace();
+    let row = strand.at(number(rt, &mut case)).expect(rt, "a row");
+    let wanted = numbers(rt, &mut case);
+    check_end(rt, &mut case);
+    assert!(rt; values(&row) == wanted, "at second {line}");
+}
+
 /// What the strand says of each second of the table, its first second and the one after its last, and how many segments it has. A line of the
 /// table is a second and the values of its row: x, y, z, r and w, what each of them gains, and the leg.
 fn check(rt: &impl Abort, strand: Strand, ends: (u32, u32), segments: usize, table: &str) {
-    assert_eq!(rt; (strand.start(), strand.end()), ends);
-    assert_eq!(rt; strand.segments().len(), segments);
+    assert!(rt; strand.start() == ends.0);
+    assert!(rt; strand.end() == ends.1);
+    assert!(rt; strand.segments().len() == segments);
     assert!(rt; strand.at(ends.1).is_none());
     for line in table.lines() {
-        let mut case = line.split_whitespace();
-        let row = strand.at(number(rt, &mut case));
-        let wanted = numbers(rt, &mut case);
-        check_end(rt, &mut case);
-        assert!(rt;
-            row.as_ref().map(values) == Some(wanted),
-            "at second {line}"
-        );
+        check_row(rt, &strand, line);
     }
 }
 

@@ -1,7 +1,6 @@
 //! Lines of sessions, and the texts of replies and entries with values that no script reaches.
 
 mod flights;
-mod names;
 mod probes;
 mod refusals;
 mod replies;

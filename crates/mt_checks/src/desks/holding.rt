@@ -5,7 +5,8 @@ ghost use Rattle.std.specs.Thread.{IsSync};
 ghost use Rattle.mt_desk.specs.Desk.{IsReady};
 
 use super::opening::{opened, outer};
-use crate::commands::{named, plan};
+use crate::commands::plan;
+use crate::names::callsign;
 use mt_base::{Clearance, Command};
 use mt_board::{Board, Probed};
 use mt_desk::{Desk, Seat};
@@ -62,7 +63,7 @@ fn held_version<R: Threads + Wait + Sync + Abort>(
 {
     let mut hand = desk.hand(seat);
     let gate = Hold { rt, meeting };
-    let (call, clearance) = (named(rt, b"DDD1"), Clearance::Level(360));
+    let (call, clearance) = (callsign(rt, b"DDD1"), Clearance::Level(360));
     match work {
         Work::Probe => match hand.what_if(rt, call, clearance, None, &gate) {
             Ok(probe) => probe.version(),
@@ -99,7 +100,7 @@ fn enter<R: Threads + Wait + Sync + Abort>(
 {
     let mut hand = desk.hand(seat);
     meeting.wait(rt);
-    let entered = hand.change(rt, outer(named(rt, b"BBB1"), 10), &OpenGate);
+    let entered = hand.change(rt, outer(callsign(rt, b"BBB1"), 10), &OpenGate);
     meeting.wait(rt);
     match entered {
         Ok(entered) => entered.version,

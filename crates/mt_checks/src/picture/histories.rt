@@ -1,6 +1,7 @@
 //! A small history as text: read, rebuilt, printed, and read and rebuilt once more; and texts that say none.
-use crate::commands::{named, small_tables};
-use mt_base::{Conflict, Kind, Refusal, Rules};
+use super::scene::conflict_ahead;
+use crate::commands::small_tables;
+use mt_base::{Refusal, Rules};
 use mt_history::{Bad, Wrong, print, read_all, rebuild};
 use mt_picture::Picture;
 use std::alloc::Global;
@@ -33,18 +34,6 @@ fn rebuilt(
         .ok()
         .expect(rt, "memory");
     rebuild(rt, alloc, Rules::usual(), tables, &entries)
-}
-
-// The conflict of the marked climb with the flight ahead.
-fn conflict_ahead(rt: &impl Abort) -> Conflict {
-    Conflict {
-        first: 129,
-        a: named(rt, b"DDD1"),
-        b: named(rt, b"JJJ1"),
-        ka: Kind::Tentative,
-        kb: Kind::Actual,
-        last: 171,
-    }
 }
 
 // One text behind another.

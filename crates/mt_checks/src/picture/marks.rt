@@ -1,6 +1,7 @@
 //! Tentative marks: they are published, count for no what-if and no acceptance, and belong to who made them.
-use super::scene::{Scene, check_entered, check_probe, check_refused};
-use crate::commands::{AHEAD, clear, named, outer, plan, tentative, withdraw};
+use super::scene::{Scene, check_entered, check_probe, check_refused, conflict_ahead};
+use crate::commands::{AHEAD, clear, outer, plan, tentative, withdraw};
+use crate::names::callsign;
 use mt_base::{Conflict, Hit, Kind, Refusal, Tally};
 use std::alloc::Global;
 use std::process::Abort;
@@ -21,19 +22,7 @@ fn three_flights(rt: &impl Abort, alloc: Global, tests: Tally) -> Scene {
 fn hit_ahead(rt: &impl Abort) -> Hit {
     Hit {
         first: 129,
-        with: named(rt, b"JJJ1"),
-        last: 171,
-    }
-}
-
-// The conflict of the plan's tentative climb with the flight ahead.
-fn conflict_ahead(rt: &impl Abort) -> Conflict {
-    Conflict {
-        first: 129,
-        a: named(rt, b"DDD1"),
-        b: named(rt, b"JJJ1"),
-        ka: Kind::Tentative,
-        kb: Kind::Actual,
+        with: callsign(rt, b"JJJ1"),
         last: 171,
     }
 }
@@ -88,8 +77,8 @@ fn two_plans(rt: &impl Abort, alloc: Global, tests: Tally) -> Scene {
 fn conflict_between(rt: &impl Abort) -> Conflict {
     Conflict {
         first: 466,
-        a: named(rt, b"DDD1"),
-        b: named(rt, b"KKK1"),
+        a: callsign(rt, b"DDD1"),
+        b: callsign(rt, b"KKK1"),
         ka: Kind::Actual,
         kb: Kind::Tentative,
         last: 535,
@@ -100,7 +89,7 @@ fn conflict_between(rt: &impl Abort) -> Conflict {
 fn hit_between(rt: &impl Abort) -> Hit {
     Hit {
         first: 466,
-        with: named(rt, b"DDD1"),
+        with: callsign(rt, b"DDD1"),
         last: 535,
     }
 }

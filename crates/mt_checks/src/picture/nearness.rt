@@ -5,7 +5,8 @@ ghost use Rattle.mt_base.specs.History.{IsInTime};
 ghost use Rattle.mt_probe.specs.Prepared.{MakesStrand};
 
 use super::scene::{Scene, check_entered};
-use crate::commands::{EAST, STILL, named, outer};
+use crate::commands::{EAST, STILL, outer};
+use crate::names::callsign;
 use mt_base::{Command, Conflict, Kind, Row, Tally};
 use std::process::Abort;
 
@@ -50,8 +51,8 @@ fn flights_on_both_sides_of_an_edge_are_in_conflict(rt: HostRuntime) {
     check_entered(&rt, scene.enter_made(0, &east), 2);
     let wanted = Conflict {
         first: 0,
-        a: named(&rt, b"AAA1"),
-        b: named(&rt, b"BBB1"),
+        a: callsign(&rt, b"AAA1"),
+        b: callsign(&rt, b"BBB1"),
         ka: Kind::Actual,
         kb: Kind::Actual,
         last: 1199,

@@ -1,26 +1,10 @@
 //! Clearances that were prepared before a flight came that is in conflict with them.
 use super::scene::{Scene, check_entered, check_probe, check_refused};
-use crate::commands::{AHEAD, EAST, clear, drop_flight, named, outer, plan, tick};
-use mt_base::{Conflict, Hit, Kind, Refusal, Row, Tally};
+use crate::commands::{AHEAD, FARTHER, FARTHEST, NORTH, clear, drop_flight, outer, plan, tick};
+use crate::names::callsign;
+use mt_base::{Conflict, Hit, Kind, Refusal, Tally};
 use std::alloc::Global;
 use std::process::Abort;
-
-/// Flights far north of the plan, one at flight level 360.
-const NORTH: Row = Row {
-    y: 1_000_000,
-    z: 2_160_000,
-    ..EAST
-};
-
-const FARTHER: Row = Row {
-    y: 1_200_000,
-    ..EAST
-};
-
-const FARTHEST: Row = Row {
-    y: 1_400_000,
-    ..EAST
-};
 
 // The plan and three external flights, none of them near another, at second 10.
 fn five_entries(rt: &impl Abort, alloc: Global, tests: Tally) -> Scene {
@@ -42,7 +26,7 @@ fn five_entries(rt: &impl Abort, alloc: Global, tests: Tally) -> Scene {
 fn hit_ahead(rt: &impl Abort) -> Hit {
     Hit {
         first: 134,
-        with: named(rt, b"EEE1"),
+        with: callsign(rt, b"EEE1"),
         last: 176,
     }
 }
@@ -51,8 +35,8 @@ fn hit_ahead(rt: &impl Abort) -> Hit {
 fn conflict_ahead(rt: &impl Abort) -> Conflict {
     Conflict {
         first: 134,
-        a: named(rt, b"DDD1"),
-        b: named(rt, b"EEE1"),
+        a: callsign(rt, b"DDD1"),
+        b: callsign(rt, b"EEE1"),
         ka: Kind::Actual,
         kb: Kind::Actual,
         last: 176,
@@ -71,7 +55,7 @@ fn preps_from_before_find_the_flight_that_came_after_them(rt: HostRuntime) {
     let filed = scene.enter_made(0, &ahead);
     let accepted = scene.accept(&rt, &probe);
     let cleared = scene.enter_with(0, &climb, &prep);
-    assert_eq!(rt; prep.version(), 5);
+    assert!(rt; prep.version() == 5);
     check_probe(&rt, &probe, 5, &[]);
     check_entered(&rt, dropped, 6);
     check_entered(&rt, filed, 7);

@@ -6,8 +6,9 @@ ghost use Rattle.mt_picture.specs.Story.{IsPrepFor};
 ghost use Rattle.mt_probe.specs.Prepared.{MakesStrand};
 ghost use Rattle.mt_checks.specs.Growing.{IsLater, IsOfPast};
 
-use crate::commands::{named, small_tables};
-use mt_base::{Clearance, Command, Conflict, Entered, Hit, Refusal, Rules, Tally};
+use crate::commands::small_tables;
+use crate::names::callsign;
+use mt_base::{Clearance, Command, Conflict, Entered, Hit, Kind, Refusal, Rules, Tally};
 use mt_board::{No, Probed};
 use mt_picture::Picture;
 use mt_probe::{Prep, Probe, prepare, what_if};
@@ -108,7 +109,7 @@ impl Scene {
 
     /// As many pairs were tested as that.
     pub fn check_tests(&self, rt: &impl Abort, wanted: u64) {
-        assert_eq!(rt; self.tests.get(), wanted);
+        assert!(rt; self.tests.get() == wanted);
     }
 
     /// A clearance of a flight to a flight level is tried now.
@@ -124,7 +125,7 @@ impl Scene {
             &snapshot,
             snapshot.tables(),
             snapshot.rules(),
-            named(rt, call),
+            callsign(rt, call),
             Clearance::Level(level),
             None,
             &mut self.tests,
@@ -156,6 +157,18 @@ impl Scene {
 
 /// A probe is of that version, and has these hits.
 pub fn check_probe(rt: &impl Abort, probe: &Probe, version: u64, wanted: &[Hit]) {
-    assert_eq!(rt; probe.version(), version);
+    assert!(rt; probe.version() == version);
     assert!(rt; probe.hits() == wanted);
+}
+
+/// The conflict of the plan's tentative climb with the flight ahead.
+pub fn conflict_ahead(rt: &impl Abort) -> Conflict {
+    Conflict {
+        first: 129,
+        a: callsign(rt, b"DDD1"),
+        b: callsign(rt, b"JJJ1"),
+        ka: Kind::Tentative,
+        kb: Kind::Actual,
+        last: 171,
+    }
 }

@@ -103,7 +103,7 @@ fn port_that_is_taken_is_a_fault(rt: HostRuntime) {
     let (mut first, mut second) = (TcpDoor::of(&rt), TcpDoor::of(&rt));
     let port = open(&mut first, 47_911).expect(&rt, "a free port");
     assert!(&rt; second.listen(port, 1).is_err());
-    assert_eq!(&rt; second.door_faults(), 1);
+    assert!(&rt; second.door_faults() == 1);
     assert!(&rt; matches!(second.next_link(), Ok(None)));
-    assert_eq!(&rt; second.door_faults(), 1);
+    assert!(&rt; second.door_faults() == 1);
 }

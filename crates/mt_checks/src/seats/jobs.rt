@@ -1,6 +1,6 @@
 //! Jobs from many ends to many: none is lost, none is given twice, and none comes once all senders are gone.
 
-use crate::commands::named;
+use crate::names::callsign;
 use mt_base::Callsign;
 use mt_workers::{Inbox, Job, JobReceiver, JobSender, Outbox, jobs};
 use std::process::Abort;
@@ -85,14 +85,14 @@ fn count_by_both<R: Threads + Wait + Sync>(
 #[test]
 fn job_without_a_place_is_given_back(rt: HostRuntime) {
     let (mut outbox, mut inbox) = jobs(rt.alloc(), 1).expect(&rt, "memory");
-    let (one, two) = (named(&rt, b"DDD1"), named(&rt, b"EEE1"));
+    let (one, two) = (callsign(&rt, b"DDD1"), callsign(&rt, b"EEE1"));
     assert!(&rt; is_handed(&rt, &mut outbox, &one));
     assert!(&rt; !is_handed(&rt, &mut outbox, &two));
     assert!(&rt; is_next(&rt, &mut inbox, &one));
     assert!(&rt; is_handed(&rt, &mut outbox, &two));
     drop(outbox);
     assert!(&rt; is_next(&rt, &mut inbox, &two));
-    assert_eq!(&rt; count_jobs(&rt, &mut inbox), 0);
+    assert!(&rt; count_jobs(&rt, &mut inbox) == 0);
 }
 
 #[test]
@@ -100,12 +100,12 @@ fn jobs_of_two_senders_come_to_two_receivers_once(rt: HostRuntime) {
     let (first, here) = jobs(rt.alloc(), 200).expect(&rt, "memory");
     let second = first.share().expect(&rt, "memory");
     let there = here.share().expect(&rt, "memory");
-    let call = named(&rt, b"DDD1");
+    let call = callsign(&rt, b"DDD1");
     let (handed, came) = join(
         &rt,
         || hand_by_both(&rt, first, second, call),
         || count_by_both(&rt, here, there),
     );
-    assert_eq!(&rt; handed, 200);
-    assert_eq!(&rt; came, 200);
+    assert!(&rt; handed == 200);
+    assert!(&rt; came == 200);
 }

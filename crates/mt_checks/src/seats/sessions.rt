@@ -3,7 +3,8 @@ ghost use Rattle.std.specs.Prelude.{◌≡◌};
 ghost use Rattle.std.specs.Thread.{IsSync};
 
 use super::seated::seated;
-use crate::commands::named;
+use crate::names::callsign;
+use crate::reports::{JUDGED, REPORTED};
 use mt_base::Calls;
 use mt_io::{MemLink, OpenGate};
 use mt_plain_board::PlainBoard;
@@ -14,22 +15,6 @@ use std::process::Abort;
 use std::sync::Wait;
 use std::sync::atomic::Ordering;
 use std::thread::Threads;
-
-/// A flight, the moment, and a report that lies a unit more to a side than the tolerance.
-const REPORTED: &str = r#"{"do":"hello","role":"feed"}
-{"do":"plan","call":"DDD1","type":"JA1","route":["Q0","Q1"],"at":0,"level":350}
-{"do":"tick","now":101}
-{"do":"report","call":"DDD1","at":101,"x":48480,"y":7201,"z":2100000}
-{"do":"bye"}
-"#;
-
-/// What these lines are answered.
-const JUDGED: &str = r#"{"role":"feed"}
-{"entered":1}
-{"entered":2}
-{"entered":3,"verdict":["lateral"]}
-{"done":"bye"}
-"#;
 
 /// One session of these lines, which are to be answered so, to its end.
 fn say<R: Threads + Wait + Sync + Abort>(
@@ -47,12 +32,9 @@ fn say<R: Threads + Wait + Sync + Abort>(
     let count = link.replies().expect(rt, "memory");
     let (board, outcome) = session(rt, alloc, board, &mut link, jobs, &OpenGate);
     let written = std::str::from_utf8(link.held()).ok().expect(rt, "UTF-8");
-    assert_eq!(rt; written, replies);
-    assert_eq!(rt; outcome, Outcome::Ended);
-    assert_eq!(rt;
-        count.load(Ordering::SeqCst),
-        replies.lines().count() as u64
-    );
+    assert!(rt; written == replies);
+    assert!(rt; outcome == Outcome::Ended);
+    assert!(rt; count.load(Ordering::SeqCst) == replies.lines().count() as u64);
     board
 }
 
@@ -92,7 +74,7 @@ fn reported<R: Threads + Wait + Sync + Abort>(
 fn flagged_report_is_handed_on(rt: HostRuntime) {
     let alloc = rt.alloc();
     let (board, jobs) = reported(&rt, alloc, 1);
-    assert_eq!(&rt; jobs.taken().len(), 1);
+    assert!(&rt; jobs.taken().len() == 1);
     let job = jobs.taken().first().expect(&rt, "a job");
     assert!(&rt; job.call.bytes() == b"DDD1".as_slice());
     let board = list(&rt, alloc, board, "{\"conflicts\":[],\"version\":3}\n");
@@ -104,7 +86,7 @@ fn flagged_report_is_handed_on(rt: HostRuntime) {
 fn flagged_report_is_renewed_here(rt: HostRuntime) {
     let alloc = rt.alloc();
     let (board, jobs) = reported(&rt, alloc, 0);
-    assert_eq!(&rt; jobs.taken().len(), 0);
+    assert!(&rt; jobs.taken().len() == 0);
     list(&rt, alloc, board, "{\"conflicts\":[],\"version\":4}\n");
 }
 
@@ -113,7 +95,7 @@ fn worker_renews_a_flight(rt: HostRuntime) {
     let alloc = rt.alloc();
     let (board, _jobs) = reported(&rt, alloc, 1);
     let mut calls = Calls::make(alloc).expect(&rt, "memory");
-    calls.push(named(&rt, b"DDD1")).expect(&rt, "memory");
+    calls.push(callsign(&rt, b"DDD1")).expect(&rt, "memory");
     let board = work(&rt, board, MemInbox::of(calls), &OpenGate);
     list(&rt, alloc, board, "{\"conflicts\":[],\"version\":4}\n");
 }

@@ -2,7 +2,7 @@
 ghost use Rattle.std.specs.Prelude.{◌≤◌, None, vec_len};
 ghost use Rattle.std.specs.Thread.{IsSync};
 
-use super::scene::words_of;
+use super::scene::{AMPLE, words_of};
 use mt_base::Words;
 use mt_io::{Failed, MemDoor, MemSink, MemSource, OpenGate, Source};
 use mt_top::{Status, run};
@@ -10,9 +10,6 @@ use std::alloc::Global;
 use std::process::Abort;
 use std::sync::Wait;
 use std::thread::Threads;
-
-/// Room for all that is written.
-const AMPLE: u32 = 65_536;
 
 /// What is written where the words are no command.
 const USAGE: &str =
@@ -84,13 +81,24 @@ fn no_door(rt: &impl Abort, alloc: Global) -> MemDoor {
     MemDoor::make(alloc, Vec::new(alloc)).expect(rt, "memory")
 }
 
-// An input that fails behind these bytes is answered up to its last whole line.
-fn torn_is_answered<R: Abort + Threads + Wait + Sync>(
+// How many lines end in these bytes.
+fn count_lines(bytes: &[u8]) -> usize {
+    let mut count: usize = 0;
+    for byte in bytes {
+        if *byte == b'\n' {
+            count = count.saturating_add(1);
+        }
+    }
+    count
+}
+
+// Whether an input that fails behind these bytes is answered up to its last whole line.
+fn is_answered<R: Abort + Threads + Wait + Sync>(
     rt: &R,
     alloc: Global,
     words: &Words,
     given: &[u8],
-)
+) -> bool
     requires sync { IsSync R.row }
 {
     let bytes = given.to_vec(alloc).expect(rt, "memory");
@@ -107,24 +115,18 @@ fn torn_is_answered<R: Abort + Threads + Wait + Sync>(
         &mut door,
         &OpenGate,
     );
-    let whole = given.iter().filter(|byte| **byte == b'\n').count();
-    assert_eq!(rt; ended, Status::ReadFault, "{}", given.len());
-    assert_eq!(rt;
-        sink.held(),
-        first_lines(OUTPUT, whole).as_bytes(),
-        "{}",
-        given.len()
-    );
+    let wanted = first_lines(OUTPUT, count_lines(given));
+    ended == Status::ReadFault && sink.held() == wanted.as_bytes()
 }
 
-// An output with room for this many bytes has taken these, and then fails.
-fn full_is_told<R: Abort + Threads + Wait + Sync>(
+// Whether an output with room for this many bytes takes these, and then fails.
+fn is_full<R: Abort + Threads + Wait + Sync>(
     rt: &R,
     alloc: Global,
     words: &Words,
     room: u32,
     taken: &[u8],
-)
+) -> bool
     requires sync { IsSync R.row }
 {
     let bytes = INPUT.as_bytes().to_vec(alloc).expect(rt, "memory");
@@ -140,21 +142,34 @@ fn full_is_told<R: Abort + Threads + Wait + Sync>(
         &mut door,
         &OpenGate,
     );
-    assert_eq!(rt; ended, Status::WriteFault, "{room}");
-    assert_eq!(rt; sink.held(), taken, "{room}");
+    ended == Status::WriteFault && sink.held() == taken
+}
+
+// An input fails after each byte.
+fn check_torn<R: Abort + Threads + Wait + Sync>(rt: &R, alloc: Global)
+    requires sync { IsSync R.row }
+{
+    let words = words_of(rt, alloc, "replay");
+    for given in 0..INPUT.len() {
+        let is_answered = is_answered(rt, alloc, &words, &INPUT.as_bytes()[..given]);
+        assert!(rt; is_answered, "{given}");
+    }
+}
+
+// The output that these words have is full after each byte.
+fn check_full<R: Abort + Threads + Wait + Sync>(rt: &R, alloc: Global, words: &str, output: &str)
+    requires sync { IsSync R.row }
+{
+    let words = words_of(rt, alloc, words);
+    for room in 0..output.len() {
+        let is_full = is_full(rt, alloc, &words, room as u32, &output.as_bytes()[..room]);
+        assert!(rt; is_full, "{room}");
+    }
 }
 
 #[test]
 fn streams_that_fail_at_each_place(rt: HostRuntime) {
-    let alloc = rt.alloc();
-    let words = words_of(&rt, alloc, "replay");
-    for given in 0..INPUT.len() {
-        torn_is_answered(&rt, alloc, &words, &INPUT.as_bytes()[..given]);
-    }
-    for (words, output) in [("replay", OUTPUT), ("fly", USAGE)] {
-        let words = words_of(&rt, alloc, words);
-        for room in 0..output.len() {
-            full_is_told(&rt, alloc, &words, room as u32, &output.as_bytes()[..room]);
-        }
-    }
+    check_torn(&rt, rt.alloc());
+    check_full(&rt, rt.alloc(), "replay", OUTPUT);
+    check_full(&rt, rt.alloc(), "fly", USAGE);
 }

@@ -1,7 +1,7 @@
 //! A client over loopback.
 ghost use Rattle.std.specs.Thread.{IsSync};
 
-use super::scene::words_of;
+use super::scene::{AMPLE, words_of};
 use mt_io::{MemSink, MemSource, OpenGate, TcpDoor};
 use mt_top::{Status, run};
 use std::alloc::Global;
@@ -11,9 +11,6 @@ use std::process::Abort;
 use std::sync::Wait;
 use std::thread;
 use std::thread::Threads;
-
-/// Room for all that is written.
-const AMPLE: u32 = 65_536;
 
 /// The port that is served.
 const PORT: u16 = 7_711;

@@ -19,7 +19,7 @@ pub const SETUP: &str = r#"{"do":"fix","name":"Q0","x":0,"y":0}
 "#;
 
 /// Room for all that is written.
-const AMPLE: u32 = 65_536;
+pub const AMPLE: u32 = 65_536;
 
 /// The words of a text, between its blanks.
 pub fn words_of(rt: &impl Abort, alloc: Global, text: &str) -> Words {
@@ -80,15 +80,15 @@ pub fn check<R: Threads + Wait + Sync + Abort, G: Gate + Sync>(
     let mut input = MemSource::of(bytes);
     let mut output = MemSink::make(alloc, AMPLE).expect(rt, "memory");
     let status = run(rt, alloc, &words, &mut input, &mut output, door, gate);
-    assert_eq!(rt; status, case.status);
-    assert_eq!(rt; output.held(), case.output.as_bytes());
+    assert!(rt; status == case.status);
+    assert!(rt; output.held() == case.output.as_bytes());
 }
 
 /// The links that are back have been answered so, and there are no others.
 pub fn check_links(rt: &impl Abort, door: &MemDoor, answers: &[&str]) {
     let links = door.returned();
-    assert_eq!(rt; links.len(), answers.len());
+    assert!(rt; links.len() == answers.len());
     for (link, answer) in links.iter().zip(answers) {
-        assert_eq!(rt; link.held(), answer.as_bytes());
+        assert!(rt; link.held() == answer.as_bytes());
     }
 }

@@ -1,9 +1,16 @@
 //! A flight that left its prediction is renewed: by a worker where there is one, else by the session that was told.
 
+ghost use Rattle.std.specs.Thread.{IsSync};
+
 use super::scene::{Case, SETUP, check, check_links, door_of, link};
+use crate::reports::{JUDGED, REPORTED};
 use mt_io::Gate;
 use mt_top::Status;
+use std::alloc::Global;
+use std::process::Abort;
+use std::sync::Wait;
 use std::sync::atomic::{AtomicU64, Ordering};
+use std::thread::Threads;
 
 /// Counts how often seat 2 comes, which is the worker's.
 #[derive(Drop)]
@@ -19,22 +26,6 @@ impl Gate for Counting {
     }
 }
 
-/// A flight that is reported 7,201 units beside its route.
-const REPORTS: &str = r#"{"do":"hello","role":"feed"}
-{"do":"plan","call":"DDD1","type":"JA1","route":["Q0","Q1"],"at":0,"level":350}
-{"do":"tick","now":101}
-{"do":"report","call":"DDD1","at":101,"x":48480,"y":7201,"z":2100000}
-{"do":"bye"}
-"#;
-
-/// What that is answered.
-const REPORTED: &str = r#"{"role":"feed"}
-{"entered":1}
-{"entered":2}
-{"entered":3,"verdict":["lateral"]}
-{"done":"bye"}
-"#;
-
 /// What the program writes then: a fourth entry renews the flight.
 const SUMMED_UP: &str = r#"{"done":"fix"}
 {"done":"fix"}
@@ -45,25 +36,32 @@ const SUMMED_UP: &str = r#"{"done":"fix"}
 {"conflicts":0,"entries":4,"faulted":0,"flights":1,"sessions":1,"starved":0}
 "#;
 
+/// How often the worker comes where the program is called by these words.
+fn check_renewals<R: Threads + Wait + Sync + Abort>(
+    rt: &R,
+    alloc: Global,
+    words: &'static str,
+    renewals: u64,
+)
+    requires sync { IsSync R.row }
+{
+    let gate = Counting {
+        worker: AtomicU64::new(0),
+    };
+    let mut door = door_of(rt, alloc, link(rt, alloc, REPORTED));
+    let case = Case {
+        words,
+        input: SETUP,
+        status: Status::Done,
+        output: SUMMED_UP,
+    };
+    check(rt, alloc, &case, &mut door, &gate);
+    check_links(rt, &door, &[JUDGED]);
+    assert!(rt; gate.worker.load(Ordering::SeqCst) == renewals);
+}
+
 #[test]
 fn worker_renews(rt: HostRuntime) {
-    let words = [
-        "serve --sessions 1 --workers 1",
-        "serve --sessions 1 --workers 0",
-    ];
-    for (words, renewals) in words.into_iter().zip([1, 0]) {
-        let gate = Counting {
-            worker: AtomicU64::new(0),
-        };
-        let mut door = door_of(&rt, rt.alloc(), link(&rt, rt.alloc(), REPORTS));
-        let case = Case {
-            words,
-            input: SETUP,
-            status: Status::Done,
-            output: SUMMED_UP,
-        };
-        check(&rt, rt.alloc(), &case, &mut door, &gate);
-        check_links(&rt, &door, &[REPORTED]);
-        assert_eq!(&rt; gate.worker.load(Ordering::SeqCst), renewals);
-    }
+    check_renewals(&rt, rt.alloc(), "serve --sessions 1 --workers 1", 1);
+    check_renewals(&rt, rt.alloc(), "serve --sessions 1 --workers 0", 0);
 }

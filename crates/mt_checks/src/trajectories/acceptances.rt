@@ -5,7 +5,9 @@ ghost use Rattle.mt_predict.specs.Looking.{HasStrandOfPlanned};
 
 use super::climbing::{course, tables};
 use super::courses::is_sound;
-use crate::cases::{check_end, number, parsed, word};
+use crate::cases::{Values, check_end, number, parsed, word};
+use crate::commands::EAST;
+use crate::names::callsign;
 use mt_base::{
     Callsign, Clearance, Command, Kind, Path, Record, Refusal, Row, Rules, Second, Straight,
 };
@@ -19,27 +21,21 @@ const FULL: u64 = 4_194_304;
 const STRETCH: Straight = Straight {
     from: 0,
     to: 60,
-    first: Row {
-        x: 0,
-        y: 0,
-        z: 600_000,
-        r: 0,
-        w: 0,
-        vx: 480,
-        vy: 0,
-        vz: 0,
-        gr: 0,
-        gw: 0,
-        leg: 0,
-    },
+    first: Row { z: 600_000, ..EAST },
 };
 
-/// The callsign of the flight.
-fn callsign(rt: &impl Abort) -> Callsign {
-    Callsign::of(b"AAA1").expect(rt, "a callsign")
-}
-
-fn accept(call: Callsign, level: u32, eff: Second) -> Command {
+/// The acceptance that the next values of a line say, at that moment.
+fn read_acceptance(
+    rt: &impl Abort,
+    call: Callsign,
+    now: Second,
+    values: &mut Values<'_>,
+) -> Command {
+    let level = number(rt, values);
+    let eff = match word(rt, values) {
+        "now" => now,
+        second => parsed(rt, second),
+    };
     Command::Accept {
         call,
         clearance: Clearance::Level(level),
@@ -62,8 +58,34 @@ fn read_told(rt: &impl Abort, call: Callsign, word: &str) -> Result<(), Refusal>
     })
 }
 
-/// What is told of each acceptance of a table, on what is looked at but for the moment and the entries. A line of the table is the moment, how
-/// many entries are held, the level, the second from which it holds, or `now`, and what is told.
+/// What is told of the acceptance of a line, on what is looked at but for the moment and the entries. A line is the moment, how many entries are
+/// held, the level, the second from which it holds, or `now`, and what is told.
+fn check_case(
+    rt: &impl Abort,
+    tables: &Tables,
+    rules: &Rules,
+    looked: &Looked,
+    call: Callsign,
+    line: &str,
+)
+    requires { HasStrandOfPlanned (record { rules = rules.now; tables = tables.now }) looked.now }
+{
+    let mut case = line.split_whitespace();
+    let now = number(rt, &mut case);
+    let entries = number(rt, &mut case);
+    let command = read_acceptance(rt, call, now, &mut case);
+    let wanted = read_told(rt, call, word(rt, &mut case));
+    check_end(rt, &mut case);
+    let looked = Looked {
+        now,
+        entries,
+        ..*looked
+    };
+    let told = judge(tables, rules, &looked, 1, &command);
+    assert!(rt; told == wanted, "{line}");
+}
+
+/// What is told of each acceptance of a table.
 fn check(
     rt: &impl Abort,
     tables: &Tables,
@@ -75,24 +97,7 @@ fn check(
     requires { HasStrandOfPlanned (record { rules = rules.now; tables = tables.now }) looked.now }
 {
     for line in table.lines() {
-        let mut case = line.split_whitespace();
-        let now = number(rt, &mut case);
-        let entries = number(rt, &mut case);
-        let level = number(rt, &mut case);
-        let eff = match word(rt, &mut case) {
-            "now" => now,
-            second => parsed(rt, second),
-        };
-        let wanted = read_told(rt, call, word(rt, &mut case));
-        check_end(rt, &mut case);
-        let looked = Looked {
-            now,
-            entries,
-            ..*looked
-        };
-        let command = accept(call, level, eff);
-        let told = judge(tables, rules, &looked, 1, &command);
-        assert!(rt; told == wanted, "{line}");
+        check_case(rt, tables, rules, looked, call, line);
     }
 }
 
@@ -103,7 +108,7 @@ const UNKNOWN: &str = "\
 
 #[test]
 fn an_acceptance_wants_a_flight(rt: HostRuntime) {
-    let call = callsign(&rt);
+    let call = callsign(&rt, b"AAA1");
     let rules = Rules::usual();
     let tables = tables(&rt, rt.alloc());
     let looked = Looked {
@@ -123,7 +128,7 @@ const FIXED: &str = "\
 
 #[test]
 fn an_acceptance_wants_a_planned_flight(rt: HostRuntime) {
-    let call = callsign(&rt);
+    let call = callsign(&rt, b"AAA1");
     let rules = Rules::usual();
     let tables = tables(&rt, rt.alloc());
     let path = Path::Outer(STRETCH);
@@ -154,7 +159,7 @@ const FIRST_FAULTS: &str = "\
 
 #[test]
 fn an_acceptance_is_checked_before_the_room(rt: HostRuntime) {
-    let call = callsign(&rt);
+    let call = callsign(&rt, b"AAA1");
     let rules = Rules::usual();
     let tables = tables(&rt, rt.alloc());
     let course = course(&rt, rt.alloc());

@@ -1,7 +1,8 @@
 //! The flight along the route AA, BB, CC, BB, DD, CC: four legs of 100 seconds, but 200 from BB to DD. From second 100 it climbs from flight
 //! level 290 to 310, by 2,000 feet a minute up to flight level 300 and its second, then by 1,000.
 
-use super::courses::{add_fix, add_ja5, is_sound, route_along, type_name};
+use super::courses::{add_fix, add_ja5, is_sound, route_along};
+use crate::names::type_name;
 use mt_base::{Base, Course, Kind, Rules};
 use mt_predict::predict;
 use mt_tables::Tables;
@@ -49,6 +50,7 @@ pub(super) fn flown(rt: &impl Abort, alloc: Global) -> (Tables, Course, Strand) 
     let course = course(rt, alloc);
     assert!(rt; is_sound(&tables, &rules, &course));
     let strand = predict(alloc, &tables, &rules, &course, Kind::Actual).expect(rt, "memory");
-    assert_eq!(rt; (strand.start(), strand.end()), (100, 700));
+    assert!(rt; strand.start() == 100);
+    assert!(rt; strand.end() == 700);
     (tables, course, strand)
 }

@@ -4,7 +4,8 @@ ghost use Rattle.std.specs.Prelude.{◌≡◌, IfSome, IsTrue, is_some, true};
 ghost use Rattle.mt_base.specs.Bounds.{IsBoundedReport, IsInPlane, IsRightBase, IsRightMark, IsSoundCourse};
 
 use super::{are_bands, check, is_in_plane, is_up_to, is_within, two_bands};
-use mt_base::{Base, Course, FixName, Kind, Mark, Report, Route, Rules, TypeName};
+use crate::names::{fix_name, type_name};
+use mt_base::{Base, Course, Kind, Mark, Report, Route, Rules};
 use mt_predict::predict;
 use mt_tables::Tables;
 use std::alloc::Global;
@@ -27,14 +28,6 @@ const TENTATIVE: &str = "\
 124 479696 29092 1794000 9000 0 152 454 0 0 0 2
 125 479848 29546 1794000 9000 0 152 454 0 0 0 2
 ";
-
-pub(super) fn fix_name(rt: &impl Abort, text: &[u8]) -> FixName {
-    FixName::of(text).expect(rt, "a fix name")
-}
-
-pub(super) fn type_name(rt: &impl Abort, text: &[u8]) -> TypeName {
-    TypeName::of(text).expect(rt, "a type name")
-}
 
 fn is_base(rules: &Rules, names: usize, base: &Base) -> bool
     ensures { IsTrue result → IsRightBase rules.now names base.now }

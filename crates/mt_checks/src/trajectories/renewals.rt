@@ -26,25 +26,30 @@ fn rules() -> Rules {
     }
 }
 
-/// What is told of a report at each second of the table. A line of the table is the second, and the place of the route that is flown to from then.
+/// What is told of a report at one second. A line is the second, and the place of the route that is flown to from then.
+fn check_report(rt: &impl Abort, course: &mut Course, strand: &Strand, line: &str) {
+    let mut case = line.split_whitespace();
+    let at = number(rt, &mut case);
+    let next = number(rt, &mut case);
+    check_end(rt, &mut case);
+    course.last = Some(report(at));
+    let wanted = Base {
+        at,
+        x: 1_000,
+        y: -2_000,
+        z: 300_000,
+        r: 50,
+        w: 70,
+        next,
+    };
+    let told = renewed(&rules(), course, strand);
+    assert!(rt; told == Some(wanted), "at second {line}");
+}
+
+/// What is told of a report at each second of the table.
 fn check(rt: &impl Abort, course: &mut Course, strand: &Strand, table: &str) {
     for line in table.lines() {
-        let mut case = line.split_whitespace();
-        let at = number(rt, &mut case);
-        let next = number(rt, &mut case);
-        check_end(rt, &mut case);
-        course.last = Some(report(at));
-        let wanted = Base {
-            at,
-            x: 1_000,
-            y: -2_000,
-            z: 300_000,
-            r: 50,
-            w: 70,
-            next,
-        };
-        let told = renewed(&rules(), course, strand);
-        assert!(rt; told == Some(wanted), "at second {line}");
+        check_report(rt, course, strand, line);
     }
 }
 

@@ -2,7 +2,7 @@
 
 use super::{at, band, fly, over};
 use crate::cases::{check_end, is_case, number};
-use mt_base::{Band, Point};
+use mt_base::{Band, Place, Point};
 use std::alloc::Global;
 use std::process::Abort;
 
@@ -81,32 +81,44 @@ const FLOWN: &str = "\
     96423 -16733
 ";
 
+fn read_band(rt: &impl Abort, text: &str) -> Band {
+    let mut values = text.split_whitespace();
+    let top = number(rt, &mut values);
+    let speed = number(rt, &mut values);
+    let climb = number(rt, &mut values);
+    let descent = number(rt, &mut values);
+    check_end(rt, &mut values);
+    band(top, speed, climb, descent)
+}
+
 fn read_bands(rt: &impl Abort, alloc: Global, text: &str) -> Vec<Band> {
     let mut bands = Vec::new(alloc);
     for text in text.split(", ") {
-        let mut values = text.split_whitespace();
-        let top = number(rt, &mut values);
-        let speed = number(rt, &mut values);
-        let climb = number(rt, &mut values);
-        let descent = number(rt, &mut values);
-        check_end(rt, &mut values);
-        bands
-            .push(band(top, speed, climb, descent))
-            .expect(rt, "memory");
+        bands.push(read_band(rt, text)).expect(rt, "memory");
     }
     bands
+}
+
+fn read_fix(rt: &impl Abort, text: &str) -> Point {
+    let mut values = text.split_whitespace();
+    let x = number(rt, &mut values);
+    let y = number(rt, &mut values);
+    check_end(rt, &mut values);
+    at(x, y)
 }
 
 fn read_fixes(rt: &impl Abort, alloc: Global, text: &str) -> Vec<Point> {
     let mut fixes = Vec::new(alloc);
     for text in text.split(", ") {
-        let mut values = text.split_whitespace();
-        let x = number(rt, &mut values);
-        let y = number(rt, &mut values);
-        check_end(rt, &mut values);
-        fixes.push(at(x, y)).expect(rt, "memory");
+        fixes.push(read_fix(rt, text)).expect(rt, "memory");
     }
     fixes
+}
+
+/// Over the first fix, at a flight level.
+fn over_first(rt: &impl Abort, fixes: &[Point], level: u32) -> Place {
+    let first = fixes.first().expect(rt, "a fix");
+    over(first.x, first.y, 6_000 * i64::from(level))
 }
 
 /// The ends and the number of segments of a trajectory are as wanted.
@@ -114,7 +126,7 @@ fn check_segments(rt: &impl Abort, alloc: Global, case: &str) {
     let (values, flown) = case.split_once(" | ").expect(rt, "three columns");
     let (bands, fixes) = flown.split_once(" | ").expect(rt, "three columns");
     let mut values = values.split_whitespace();
-    let from: u32 = number(rt, &mut values);
+    let from = number(rt, &mut values);
     let level = number(rt, &mut values);
     let start = number(rt, &mut values);
     let end = number(rt, &mut values);
@@ -122,16 +134,18 @@ fn check_segments(rt: &impl Abort, alloc: Global, case: &str) {
     check_end(rt, &mut values);
     let bands = read_bands(rt, alloc, bands);
     let fixes = read_fixes(rt, alloc, fixes);
-    let first = fixes.first().expect(rt, "a fix");
-    let begin = over(first.x, first.y, 6_000 * i64::from(from));
+    let begin = over_first(rt, &fixes, from);
     let strand = fly(rt, alloc, &bands, level, &fixes, 1, start, begin);
-    assert_eq!(rt; (strand.start(), strand.end()), (start, end), "{case}");
-    assert_eq!(rt; strand.segments().len(), segments, "{case}");
+    assert!(rt; strand.start() == start, "{case}");
+    assert!(rt; strand.end() == end, "{case}");
+    assert!(rt; strand.segments().len() == segments, "{case}");
 }
 
 #[test]
 fn trajectories_have_few_segments(rt: HostRuntime) {
-    for case in FLOWN.lines().filter(|line| is_case(line)) {
-        check_segments(&rt, rt.alloc(), case);
+    for line in FLOWN.lines() {
+        if is_case(line) {
+            check_segments(&rt, rt.alloc(), line);
+        }
     }
 }

@@ -1,5 +1,5 @@
-use super::names::{callsign, fix_name, type_name};
 use super::texts::{check_entry, check_reply};
+use crate::names::{callsign, fix_name, type_name};
 use mt_base::{Command, Entries, Entry, FlightView, Route, Row, Tent};
 use mt_wire::Reply;
 use std::process::Abort;
@@ -24,7 +24,7 @@ fn row(values: [i64; 5], gains: [i64; 5], leg: u32) -> Row {
 
 fn external_flight(rt: &impl Abort) -> FlightView {
     FlightView {
-        call: callsign(rt, "A"),
+        call: callsign(rt, b"A"),
         due: false,
         end: 1,
         level: None,
@@ -38,7 +38,7 @@ fn external_flight(rt: &impl Abort) -> FlightView {
 fn planned_flight(rt: &impl Abort) -> FlightView {
     let flown = row([750, 5, 2100000, 45, 0], [250, 2, 0, 15, 0], 1);
     FlightView {
-        call: callsign(rt, "CCC1"),
+        call: callsign(rt, b"CCC1"),
         due: false,
         end: 4,
         level: Some(350),
@@ -56,7 +56,7 @@ fn tentative_flight(rt: &impl Abort) -> FlightView {
         63,
     );
     FlightView {
-        call: callsign(rt, "Z9Z9Z9Z"),
+        call: callsign(rt, b"Z9Z9Z9Z"),
         due: true,
         end: 4294967295,
         level: Some(0),
@@ -91,13 +91,15 @@ const TENTATIVE: &str =
 fn plan(rt: &(impl Abort + AllocGlobal), fixes: &str, who: u32) -> Entry {
     let mut route = Route::make(rt.alloc()).expect(rt, "memory");
     for name in fixes.split_whitespace() {
-        route.push(fix_name(rt, name)).expect(rt, "memory");
+        route
+            .push(fix_name(rt, name.as_bytes()))
+            .expect(rt, "memory");
     }
     Entry {
         who,
         command: Command::Plan {
-            call: callsign(rt, "DDD1"),
-            kind: type_name(rt, "JA1"),
+            call: callsign(rt, b"DDD1"),
+            kind: type_name(rt, b"JA1"),
             route,
             at: 10000000,
             from: 350,

@@ -1,152 +1,124 @@
-use super::names::{callsign, fix_name, type_name};
-use super::texts::check_reply;
-use crate::cases::{Values, check_end, number, word};
-use mt_base::{Command, Conflict, Conflicts, Entered, Entries, Entry, Kind, Row, Straight};
+use super::texts::{check_reply, push};
+use crate::names::{callsign, fix_name, type_name};
+use mt_base::{Command, Conflict, Conflicts, Entered, Entries, Kind, Row, Straight};
 use mt_wire::{
     DoneWord, FieldName, NO_MEMORY, Reply, Role, no_memory_law, read_back_law, short_replies_law,
     write_short,
 };
 use std::process::Abort;
 
-// A reply without a list, with what it names, and its text.
-const REPLIES: &str = r#"
-rule => {"done":"rule"}
-begin => {"done":"begin"}
-bye => {"done":"bye"}
-fix => {"done":"fix"}
-type => {"done":"type"}
-feed => {"role":"feed"}
-position => {"role":"position"}
-entered 41 => {"entered":41}
-taken 0 => {"taken":0}
-taken 18446744073709551615 => {"taken":18446744073709551615}
-json => {"no":"json"}
-long => {"no":"long"}
-begun => {"no":"begun"}
-unbegun => {"no":"unbegun"}
-memory => {"no":"memory"}
-bands => {"no":"bands"}
-tables-full => {"no":"tables-full"}
-taken-fix Q0123 => {"name":"Q0123","no":"taken"}
-taken-type J1 => {"name":"J1","no":"taken"}
-"#;
-
-fn read_reply(rt: &impl Abort, case: &mut Values<'_>) -> Reply {
-    match word(rt, case) {
-        "rule" => Reply::Done(DoneWord::Rule),
-        "begin" => Reply::Done(DoneWord::Begin),
-        "bye" => Reply::Done(DoneWord::Bye),
-        "fix" => Reply::Done(DoneWord::Fix),
-        "type" => Reply::Done(DoneWord::TypeLine),
-        "feed" => Reply::Hello(Role::Feed),
-        "position" => Reply::Hello(Role::Position),
-        "entered" => Reply::Entered(Entered {
-            version: number(rt, case),
-            verdict: None,
-        }),
-        "taken" => Reply::Taken {
-            version: number(rt, case),
-        },
-        other => read_no(rt, other, case),
-    }
+/// Asserts the text of a reply.
+fn check(rt: &(impl Abort + AllocGlobal), reply: Reply, wanted: &str) {
+    check_reply(rt, &reply, wanted);
 }
 
-fn read_no(rt: &impl Abort, no: &str, case: &mut Values<'_>) -> Reply {
-    match no {
-        "json" => Reply::Json,
-        "long" => Reply::Long,
-        "begun" => Reply::Begun,
-        "unbegun" => Reply::Unbegun,
-        "memory" => Reply::Memory,
-        "bands" => Reply::Bands,
-        "tables-full" => Reply::TablesFull,
-        "taken-fix" => Reply::TakenFix(fix_name(rt, word(rt, case))),
-        "taken-type" => Reply::TakenType(type_name(rt, word(rt, case))),
-        _ => panic!(rt; "no reply"),
-    }
+fn entered(version: u64) -> Reply {
+    Reply::Entered(Entered {
+        version,
+        verdict: None,
+    })
 }
 
 #[test]
 fn replies_without_a_list(rt: HostRuntime) {
-    for line in REPLIES.lines().skip(1) {
-        let (case, wanted) = line.split_once(" => ").expect(&rt, "two columns");
-        let mut case = case.split_whitespace();
-        let reply = read_reply(&rt, &mut case);
-        check_end(&rt, &mut case);
-        check_reply(&rt, &reply, wanted);
-    }
+    check(&rt, Reply::Done(DoneWord::Rule), r#"{"done":"rule"}"#);
+    check(&rt, Reply::Done(DoneWord::Begin), r#"{"done":"begin"}"#);
+    check(&rt, Reply::Done(DoneWord::Bye), r#"{"done":"bye"}"#);
+    check(&rt, Reply::Done(DoneWord::Fix), r#"{"done":"fix"}"#);
+    check(&rt, Reply::Done(DoneWord::TypeLine), r#"{"done":"type"}"#);
+    check(&rt, Reply::Hello(Role::Feed), r#"{"role":"feed"}"#);
+    check(&rt, Reply::Hello(Role::Position), r#"{"role":"position"}"#);
+    check(&rt, entered(41), r#"{"entered":41}"#);
+    check(&rt, Reply::Taken { version: 0 }, r#"{"taken":0}"#);
+    check(
+        &rt,
+        Reply::Taken { version: u64::MAX },
+        r#"{"taken":18446744073709551615}"#,
+    );
+    check(&rt, Reply::Json, r#"{"no":"json"}"#);
+    check(&rt, Reply::Long, r#"{"no":"long"}"#);
+    check(&rt, Reply::Begun, r#"{"no":"begun"}"#);
+    check(&rt, Reply::Unbegun, r#"{"no":"unbegun"}"#);
+    check(&rt, Reply::Memory, r#"{"no":"memory"}"#);
+    check(&rt, Reply::Bands, r#"{"no":"bands"}"#);
+    check(&rt, Reply::TablesFull, r#"{"no":"tables-full"}"#);
+    check(
+        &rt,
+        Reply::TakenFix(fix_name(&rt, b"Q0123")),
+        r#"{"name":"Q0123","no":"taken"}"#,
+    );
+    check(
+        &rt,
+        Reply::TakenType(type_name(&rt, b"J1")),
+        r#"{"name":"J1","no":"taken"}"#,
+    );
     no_memory_law();
-    assert_eq!(rt; NO_MEMORY, b"{\"no\":\"memory\"}\n".as_slice());
+    assert!(rt; NO_MEMORY == b"{\"no\":\"memory\"}\n".as_slice());
 }
 
-// The line that refuses a field for this.
+/// The line that refuses a field for this.
 fn refused_field(rt: &(impl Abort + AllocGlobal), field: &str, why: &str) -> String {
     format!(in rt.alloc(); "{{\"field\":\"{field}\",\"no\":\"{why}\"}}").expect(rt, "memory")
 }
 
+/// The line of a refusal that names a field.
+fn check_refused_field(rt: &(impl Abort + AllocGlobal), reply: &Reply, written: &str, why: &str) {
+    let wanted = refused_field(rt, written, why);
+    check_reply(rt, reply, wanted.as_str());
+}
+
+/// Both refusals that name this field.
+fn check_field(rt: &(impl Abort + AllocGlobal), name: &[u8], written: &str) {
+    let form = FieldName::of(rt.alloc(), name).expect(rt, "memory");
+    check_refused_field(rt, &Reply::Form(form), written, "form");
+    let range = FieldName::of(rt.alloc(), name).expect(rt, "memory");
+    check_refused_field(rt, &Reply::Range(range), written, "range");
+}
+
 #[test]
 fn refusals_that_name_a_field(rt: HostRuntime) {
-    let cases: [(&[u8], &str); 4] = [
-        (b"", ""),
-        (b"do", "do"),
-        (
-            b"a\"\\/\x08\x09\x0a\x0c\x0d\x00\x1f\x7f\xc3\xa9",
-            "a\\\"\\\\/\\b\\t\\n\\f\\r\\u0000\\u001f\x7f\u{e9}",
-        ),
-        (b"\x0b\x0e\x1a z", "\\u000b\\u000e\\u001a z"),
-    ];
-    for (name, written) in cases {
-        let form = Reply::Form(FieldName::of(rt.alloc(), name).expect(&rt, "memory"));
-        check_reply(&rt, &form, refused_field(&rt, written, "form").as_str());
-        let range = Reply::Range(FieldName::of(rt.alloc(), name).expect(&rt, "memory"));
-        check_reply(&rt, &range, refused_field(&rt, written, "range").as_str());
-    }
+    check_field(&rt, b"", "");
+    check_field(&rt, b"do", "do");
+    check_field(
+        &rt,
+        b"a\"\\/\x08\x09\x0a\x0c\x0d\x00\x1f\x7f\xc3\xa9",
+        "a\\\"\\\\/\\b\\t\\n\\f\\r\\u0000\\u001f\x7f\u{e9}",
+    );
+    check_field(&rt, b"\x0b\x0e\x1a z", "\\u000b\\u000e\\u001a z");
 }
 
-// A conflict of AAA1: its first second, with whom, the kinds of the two, and its last second.
-const CONFLICTS: &str = "\
-131 BBB1 actual actual 168
-0 B tentative actual 4294967295
-7 Z9Z9Z9Z actual tentative 7
-";
-
-fn read_kind(rt: &impl Abort, word: &str) -> Kind {
-    match word {
-        "actual" => Kind::Actual,
-        "tentative" => Kind::Tentative,
-        _ => panic!(rt; "no kind"),
-    }
-}
-
-fn read_conflict(rt: &impl Abort, case: &mut Values<'_>) -> Conflict {
+/// A conflict of AAA1 with a flight.
+fn conflict(rt: &impl Abort, seconds: (u32, u32), with: &[u8], ka: Kind, kb: Kind) -> Conflict {
     Conflict {
-        first: number(rt, case),
-        a: callsign(rt, "AAA1"),
-        b: callsign(rt, word(rt, case)),
-        ka: read_kind(rt, word(rt, case)),
-        kb: read_kind(rt, word(rt, case)),
-        last: number(rt, case),
+        first: seconds.0,
+        a: callsign(rt, b"AAA1"),
+        b: callsign(rt, with),
+        ka,
+        kb,
+        last: seconds.1,
     }
 }
 
-fn read_conflicts(rt: &(impl Abort + AllocGlobal), text: &str) -> Conflicts {
+fn three_conflicts(rt: &(impl Abort + AllocGlobal)) -> Conflicts {
+    let both = conflict(rt, (131, 168), b"BBB1", Kind::Actual, Kind::Actual);
+    let own = conflict(rt, (0, u32::MAX), b"B", Kind::Tentative, Kind::Actual);
+    let other = conflict(rt, (7, 7), b"Z9Z9Z9Z", Kind::Actual, Kind::Tentative);
     let mut conflicts = Conflicts::make(rt.alloc()).expect(rt, "memory");
-    for line in text.lines() {
-        let conflict = read_conflict(rt, &mut line.split_whitespace());
-        conflicts.push(conflict).expect(rt, "memory");
-    }
+    conflicts.push(both).expect(rt, "memory");
+    conflicts.push(own).expect(rt, "memory");
+    conflicts.push(other).expect(rt, "memory");
     conflicts
 }
 
 #[test]
 fn conflicts_of_a_list(rt: HostRuntime) {
     let none = Reply::List {
-        conflicts: read_conflicts(&rt, ""),
+        conflicts: Conflicts::make(rt.alloc()).expect(&rt, "memory"),
         version: 0,
     };
     check_reply(&rt, &none, r#"{"conflicts":[],"version":0}"#);
     let list = Reply::List {
-        conflicts: read_conflicts(&rt, CONFLICTS),
+        conflicts: three_conflicts(&rt),
         version: 40,
     };
     check_reply(&rt, &list, LISTED);
@@ -175,14 +147,10 @@ fn straight() -> Straight {
     }
 }
 
-fn push(rt: &impl Abort, entries: &mut Entries, who: u32, command: Command) {
-    entries.push(Entry { who, command }).expect(rt, "memory");
-}
-
 #[test]
 fn entries_of_a_history(rt: HostRuntime) {
     read_back_law();
-    let call = callsign(&rt, "AAA1");
+    let call = callsign(&rt, b"AAA1");
     let straight = straight();
     let mut entries = Entries::make(rt.alloc()).expect(&rt, "memory");
     push(
@@ -211,5 +179,5 @@ fn a_short_reply_in_a_room(rt: HostRuntime) {
         }),
         &mut room,
     );
-    assert_eq!(rt; room.as_slice(), b"{\"entered\":7}\n".as_slice());
+    assert!(rt; room.as_slice() == b"{\"entered\":7}\n".as_slice());
 }

@@ -66,15 +66,20 @@ fn is_read(rt: &(impl Abort + AllocGlobal), line: &[u8], place: Place, wanted: &
     }
 }
 
+fn check_case(rt: &(impl Abort + AllocGlobal), case: &str) {
+    let (line, rest) = case.split_once(" | ").expect(rt, "four columns");
+    let (feed, rest) = rest.split_once(" | ").expect(rt, "four columns");
+    let (position, plain) = rest.split_once(" | ").expect(rt, "four columns");
+    let line = line.as_bytes();
+    assert!(rt; is_read(rt, line, Place::Feed, feed), "{case}");
+    assert!(rt; is_read(rt, line, Place::Position, position), "{case}");
+    assert!(rt; is_read(rt, line, Place::Plain, plain), "{case}");
+}
+
 #[test]
 fn lines_of_sessions(rt: HostRuntime) {
     for case in SESSIONS.lines().skip(1) {
-        let mut columns = case.split(" | ");
-        let line = columns.next().expect(&rt, "a line").as_bytes();
-        for place in [Place::Feed, Place::Position, Place::Plain] {
-            let wanted = columns.next().expect(&rt, "four columns");
-            assert!(rt; is_read(&rt, line, place, wanted), "{case}");
-        }
+        check_case(&rt, case);
     }
 }
 

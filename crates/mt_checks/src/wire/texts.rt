@@ -1,5 +1,5 @@
 //! What replies and entries are written as: a text and a 0x0A.
-use mt_base::Entry;
+use mt_base::{Command, Entries, Entry};
 use mt_wire::{Reply, write_entry, write_reply};
 use std::process::Abort;
 
@@ -16,5 +16,10 @@ pub(super) fn check_entry(rt: &(impl Abort + AllocGlobal), entry: &Entry, wanted
 }
 
 fn check_line(rt: &impl Abort, line: &[u8], wanted: &str) {
-    assert_eq!(rt; line.strip_suffix(b"\n"), Some(wanted.as_bytes()));
+    assert!(rt; line.strip_suffix(b"\n") == Some(wanted.as_bytes()));
+}
+
+/// Adds the entry of an actor.
+pub(super) fn push(rt: &impl Abort, entries: &mut Entries, who: u32, command: Command) {
+    entries.push(Entry { who, command }).expect(rt, "memory");
 }

@@ -7,7 +7,7 @@ use Rattle.mt_base.specs.WhatIf.{course_in}
 use Rattle.mt_predict.specs.declared.judging.Looked.{Looked}
 use Rattle.mt_predict.specs.Looking.{HasStrandOf, HasStrandOfPlanned}
 use Rattle.mt_predict.proofs.Looks.{any_command}
-use Rattle.mt_checks.proofs.trajectories.acceptances.check.Goals as goal
+use Rattle.mt_checks.proofs.trajectories.acceptances.check_case.Goals as goal
 
 -- what is at hand stays so at another moment and with other entries
 with_strand : (setup : Setup) (a b : Looked) (course : Option Course) → a.strand ≡ b.strand → IfSome course (HasStrandOf setup a) → IfSome course (HasStrandOf setup b)
