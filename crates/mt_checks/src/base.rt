@@ -1,5 +1,6 @@
 //! Names, copies, words, the order of conflicts, and the bounds of rules.
 
+use crate::conflicts::conflict;
 use crate::names::{callsign, fix_name, type_name};
 use mt_base::{
     Base, Callsign, Command, Conflict, Conflicts, Course, Entry, FixName, Kind, Path, Record,
@@ -163,26 +164,20 @@ fn words_are_kept_in_order(rt: HostRuntime) {
     assert!(rt; words.word(1) == "");
 }
 
-/// A conflict of two flights.
-fn conflict(rt: &impl Abort, first: u32, a: (&[u8], Kind), b: (&[u8], Kind)) -> Conflict {
-    Conflict {
-        first,
-        a: callsign(rt, a.0),
-        b: callsign(rt, b.0),
-        ka: a.1,
-        kb: b.1,
-        last: 200,
-    }
-}
-
 /// Conflicts in their order.
 fn ordered(rt: &impl Abort) -> [Conflict; 5] {
     [
-        conflict(rt, 1, (b"B", Kind::Actual), (b"C", Kind::Actual)),
-        conflict(rt, 2, (b"A", Kind::Actual), (b"B", Kind::Tentative)),
-        conflict(rt, 2, (b"A", Kind::Tentative), (b"B", Kind::Actual)),
-        conflict(rt, 2, (b"A", Kind::Actual), (b"BA", Kind::Actual)),
-        conflict(rt, 2, (b"AA", Kind::Actual), (b"B", Kind::Actual)),
+        conflict(rt, (1, 200), b"B", b"C"),
+        Conflict {
+            kb: Kind::Tentative,
+            ..conflict(rt, (2, 200), b"A", b"B")
+        },
+        Conflict {
+            ka: Kind::Tentative,
+            ..conflict(rt, (2, 200), b"A", b"B")
+        },
+        conflict(rt, (2, 200), b"A", b"BA"),
+        conflict(rt, (2, 200), b"AA", b"B"),
     ]
 }
 

@@ -150,6 +150,25 @@ fn is_found(rt: &impl Abort, grid: &Grid, cover: &Cover) -> bool
     !near.is_empty()
 }
 
+/// The grid with the item 7 alone; before it is put, nothing is near the other cover.
+fn with_item(rt: &(impl AllocGlobal + Abort), cover: &Cover, other: &Cover) -> Grid
+    requires cover { AreInGrid cover.now }
+    requires other { AreInGrid other.now }
+{
+    let empty = Grid::make(rt.alloc()).expect(rt, "memory");
+    assert!(rt; !is_found(rt, &empty, other));
+    empty.put(7, cover).expect(rt, "memory")
+}
+
+/// Once the item 7 is taken out of the grid, nothing is near the other cover.
+fn check_taken(rt: &impl Abort, grid: &Grid, cover: &Cover, other: &Cover)
+    requires cover { AreInGrid cover.now }
+    requires other { AreInGrid other.now }
+{
+    let gone = grid.take(7, cover).expect(rt, "memory");
+    assert!(rt; !is_found(rt, &gone, other));
+}
+
 /// Whether the second stretch is near the first, once it is put into an empty grid; before that and after it is taken it isn't.
 fn is_near(rt: &(impl AllocGlobal + Abort), one: Row, other: Row) -> bool
     requires one { IsBoundedStretch (record { from = 0; to = 300; first = one }) }
@@ -157,11 +176,9 @@ fn is_near(rt: &(impl AllocGlobal + Abort), one: Row, other: Row) -> bool
 {
     let one = covered(rt, 0, 300, one);
     let other = covered(rt, 0, 300, other);
-    let empty = Grid::make(rt.alloc()).expect(rt, "memory");
-    let grid = empty.put(7, &other).expect(rt, "memory");
-    let gone = grid.take(7, &other).expect(rt, "memory");
+    let grid = with_item(rt, &other, &one);
+    check_taken(rt, &grid, &other, &one);
     let shared = grid.share().expect(rt, "memory");
-    assert!(rt; !is_found(rt, &empty, &one) && !is_found(rt, &gone, &one));
     is_found(rt, &shared, &one)
 }
 

@@ -14,9 +14,9 @@ mod cells;
 #[cfg(test)]
 mod commands;
 #[cfg(test)]
-mod desks;
+mod conflicts;
 #[cfg(test)]
-mod entries;
+mod desks;
 #[cfg(test)]
 mod fractions;
 #[cfg(test)]

@@ -3,6 +3,7 @@ ghost use Rattle.std.specs.Prelude.{◌≤◌};
 ghost use Rattle.mt_base.specs.Bounds.{IsBoundedStretch};
 
 use crate::commands::EAST;
+use crate::conflicts::conflict;
 use crate::names::callsign;
 use mt_base::{Conflict, Kind, Row, Rules, Second, Straight, Tally};
 use mt_plain::all_pairs;
@@ -61,18 +62,6 @@ fn roster(rt: &(impl AllocGlobal + Abort)) -> Roster {
     roster
 }
 
-/// A conflict of two flights, of which the first flies.
-fn conflict(rt: &impl Abort, seconds: (Second, Second), a: &[u8], b: &[u8], kb: Kind) -> Conflict {
-    Conflict {
-        first: seconds.0,
-        a: callsign(rt, a),
-        b: callsign(rt, b),
-        ka: Kind::Actual,
-        kb,
-        last: seconds.1,
-    }
-}
-
 /// These conflicts are found from a second on.
 fn check_found(
     rt: &(impl AllocGlobal + Abort),
@@ -91,15 +80,24 @@ fn check_found(
 fn conflicts_come_in_order_and_each_pair_is_tested_once(rt: HostRuntime) {
     let mut tests = Tally::new(&rt);
     let roster = roster(&rt);
-    let east_and_beside = conflict(&rt, (0, 1199), b"AAA1", b"CCC1", Kind::Tentative);
-    let east_and_west = conflict(&rt, (131, 168), b"AAA1", b"BBB1", Kind::Actual);
-    let west_and_beside = conflict(&rt, (143, 156), b"BBB1", b"CCC1", Kind::Tentative);
+    let east_and_beside = Conflict {
+        kb: Kind::Tentative,
+        ..conflict(&rt, (0, 1199), b"AAA1", b"CCC1")
+    };
+    let east_and_west = conflict(&rt, (131, 168), b"AAA1", b"BBB1");
+    let west_and_beside = Conflict {
+        kb: Kind::Tentative,
+        ..conflict(&rt, (143, 156), b"BBB1", b"CCC1")
+    };
     let early = [east_and_beside, east_and_west, west_and_beside];
     check_found(&rt, &roster, 0, &early, &mut tests);
     // of six pairs one is of one flight
     assert!(rt; tests.get() == 5);
-    let east_and_west = conflict(&rt, (160, 168), b"AAA1", b"BBB1", Kind::Actual);
-    let east_and_beside = conflict(&rt, (160, 1359), b"AAA1", b"CCC1", Kind::Tentative);
+    let east_and_west = conflict(&rt, (160, 168), b"AAA1", b"BBB1");
+    let east_and_beside = Conflict {
+        kb: Kind::Tentative,
+        ..conflict(&rt, (160, 1359), b"AAA1", b"CCC1")
+    };
     let late = [east_and_west, east_and_beside];
     check_found(&rt, &roster, 160, &late, &mut tests);
     assert!(rt; tests.get() == 10);

@@ -1,7 +1,7 @@
 //! Tentative marks: they are published, count for no what-if and no acceptance, and belong to who made them.
 use super::scene::{Scene, check_entered, check_probe, check_refused, conflict_ahead};
 use crate::commands::{AHEAD, clear, outer, plan, tentative, withdraw};
-use crate::names::callsign;
+use crate::conflicts::{conflict, hit};
 use mt_base::{Conflict, Hit, Kind, Refusal, Tally};
 use std::alloc::Global;
 use std::process::Abort;
@@ -20,11 +20,7 @@ fn three_flights(rt: &impl Abort, alloc: Global, tests: Tally) -> Scene {
 
 // The hit of the plan's climb with the flight ahead.
 fn hit_ahead(rt: &impl Abort) -> Hit {
-    Hit {
-        first: 129,
-        with: callsign(rt, b"JJJ1"),
-        last: 171,
-    }
+    hit(rt, (129, 171), b"JJJ1")
 }
 
 // The plan's climb is tried: it has the hit with the flight ahead, and names that version.
@@ -76,22 +72,14 @@ fn two_plans(rt: &impl Abort, alloc: Global, tests: Tally) -> Scene {
 // The conflict of the lower plan's climb with the tentative descent of the upper one.
 fn conflict_between(rt: &impl Abort) -> Conflict {
     Conflict {
-        first: 466,
-        a: callsign(rt, b"DDD1"),
-        b: callsign(rt, b"KKK1"),
-        ka: Kind::Actual,
         kb: Kind::Tentative,
-        last: 535,
+        ..conflict(rt, (466, 535), b"DDD1", b"KKK1")
     }
 }
 
 // The hit of the upper plan's descent with the lower one that has climbed.
 fn hit_between(rt: &impl Abort) -> Hit {
-    Hit {
-        first: 466,
-        with: callsign(rt, b"DDD1"),
-        last: 535,
-    }
+    hit(rt, (466, 535), b"DDD1")
 }
 
 #[test]

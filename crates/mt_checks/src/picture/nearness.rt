@@ -6,8 +6,8 @@ ghost use Rattle.mt_probe.specs.Prepared.{MakesStrand};
 
 use super::scene::{Scene, check_entered};
 use crate::commands::{EAST, STILL, outer};
-use crate::names::callsign;
-use mt_base::{Command, Conflict, Kind, Row, Tally};
+use crate::conflicts::conflict;
+use mt_base::{Command, Row, Tally};
 use std::process::Abort;
 
 /// West of the edge between two cells, and east of it, 17,000 units away.
@@ -49,13 +49,6 @@ fn flights_on_both_sides_of_an_edge_are_in_conflict(rt: HostRuntime) {
     check_entered(&rt, scene.enter_made(0, &west), 1);
     let east = outer(&rt, b"BBB1", 0, 1200, EAST_OF_EDGE);
     check_entered(&rt, scene.enter_made(0, &east), 2);
-    let wanted = Conflict {
-        first: 0,
-        a: callsign(&rt, b"AAA1"),
-        b: callsign(&rt, b"BBB1"),
-        ka: Kind::Actual,
-        kb: Kind::Actual,
-        last: 1199,
-    };
+    let wanted = conflict(&rt, (0, 1199), b"AAA1", b"BBB1");
     scene.check_published(&rt, &[wanted]);
 }

@@ -1,8 +1,8 @@
 //! Clearances that were prepared before a flight came that is in conflict with them.
 use super::scene::{Scene, check_entered, check_probe, check_refused};
 use crate::commands::{AHEAD, FARTHER, FARTHEST, NORTH, clear, drop_flight, outer, plan, tick};
-use crate::names::callsign;
-use mt_base::{Conflict, Hit, Kind, Refusal, Tally};
+use crate::conflicts::{conflict, hit};
+use mt_base::{Conflict, Hit, Refusal, Tally};
 use std::alloc::Global;
 use std::process::Abort;
 
@@ -24,23 +24,12 @@ fn five_entries(rt: &impl Abort, alloc: Global, tests: Tally) -> Scene {
 
 // The hit of the plan's climb with the flight that came.
 fn hit_ahead(rt: &impl Abort) -> Hit {
-    Hit {
-        first: 134,
-        with: callsign(rt, b"EEE1"),
-        last: 176,
-    }
+    hit(rt, (134, 176), b"EEE1")
 }
 
 // The conflict of the plan's climb with the flight that came.
 fn conflict_ahead(rt: &impl Abort) -> Conflict {
-    Conflict {
-        first: 134,
-        a: callsign(rt, b"DDD1"),
-        b: callsign(rt, b"EEE1"),
-        ka: Kind::Actual,
-        kb: Kind::Actual,
-        last: 176,
-    }
+    conflict(rt, (134, 176), b"DDD1", b"EEE1")
 }
 
 #[test]

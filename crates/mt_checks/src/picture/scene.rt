@@ -7,6 +7,7 @@ ghost use Rattle.mt_probe.specs.Prepared.{MakesStrand};
 ghost use Rattle.mt_checks.specs.Growing.{IsLater, IsOfPast};
 
 use crate::commands::small_tables;
+use crate::conflicts::conflict;
 use crate::names::callsign;
 use mt_base::{Clearance, Command, Conflict, Entered, Hit, Kind, Refusal, Rules, Tally};
 use mt_board::{No, Probed};
@@ -164,11 +165,7 @@ pub fn check_probe(rt: &impl Abort, probe: &Probe, version: u64, wanted: &[Hit])
 /// The conflict of the plan's tentative climb with the flight ahead.
 pub fn conflict_ahead(rt: &impl Abort) -> Conflict {
     Conflict {
-        first: 129,
-        a: callsign(rt, b"DDD1"),
-        b: callsign(rt, b"JJJ1"),
         ka: Kind::Tentative,
-        kb: Kind::Actual,
-        last: 171,
+        ..conflict(rt, (129, 171), b"DDD1", b"JJJ1")
     }
 }

@@ -2,16 +2,11 @@ ghost use Rattle.std.specs.Prelude.{◌≤◌, length, All};
 ghost use Rattle.mt_write.specs.Short.{IsShortHit};
 
 use super::texts::{check_entry, check_reply, push};
+use crate::conflicts::hit;
 use crate::names::{callsign, fix_name};
 use mt_base::{Clearance, Command, Entries, Entry, Hit, Hits};
 use mt_wire::{Reply, read_back_law, short_replies_law, write_short};
 use std::process::Abort;
-
-/// A hit with a flight.
-pub(super) fn hit(rt: &impl Abort, first: u32, with: &[u8], last: u32) -> Hit {
-    let with = callsign(rt, with);
-    Hit { first, with, last }
-}
 
 fn free(rt: &(impl Abort + AllocGlobal)) -> Reply {
     Reply::Probe {
@@ -26,8 +21,8 @@ const FREE: &str = r#"{"conflicts":[],"eff":10,"probe":1,"version":5}"#;
 
 fn two_hits(rt: &(impl Abort + AllocGlobal)) -> Hits {
     let mut hits = Hits::make(rt.alloc()).expect(rt, "memory");
-    hits.push(hit(rt, 134, b"EEE1", 176)).expect(rt, "memory");
-    hits.push(hit(rt, 0, b"Z9Z9Z9Z", u32::MAX))
+    hits.push(hit(rt, (134, 176), b"EEE1")).expect(rt, "memory");
+    hits.push(hit(rt, (0, u32::MAX), b"Z9Z9Z9Z"))
         .expect(rt, "memory");
     hits
 }

@@ -1,6 +1,6 @@
 //! What replies to refused commands are written as.
-use super::probes::hit;
 use super::texts::check_reply;
+use crate::conflicts::hit;
 use crate::names::{callsign, fix_name, type_name};
 use mt_base::{Hit, Refusal};
 use mt_wire::Reply;
@@ -70,7 +70,7 @@ fn texts_of_refusals(rt: HostRuntime) {
     check_names(&rt);
     check_routes(&rt);
     check_clearances(&rt);
-    check(&rt, stale(hit(&rt, 134, b"EEE1", 176)), 7, STALE);
-    let refusal = stale(hit(&rt, u32::MAX, b"Z9Z9Z9Z", 0));
+    check(&rt, stale(hit(&rt, (134, 176), b"EEE1")), 7, STALE);
+    let refusal = stale(hit(&rt, (u32::MAX, 0), b"Z9Z9Z9Z"));
     check(&rt, refusal, u64::MAX, STALE_AT_BOUNDS);
 }

@@ -1,4 +1,5 @@
 use super::texts::{check_reply, push};
+use crate::conflicts::conflict;
 use crate::names::{callsign, fix_name, type_name};
 use mt_base::{Command, Conflict, Conflicts, Entered, Entries, Kind, Row, Straight};
 use mt_wire::{
@@ -87,22 +88,16 @@ fn refusals_that_name_a_field(rt: HostRuntime) {
     check_field(&rt, b"\x0b\x0e\x1a z", "\\u000b\\u000e\\u001a z");
 }
 
-/// A conflict of AAA1 with a flight.
-fn conflict(rt: &impl Abort, seconds: (u32, u32), with: &[u8], ka: Kind, kb: Kind) -> Conflict {
-    Conflict {
-        first: seconds.0,
-        a: callsign(rt, b"AAA1"),
-        b: callsign(rt, with),
-        ka,
-        kb,
-        last: seconds.1,
-    }
-}
-
 fn three_conflicts(rt: &(impl Abort + AllocGlobal)) -> Conflicts {
-    let both = conflict(rt, (131, 168), b"BBB1", Kind::Actual, Kind::Actual);
-    let own = conflict(rt, (0, u32::MAX), b"B", Kind::Tentative, Kind::Actual);
-    let other = conflict(rt, (7, 7), b"Z9Z9Z9Z", Kind::Actual, Kind::Tentative);
+    let both = conflict(rt, (131, 168), b"AAA1", b"BBB1");
+    let own = Conflict {
+        ka: Kind::Tentative,
+        ..conflict(rt, (0, u32::MAX), b"AAA1", b"B")
+    };
+    let other = Conflict {
+        kb: Kind::Tentative,
+        ..conflict(rt, (7, 7), b"AAA1", b"Z9Z9Z9Z")
+    };
     let mut conflicts = Conflicts::make(rt.alloc()).expect(rt, "memory");
     conflicts.push(both).expect(rt, "memory");
     conflicts.push(own).expect(rt, "memory");

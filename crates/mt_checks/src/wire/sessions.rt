@@ -1,8 +1,9 @@
 //! Lines of sessions, which no script can say: which commands are read of the feed, of a position, and without a role. And a line with a
 //! 0x0A inside.
 
+use super::texts::is_refused;
 use mt_base::{Command, Rules};
-use mt_wire::{LineNo, Place, Request, read_line};
+use mt_wire::{Place, Request, read_line};
 use std::process::Abort;
 
 /// Lines, each with what it is read as of the feed, of a position, and without a role: a command, by actor 0, or a refusal.
@@ -57,12 +58,9 @@ fn word_of(request: &Request) -> &str {
 
 // Whether a line is read so.
 fn is_read(rt: &(impl Abort + AllocGlobal), line: &[u8], place: Place, wanted: &str) -> bool {
-    let (why, field) = wanted.split_once(' ').unwrap_or((wanted, ""));
     match read_line(rt.alloc(), line, place, &Rules::usual()) {
         Ok((who, request)) => who == 0 && word_of(&request) == wanted,
-        Err(LineNo::Form(name)) => why == "form" && name.bytes() == field.as_bytes(),
-        Err(LineNo::Range(name)) => why == "range" && name.bytes() == field.as_bytes(),
-        Err(LineNo::Json) | Err(LineNo::Memory) => false,
+        Err(no) => is_refused(&no, wanted),
     }
 }
 

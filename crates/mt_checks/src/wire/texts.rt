@@ -1,6 +1,6 @@
-//! What replies and entries are written as: a text and a 0x0A.
+//! What replies and entries are written as, a text and a 0x0A; and why a line is refused.
 use mt_base::{Command, Entries, Entry};
-use mt_wire::{Reply, write_entry, write_reply};
+use mt_wire::{LineNo, Reply, write_entry, write_reply};
 use std::process::Abort;
 
 /// Asserts the text of a reply.
@@ -22,4 +22,15 @@ fn check_line(rt: &impl Abort, line: &[u8], wanted: &str) {
 /// Adds the entry of an actor.
 pub(super) fn push(rt: &impl Abort, entries: &mut Entries, who: u32, command: Command) {
     entries.push(Entry { who, command }).expect(rt, "memory");
+}
+
+/// Whether a line is refused so: a word, and behind `form` and `range` a blank and the field that is named.
+pub(super) fn is_refused(no: &LineNo, wanted: &str) -> bool {
+    let (why, field) = wanted.split_once(' ').unwrap_or((wanted, ""));
+    match no {
+        LineNo::Json => why == "json",
+        LineNo::Memory => false,
+        LineNo::Form(name) => why == "form" && name.bytes() == field.as_bytes(),
+        LineNo::Range(name) => why == "range" && name.bytes() == field.as_bytes(),
+    }
 }

@@ -1,5 +1,6 @@
 //! Texts of entries: each is read and written again, or refused.
-use mt_wire::{LineNo, read_entry, write_entry};
+use super::texts::{check_entry, is_refused};
+use mt_wire::read_entry;
 use std::process::Abort;
 
 // Behind each text stands what comes of it: `read`, or the refusal with the field that it names.
@@ -37,32 +38,14 @@ const ENTRIES: &str = r#"
 {"call":"DDD1","do":"commit","who":4294967296} => range who
 "#;
 
-// What comes of a text of an entry: the text that is written of what was read, or the refusal.
-fn answer(rt: &(impl Abort + AllocGlobal), text: &str) -> String {
-    match read_entry(rt.alloc(), text.as_bytes()) {
-        Ok(entry) => {
-            let line = write_entry(rt.alloc(), &entry).expect(rt, "memory");
-            String::from_utf8(line).ok().expect(rt, "UTF-8")
-        }
-        Err(LineNo::Json) => format!(in rt.alloc(); "json").expect(rt, "memory"),
-        Err(LineNo::Memory) => format!(in rt.alloc(); "memory").expect(rt, "memory"),
-        Err(LineNo::Form(name)) => refusal(rt, "form", name.bytes()),
-        Err(LineNo::Range(name)) => refusal(rt, "range", name.bytes()),
-    }
-}
-
-fn refusal(rt: &(impl Abort + AllocGlobal), word: &str, name: &[u8]) -> String {
-    let name = std::str::from_utf8(name).ok().expect(rt, "UTF-8");
-    format!(in rt.alloc(); "{word} {name}").expect(rt, "memory")
-}
-
 fn check_case(rt: &(impl Abort + AllocGlobal), case: &str) {
     let (text, wanted) = case.split_once(" => ").expect(rt, "two columns");
-    let found = answer(rt, text);
-    if wanted == "read" {
-        assert!(rt; found.trim_end() == text, "{text}");
-    } else {
-        assert!(rt; found.as_str() == wanted, "{text}");
+    match read_entry(rt.alloc(), text.as_bytes()) {
+        Ok(entry) => {
+            assert!(rt; wanted == "read", "{text}");
+            check_entry(rt, &entry, text);
+        }
+        Err(no) => assert!(rt; is_refused(&no, wanted), "{text}"),
     }
 }
 
