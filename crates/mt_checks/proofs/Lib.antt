@@ -1,3 +1,2 @@
-pub mod Filed
 pub mod Growth
 pub mod Hands

@@ -2,9 +2,7 @@
 ghost use Rattle.std.specs.Prelude.{◌≤◌, ℕ, IfSome};
 ghost use Rattle.mt_base.specs.Bounds.{IsAskedFor, IsBoundedCommand, IsBoundedStretch};
 ghost use Rattle.mt_base.specs.History.{IsInTime};
-ghost use Rattle.mt_change.specs.Altered.{IsBoundedBesides};
 ghost use Rattle.mt_probe.specs.Prepared.{MakesStrand};
-ghost use Rattle.mt_checks.specs.Filing.{Files};
 
 use crate::names::{callsign, fix_name, type_name};
 use mt_base::{Band, Clearance, Command, Route, Row, Second, Straight};
@@ -86,10 +84,8 @@ pub fn plan(
     level: u32,
 ) -> Command
     requires { level ≤ 600 }
-    ensures files { Files result }
     ensures makes { MakesStrand result }
     ensures bounded { IsBoundedCommand result }
-    ensures besides { IsBoundedBesides result }
     ensures asked_for { IsAskedFor result }
     ensures in_time { (place : ℕ) → IsInTime place result }
 {
@@ -109,10 +105,8 @@ pub fn plan(
 /// An external flight.
 pub fn outer(rt: &impl Abort, call: &[u8], from: Second, to: Second, first: Row) -> Command
     requires { IsBoundedStretch (record { from = from; to = to; first = first }) }
-    ensures files { Files result }
     ensures makes { MakesStrand result }
     ensures bounded { IsBoundedCommand result }
-    ensures besides { IsBoundedBesides result }
     ensures in_time { (place : ℕ) → IsInTime place result }
 {
     Command::External {
@@ -133,31 +127,6 @@ pub fn clear(rt: &impl Abort, call: &[u8], level: u32, eff: Option<Second>) -> C
         call: callsign(rt, call),
         clearance: Clearance::Level(level),
         eff,
-    }
-}
-
-/// A tentative clearance to a flight level, from the moment on.
-pub fn tentative(rt: &impl Abort, call: &[u8], level: u32) -> Command
-    requires { level ≤ 600 }
-    ensures makes { MakesStrand result }
-    ensures bounded { IsBoundedCommand result }
-    ensures in_time { (place : ℕ) → IsInTime place result }
-{
-    Command::Tentative {
-        call: callsign(rt, call),
-        clearance: Clearance::Level(level),
-        eff: None,
-    }
-}
-
-/// The withdrawal of a tentative clearance, by its owner alone.
-pub fn withdraw(rt: &impl Abort, call: &[u8]) -> Command
-    ensures makes_none { MakesStrand result → ⊥ }
-    ensures bounded { IsBoundedCommand result }
-{
-    Command::Withdraw {
-        call: callsign(rt, call),
-        force: false,
     }
 }
 

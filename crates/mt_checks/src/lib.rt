@@ -38,8 +38,6 @@ mod seats;
 #[cfg(test)]
 mod serving;
 #[cfg(test)]
-mod snapshots;
-#[cfg(test)]
 mod strands;
 #[cfg(test)]
 mod streams;

@@ -4,5 +4,4 @@ mod faults;
 mod holding;
 mod loopback;
 mod scene;
-mod sessions;
 mod workers;

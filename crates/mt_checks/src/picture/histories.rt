@@ -1,7 +1,7 @@
 //! A small history as text: read, rebuilt, printed, and read and rebuilt once more; and texts that say none.
-use super::scene::conflict_ahead;
 use crate::commands::small_tables;
-use mt_base::{Refusal, Rules};
+use crate::conflicts::conflict;
+use mt_base::{Conflict, Kind, Refusal, Rules};
 use mt_history::{Bad, Wrong, print, read_all, rebuild};
 use mt_picture::Picture;
 use std::alloc::Global;
@@ -34,6 +34,14 @@ fn rebuilt(
         .ok()
         .expect(rt, "memory");
     rebuild(rt, alloc, Rules::usual(), tables, &entries)
+}
+
+// The conflict of the marked climb with the flight ahead.
+fn conflict_ahead(rt: &impl Abort) -> Conflict {
+    Conflict {
+        ka: Kind::Tentative,
+        ..conflict(rt, (129, 171), b"DDD1", b"JJJ1")
+    }
 }
 
 // One text behind another.

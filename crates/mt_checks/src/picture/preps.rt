@@ -38,6 +38,7 @@ fn preps_from_before_find_the_flight_that_came_after_them(rt: HostRuntime) {
     let climb = clear(&rt, b"DDD1", 360, Some(10));
     let prep = scene.prepare(0, &climb).ok().expect(&rt, "a prep");
     let probe = scene.tried(&rt, b"DDD1", 360);
+    scene.check_tests(&rt, 0);
     let gone = drop_flight(&rt, b"EEE1");
     let dropped = scene.enter_plain(0, &gone);
     let ahead = outer(&rt, b"EEE1", 10, 1210, AHEAD);

@@ -7,9 +7,8 @@ ghost use Rattle.mt_probe.specs.Prepared.{MakesStrand};
 ghost use Rattle.mt_checks.specs.Growing.{IsLater, IsOfPast};
 
 use crate::commands::small_tables;
-use crate::conflicts::conflict;
 use crate::names::callsign;
-use mt_base::{Clearance, Command, Conflict, Entered, Hit, Kind, Refusal, Rules, Tally};
+use mt_base::{Clearance, Command, Conflict, Entered, Hit, Refusal, Rules, Tally};
 use mt_board::{No, Probed};
 use mt_picture::Picture;
 use mt_probe::{Prep, Probe, prepare, what_if};
@@ -160,12 +159,4 @@ impl Scene {
 pub fn check_probe(rt: &impl Abort, probe: &Probe, version: u64, wanted: &[Hit]) {
     assert!(rt; probe.version() == version);
     assert!(rt; probe.hits() == wanted);
-}
-
-/// The conflict of the plan's tentative climb with the flight ahead.
-pub fn conflict_ahead(rt: &impl Abort) -> Conflict {
-    Conflict {
-        ka: Kind::Tentative,
-        ..conflict(rt, (129, 171), b"DDD1", b"JJJ1")
-    }
 }

@@ -1,4 +1,4 @@
-//! One session over a link in memory and a seat alone: roles, probes, reports with a flag, jobs, and a worker.
+//! One session over a link in memory and a seat alone: reports with a flag, jobs, and a worker.
 ghost use Rattle.std.specs.Prelude.{◌≡◌};
 ghost use Rattle.std.specs.Thread.{IsSync};
 
@@ -98,67 +98,4 @@ fn worker_renews_a_flight(rt: HostRuntime) {
     calls.push(callsign(&rt, b"DDD1")).expect(&rt, "memory");
     let board = work(&rt, board, MemInbox::of(calls), &OpenGate);
     list(&rt, alloc, board, "{\"conflicts\":[],\"version\":4}\n");
-}
-
-#[test]
-fn commands_of_other_roles_are_refused(rt: HostRuntime) {
-    let alloc = rt.alloc();
-    let lines = r#"{"do":"plan","call":"DDD1","type":"JA1","route":["Q0","Q1"],"at":0,"level":350}
-{"do":"take"}
-{"do":"hello","role":"position"}
-{"do":"tick","now":5}
-{"do":"take"}
-{"do":"hello","role":"feed"}
-{"do":"probe","call":"DDD1","level":360}
-{"do":"take"}
-{"do":"begin"}
-"#;
-    let replies = r#"{"field":"do","no":"form"}
-{"field":"do","no":"form"}
-{"role":"position"}
-{"field":"do","no":"form"}
-{"field":"do","no":"form"}
-{"role":"feed"}
-{"field":"do","no":"form"}
-{"field":"do","no":"form"}
-{"field":"do","no":"form"}
-"#;
-    say(&rt, alloc, seated(&rt, alloc), None, lines, replies);
-}
-
-#[test]
-fn probe_outlives_a_change_of_roles(rt: HostRuntime) {
-    let alloc = rt.alloc();
-    let lines = r#"{"do":"hello","role":"feed"}
-{"do":"plan","call":"DDD1","type":"JA1","route":["Q0","Q1"],"at":0,"level":350}
-{"do":"external","call":"EEE1","from":0,"to":1200,"x":0,"y":1000000,"z":2160000,"vx":480}
-{"do":"external","call":"FFF1","from":0,"to":1200,"x":0,"y":1200000,"z":2100000,"vx":480}
-{"do":"external","call":"GGG1","from":0,"to":1200,"x":0,"y":1400000,"z":2100000,"vx":480}
-{"do":"tick","now":10}
-{"do":"hello","role":"position"}
-{"do":"probe","call":"DDD1","level":360}
-{"do":"hello","role":"feed"}
-{"do":"external","call":"HHH1","from":0,"to":1200,"x":0,"y":1600000,"z":2100000,"vx":480}
-{"do":"hello","role":"position"}
-{"do":"accept","probe":1}
-{"do":"accept","probe":9}
-{"do":"bye"}
-{"do":"list"}
-"#;
-    let replies = r#"{"role":"feed"}
-{"entered":1}
-{"entered":2}
-{"entered":3}
-{"entered":4}
-{"entered":5}
-{"role":"position"}
-{"conflicts":[],"eff":10,"probe":1,"version":5}
-{"role":"feed"}
-{"entered":6}
-{"role":"position"}
-{"entered":7}
-{"no":"no-probe","version":7}
-{"done":"bye"}
-"#;
-    say(&rt, alloc, seated(&rt, alloc), None, lines, replies);
 }

@@ -32,13 +32,8 @@ pub fn words_of(rt: &impl Abort, alloc: Global, text: &str) -> Words {
 
 /// A link whose client sends this text, with room for all that is answered.
 pub fn link(rt: &impl Abort, alloc: Global, text: &str) -> MemLink {
-    narrow_link(rt, alloc, text, AMPLE)
-}
-
-/// A link whose client sends this text, with room for so many bytes.
-pub fn narrow_link(rt: &impl Abort, alloc: Global, text: &str, room: u32) -> MemLink {
     let bytes = text.as_bytes().to_vec(alloc).expect(rt, "memory");
-    MemLink::make(alloc, bytes, room).expect(rt, "memory")
+    MemLink::make(alloc, bytes, AMPLE).expect(rt, "memory")
 }
 
 /// A door with one link.
