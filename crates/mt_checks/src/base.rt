@@ -185,10 +185,9 @@ fn ordered(rt: &impl Abort) -> [Conflict; 5] {
 fn conflicts_are_put_in_order_each_once(rt: HostRuntime) {
     one_published_list_law();
     let ordered = ordered(&rt);
-    let [first, second, third, fourth, last] = ordered;
     let mut conflicts = Conflicts::make(rt.alloc()).expect(&rt, "memory");
-    for conflict in [last, third, first, fourth, second, third] {
-        conflicts.push(conflict).expect(&rt, "memory");
+    for place in [4, 2, 0, 3, 1, 2] {
+        conflicts.push(ordered[place]).expect(&rt, "memory");
     }
     conflicts.order();
     assert!(rt; conflicts.items() == ordered.as_slice());

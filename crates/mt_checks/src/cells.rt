@@ -3,7 +3,7 @@ ghost use Rattle.std.specs.Prelude.{◌≡◌, ◌<◌};
 ghost use Rattle.mt_base.specs.Bounds.{IsBoundedStretch};
 ghost use Rattle.mt_grid.specs.Lists.{AreInGrid};
 
-use crate::commands::STILL;
+use crate::rows::STILL;
 use mt_base::{Row, Rules, Second, Straight};
 use mt_cover::{Cover, Stay, cover};
 use mt_grid::Grid;

@@ -1,6 +1,6 @@
 //! Tests of calls of the crates below, of cases that no line of a script can say.
 //!
-//! Cases that lines can say are those of `mt_rows`.
+//! Cases that lines can say are those of `mt_rows`; what is done with a picture, on threads and through the top call is tested by `mt_top_checks`.
 #![tactic(auto)]
 
 #[cfg(test)]
@@ -12,11 +12,7 @@ mod cases;
 #[cfg(test)]
 mod cells;
 #[cfg(test)]
-mod commands;
-#[cfg(test)]
 mod conflicts;
-#[cfg(test)]
-mod desks;
 #[cfg(test)]
 mod fractions;
 #[cfg(test)]
@@ -28,15 +24,9 @@ mod pages;
 #[cfg(test)]
 mod pairs;
 #[cfg(test)]
-mod picture;
-#[cfg(test)]
 mod published;
 #[cfg(test)]
-mod reports;
-#[cfg(test)]
-mod seats;
-#[cfg(test)]
-mod serving;
+mod rows;
 #[cfg(test)]
 mod strands;
 #[cfg(test)]

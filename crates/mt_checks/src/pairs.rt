@@ -18,7 +18,12 @@ fn add(rt: &impl Abort, edges: &mut Edges, a: u32, b: u32, first: u32, last: u32
 }
 
 fn holds(found: &[Edge], a: u32, b: u32) -> bool {
-    found.iter().any(|e| e.a == a && e.b == b)
+    for edge in found {
+        if edge.a == a && edge.b == b {
+            return true;
+        }
+    }
+    false
 }
 
 #[test]

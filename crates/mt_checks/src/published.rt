@@ -2,10 +2,9 @@
 ghost use Rattle.std.specs.Prelude.{◌≤◌};
 ghost use Rattle.mt_base.specs.Bounds.{IsBoundedStretch};
 
-use crate::commands::EAST;
 use crate::conflicts::conflict;
-use crate::names::callsign;
-use mt_base::{Conflict, Kind, Row, Rules, Second, Straight, Tally};
+use crate::rows::EAST;
+use mt_base::{Callsign, Conflict, Kind, Row, Rules, Second, Straight, Tally};
 use mt_plain::all_pairs;
 use mt_track::{Roster, Strand};
 use std::process::Abort;
@@ -42,23 +41,18 @@ fn strand(rt: &(impl AllocGlobal + Abort), first: Row) -> Arc<Strand>
     Arc::new(rt.alloc(), strand).ok().expect(rt, "memory")
 }
 
-/// Adds the strand that begins with that row.
-fn add(rt: &(impl AllocGlobal + Abort), roster: &mut Roster, call: &[u8], kind: Kind, first: Row)
-    requires { IsBoundedStretch (record { from = 0; to = 3600; first = first }) }
-{
-    let strand = strand(rt, first);
-    roster
-        .add(callsign(rt, call), kind, &strand)
-        .expect(rt, "memory");
-}
-
 /// Three flights, of which the last has a tentative trajectory too.
 fn roster(rt: &(impl AllocGlobal + Abort)) -> Roster {
+    let a = Callsign::of(b"AAA1").expect(rt, "a callsign");
+    let b = Callsign::of(b"BBB1").expect(rt, "a callsign");
+    let c = Callsign::of(b"CCC1").expect(rt, "a callsign");
+    let (beside, west) = (strand(rt, BESIDE), strand(rt, WEST));
+    let (north, east) = (strand(rt, NORTH), strand(rt, EAST));
     let mut roster = Roster::make(rt.alloc()).expect(rt, "memory");
-    add(rt, &mut roster, b"CCC1", Kind::Tentative, BESIDE);
-    add(rt, &mut roster, b"BBB1", Kind::Actual, WEST);
-    add(rt, &mut roster, b"CCC1", Kind::Actual, NORTH);
-    add(rt, &mut roster, b"AAA1", Kind::Actual, EAST);
+    roster.add(c, Kind::Tentative, &beside).expect(rt, "memory");
+    roster.add(b, Kind::Actual, &west).expect(rt, "memory");
+    roster.add(c, Kind::Actual, &north).expect(rt, "memory");
+    roster.add(a, Kind::Actual, &east).expect(rt, "memory");
     roster
 }
 

@@ -1,7 +1,9 @@
 //! Strands, second by second around the borders of their segments; and the order of a roster.
+ghost use Rattle.std.specs.Prelude.{◌≤◌};
+
 use crate::cases::{check_end, number, numbers, word};
 use crate::names::callsign;
-use mt_base::{Kind, Row, Straight};
+use mt_base::{Callsign, Kind, Row, Straight};
 use mt_track::{Roster, Segment, Strand};
 use std::process::Abort;
 use std::sync::Arc;
@@ -152,18 +154,12 @@ fn a_straight_stretch_has_growing_margins(rt: HostRuntime) {
 }
 
 /// A strand without segments that begins at a second.
-fn empty_from(rt: &(impl AllocGlobal + Abort), start: u32) -> Arc<Strand> {
+fn empty_from(rt: &(impl AllocGlobal + Abort), start: u32) -> Arc<Strand>
+    requires { start ≤ 10014400 }
+{
     Arc::new(rt.alloc(), Strand::empty(rt.alloc(), start))
         .ok()
         .expect(rt, "memory")
-}
-
-/// Adds such a strand of a flight.
-fn add(rt: &(impl AllocGlobal + Abort), roster: &mut Roster, call: &[u8], kind: Kind, start: u32) {
-    let strand = empty_from(rt, start);
-    roster
-        .add(callsign(rt, call), kind, &strand)
-        .expect(rt, "memory");
 }
 
 /// The strand at a place of the roster.
@@ -176,11 +172,18 @@ fn check_item(rt: &impl Abort, roster: &Roster, place: usize, call: &[u8], kind:
 
 #[test]
 fn a_roster_keeps_its_order(rt: HostRuntime) {
+    let second = Callsign::of(b"BAW1").expect(&rt, "a callsign");
+    let first = Callsign::of(b"AAA1").expect(&rt, "a callsign");
+    let (early, late) = (empty_from(&rt, 20), empty_from(&rt, 30));
     let mut roster = Roster::make(rt.alloc()).expect(&rt, "memory");
     assert!(rt; roster.items().is_empty());
-    add(&rt, &mut roster, b"BAW1", Kind::Tentative, 30);
-    add(&rt, &mut roster, b"AAA1", Kind::Actual, 30);
-    add(&rt, &mut roster, b"BAW1", Kind::Actual, 20);
+    roster
+        .add(second, Kind::Tentative, &late)
+        .expect(&rt, "memory");
+    roster.add(first, Kind::Actual, &late).expect(&rt, "memory");
+    roster
+        .add(second, Kind::Actual, &early)
+        .expect(&rt, "memory");
     assert!(rt; roster.items().len() == 3);
     check_item(&rt, &roster, 0, b"BAW1", Kind::Tentative, 30);
     check_item(&rt, &roster, 1, b"AAA1", Kind::Actual, 30);

@@ -6,8 +6,8 @@ ghost use Rattle.mt_predict.specs.Looking.{HasStrandOfPlanned};
 use super::climbing::{course, tables};
 use super::courses::is_sound;
 use crate::cases::{Values, check_end, number, parsed, word};
-use crate::commands::EAST;
 use crate::names::callsign;
+use crate::rows::EAST;
 use mt_base::{
     Callsign, Clearance, Command, Kind, Path, Record, Refusal, Row, Rules, Second, Straight,
 };

@@ -1,0 +1,99 @@
+//! A small history as text: read, rebuilt, printed, and read and rebuilt once more; and texts that say none.
+ghost use Rattle.std.specs.Prelude.{All};
+ghost use Rattle.mt_history.specs.Rebuilt.{IsReady};
+
+use crate::commands::shared_tables;
+use crate::conflicts::conflict;
+use mt_base::{Conflict, Entries, Kind, Refusal, Rules};
+use mt_history::{Bad, Wrong, print, read_all, rebuild};
+use mt_picture::Picture;
+use std::alloc::Global;
+use std::process::Abort;
+use std::thread::Threads;
+
+// Two plans, one far north of the other, and an external flight that comes towards the first, one flight level above it. The first is marked
+// to climb there.
+const MARKED: &str =
+    r#"{"at":0,"call":"DDD1","do":"plan","from":350,"level":350,"route":["Q0","Q1"],"type":"JA1","who":0}
+{"at":0,"call":"III1","do":"plan","from":350,"level":350,"route":["Q2","Q3"],"type":"JA1","who":0}
+{"call":"JJJ1","do":"external","from":0,"gr":0,"gw":0,"r":0,"to":1200,"vx":-480,"vy":0,"vz":0,"w":0,"who":0,"x":144000,"y":0,"z":2160000}
+{"call":"DDD1","do":"tentative","eff":0,"level":360,"who":1}
+"#;
+
+// The second climbs, and the first's mark is taken away.
+const WITHDRAWN: &str = r#"{"call":"III1","do":"clear","eff":0,"level":370,"who":0}
+{"call":"DDD1","do":"withdraw","force":false,"who":1}
+"#;
+
+// The entries that a text says.
+fn entries_of(rt: &impl Abort, alloc: Global, text: &[u8]) -> Entries
+    ensures { All IsReady result }
+{
+    match read_all(alloc, text) {
+        Ok(entries) => entries,
+        Err(_) => panic!(rt; "no entries"),
+    }
+}
+
+// What is rebuilt of the entries that a text says.
+fn rebuilt(
+    rt: &(impl Abort + Threads + Sync),
+    alloc: Global,
+    text: &[u8],
+) -> Result<Picture, Wrong> {
+    let entries = entries_of(rt, alloc, text);
+    let tables = shared_tables(rt, alloc);
+    rebuild(rt, alloc, Rules::usual(), tables, &entries)
+}
+
+// The conflict of the marked climb with the flight ahead.
+fn conflict_ahead(rt: &impl Abort) -> Conflict {
+    Conflict {
+        ka: Kind::Tentative,
+        ..conflict(rt, (129, 171), b"DDD1", b"JJJ1")
+    }
+}
+
+// One text behind another.
+fn joined(rt: &impl Abort, alloc: Global, first: &str, last: &str) -> Vec<u8> {
+    let mut text = Vec::new(alloc);
+    text.extend_from_slice(first.as_bytes())
+        .ok()
+        .expect(rt, "memory");
+    text.extend_from_slice(last.as_bytes())
+        .ok()
+        .expect(rt, "memory");
+    text
+}
+
+#[test]
+fn a_printed_history_rebuilds_the_picture(rt: HostRuntime) {
+    let alloc = rt.alloc();
+    let marked = rebuilt(&rt, alloc, MARKED.as_bytes())
+        .ok()
+        .expect(&rt, "a picture");
+    assert!(&rt; marked.published() == [conflict_ahead(&rt)].as_slice());
+    let text = joined(&rt, alloc, MARKED, WITHDRAWN);
+    let picture = rebuilt(&rt, alloc, &text).ok().expect(&rt, "a picture");
+    let printed = print(alloc, &picture, 0, picture.version()).expect(&rt, "memory");
+    assert!(&rt; printed.as_slice() == text.as_slice());
+    let again = rebuilt(&rt, alloc, &printed).ok().expect(&rt, "a picture");
+    assert!(&rt; again.version() == 6);
+    assert!(&rt; again.published().is_empty());
+}
+
+#[test]
+fn what_is_wrong_is_named_by_its_place(rt: HostRuntime) {
+    let alloc = rt.alloc();
+    let twice = joined(&rt, alloc, MARKED, MARKED);
+    let held = Wrong::Illegal {
+        at: 4,
+        refusal: Refusal::HeldCall,
+    };
+    assert!(&rt; rebuilt(&rt, alloc, &twice).err() == Some(held));
+    let ahead = "{\"call\":\"DDD1\",\"do\":\"accept\",\"eff\":0,\"level\":360,\"v\":5,\"who\":0}\n";
+    let late = joined(&rt, alloc, MARKED, ahead);
+    assert!(&rt; rebuilt(&rt, alloc, &late).err() == Some(Wrong::Late { at: 4 }));
+    let gap = joined(&rt, alloc, MARKED, "\n");
+    assert!(&rt; read_all(alloc, &gap).err() == Some(Bad::Line(4)));
+}

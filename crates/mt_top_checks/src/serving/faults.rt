@@ -1,0 +1,177 @@
+//! The whole program over streams that fail: a source that fails after each byte, and a sink that is full after each byte.
+ghost use Rattle.std.specs.Prelude.{◌≤◌, None, vec_len};
+ghost use Rattle.std.specs.Thread.{IsSync};
+
+use super::scene::{AMPLE, words_of};
+use mt_base::Words;
+use mt_io::{Failed, MemDoor, MemSink, MemSource, OpenGate, Source};
+use mt_top::{Status, run};
+use std::alloc::Global;
+use std::process::Abort;
+use std::sync::Wait;
+use std::thread::Threads;
+
+/// What is written where the words are no command.
+const USAGE: &str =
+    "usage: mtcd replay | serve [--port P] [--sessions N] [--workers W] | load [--flights N] [--number X]\n";
+
+/// Two flights head-on: the script, and its answers.
+const INPUT: &str = r#"{"do":"begin"}
+{"call":"AAA1","do":"external","from":0,"to":1200,"vx":480,"x":0,"y":0,"z":2100000}
+{"call":"BBB1","do":"external","from":0,"to":1200,"vx":-480,"x":144000,"y":0,"z":2100000}
+{"do":"list"}
+"#;
+
+const OUTPUT: &str = r#"{"done":"begin"}
+{"entered":1}
+{"entered":2}
+{"conflicts":[{"first":131,"kinds":"aa","last":168,"pair":["AAA1","BBB1"]}],"version":2}
+"#;
+
+/// Gives its bytes, at most 7 a call, and then fails in place of its end.
+#[derive(Drop)]
+struct Torn {
+    bytes: Vec<u8>,
+    at: usize,
+    faults: u64,
+    ghost within: { at ≤ vec_len bytes },
+}
+
+impl Source for Torn {
+    ghost left = { λ _. None };
+
+    ghost faults = { λ s. s.faults };
+
+    ghost reads_to = { λ a b. Unit {0} };
+
+    fn read_faults(&self) -> u64 {
+        self.faults
+    }
+
+    fn read_some(&mut self, buf: &mut [u8]) -> Result<usize, Failed> {
+        let count = buf.len().min(7).min(self.bytes.len() - self.at);
+        if count == 0 {
+            self.faults = self.faults.saturating_add(1);
+            return Err(Failed);
+        }
+        buf[..count].copy_from_slice(&self.bytes[self.at..self.at + count]);
+        self.at += count;
+        Ok(count)
+    }
+
+    ghost reads_to_itself = { λ s. tt };
+
+    ghost reads_on = { λ a b c ab bc. tt };
+}
+
+// The first lines of a text, as many as the count says, with their ends.
+fn first_lines(text: &str, count: usize) -> &str {
+    let mut rest = text;
+    for _ in 0..count {
+        match rest.split_once('\n') {
+            Some((_, after)) => rest = after,
+            None => rest = "",
+        }
+    }
+    text.strip_suffix(rest).unwrap_or(text)
+}
+
+// A door with no link.
+fn no_door(rt: &impl Abort, alloc: Global) -> MemDoor {
+    MemDoor::make(alloc, Vec::new(alloc)).expect(rt, "memory")
+}
+
+// How many lines end in these bytes.
+fn count_lines(bytes: &[u8]) -> usize {
+    let mut count: usize = 0;
+    for byte in bytes {
+        if *byte == b'\n' {
+            count = count.saturating_add(1);
+        }
+    }
+    count
+}
+
+// Whether an input that fails behind these bytes is answered up to its last whole line.
+fn is_answered<R: Abort + Threads + Wait + Sync>(
+    rt: &R,
+    alloc: Global,
+    words: &Words,
+    given: &[u8],
+) -> bool
+    requires sync { IsSync R.row }
+{
+    let bytes = given.to_vec(alloc).expect(rt, "memory");
+    let (at, faults) = (0, 0);
+    let mut source = Torn { bytes, at, faults };
+    let mut sink = MemSink::make(alloc, AMPLE).expect(rt, "memory");
+    let mut door = no_door(rt, alloc);
+    let ended = run(
+        rt,
+        alloc,
+        words,
+        &mut source,
+        &mut sink,
+        &mut door,
+        &OpenGate,
+    );
+    let wanted = first_lines(OUTPUT, count_lines(given));
+    ended == Status::ReadFault && sink.held() == wanted.as_bytes()
+}
+
+// Whether an output with room for this many bytes takes these, and then fails.
+fn is_full<R: Abort + Threads + Wait + Sync>(
+    rt: &R,
+    alloc: Global,
+    words: &Words,
+    room: u32,
+    taken: &[u8],
+) -> bool
+    requires sync { IsSync R.row }
+{
+    let bytes = INPUT.as_bytes().to_vec(alloc).expect(rt, "memory");
+    let mut source = MemSource::of(bytes);
+    let mut sink = MemSink::make(alloc, room).expect(rt, "memory");
+    let mut door = no_door(rt, alloc);
+    let ended = run(
+        rt,
+        alloc,
+        words,
+        &mut source,
+        &mut sink,
+        &mut door,
+        &OpenGate,
+    );
+    ended == Status::WriteFault && sink.held() == taken
+}
+
+// An input fails after each byte.
+fn check_torn<R: Abort + Threads + Wait + Sync>(rt: &R, alloc: Global)
+    requires sync { IsSync R.row }
+{
+    let words = words_of(rt, alloc, "replay");
+    for given in 0..INPUT.len() {
+        let is_answered = is_answered(rt, alloc, &words, &INPUT.as_bytes()[..given]);
+        assert!(rt; is_answered, "{given}");
+    }
+}
+
+// The output that these words have is full after each byte.
+fn check_full<R: Abort + Threads + Wait + Sync>(rt: &R, alloc: Global, words: &str, output: &str)
+    requires sync { IsSync R.row }
+{
+    let words = words_of(rt, alloc, words);
+    for room in 0..output.len() {
+        let taken = &output.as_bytes()[..room];
+        let room = u32::try_from(room).ok().expect(rt, "a small room");
+        let is_full = is_full(rt, alloc, &words, room, taken);
+        assert!(rt; is_full, "{room}");
+    }
+}
+
+#[test]
+fn streams_that_fail_at_each_place(rt: HostRuntime) {
+    check_torn(&rt, rt.alloc());
+    check_full(&rt, rt.alloc(), "replay", OUTPUT);
+    check_full(&rt, rt.alloc(), "fly", USAGE);
+}
