@@ -1,11 +1,13 @@
 use Rattle.std.proofs.Common.{◌≡◌, Ok, ◌∙◌, subst, sym}
 use Rattle.mt_picture.specs.Story.{IsPrepFor, Story}
+use Rattle.mt_top_checks.specs.Growing.{IsOfPast}
 use Rattle.mt_top_checks.proofs.Growth.{ok_was, past_later, prepared_later}
 use Rattle.mt_top_checks.proofs.picture.preps.preps_from_before_find_the_flight_that_came_after_them.Goals as goal
 
 pub accept-accepted-requires-clause-past : goal.accept-accepted-requires-clause-past
 accept-accepted-requires-clause-past g c =
-    let six = past_later _ _ _ c.enter_plain-dropped.ensures c.tried-probe.ensures.past in
+    let five = subst (λ (s : Story). IsOfPast s c.tried-probe.result.prep) (sym c.tried-probe.ensures.same) c.tried-probe.ensures.past in
+    let six = past_later _ _ _ c.enter_plain-dropped.ensures five in
     past_later _ _ _ c.enter_made-filed.ensures six
 
 pub enter_with-cleared-requires-clause-prep : goal.enter_with-cleared-requires-clause-prep
