@@ -10,3 +10,9 @@ returns-clause-past g c =
     let was : c.what_if-tried.result ≡ Ok c.expect.result = ok_was c.what_if-tried.result c.expect.result (sym c.ok.ensures.value ∙ c.expect.ensures) in
     let probe = rw was at c.what_if-tried.ensures.probe in
     past_now c.args.self.now.picture shot 0 _ c.expect.result.prep setup state probe.prep_of
+
+pub returns-clause-bounded : goal.returns-clause-bounded
+returns-clause-bounded g c =
+    let was : c.what_if-tried.result ≡ Ok c.expect.result = ok_was c.what_if-tried.result c.expect.result (sym c.ok.ensures.value ∙ c.expect.ensures) in
+    let probe = rw was at c.what_if-tried.ensures.probe in
+    rw probe.clearance_is c.requires
