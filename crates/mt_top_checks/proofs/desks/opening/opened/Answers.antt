@@ -14,7 +14,7 @@ pub returns-clause-ready : goal.returns-clause-ready
 returns-clause-ready g c = c.split-second.ensures.ready
 
 pub returns-clause-first : goal.returns-clause-first
-returns-clause-first g c = rw (c.split-second.ensures.gives, c.in-Ok.ensures.first) (refl, (refl, refl))
+returns-clause-first g c = rw (c.split-second.ensures.gives, c.in-Ok.ensures.first) (refl, refl, refl)
 
 pub returns-clause-second : goal.returns-clause-second
 returns-clause-second g c = rw (c.split-second.ensures.comes, c.in-Ok.ensures.first) refl
