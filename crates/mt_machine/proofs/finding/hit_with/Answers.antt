@@ -21,3 +21,9 @@ returns-clause-exact c =
       (λ e. let same : found ≡ hit = cc in subst (IsHitWith setup c.args.now c.args.strand.now c.args.other.now) same is),
       (λ also. ap Some (one_hit setup c.args.now c.args.strand.now c.args.other.now found hit is also)),
     )
+
+pub returns-in_default-clause-named : goal.returns-in_default-clause-named
+returns-in_default-clause-named c = c.bytes-letters.ensures.named
+
+pub returns-clause-named : goal.returns-clause-named
+returns-clause-named c = c.bytes-letters.ensures.named

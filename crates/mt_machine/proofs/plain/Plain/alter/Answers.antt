@@ -66,3 +66,9 @@ returns-clause-sound c =
     (sym c.flight.ensures ∙ ap option_copied c.in-Some-flight.is) within in
     rw (written c, c.alter_each.ensures, c.deref_mut.ensures.value)
     (subst (λ (s : State). IsSoundState setup (record s { records = map (changed c.in-Some.call change) s.records })) (sym c.self.view_is) sound)
+
+pub alteration_by-alteration-requires-clause-strand : goal.alteration_by-alteration-requires-clause-strand
+alteration_by-alteration-requires-clause-strand c = c.in_ok-strand.ensures.rows
+
+pub alteration_by-alteration-requires-clause-early : goal.alteration_by-alteration-requires-clause-early
+alteration_by-alteration-requires-clause-early c = rw (ap (λ (s : State). s.now) c.self.view_is) c.requires.sound.early
