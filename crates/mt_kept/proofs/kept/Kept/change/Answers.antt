@@ -1,4 +1,5 @@
 use Rattle.std.proofs.Common.{◌≡◌, ◌++◌, arith, map, sym, ◌∙◌}
+use Rattle.std.proofs.lemmas.Result.{err_from_is_err_and}
 use Rattle.std.specs.List.{filter}
 use Rattle.mt_kept.specs.declared.open_pair.OpenPair.{OpenPair}
 use Rattle.mt_kept.specs.Finds.{AreFinds}
@@ -22,6 +23,47 @@ replace_pairs-requires-clause-sound c =
     let second = seen c.args.second in
     let finds : AreFinds c.self.inside.rules (with_slot places c.args.slot first second) now c.args.slot c.args.finds.now = rw (← c.self.view_is) at c.requires.finds in
     rw c.in_ok-reserve.ensures.ends (finds_sound c.self.inside.rules places now c.args.slot c.self.inside.pairs.ends first second c.args.finds.now c.self.invariant.all finds)
+
+pub replace_pairs-requires-clause-slot : goal.replace_pairs-requires-clause-slot
+replace_pairs-requires-clause-slot c = rw (c.in_ok-reserve.ensures.ends, c.self.invariant.all) (rw (← c.self.view_is) at c.requires.slot)
+
+pub replace_pairs-requires-clause-few : goal.replace_pairs-requires-clause-few
+replace_pairs-requires-clause-few c = rw (c.in_ok-reserve.ensures.ends, c.self.invariant.all) (let few = c.self.invariant.few in omega arith)
+
+pub replace_pairs-requires-clause-distinct : goal.replace_pairs-requires-clause-distinct
+replace_pairs-requires-clause-distinct c = c.requires.finds.distinct
+
+pub invariant_of-self : goal.invariant_of-self
+invariant_of-self c = rw (c.in_err-reserve.ensures.edges, c.in_err-reserve.ensures.ends) c.self.invariant
+
+pub invariant_of-self-in_err-open_pairs : goal.invariant_of-self-in_err-open_pairs
+invariant_of-self-in_err-open_pairs c = rw (c.in_ok-reserve.ensures.edges, c.in_ok-reserve.ensures.ends) c.self.invariant
+
+pub invariant_of-self-in_err-add_open : goal.invariant_of-self-in_err-add_open
+invariant_of-self-in_err-add_open c = rw (c.in_ok-reserve.ensures.edges, c.in_ok-reserve.ensures.ends) c.self.invariant
+
+pub invariant_of-self-in_err-list : goal.invariant_of-self-in_err-list
+invariant_of-self-in_err-list c = rw (c.in_ok-reserve.ensures.edges, c.in_ok-reserve.ensures.ends) c.self.invariant
+
+pub returns-in_err-reserve-clause-err : goal.returns-in_err-reserve-clause-err
+returns-in_err-reserve-clause-err c =
+    let p = err_from_is_err_and c.from_residual.result c.from_residual.ensures.1 in
+    rw p.1 c.self.view_is
+
+pub returns-in_err-open_pairs-clause-err : goal.returns-in_err-open_pairs-clause-err
+returns-in_err-open_pairs-clause-err c =
+    let p = err_from_is_err_and c.from_residual-in_err-open_pairs.result c.from_residual-in_err-open_pairs.ensures.1 in
+    rw p.1 c.self.view_is
+
+pub returns-in_err-add_open-clause-err : goal.returns-in_err-add_open-clause-err
+returns-in_err-add_open-clause-err c =
+    let p = err_from_is_err_and c.from_residual-in_err-add_open.result c.from_residual-in_err-add_open.ensures.1 in
+    rw p.1 c.self.view_is
+
+pub returns-in_err-list-clause-err : goal.returns-in_err-list-clause-err
+returns-in_err-list-clause-err c =
+    let p = err_from_is_err_and c.from_residual-in_err-list.result c.from_residual-in_err-list.ensures.1 in
+    rw p.1 c.self.view_is
 
 pub invariant_of-self-2 : goal.invariant_of-self-2
 invariant_of-self-2 c =
