@@ -1,4 +1,5 @@
-use Rattle.std.proofs.Common.{◌≡◌, ◌++◌, ◌∷◌, [], List, subst, sym, arith, rules}
+use Rattle.std.proofs.Common.{◌≡◌, ◌++◌, ◌∷◌, [], List, subst, sym, refl, arith, rules}
+use Rattle.std.proofs.lemmas.Result.{err_from_is_err_and}
 use Rattle.mt_base.specs.declared.command.Command.TheVariants.{Tick}
 use Rattle.mt_base.specs.declared.command.Entry.{Entry}
 use Rattle.mt_picture.specs.Stamps.{IsPicture}
@@ -34,3 +35,23 @@ returns-in_err-move_to-clause-held c = rw (c.in_err-move_to.ensures.err, c.reser
 
 pub returns-in_err-move_to-clause-err : goal.returns-in_err-move_to-clause-err
 returns-in_err-move_to-clause-err c = search rules
+
+pub returns-in_err-snapshot-clause-held : goal.returns-in_err-snapshot-clause-held
+returns-in_err-snapshot-clause-held c = c.requires.held
+
+pub returns-in_err-reserve-clause-held : goal.returns-in_err-reserve-clause-held
+returns-in_err-reserve-clause-held c = rw c.reserve.ensures.items c.requires.held
+
+pub returns-in_err-reserve-clause-err : goal.returns-in_err-reserve-clause-err
+returns-in_err-reserve-clause-err c =
+    let p = err_from_is_err_and c.from_residual-in_err-reserve.result c.from_residual-in_err-reserve.ensures.1 in
+    rw (p.1, c.reserve.ensures.items) refl
+
+pub returns-clause-setup : goal.returns-clause-setup
+returns-clause-setup c = rw c.in_ok-snapshot.ensures refl
+
+pub returns-clause-counted : goal.returns-clause-counted
+returns-clause-counted c = rw (c.requires.held.rules_are, c.requires.held.places_are) at c.move_to.ensures.counted
+
+pub returns-in_err-move_to-clause-counted : goal.returns-in_err-move_to-clause-counted
+returns-in_err-move_to-clause-counted c = rw (c.requires.held.rules_are, c.requires.held.places_are) at c.move_to.ensures.counted

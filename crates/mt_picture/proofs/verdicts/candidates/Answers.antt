@@ -1,5 +1,5 @@
 use Rattle.std.proofs.Common.{refl, get_or}
-use Rattle.std.proofs.lemmas.List.{get_or_default}
+use Rattle.std.proofs.lemmas.List.{get_or_default, take_all}
 use Rattle.mt_kept.specs.declared.finds.Candidate.{Candidate}
 use Rattle.mt_kept.proofs.Elements.{Contains-none}
 use Rattle.mt_picture.specs.Verdicts.{IsKnown}
@@ -24,3 +24,22 @@ loop-item-preserved c =
       places = places_more c.loop-item.list.items x xs i c.loop-item-test.true (get_or_default xs i 0 item c.loop-item-test.true) c.loop-item.invariant.places;
       known_is = known_more c.args.prep.now c.args.known slots c.loop-item.list.items x c.loop-item.invariant.known_is one;
     })
+
+pub verdict-verdict-requires : goal.verdict-verdict-requires
+verdict-verdict-requires c = record { stood = c.requires.stood }
+
+pub near-requires : goal.near-requires
+near-requires c = c.in_ok-cover.ensures.in_grid
+
+pub returns : goal.returns
+returns c =
+    let cover = rw c.rules.ensures.rules at c.in_ok-cover.ensures.is in
+    record {
+      near = rw (
+        c.loop-item.invariant.places,
+        take_all c.loop-item.item-index c.deref-item-items.result.now c.loop-item-test.false,
+        c.deref-item-items.ensures.value,
+        ← cover,
+      ) c.in_ok-items.ensures;
+      known_is = c.loop-item.invariant.known_is;
+    }
