@@ -39,3 +39,37 @@ pub returns-clause-edges : goal.returns-clause-edges
 returns-clause-edges c =
     let p = popped _ _ _ c.index-node.result.now c.requires.kept.shape.spares c.requires.spare c.index-node.ensures in
     with_new _ _ _ p.1 p.2
+
+pub overflow_mul-first : goal.overflow_mul-first
+overflow_mul-first c =
+    let p = popped _ _ _ c.index-node.result.now c.requires.kept.shape.spares c.requires.spare c.index-node.ensures in
+    let r = c.requires.kept.shape.room in
+    let h = c.args.self.now.links.next.ok in
+    omega (arith, p.1, r, h.0)
+
+pub overflow_add-first : goal.overflow_add-first
+overflow_add-first c =
+    let p = popped _ _ _ c.index-node.result.now c.requires.kept.shape.spares c.requires.spare c.index-node.ensures in
+    let r = c.requires.kept.shape.room in
+    let h = c.args.self.now.links.next.ok in
+    omega (arith, p.1, r, h.0)
+
+pub overflow_add-first-2 : goal.overflow_add-first-2
+overflow_add-first-2 c =
+    let p = popped _ _ _ c.index-node.result.now c.requires.kept.shape.spares c.requires.spare c.index-node.ensures in
+    let r = c.requires.kept.shape.room in
+    let h = c.args.self.now.links.next.ok in
+    omega (arith, p.1, r, h.0)
+
+pub overflow_add-first-3 : goal.overflow_add-first-3
+overflow_add-first-3 c =
+    let p = popped _ _ _ c.index-node.result.now c.requires.kept.shape.spares c.requires.spare c.index-node.ensures in
+    let r = c.requires.kept.shape.room in
+    let h = c.args.self.now.links.next.ok in
+    omega (arith, p.1, r, h.0)
+
+pub overflow_add-self-2 : goal.overflow_add-self-2
+overflow_add-self-2 c =
+    let s = c.requires.kept.shape in
+    let h = c.args.self.now.links.next.ok in
+    omega (arith, s.base_is, s.room, h.0, c.requires.sound.early)
