@@ -1,9 +1,9 @@
-use Rattle.std.proofs.Common.{sym, ◌∙◌, ap, subst, arith}
+use Rattle.std.proofs.Common.{refl, sym, ◌∙◌, ap, subst, arith}
 use Rattle.mt_base.specs.declared.command.Command.TheVariants.{Renew}
 use Rattle.mt_board.specs.Changing.{IsChanged}
 use Rattle.mt_session.specs.Session.{with_seat}
-use Rattle.mt_session.proofs.Renewals.{all_renewed, broken, renewed_at, settled, starved_is, told_is}
-use Rattle.mt_session.proofs.Stays.{stays_on}
+use Rattle.mt_session.proofs.Renewals.{all_renewed, broken, none_renewed, renewed_at, settled, starved_is, told_is, unread}
+use Rattle.mt_session.proofs.Stays.{stays_itself, stays_on}
 use Rattle.mt_session.proofs.serving.Serving.settled.Goals as goal
 
 pub returns-then-is_starved-clause-settled : goal.returns-then-is_starved-clause-settled
@@ -36,3 +36,17 @@ returns-clause-settled g c =
     let same = rw is_first at c.loop-call.invariant.same in
     let (last, again, is_last) = c.read-2.ensures.read in
     (last, rw c.due-2.ensures (settled _ _ _ _ _ _ (rw told at read) c.read-2.result renewed again), is_last ∙ ap (λ s. with_seat s last) same)
+
+pub loop-call-init : goal.loop-call-init
+loop-call-init g c = record { renewed = none_renewed _; same = refl; on = stays_itself _ }
+
+pub returns-in_default-clause-settled : goal.returns-in_default-clause-settled
+returns-in_default-clause-settled g c =
+    let (seat, read, is) = c.read.ensures.read in
+    (seat, unread _ _ c.read.result read (sym c.due.ensures ∙ c.in_default.is), is)
+
+pub returns-then-is_starved-clause-on : goal.returns-then-is_starved-clause-on
+returns-then-is_starved-clause-on g c = stays_on _ _ _ c.read.ensures.on (stays_on _ _ _ c.loop-call.invariant.on c.change-renewed.ensures.on)
+
+pub returns-clause-on : goal.returns-clause-on
+returns-clause-on g c = stays_on _ _ _ c.read.ensures.on (stays_on _ _ _ c.loop-call.invariant.on c.read-2.ensures.on)
