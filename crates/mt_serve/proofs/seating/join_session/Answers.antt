@@ -10,3 +10,30 @@ returns-clause-count g c = cc
 
 pub returns-clause-returned : goal.returns-clause-returned
 returns-clause-returned g c = search rules
+
+pub returns-clause-joins : goal.returns-clause-joins
+returns-clause-joins g c = c.join.ensures.joins
+
+pub returns-clause-counted : goal.returns-clause-counted
+returns-clause-counted g c = c.add.ensures
+
+pub add-requires-clause-room : goal.add-requires-clause-room
+add-requires-clause-room g c = c.requires.room
+
+pub back-requires : goal.back-requires
+back-requires g c = c.requires.given
+
+pub add-requires-clause-parts : goal.add-requires-clause-parts
+add-requires-clause-parts g c = c.requires.parts
+
+pub join-requires-clause-first : goal.join-requires-clause-first
+join-requires-clause-first g c = c.requires.first
+
+pub returns-clause-ready : goal.returns-clause-ready
+returns-clause-ready g c = c.join.ensures.ready
+
+pub returns-clause-still : goal.returns-clause-still
+returns-clause-still g c = c.back.ensures.still
+
+pub returns-clause-faults : goal.returns-clause-faults
+returns-clause-faults g c = c.back.ensures.faults
