@@ -1,4 +1,5 @@
 use Rattle.std.proofs.Common.{◌≡◌, List, [], ℕ, ◌++◌, Result, Ok, Err, OnOk}
+use Rattle.std.specs.Result.{IsErr}
 use Rattle.mt_picture.specs.Story.{Story}
 use Rattle.mt_serve.specs.Closing.{IsClosing, closing_text}
 use Rattle.mt_serve.specs.declared.closing.Closing.{Closing}
@@ -10,6 +11,13 @@ line_of : {T E : Type 0} (result : Result T E) (closed : Story) (counts : Counts
     → IsClosing closed counts closing → OnOk result (line ≡ empty ++ closing_text closing) → OnOk result (IsClosingLine closed counts line)
 line_of (Ok _) closed counts closing empty line none summed is = record { closing = closing; summed = summed; line_is = rw none at is }
 line_of (Err _) closed counts closing empty line none summed is = is
+
+on_err : {T E : Type 0} (result : Result T E) (P : Type 0) → IsErr result → OnOk result P
+on_err (Ok _) P is = cc
+on_err (Err _) P is = tt
+
+pub returns-in_err-sum_up : goal.returns-in_err-sum_up
+returns-in_err-sum_up c = on_err c.from_residual.result _ c.from_residual.ensures.0
 
 pub returns : goal.returns
 returns c =
