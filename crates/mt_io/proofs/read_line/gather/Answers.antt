@@ -1,5 +1,5 @@
-use Rattle.std.proofs.Common.{◌∙◌, arith}
-use Rattle.mt_io.proofs.Gathering.{filled, gathers_piece, gathers_whole}
+use Rattle.std.proofs.Common.{◌≡◌, ◌<◌, ◌≤◌, ◌∙◌, ℕ, length, arith}
+use Rattle.mt_io.proofs.Gathering.{filled, gathers_last, gathers_piece, gathers_whole, stops}
 use Rattle.mt_io.proofs.read_line.gather.Goals as goal
 
 pub returns-then-move_piece-clause-gathers : goal.returns-then-move_piece-clause-gathers
@@ -22,3 +22,22 @@ pieces-preserved g c =
       later = omega (arith, c.pieces.invariant.later, c.fill.ensures.later);
       kept = g.met.S.Source.reads_on _ _ _ c.pieces.invariant.kept c.fill.ensures.kept;
     }
+
+empty : (n : ℕ) → (0 < n → 1 ≤ 0) → n ≡ 0
+empty n none = grind arith
+
+pub returns-in-Ok-false-clause-gathers : goal.returns-in-Ok-false-clause-gathers
+returns-in-Ok-false-clause-gathers g c =
+    let none = empty (length c.pieces.ahead.ahead) (λ some. let e = (c.in-Ok-false.ensures.held some).0 in cc) in
+    gathers_last c.args.ahead.now c.fill.new.self (g.S.Source.left c.args.source.now) (g.S.Source.left c.fill.new.source)
+    c.pieces.line.bytes.items c.pieces.line.is_long c.pieces.ahead (g.S.Source.left c.pieces.source) none c.pieces.invariant.so_far
+    (rw c.in-Ok-false.field-0-test at (c.in-Ok-false.ensures.read none))
+
+pub returns-in-Err-clause-gathers : goal.returns-in-Err-clause-gathers
+returns-in-Err-clause-gathers g c =
+    let none = empty (length c.pieces.ahead.ahead) (λ some. let e = (c.in-Err.ensures.held some).0 in cc) in
+    stops c.args.ahead.now c.pieces.ahead c.fill.new.self (g.S.Source.left c.args.source.now) (g.S.Source.left c.pieces.source) (g.S.Source.left c.fill.new.source)
+    c.pieces.line.bytes.items c.pieces.line.is_long c.in-Err.fault none c.pieces.invariant.so_far (c.in-Err.ensures.read none)
+
+pub returns-in-Err-clause-kept : goal.returns-in-Err-clause-kept
+returns-in-Err-clause-kept g c = g.met.S.Source.reads_on _ _ _ c.pieces.invariant.kept c.fill.ensures.kept
