@@ -4,7 +4,7 @@ ghost use Rattle.mt_base.specs.declared.rules.Rules.{Rules};
 ghost use Rattle.mt_make.specs.Input.{callsign};
 ghost use Rattle.mt_read.specs.Bounded.{IsBoundedRequest};
 ghost use Rattle.mt_world.specs.World.{IsServed, opening_world};
-ghost use Rattle.mt_load.specs.Load.{AreAsked, EachDivided, IsAdviceTaken, IsAdvisedFlight, IsDroppedFlight, IsFirstAccepted, IsLoadRun};
+ghost use Rattle.mt_load.specs.Load.{AreAsked, EachDivided, IsAdviceTaken, IsAdvisedFlight, IsAsked, IsDroppedFlight, IsFirstAccepted, IsLoadRun};
 
 use mt_base::{Callsign, Command};
 use mt_make::{callsign, input};
@@ -45,8 +45,26 @@ fn serve<R: Threads + Sync>(
     }
 }
 
-// Serves requests of an actor, in order.
-fn serve_all<R: Threads + Sync>(
+// Asks for something as an actor, whatever the reply.
+fn ask<R: Threads + Sync>(
+    rt: &R,
+    alloc: Global,
+    script: &mut Script,
+    who: u32,
+    request: &Request,
+) -> Result<(), Memory>
+    requires who { who ≤ 15 }
+    requires bounded { IsBoundedRequest script.old.rules request.now }
+    ensures { OnOk result (IsAsked script.old who request.now script.new) }
+{
+    match script.serve(rt, alloc, who, request) {
+        Reply::Memory => Err(Memory),
+        _ => Ok(()),
+    }
+}
+
+// Asks for what an actor requests, in order.
+fn ask_all<R: Threads + Sync>(
     rt: &R,
     alloc: Global,
     script: &mut Script,
@@ -60,8 +78,8 @@ fn serve_all<R: Threads + Sync>(
     let Some((request, rest)) = requests.split_first() else {
         return Ok(());
     };
-    serve(rt, alloc, script, who, request)?;
-    serve_all(rt, alloc, script, who, rest)
+    ask(rt, alloc, script, who, request)?;
+    ask_all(rt, alloc, script, who, rest)
 }
 
 // Accepts the first of some advised clearances. A number that no acceptance can name is answered as want of memory.
@@ -80,8 +98,7 @@ fn accept_first<R: Threads + Sync>(
     if probe == 0 || LAST_PROBE < probe {
         return Err(Memory);
     }
-    serve(rt, alloc, script, POSITION, &Request::Accept { probe })?;
-    Ok(())
+    ask(rt, alloc, script, POSITION, &Request::Accept { probe })
 }
 
 // Accepts the first clearance that a reply advises.
@@ -108,7 +125,7 @@ fn advise<R: Threads + Sync>(
 ) -> Result<(), Memory>
     ensures { OnOk result (IsAdvisedFlight script.old call script.new) }
 {
-    serve(rt, alloc, script, POSITION, &Request::Take)?;
+    ask(rt, alloc, script, POSITION, &Request::Take)?;
     let reply = serve(rt, alloc, script, POSITION, &Request::Advise { call })?;
     take_advice(rt, alloc, script, &reply)
 }
@@ -162,14 +179,13 @@ fn drop_fifth<R: Threads + Sync>(
         return Ok(());
     }
     let call = callsign(flight);
-    serve(
+    ask(
         rt,
         alloc,
         script,
         FEED,
         &Request::Change(Command::Drop { call }),
-    )?;
-    Ok(())
+    )
 }
 
 // Drops each flight whose number 5 divides, in order.
@@ -204,9 +220,9 @@ pub(crate) fn drive<R: Threads + Sync>(
     ensures { OnOk result (IsLoadRun flights number script.new) }
 {
     let requests = input(alloc, flights, number)?;
-    serve_all(rt, alloc, script, FEED, &requests)?;
+    ask_all(rt, alloc, script, FEED, &requests)?;
     advise_all(rt, alloc, script, flights)?;
     let tick = Request::Change(Command::Tick { now: LAST_TICK });
-    serve(rt, alloc, script, FEED, &tick)?;
+    ask(rt, alloc, script, FEED, &tick)?;
     drop_all(rt, alloc, script, flights)
 }

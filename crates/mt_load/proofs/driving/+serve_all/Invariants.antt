@@ -1,5 +1,0 @@
-use Rattle.std.proofs.Common.{length}
-use Rattle.mt_load.proofs.driving.+serve_all.Given as goal
-
-abbrev pub decreases-serve_all : goal.decreases-serve_all
-decreases-serve_all g l = length l.requests.now
