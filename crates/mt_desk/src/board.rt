@@ -1,9 +1,15 @@
 //! A hand's calls.
 ghost use Rattle.std.specs.Prelude.{◌≡◌};
+ghost use Rattle.std.specs.Thread.{IsSync};
+ghost use Rattle.mt_base.specs.Bounds.{IsAskedFor, IsBoundedCommand};
+ghost use Rattle.mt_board.specs.Changing.{IsChanged};
 ghost use Rattle.mt_board.specs.Probing.{acceptance};
 ghost use Rattle.mt_probe.specs.Hits.{told_of};
-ghost use Rattle.mt_desk.specs.Desk.{seat_of};
+ghost use Rattle.mt_probe.specs.Prepared.{MakesStrand};
+ghost use Rattle.mt_turn.specs.Lending.{IsSameSeat};
+ghost use Rattle.mt_desk.specs.Desk.{IsReady, seat_of};
 
+use crate::desk::{Desk, Seat};
 use crate::hand::Hand;
 use crate::home::Home;
 use mt_base::{Callsign, Clearance, Command, Entered, Second, Tally};
@@ -24,6 +30,34 @@ fn acceptance(probe: &Probe) -> Command
         eff: probe.eff(),
         probed: probe.version(),
     }
+}
+
+// Prepares a command on a snapshot, outside of the turn, and enters it with its prep.
+fn change_prepared<R: Threads + Wait + Sync, G: Gate>(
+    rt: &R,
+    desk: &Desk,
+    seat: &mut Seat,
+    command: &Command,
+    gate: &G,
+) -> Result<Entered, No>
+    requires sync { IsSync R.row }
+    requires ready { IsReady desk.now seat.old }
+    requires bounded { IsBoundedCommand command.now }
+    requires asked_for { IsAskedFor command.now }
+    requires makes { MakesStrand command.now }
+    ensures ready { IsReady desk.now seat.new }
+    ensures same { IsSameSeat seat.old.view seat.new.view }
+    ensures changed { IsChanged (seat_of desk.now.fixed seat.old.view) command.now result (seat_of desk.now.fixed seat.new.view) }
+{
+    let snapshot = desk.take(rt, seat)?;
+    let who = seat.number();
+    gate.between(who);
+    let (tables, rules) = (snapshot.tables(), snapshot.rules());
+    let mut tests = Tally::new(rt);
+    let prep = prepare(
+        desk.alloc, &snapshot, tables, rules, who, command, &mut tests,
+    )?;
+    desk.publish(rt, seat, command, Some(&prep))
 }
 
 impl<'a> Board for Hand<'a> {
@@ -86,20 +120,12 @@ impl<'a> Board for Hand<'a> {
         command: Command,
         gate: &G,
     ) -> Result<Entered, No> {
-        let desk = self.desk;
-        let who = self.seat.number();
-        if !makes_strand(&command) {
-            gate.between(who);
-            return desk.publish(rt, &mut self.seat, &command, None);
+        let (desk, seat) = (self.desk, &mut self.seat);
+        if makes_strand(&command) {
+            return change_prepared(rt, desk, seat, &command, gate);
         }
-        let snapshot = desk.take(rt, &mut self.seat)?;
-        gate.between(who);
-        let (tables, rules) = (snapshot.tables(), snapshot.rules());
-        let mut tests = Tally::new(rt);
-        let prep = prepare(
-            desk.alloc, &snapshot, tables, rules, who, &command, &mut tests,
-        )?;
-        desk.publish(rt, &mut self.seat, &command, Some(&prep))
+        gate.between(seat.number());
+        desk.publish(rt, seat, &command, None)
     }
 
     fn accept<R: Threads + Wait + Sync, G: Gate>(
