@@ -26,7 +26,7 @@ fn sum_up<R: Threads + Sync>(rt: &R, alloc: Global, script: &Script) -> Result<S
     }
     let tables = script.tables()?;
     let again = again(rt, alloc, picture, tables)?;
-    let held = sizes_of(picture)?;
+    let held = sizes_of(picture);
     Ok(Summary {
         again,
         conflicts: held.conflicts,

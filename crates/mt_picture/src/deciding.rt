@@ -15,8 +15,8 @@ use mt_probe::Snapshot;
 use mt_track::Strand;
 use mt_watch::verdict;
 
-// How many flights there are.
-fn flights(snapshot: &Snapshot) -> u32
+/// How many flights there are.
+pub(crate) fn flights(snapshot: &Snapshot) -> u32
     ensures { result ≡ length (records_in snapshot.now.slots) }
 {
     let mut held: u32 = 0;

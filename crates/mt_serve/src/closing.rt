@@ -1,5 +1,5 @@
 //! The summary of what was served, and its line.
-ghost use Rattle.std.specs.Prelude.{◌≡◌, ◌++◌, IfOk, OnOk};
+ghost use Rattle.std.specs.Prelude.{◌≡◌, ◌++◌, OnOk};
 ghost use Rattle.mt_serve.specs.Closing.{IsClosing, closing_text};
 
 use crate::service::Served;
@@ -23,20 +23,20 @@ pub struct Closing {
     pub starved: u64,
 }
 
-/// Sums up what was served, by the definition `IsClosing`. `Memory` is the one error.
-pub fn sum_up(served: &Served) -> Result<Closing, Memory>
-    ensures { IfOk result (IsClosing served.now.picture served.now.counts) }
+/// Sums up what was served, by the definition `IsClosing`.
+pub fn sum_up(served: &Served) -> Closing
+    ensures { IsClosing served.now.picture served.now.counts result }
 {
-    let held = sizes_of(&served.picture)?;
+    let held = sizes_of(&served.picture);
     let counts = served.counts;
-    Ok(Closing {
+    Closing {
         conflicts: held.conflicts,
         entries: held.entries,
         faulted: counts.faulted,
         flights: held.flights,
         sessions: counts.sessions,
         starved: counts.starved,
-    })
+    }
 }
 
 /// Puts the line of a summary behind what stands: one compact object, its keys in byte order, and 0x0A at its end. `Memory` is the one error; a

@@ -20,7 +20,7 @@ fn sum_up_in(room: &mut Vec<u8>, served: &Served) -> Result<(), Memory>
     ensures { OnOk result (IsClosingLine served.now.picture served.now.counts room.new.items) }
 {
     room.clear();
-    put_closing(room, &sum_up(served)?)
+    put_closing(room, &sum_up(served))
 }
 
 // Writes the line that sums up what was served. After a fault of the door that is the status, whatever the output does.

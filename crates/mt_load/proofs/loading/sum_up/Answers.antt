@@ -28,4 +28,4 @@ returns g c =
     (c.picture-picture.ensures.setup ∙ ap (λ (w : World). setup_of w) c.in-Some.ensures)
     (c.picture-picture.ensures.history ∙ ap (λ (w : World). w.history) c.in-Some.ensures)
     (subst (All IsComplete) c.entries.ensures (c.if-not-are_complete.ensures refl))
-    c.in_ok-held.ensures.conflicts c.in_ok-again.ensures c.in_ok-held.ensures.entries c.in_ok-held.ensures.flights
+    c.sizes_of-held.ensures.conflicts c.in_ok-again.ensures c.sizes_of-held.ensures.entries c.sizes_of-held.ensures.flights
