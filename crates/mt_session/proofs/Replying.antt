@@ -27,7 +27,7 @@ use Rattle.mt_read.specs.declared.request.Request.TheVariants as requests
 use Rattle.mt_write.specs.declared.reply.Reply.{Reply}
 use Rattle.mt_write.specs.declared.reply.Reply.TheVariants as replies
 use Rattle.mt_session.specs.Following.{IsDone, Standing, job_if, job_of}
-use Rattle.mt_session.specs.Served.{IsAcceptedOf, IsAnswered, IsCommanded, IsGiven, IsLeft, IsRepliedTo, IsServed, IsStarvedOf, IsTold, IsTried, entered_reply, is_empty}
+use Rattle.mt_session.specs.Served.{IsAcceptedOf, IsAnswered, IsCommanded, IsGiven, IsLeft, IsRepliedTo, IsServed, IsStarvedOf, IsTold, IsTried, ask_of, entered_reply, is_empty}
 use Rattle.mt_session.specs.Session.{Session, asked, or_reply, place_of, with_seat}
 
 -- nothing but what was seen has changed
@@ -156,6 +156,19 @@ long_job s line long = rw (lt-ltb 65536 (length line) long) refl
 
 pub long_done : (s : Session) (line : List ℕ) → 65536 < length line → (w : Standing) → IsDone (job_of (asked s.role line) replies.Long) w w
 long_done s line long w = rw (long_job s line long) refl
+
+same_ask : {asked ask : Ask} → Some asked ≡ Some ask → asked ≡ ask
+same_ask is = cc
+
+-- a request that asks for a read is served by what is told
+pub told_served : (s : Session) (request : Request) (ask : Ask) (reply : Reply) (next : Session) → ask_of request ≡ Some ask → IsTold s ask reply next
+    → IsServed s request reply next
+told_served s requests.List ask reply next is told = rw (same_ask is) told
+told_served s requests.Check ask reply next is told = rw (same_ask is) told
+told_served s requests.Due ask reply next is told = rw (same_ask is) told
+told_served s (requests.Flight call sec) ask reply next is told = rw (same_ask is) told
+told_served s (requests.History from to) ask reply next is told = rw (same_ask is) told
+told_served s request ask reply next is told = cc
 
 -- what a line that isn't too long asks for
 asked_as : (s : Session) (line : List ℕ) (a : Result (ℕ × Request) LineNo) → length line ≤ 65536 → a ≡ read_as (place_of s.role) usual_rules line

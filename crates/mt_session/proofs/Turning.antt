@@ -1,5 +1,5 @@
 -- One turn of a session: what its outcome means.
-use Rattle.std.proofs.Common.{◌≡◌, ◌≤◌, inl, inr, ℕ, Bool, true, false, List, length, Option, Some, Result, Ok, Err, refl}
+use Rattle.std.proofs.Common.{◌≡◌, ◌<◌, ◌≤◌, inl, inr, ℕ, Bool, true, false, List, length, Option, Some, None, Result, Ok, Err, refl, sym, ◌∙◌, ◌+◌, ◌^◌, arith}
 use Rattle.mt_io.specs.Reading.{Reading, Takes, IsDone, IsStopped, IsFaultAt, fresh}
 use Rattle.mt_io.specs.declared.line.LineFault.{LineFault}
 use Rattle.mt_io.specs.declared.line.LineFault.TheVariants as faults
@@ -17,15 +17,29 @@ use Rattle.mt_session.specs.Following.{IsDone as IsJobDone, IsFollowed, IsReplie
 use Rattle.mt_session.specs.Served.{IsRepliedTo}
 use Rattle.mt_session.specs.Session.{Session, asked, new_session}
 use Rattle.mt_board.proofs.SeatLemmas.{goes_on_itself, same_itself}
-use Rattle.mt_session.specs.SoFar.{HasRun}
+use Rattle.mt_session.specs.SoFar.{GivesTill, HasRun, IsDoneUnless, Turned, ended_by}
 use Rattle.mt_lines.proofs.Answering.{cut_at, ended, ends_at, explained_as, goes_on, nothing, starts, stopped}
-use Rattle.mt_session.proofs.Replying.{given_job, given_replied}
+use Rattle.mt_session.proofs.Replying.{given_job, given_replied, long_done}
+use Rattle.mt_write.specs.declared.reply.Reply.TheVariants as replies
+use Rattle.std.specs.Prelude.{IfNone, OnErr}
+use Rattle.mt_io.specs.Causes.{Rose}
 
 pub begins : (start : Standing) (before held : Option (List ℕ)) → HasRun start before before held held fresh start
 begins start before held = starts reply_text is_farewell IsReplied IsFollowed start before held
 
 pub wanted : (start : Standing) (before held : Option (List ℕ)) → Explains (SessionMeans start start outcomes.Memory) before before held held
 wanted start before held = explained_as _ _ before before held held (λ input left written (none, empty). (none, empty, refl)) (nothing before held)
+
+ended_apart : (result : Result Bool WriteFault) → ended_by result ≡ Some outcomes.ReadFault → ⊥
+ended_apart (Ok true) is = cc
+ended_apart (Ok false) is = cc
+ended_apart (Err fault) is = cc
+
+-- a write's fault ends it only where there was one
+pub write_rose : (P : Type 0) (result : Result Bool WriteFault) → OnErr result P → ended_by result ≡ Some outcomes.WriteFault → P
+write_rose P (Ok true) failed is = cc
+write_rose P (Ok false) failed is = cc
+write_rose P (Err fault) failed is = failed
 
 module _ (start : Standing) (before now after held held_now : Option (List ℕ)) (reader new : Reading) (w : Standing) where
   pub at_end : HasRun start before now held held_now reader w → IsDone reader new now after
@@ -72,6 +86,37 @@ module _ (start : Standing) (before now after held held_now : Option (List ℕ))
         → HasRun start before after held held_after new next
     at_line next gives done = goes_on reply_text is_farewell IsReplied IsFollowed start before now after held held_now held_after reader new w middle line gives.given
         next so_far takes (one (Ok false) gives) gives.sent.1 gives.sent.0 (rw (given_job (asked w.session.role line) reply gives.given gives.given_for) done)
+
+    ended_so : (result : Result Bool WriteFault) (next : Standing) → Gives reply result held_now held_after
+        → IsDoneUnless (ended_by result) (job_of (asked w.session.role line) reply) middle next
+        → Turned start (ended_by result) before after held held_after new next
+    ended_so (Ok true) next gives is = rw is (at_last gives)
+    ended_so (Ok false) next gives done = at_line next gives done
+    ended_so (Err fault) next gives is = rw is (at_cut fault gives)
+
+    pub at_given : (outcome : Option Outcome) (next : Standing) → GivesTill reply outcome held_now held_after
+        → IsDoneUnless outcome (job_of (asked w.session.role line) reply) middle next → Turned start outcome before after held held_after new next
+    at_given outcome next given done = rw given.outcome_is (ended_so given.result next given.gives (rw given.outcome_is at done))
+
+-- nothing is to be done behind the reply to a line that is too long
+pub long_unless : (s : Session) (line : List ℕ) → 65536 < length line → (outcome : Option Outcome) (w : Standing)
+    → IsDoneUnless outcome (job_of (asked s.role line) replies.Long) w w
+long_unless s line long None w = long_done s line long w
+long_unless s line long (Some outcome) w = refl
+
+-- a reply that was given so ends no session with a fault of the reads, and with one of the writes only where it met one
+pub no_read_fault : {reply : Reply} {before after : Option (List ℕ)} (outcome : Option Outcome) → GivesTill reply outcome before after → outcome ≡ Some outcomes.ReadFault → ⊥
+no_read_fault outcome given is = ended_apart given.result (sym given.outcome_is ∙ is)
+
+-- a reader that took a line has given one more
+pub one_more : {old new : Reading} {before after : Option (List ℕ)} {line : List ℕ} (outcome : Option Outcome) → Takes old new before after line
+    → IfNone outcome ((new.given ≡ old.given + 1) × (new.given ≤ 2 ^ 32) × (new.fault ≡ None))
+one_more None takes = (takes.one_more, takes.bound, takes.sound)
+one_more (Some outcome) takes = tt
+
+-- a count that rose behind a call that does not lower it rose over both
+pub rose_behind : {before between now : ℕ} → before ≤ between → Rose between now → Rose before now
+rose_behind later rose = omega (arith, later, rose)
 
 -- memory was wanted before the first line
 pub nothing_done : (seat : Seat) (link : Link) (jobs : Option Jobs) → IsSession seat seat link link (Some jobs) (Some jobs) outcomes.Memory

@@ -1,5 +1,5 @@
 -- What a line of a session is answered, and the session after it.
-use Rattle.std.specs.Prelude.{◌≡◌, ◌⊎◌, ◌≤◌, ℕ, Bool, true, false, List, [], ◌∷◌, length, codes, Option, Some, None, MatchBool, Result, Ok, Err}
+use Rattle.std.specs.Prelude.{◌≡◌, ◌⊎◌, ◌≤◌, ℕ, Bool, true, false, List, [], ◌∷◌, length, codes, Option, Some, None, MatchBool, Result, Ok, Err, ⊤}
 use Rattle.mt_base.specs.Tally.{raised}
 use Rattle.mt_base.specs.declared.clearance.Clearance.{Clearance}
 use Rattle.mt_base.specs.declared.command.Command.{Command}
@@ -44,6 +44,11 @@ read_reply (Ok (answers.Due calls version)) = replies.Due calls version
 read_reply (Ok (answers.Flight view)) = replies.Flight view
 read_reply (Ok (answers.History entries version)) = replies.History entries version
 read_reply (Err denied) = no_reply denied
+
+-- the version at which entries are told
+abbrev pub told_version : Result Answer No → Option ℕ
+told_version (Ok (answers.History entries version)) = Some version
+told_version result = None
 
 -- The reply tells what was asked for, or its refusal.
 pub record IsTold (s : Session) (ask : Ask) (reply : Reply) (next : Session) : Type 0 where
@@ -153,6 +158,20 @@ IsServed s (requests.TypeLine name bands) reply next = IsForeign s reply next
 IsServed s (requests.Rule set) reply next = IsForeign s reply next
 IsServed s requests.Begin reply next = IsForeign s reply next
 IsServed s requests.Take reply next = IsForeign s reply next
+
+-- it asks for no change
+abbrev pub IsNoChange : Request → Type 0
+IsNoChange (requests.Change command) = ⊥
+IsNoChange request = ⊤
+
+-- the read that a request asks for
+abbrev pub ask_of : Request → Option Ask
+ask_of requests.List = Some asks.List
+ask_of requests.Check = Some asks.Check
+ask_of requests.Due = Some asks.Due
+ask_of (requests.Flight call sec) = Some (asks.Flight call sec)
+ask_of (requests.History from to) = Some (asks.History from to)
+ask_of request = None
 
 -- what is answered of a line that asks for this, and the session after it
 abbrev pub IsAnswered : Session → Result (ℕ × Request) Reply → Reply → Session → Type 0

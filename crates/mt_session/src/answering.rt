@@ -9,7 +9,7 @@ ghost use Rattle.mt_read.specs.declared.request.Request.TheVariants.{Change};
 ghost use Rattle.mt_write.specs.declared.reply.Reply.TheVariants as replies;
 ghost use Rattle.mt_session.specs.Following.{job_if, job_of};
 ghost use Rattle.mt_session.specs.Keeping.{StaysOn};
-ghost use Rattle.mt_session.specs.Served.{IsCommanded, IsForeign, IsLooked, IsRepliedTo, IsServed, IsStarved};
+ghost use Rattle.mt_session.specs.Served.{IsCommanded, IsForeign, IsLooked, IsNoChange, IsRepliedTo, IsServed, IsStarved, ask_of};
 ghost use Rattle.mt_session.specs.Session.{Session, asked, or_reply, place_of};
 
 use crate::following::{due_if, reported};
@@ -44,6 +44,26 @@ fn foreign(alloc: Global) -> Reply
     match FieldName::of(alloc, b"do") {
         Ok(name) => Reply::Form(name),
         Err(Memory) => Reply::Memory,
+    }
+}
+
+// The read that a request asks for.
+fn ask_of(request: &Request) -> Option<Ask>
+    ensures { result ≡ ask_of request.now }
+{
+    match request {
+        Request::List => Some(Ask::List),
+        Request::Check => Some(Ask::Check),
+        Request::Due => Some(Ask::Due),
+        Request::Flight { call, sec } => Some(Ask::Flight {
+            call: *call,
+            sec: *sec,
+        }),
+        Request::History { from, to } => Some(Ask::History {
+            from: *from,
+            to: *to,
+        }),
+        _ => None,
     }
 }
 
@@ -97,22 +117,40 @@ impl<B: Board> Serving<B> {
     {
         match request {
             Request::Change(command) => self.command(rt, command, gate),
-            Request::Hello(role) => (self.hello(role), None),
-            Request::Bye => (Reply::Done(DoneWord::Bye), None),
-            Request::List => (self.tell(rt, &Ask::List), None),
-            Request::Check => (self.tell(rt, &Ask::Check), None),
-            Request::Due => (self.tell(rt, &Ask::Due), None),
-            Request::Flight { call, sec } => (self.tell(rt, &Ask::Flight { call, sec }), None),
-            Request::History { from, to } => (self.tell(rt, &Ask::History { from, to }), None),
+            request => (self.reply_to(rt, alloc, &request, gate), None),
+        }
+    }
+
+    // Serves a request that is no change.
+    fn reply_to<R: Threads + Wait + Sync, G: Gate>(
+        &mut self,
+        rt: &R,
+        alloc: Global,
+        request: &Request,
+        gate: &G,
+    ) -> Reply
+        requires sync { IsSync R.row }
+        requires bounded { IsBoundedRequest usual_rules request.now }
+        requires other { IsNoChange request.now }
+        ensures served { IsServed self.old.session request.now result self.new.session ⊎ IsStarved self.old.session request.now result self.new.session }
+        ensures on { StaysOn self.old self.new }
+        ensures fit { IsFit result }
+    {
+        match request {
+            Request::Hello(role) => self.hello(*role),
+            Request::Bye => Reply::Done(DoneWord::Bye),
             Request::Probe {
                 call,
                 clearance,
                 eff,
-            } => (self.probe(rt, alloc, call, clearance, eff, gate), None),
-            Request::Accept { probe } => (self.accept(rt, probe, gate), None),
-            Request::Advise { call } => (self.advise(rt, alloc, call, gate), None),
-            Request::Settle => (self.settle(rt, gate), None),
-            _ => (foreign(alloc), None),
+            } => self.probe(rt, alloc, *call, *clearance, *eff, gate),
+            Request::Accept { probe } => self.accept(rt, *probe, gate),
+            Request::Advise { call } => self.advise(rt, alloc, *call, gate),
+            Request::Settle => self.settle(rt, gate),
+            _ => match ask_of(request) {
+                Some(ask) => self.tell(rt, &ask),
+                None => foreign(alloc),
+            },
         }
     }
 

@@ -1,19 +1,22 @@
 //! A session, from its first line to its last.
-ghost use Rattle.std.specs.Prelude.{◌≡◌, ◌≤◌, ◌^◌, ◌+◌, ℕ, List, None, Some, IfNone, vec_capacity};
+ghost use Rattle.std.specs.Prelude.{◌≡◌, ◌≤◌, ◌^◌, ◌+◌, ℕ, List, None, Some, IfNone, IfOk, length, vec_capacity};
 ghost use Rattle.std.specs.declared.option.Option.{Option};
-ghost use Rattle.mt_io.specs.Causes.{HasCause, Rose};
+ghost use Rattle.mt_io.specs.Causes.{Rose};
+ghost use Rattle.mt_io.specs.Reading.{fresh};
+ghost use Rattle.mt_lines.specs.Answering.{Explains};
 ghost use Rattle.mt_lines.specs.Fit.{IsFit};
-ghost use Rattle.mt_lines.specs.Given.{Gives};
+ghost use Rattle.mt_machine.specs.Book.{empty_book};
 ghost use Rattle.std.specs.Thread.{IsSync};
 ghost use Rattle.mt_session.specs.Following.{Standing};
 ghost use Rattle.mt_session.specs.Keeping.{StaysOn};
 ghost use Rattle.mt_session.specs.Outboxes.{outbox_after, outbox_before};
-ghost use Rattle.mt_session.specs.Run.{IsNoFault, IsSession};
-ghost use Rattle.mt_session.specs.SoFar.{HasRun, Turned};
+ghost use Rattle.mt_session.specs.Run.{IsNoFault, IsSession, SessionMeans};
+ghost use Rattle.mt_session.specs.SoFar.{GivesTill, HasRun, IsLineAnswered, Turned, ended_by};
 ghost use Rattle.mt_session.specs.declared.outcome.Outcome.TheVariants.{ReadFault, WriteFault};
 
 use crate::outcome::Outcome;
 use crate::serving::Serving;
+use mt_base::Memory;
 use mt_board::Board;
 use mt_io::{Duplex, Gate, Line, LineFault, LineReader, Sink};
 use mt_lines::give;
@@ -73,47 +76,122 @@ fn serve_link<R: Threads + Wait + Sync, B: Board, L: Duplex, O: Outbox, G: Gate>
         (Some (O.jobs jobs.old)) (Some (O.jobs jobs.new)) result.1 }
     ensures home { B.home result.0 ≡ B.home board }
 {
-    let Ok(mut reader) = LineReader::make(alloc) else {
-        return (board, Outcome::Memory);
-    };
-    let Ok(book) = Book::make(alloc) else {
-        return (board, Outcome::Memory);
-    };
-    let Ok(mut room) = Vec::with_capacity(alloc, ROOM) else {
+    let Ok((mut reader, book, mut room)) = memory(alloc) else {
         return (board, Outcome::Memory);
     };
     let mut serving = Serving::of(board, book);
+    let outcome = turns(
+        rt,
+        alloc,
+        &mut reader,
+        &mut serving,
+        &mut room,
+        link,
+        jobs,
+        gate,
+    );
+    (serving.board(), outcome)
+}
+
+// What a session takes before its first line: its reader, its book, and the room for a reply that follows a change.
+fn memory<P: Drop>(alloc: Global) -> Result<(LineReader, Book<P>, Vec<u8>), Memory>
+    ensures reader { IfOk result (λ taken. taken.0 ≡ fresh) }
+    ensures book { IfOk result (λ taken. taken.1 ≡ empty_book) }
+    ensures room { IfOk result (λ taken. 65536 ≤ vec_capacity taken.2) }
+{
+    let reader = LineReader::make(alloc)?;
+    let book = Book::make(alloc)?;
+    let room = Vec::with_capacity(alloc, ROOM)?;
+    Ok((reader, book, room))
+}
+
+// Answers line by line, to the outcome that the session ends with.
+fn turns<R: Threads + Wait + Sync, B: Board, L: Duplex, O: Outbox, G: Gate>(
+    rt: &R,
+    alloc: Global,
+    reader: &mut LineReader,
+    serving: &mut Serving<B>,
+    room: &mut Vec<u8>,
+    link: &mut L,
+    jobs: &mut O,
+    gate: &G,
+) -> Outcome
+    requires sync { IsSync R.row }
+    requires sound { reader.old.fault ≡ None }
+    requires bound { reader.old.given ≤ 2 ^ 32 }
+    requires room { 65536 ≤ vec_capacity room.old }
+    ensures ended { (start : Standing) (before held : Option (List ℕ))
+        → HasRun start before (L.left link.old) held (L.held link.old) reader.old (record { session = serving.old.session; jobs = O.jobs jobs.old })
+        → Explains (SessionMeans start (record { session = serving.new.session; jobs = O.jobs jobs.new }) result)
+        before (L.left link.new) held (L.held link.new) }
+    ensures on { StaysOn serving.old serving.new }
+    ensures read { result ≡ ReadFault → Rose (L.Source.faults link.old) (L.Source.faults link.new) }
+    ensures write { result ≡ WriteFault → Rose (L.Sink.faults link.old) (L.Sink.faults link.new) }
+{
     loop {
-        if let Some(outcome) = turn(
-            rt,
-            alloc,
-            &mut reader,
-            &mut serving,
-            &mut room,
-            link,
-            jobs,
-            gate,
-        ) {
-            return (serving.board(), outcome);
+        if let Some(outcome) = turn(rt, alloc, reader, serving, room, link, jobs, gate) {
+            return outcome;
         }
     }
 }
 
-// Gives a reply, and is done with it.
+// The outcome that a session ends with, once a reply was given so; none where it goes on.
+fn ended_by(given: Result<bool, mt_io::WriteFault>) -> Option<Outcome>
+    ensures { result ≡ ended_by given }
+{
+    match given {
+        Ok(true) => Some(Outcome::Ended),
+        Ok(false) => None,
+        Err(_) => Some(Outcome::WriteFault),
+    }
+}
+
+// Gives a reply, and is done with it; an outcome where the session ends with it.
 fn give_whole<K: Sink>(
     alloc: Global,
     reply: Reply,
     room: &mut Vec<u8>,
     output: &mut K,
-) -> Result<bool, mt_io::WriteFault>
+) -> Option<Outcome>
     requires room { 65536 ≤ vec_capacity room.old }
     requires fit { IsFit reply }
-    ensures given { Gives reply result (K.held output.old) (K.held output.new) }
+    ensures given { GivesTill reply result (K.held output.old) (K.held output.new) }
     ensures room { 65536 ≤ vec_capacity room.new }
-    ensures cause { HasCause (K.faults output.old) (K.faults output.new) result }
+    ensures write { result ≡ Some WriteFault → Rose (K.faults output.old) (K.faults output.new) }
+    ensures later { K.faults output.old ≤ K.faults output.new }
     ensures kept { K.writes_to output.old output.new }
 {
-    give(alloc, &reply, room, output)
+    ended_by(give(alloc, &reply, room, output))
+}
+
+// Answers a line, and does what follows once the reply is written; an outcome where the session ends with it.
+fn answer_line<R: Threads + Wait + Sync, B: Board, K: Sink, O: Outbox, G: Gate>(
+    rt: &R,
+    alloc: Global,
+    line: &[u8],
+    serving: &mut Serving<B>,
+    room: &mut Vec<u8>,
+    output: &mut K,
+    jobs: &mut O,
+    gate: &G,
+) -> Option<Outcome>
+    requires sync { IsSync R.row }
+    requires short { length line.now ≤ 65536 }
+    requires room { 65536 ≤ vec_capacity room.old }
+    ensures answered { IsLineAnswered (record { session = serving.old.session; jobs = O.jobs jobs.old }) line.now result
+        (K.held output.old) (K.held output.new) (record { session = serving.new.session; jobs = O.jobs jobs.new }) }
+    ensures room { 65536 ≤ vec_capacity room.new }
+    ensures on { StaysOn serving.old serving.new }
+    ensures write { result ≡ Some WriteFault → Rose (K.faults output.old) (K.faults output.new) }
+    ensures later { K.faults output.old ≤ K.faults output.new }
+    ensures kept { K.writes_to output.old output.new }
+{
+    let (reply, job) = serving.answer(rt, alloc, line, gate);
+    if let Some(outcome) = give_whole(alloc, reply, room, output) {
+        return Some(outcome);
+    }
+    serving.follow(rt, job, jobs, gate);
+    None
 }
 
 // Reads one line and answers it; an outcome where the session ends with it.
@@ -141,22 +219,8 @@ fn turn<R: Threads + Wait + Sync, B: Board, L: Duplex, O: Outbox, G: Gate>(
     ensures later { (L.Source.faults link.old ≤ L.Source.faults link.new) × (L.Sink.faults link.old ≤ L.Sink.faults link.new) }
 {
     match reader.next(link) {
-        Ok(Line::Text(line)) => {
-            let (reply, job) = serving.answer(rt, alloc, line, gate);
-            match give_whole(alloc, reply, room, link) {
-                Ok(true) => Some(Outcome::Ended),
-                Ok(false) => {
-                    serving.follow(rt, job, jobs, gate);
-                    None
-                }
-                Err(_) => Some(Outcome::WriteFault),
-            }
-        }
-        Ok(Line::Long) => match give_whole(alloc, Reply::Long, room, link) {
-            Ok(true) => Some(Outcome::Ended),
-            Ok(false) => None,
-            Err(_) => Some(Outcome::WriteFault),
-        },
+        Ok(Line::Text(line)) => answer_line(rt, alloc, line, serving, room, link, jobs, gate),
+        Ok(Line::Long) => give_whole(alloc, Reply::Long, room, link),
         Ok(Line::End) => Some(Outcome::Ended),
         Err(LineFault::ReadFault) => Some(Outcome::ReadFault),
         Err(LineFault::Spent) => Some(Outcome::Spent),

@@ -1,9 +1,9 @@
 //! What a board answers, as replies.
-ghost use Rattle.std.specs.Prelude.{◌≡◌, ◌⊎◌};
+ghost use Rattle.std.specs.Prelude.{◌≡◌, ◌⊎◌, Option};
 ghost use Rattle.std.specs.Thread.{IsSync};
 ghost use Rattle.mt_lines.specs.Fit.{IsFit};
 ghost use Rattle.mt_session.specs.Keeping.{StaysOn};
-ghost use Rattle.mt_session.specs.Served.{IsLooked, IsNumberRefused, IsTold, entered_reply, no_reply, read_reply};
+ghost use Rattle.mt_session.specs.Served.{IsLooked, IsNumberRefused, IsTold, entered_reply, no_reply, read_reply, told_version};
 
 use crate::serving::Serving;
 use mt_base::{Entered, Refusal};
@@ -49,6 +49,23 @@ fn told(outcome: Result<Answer, No>) -> Reply
     }
 }
 
+// The version at which entries are told.
+fn told_version(outcome: &Result<Answer, No>) -> Option<u64>
+    ensures { result ≡ told_version outcome.now }
+{
+    match outcome {
+        Ok(Answer::History { version, .. }) => Some(*version),
+        _ => None,
+    }
+}
+
+// It, and the entries are let go.
+fn only_version(outcome: Result<Answer, No>) -> Option<u64>
+    ensures { result ≡ told_version outcome }
+{
+    told_version(&outcome)
+}
+
 impl<B: Board> Serving<B> {
     // Tells what is asked for.
     pub(crate) fn tell<R: Threads + Wait + Sync>(&mut self, rt: &R, ask: &Ask) -> Reply
@@ -71,9 +88,9 @@ impl<B: Board> Serving<B> {
         ensures on { StaysOn self.old self.new }
         ensures fit { IsFit result }
     {
-        match self.read(rt, &Ask::History { from: 0, to: 0 }) {
-            Ok(Answer::History { version, .. }) => Reply::Refused { refusal, version },
-            _ => Reply::Memory,
+        match only_version(self.read(rt, &Ask::History { from: 0, to: 0 })) {
+            Some(version) => Reply::Refused { refusal, version },
+            None => Reply::Memory,
         }
     }
 }

@@ -1,0 +1,22 @@
+use Rattle.std.proofs.Common.{◌≡◌, ◌≤◌, ◌^◌, ◌-◌, ℕ, List, Option, None, vec_capacity}
+use Rattle.mt_session.specs.Following.{Standing}
+use Rattle.mt_session.specs.Keeping.{StaysOn}
+use Rattle.mt_session.specs.SoFar.{HasRun}
+use Rattle.mt_session.proofs.over_link.turns.Given as goal
+
+abbrev pub invariant-loop-outcome : goal.invariant-loop-outcome
+invariant-loop-outcome g l = record {
+  so_far : (start : Standing) (before held : Option (List ℕ))
+      → HasRun start before (g.L.Source.left l.initial.link) held (g.L.Sink.held l.initial.link) l.initial.reader
+      (record { session = l.initial.serving.session; jobs = g.O.Outbox.jobs l.initial.jobs })
+      → HasRun start before (g.L.Source.left l.link) held (g.L.Sink.held l.link) l.reader (record { session = l.serving.session; jobs = g.O.Outbox.jobs l.jobs });
+  on : StaysOn l.initial.serving l.serving;
+  sound : l.reader.fault ≡ None;
+  bound : l.reader.given ≤ 2 ^ 32;
+  room : 65536 ≤ vec_capacity l.room;
+  read : g.L.Source.faults l.initial.link ≤ g.L.Source.faults l.link;
+  written : g.L.Sink.faults l.initial.link ≤ g.L.Sink.faults l.link;
+}
+
+abbrev pub decreases-loop-outcome : goal.decreases-loop-outcome
+decreases-loop-outcome g l = 2 ^ 32 - l.reader.given

@@ -1,0 +1,29 @@
+use Rattle.std.proofs.Common.{inl, refl, sym, ◌∙◌}
+use Rattle.mt_session.proofs.Replying.{told_served}
+use Rattle.mt_session.proofs.serving.Serving.reply_to.Goals as goal
+
+-- a role is taken, and nothing else changes
+pub returns-in-Hello-clause-served : goal.returns-in-Hello-clause-served
+returns-in-Hello-clause-served g c = rw c.in-Hello.is (inl (record { reply_is = c.hello.ensures.replied; next_is = c.hello.ensures.taken }))
+
+pub returns-in-Hello-clause-on : goal.returns-in-Hello-clause-on
+returns-in-Hello-clause-on g c = c.hello.ensures.on
+
+pub returns-in-Bye-clause-served : goal.returns-in-Bye-clause-served
+returns-in-Bye-clause-served g c = rw c.in-Bye.is (inl (record { reply_is = refl; next_is = refl }))
+
+pub returns-in-Probe-clause-served : goal.returns-in-Probe-clause-served
+returns-in-Probe-clause-served g c = rw c.in-Probe.is c.probe.ensures.probed
+
+pub returns-in-Accept-clause-served : goal.returns-in-Accept-clause-served
+returns-in-Accept-clause-served g c = rw c.in-Accept.is c.accept.ensures.accepted
+
+pub returns-in-Advise-clause-served : goal.returns-in-Advise-clause-served
+returns-in-Advise-clause-served g c = rw c.in-Advise.is c.advise.ensures.advised
+
+pub returns-in-Settle-clause-served : goal.returns-in-Settle-clause-served
+returns-in-Settle-clause-served g c = rw c.in-Settle.is c.settle.ensures.settled
+
+pub returns-in-Some-clause-served : goal.returns-in-Some-clause-served
+returns-in-Some-clause-served g c =
+    inl (told_served c.args.self.now.session c.args.request.now c.in-Some.ask _ _ (sym c.ask_of.ensures ∙ c.in-Some.is) c.tell.ensures.told)
