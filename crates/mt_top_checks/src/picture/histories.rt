@@ -66,34 +66,63 @@ fn joined(rt: &impl Abort, alloc: Global, first: &str, last: &str) -> Vec<u8> {
     text
 }
 
+// The picture that is rebuilt of the entries that a text says.
+fn picture_of(rt: &(impl Abort + Threads + Sync), alloc: Global, text: &[u8]) -> Picture {
+    rebuilt(rt, alloc, text).ok().expect(rt, "a picture")
+}
+
+// A picture is of that version, and these conflicts are published.
+fn check_picture(rt: &impl Abort, picture: &Picture, version: u64, wanted: &[Conflict]) {
+    assert!(rt; picture.version() == version);
+    assert!(rt; picture.published() == wanted);
+}
+
+// A text is rebuilt to a picture of that version and these conflicts, and printed as it was; what was printed.
+fn printed(
+    rt: &(impl Abort + Threads + Sync),
+    alloc: Global,
+    text: &[u8],
+    version: u64,
+    wanted: &[Conflict],
+) -> Vec<u8> {
+    let picture = picture_of(rt, alloc, text);
+    check_picture(rt, &picture, version, wanted);
+    let printed = print(alloc, &picture, 0, picture.version()).expect(rt, "memory");
+    drop(picture);
+    assert!(rt; printed.as_slice() == text);
+    printed
+}
+
 #[test]
 fn a_printed_history_rebuilds_the_picture(rt: HostRuntime) {
     let alloc = rt.alloc();
-    let marked = rebuilt(&rt, alloc, MARKED.as_bytes())
-        .ok()
-        .expect(&rt, "a picture");
-    assert!(&rt; marked.published() == [conflict_ahead(&rt)].as_slice());
+    printed(&rt, alloc, MARKED.as_bytes(), 4, &[conflict_ahead(&rt)]);
     let text = joined(&rt, alloc, MARKED, WITHDRAWN);
-    let picture = rebuilt(&rt, alloc, &text).ok().expect(&rt, "a picture");
-    let printed = print(alloc, &picture, 0, picture.version()).expect(&rt, "memory");
-    assert!(&rt; printed.as_slice() == text.as_slice());
-    let again = rebuilt(&rt, alloc, &printed).ok().expect(&rt, "a picture");
-    assert!(&rt; again.version() == 6);
-    assert!(&rt; again.published().is_empty());
+    let again = printed(&rt, alloc, &text, 6, &[]);
+    printed(&rt, alloc, &again, 6, &[]);
+}
+
+// What is wrong where this text is behind the marks.
+fn check_wrong(rt: &(impl Abort + Threads + Sync), alloc: Global, last: &str, wanted: Wrong) {
+    let text = joined(rt, alloc, MARKED, last);
+    assert!(rt; rebuilt(rt, alloc, &text).err() == Some(wanted));
+}
+
+// What is bad where an empty line is behind the marks.
+fn check_gap(rt: &impl Abort, alloc: Global) {
+    let gap = joined(rt, alloc, MARKED, "\n");
+    assert!(rt; read_all(alloc, &gap).err() == Some(Bad::Line(4)));
 }
 
 #[test]
 fn what_is_wrong_is_named_by_its_place(rt: HostRuntime) {
     let alloc = rt.alloc();
-    let twice = joined(&rt, alloc, MARKED, MARKED);
     let held = Wrong::Illegal {
         at: 4,
         refusal: Refusal::HeldCall,
     };
-    assert!(&rt; rebuilt(&rt, alloc, &twice).err() == Some(held));
+    check_wrong(&rt, alloc, MARKED, held);
     let ahead = "{\"call\":\"DDD1\",\"do\":\"accept\",\"eff\":0,\"level\":360,\"v\":5,\"who\":0}\n";
-    let late = joined(&rt, alloc, MARKED, ahead);
-    assert!(&rt; rebuilt(&rt, alloc, &late).err() == Some(Wrong::Late { at: 4 }));
-    let gap = joined(&rt, alloc, MARKED, "\n");
-    assert!(&rt; read_all(alloc, &gap).err() == Some(Bad::Line(4)));
+    check_wrong(&rt, alloc, ahead, Wrong::Late { at: 4 });
+    check_gap(&rt, alloc);
 }

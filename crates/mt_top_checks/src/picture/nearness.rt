@@ -4,7 +4,7 @@ ghost use Rattle.mt_base.specs.Bounds.{IsBoundedCommand};
 ghost use Rattle.mt_base.specs.History.{IsInTime};
 ghost use Rattle.mt_probe.specs.Prepared.{MakesStrand};
 
-use super::scene::{Scene, check_entered};
+use super::scene::{Scene, enter_made};
 use crate::commands::{EAST, outer};
 use mt_base::{Command, Row, Tally};
 use std::process::Abort;
@@ -24,14 +24,18 @@ fn numbered(rt: &impl Abort, number: u8) -> Command
     outer(rt, &call, 0, 1200, row)
 }
 
+// All are filed, at no test of a pair, and none is in conflict.
+fn check_far(rt: &impl Abort, scene: &mut Scene) {
+    for number in 0..18_u8 {
+        enter_made(rt, scene, numbered(rt, number), number as u64 + 1);
+    }
+    scene.check_tests(rt, 0);
+    scene.check_published(rt, &[]);
+}
+
 #[test]
 fn flights_far_from_each_other_cost_no_test(rt: HostRuntime) {
     let mut scene = Scene::opening(&rt, rt.alloc(), Tally::new(&rt));
-    for number in 0..18_u8 {
-        let filing = numbered(&rt, number);
-        let answer = scene.enter_made(0, &filing);
-        check_entered(&rt, answer, number as u64 + 1);
-    }
-    scene.check_tests(&rt, 0);
-    scene.check_published(&rt, &[]);
+    check_far(&rt, &mut scene);
+    drop(scene);
 }

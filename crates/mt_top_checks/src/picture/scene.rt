@@ -57,7 +57,7 @@ impl Scene {
         ensures prep { IfOk result (IsPrepFor self.old.picture who command.now) }
     {
         let snapshot = self.picture.snapshot()?;
-        prepare(
+        let prep = prepare(
             self.alloc,
             &snapshot,
             snapshot.tables(),
@@ -65,7 +65,9 @@ impl Scene {
             who,
             command,
             &mut self.tests,
-        )
+        );
+        drop(snapshot);
+        prep
     }
 
     /// A command of an actor is published with what was prepared for it.
@@ -87,7 +89,9 @@ impl Scene {
         ensures { IsLater self.old.picture self.new.picture }
     {
         let prep = self.prepare(who, command)?;
-        self.enter_with(who, command, &prep)
+        let answer = self.enter_with(who, command, &prep);
+        drop(prep);
+        answer
     }
 
     /// A command of an actor that makes no trajectory is published.
@@ -128,6 +132,7 @@ impl Scene {
             None,
             &mut self.tests,
         );
+        drop(snapshot);
         tried.ok().expect(rt, "a probe")
     }
 
@@ -148,9 +153,33 @@ impl Scene {
             probed,
         };
         let prep = probe.prep();
-        self.picture
-            .publish(self.alloc, 0, &command, Some(prep), &mut self.tests)
+        let answer = self
+            .picture
+            .publish(self.alloc, 0, &command, Some(prep), &mut self.tests);
+        drop(command);
+        answer
     }
+}
+
+/// A command of the first seat that makes a trajectory is entered, and the version with it is this one.
+pub fn enter_made(rt: &impl Abort, scene: &mut Scene, command: Command, version: u64)
+    requires makes { MakesStrand command }
+    requires bounded { IsBoundedCommand command }
+    requires in_time { (place : ℕ) → IsInTime place command }
+    ensures { IsLater scene.old.picture scene.new.picture }
+{
+    check_entered(rt, scene.enter_made(0, &command), version);
+    drop(command);
+}
+
+/// So is one that makes none.
+pub fn enter_plain(rt: &impl Abort, scene: &mut Scene, command: Command, version: u64)
+    requires makes_none { MakesStrand command → ⊥ }
+    requires bounded { IsBoundedCommand command }
+    ensures { IsLater scene.old.picture scene.new.picture }
+{
+    check_entered(rt, scene.enter_plain(0, &command), version);
+    drop(command);
 }
 
 /// A probe is of that version, and has these hits.
