@@ -1,6 +1,6 @@
 //! The tables of the tests, and the commands that they enter.
 ghost use Rattle.std.specs.Prelude.{◌≤◌, ℕ, IfSome};
-ghost use Rattle.mt_base.specs.Bounds.{IsAskedFor, IsBoundedCommand, IsBoundedStretch};
+ghost use Rattle.mt_base.specs.Bounds.{IsAskedFor, IsBoundedCommand, IsBoundedStretch, IsInPlane};
 ghost use Rattle.mt_base.specs.History.{IsInTime};
 ghost use Rattle.mt_probe.specs.Prepared.{MakesStrand};
 
@@ -54,24 +54,32 @@ pub const FARTHEST: Row = Row {
     ..EAST
 };
 
-/// Two pairs of fixes, one 500,000 units north of the other, those of a pair 480,000 units apart; and a type of one band.
-pub fn small_tables(rt: &impl Abort, alloc: Global) -> Tables {
-    let mut tables = Tables::make(alloc).expect(rt, "memory");
+/// A fix is added.
+fn add_fix(rt: &impl Abort, tables: &mut Tables, name: &[u8], x: i64, y: i64)
+    requires { IsInPlane x y }
+{
+    assert!(rt; tables.add_fix(fix_name(rt, name), x, y).is_ok());
+}
+
+/// The fixes and the type are added.
+fn add_all(rt: &impl Abort, tables: &mut Tables) {
     let band = [Band {
         top: 410,
         speed: 480,
         climb: 2_100,
         descent: 2_100,
     }];
-    assert!(rt; tables.add_fix(fix_name(rt, b"Q0"), 0, 0).is_ok());
-    assert!(rt; tables.add_fix(fix_name(rt, b"Q1"), 480_000, 0).is_ok());
-    assert!(rt; tables.add_fix(fix_name(rt, b"Q2"), 0, 500_000).is_ok());
-    assert!(rt;
-        tables
-            .add_fix(fix_name(rt, b"Q3"), 480_000, 500_000)
-            .is_ok()
-    );
+    add_fix(rt, tables, b"Q0", 0, 0);
+    add_fix(rt, tables, b"Q1", 480_000, 0);
+    add_fix(rt, tables, b"Q2", 0, 500_000);
+    add_fix(rt, tables, b"Q3", 480_000, 500_000);
     assert!(rt; tables.add_type(type_name(rt, b"JA1"), &band).is_ok());
+}
+
+/// Two pairs of fixes, one 500,000 units north of the other, those of a pair 480,000 units apart; and a type of one band.
+pub fn small_tables(rt: &impl Abort, alloc: Global) -> Tables {
+    let mut tables = Tables::make(alloc).expect(rt, "memory");
+    add_all(rt, &mut tables);
     tables
 }
 
@@ -129,6 +137,7 @@ pub fn clear(rt: &impl Abort, call: &[u8], level: u32, eff: Option<Second>) -> C
     requires early { IfSome eff (λ second. second ≤ 10000000) }
     ensures makes { MakesStrand result }
     ensures bounded { IsBoundedCommand result }
+    ensures asked_for { IsAskedFor result }
     ensures in_time { (place : ℕ) → IsInTime place result }
 {
     Command::Clear {

@@ -4,13 +4,14 @@ ghost use Rattle.std.specs.Thread.{IsSync};
 ghost use Rattle.mt_desk.specs.Desk.{IsReady};
 ghost use Rattle.mt_top_checks.specs.Same.{IsSameHand, IsSameSeat};
 
-use super::opening::{opened, outer};
+use super::opening::{entered, opened, outer};
 use mt_base::{Callsign, Command, Conflicts, Tally};
 use mt_board::{Answer, Ask, Board};
 use mt_desk::{Desk, Hand, Seat};
 use mt_io::OpenGate;
 use mt_picture::Picture;
 use mt_snapshot_view::check;
+use std::alloc::Global;
 use std::process::Abort;
 use std::sync::Wait;
 use std::thread::{Threads, join};
@@ -27,6 +28,20 @@ fn named(rt: &impl Abort, who: u32, number: u8) -> Callsign
     Callsign::of(&text).expect(rt, "a callsign")
 }
 
+/// Reads what is published, and gives the version that it is of.
+fn listed<R: Threads + Wait + Sync + Abort>(rt: &R, hand: &mut Hand<'_>) -> u64
+    requires sync { IsSync R.row }
+    ensures { IsSameHand hand.old hand.new }
+{
+    match hand.read(rt, &Ask::List) {
+        Ok(Answer::List { conflicts, version }) => {
+            drop(conflicts);
+            version
+        }
+        _ => panic!(rt; "no list"),
+    }
+}
+
 /// Files one flight, and reads what is published then: at that version or a later one.
 fn file_one<R: Threads + Wait + Sync + Abort>(rt: &R, hand: &mut Hand<'_>, number: u8)
     requires sync { IsSync R.row }
@@ -34,15 +49,8 @@ fn file_one<R: Threads + Wait + Sync + Abort>(rt: &R, hand: &mut Hand<'_>, numbe
     ensures { IsSameHand hand.old hand.new }
 {
     let command = outer(named(rt, hand.number(), number), number);
-    let entered = hand.change(rt, command, &OpenGate);
-    let told = hand.read(rt, &Ask::List);
-    let Ok(entered) = entered else {
-        panic!(rt; "not entered")
-    };
-    let Ok(Answer::List { version, .. }) = told else {
-        panic!(rt; "no list")
-    };
-    assert!(rt; entered.version <= version);
+    let version = entered(rt, hand, command, &OpenGate);
+    assert!(rt; version <= listed(rt, hand));
 }
 
 /// Files all flights of a seat.
@@ -108,18 +116,35 @@ fn count_of(rt: &impl Abort, picture: &Picture, who: u32) -> u8 {
     count
 }
 
+/// There are forty entries, twenty of each seat.
+fn check_counts(rt: &impl Abort, picture: &Picture) {
+    assert!(rt; picture.entries().len() == 40);
+    assert!(rt; count_of(rt, picture, 0) == 20);
+    assert!(rt; count_of(rt, picture, 1) == 20);
+}
+
+/// Twenty conflicts are computed from nothing, and published.
+fn check_conflicts(rt: &(impl Abort + Threads + Sync), alloc: Global, picture: &Picture) {
+    let snapshot = picture.snapshot().expect(rt, "memory");
+    let anew: Conflicts = check(alloc, &snapshot, &mut Tally::new(rt)).expect(rt, "memory");
+    drop(snapshot);
+    assert!(rt; anew.items().len() == 20);
+    assert!(rt; picture.published() == anew.items());
+}
+
+/// The picture in which both seats filed their flights.
+fn filed_by_both<R: Threads + Wait + Sync + Abort>(rt: &R, alloc: Global) -> Picture
+    requires sync { IsSync R.row }
+{
+    let (desk, first, second) = opened(rt, alloc);
+    let (first, second) = file_both(rt, &desk, first, second);
+    close_both(desk, first, second)
+}
+
 #[test]
 fn two_seats(rt: HostRuntime) {
-    let alloc = rt.alloc();
-    let (desk, first, second) = opened(&rt, alloc);
-    let (first, second) = file_both(&rt, &desk, first, second);
-    let picture = close_both(desk, first, second);
-    assert!(&rt; picture.entries().len() == 40);
-    assert!(&rt; count_of(&rt, &picture, 0) == 20);
-    assert!(&rt; count_of(&rt, &picture, 1) == 20);
-    let snapshot = picture.snapshot().expect(&rt, "memory");
-    let mut tests = Tally::new(&rt);
-    let anew: Conflicts = check(alloc, &snapshot, &mut tests).expect(&rt, "memory");
-    assert!(&rt; anew.items().len() == 20);
-    assert!(&rt; picture.published() == anew.items());
+    let picture = filed_by_both(&rt, rt.alloc());
+    check_counts(&rt, &picture);
+    check_conflicts(&rt, rt.alloc(), &picture);
+    drop(picture);
 }

@@ -4,12 +4,12 @@ ghost use Rattle.std.specs.Prelude.{◌≡◌};
 ghost use Rattle.std.specs.Thread.{IsSync};
 ghost use Rattle.mt_desk.specs.Desk.{IsReady};
 
-use super::opening::{opened, outer};
-use crate::commands::plan;
+use super::opening::{entered, opened, outer};
+use crate::commands::{clear, plan};
 use crate::names::callsign;
-use mt_base::{Clearance, Command};
+use mt_base::Clearance;
 use mt_board::{Board, Probed};
-use mt_desk::{Desk, Seat};
+use mt_desk::{Desk, Hand, Seat};
 use mt_io::{Gate, OpenGate};
 use std::alloc::Global;
 use std::process::Abort;
@@ -45,9 +45,31 @@ fn file<R: Threads + Wait + Sync + Abort>(rt: &R, alloc: Global, desk: &Desk, se
     ensures { IsReady desk.now result }
 {
     let mut hand = desk.hand(seat);
-    let filed = hand.change(rt, plan(rt, alloc, b"DDD1", b"Q0", b"Q1", 350), &OpenGate);
-    assert!(rt; filed.is_ok());
+    let filing = plan(rt, alloc, b"DDD1", b"Q0", b"Q1", 350);
+    entered(rt, &mut hand, filing, &OpenGate);
     hand.back()
+}
+
+/// Tries the climb, and gives the version that the probe names.
+fn probed<R: Threads + Wait + Sync + Abort, G: Gate>(rt: &R, hand: &mut Hand<'_>, gate: &G) -> u64
+    requires sync { IsSync R.row }
+{
+    let call = callsign(rt, b"DDD1");
+    let tried = hand.what_if(rt, call, Clearance::Level(360), None, gate);
+    let probe = tried.ok().expect(rt, "a probe");
+    let version = probe.version();
+    drop(probe);
+    version
+}
+
+/// Asks for advice, and gives the version that it names.
+fn advised<R: Threads + Wait + Sync + Abort, G: Gate>(rt: &R, hand: &mut Hand<'_>, gate: &G) -> u64
+    requires sync { IsSync R.row }
+{
+    match hand.advise(rt, callsign(rt, b"DDD1"), gate) {
+        Ok(advised) => advised.version,
+        Err(_) => panic!(rt; "no advice"),
+    }
 }
 
 /// Works through the gate, and gives the version that is named.
@@ -62,29 +84,22 @@ fn held_version<R: Threads + Wait + Sync + Abort>(
     requires ready { IsReady desk.now seat }
 {
     let mut hand = desk.hand(seat);
-    let gate = Hold { rt, meeting };
-    let (call, clearance) = (callsign(rt, b"DDD1"), Clearance::Level(360));
+    work_through(rt, &mut hand, work, &Hold { rt, meeting })
+}
+
+/// Works through a gate, and gives the version that is named.
+fn work_through<R: Threads + Wait + Sync + Abort, G: Gate>(
+    rt: &R,
+    hand: &mut Hand<'_>,
+    work: Work,
+    gate: &G,
+) -> u64
+    requires sync { IsSync R.row }
+{
     match work {
-        Work::Probe => match hand.what_if(rt, call, clearance, None, &gate) {
-            Ok(probe) => probe.version(),
-            Err(_) => panic!(rt; "no probe"),
-        },
-        Work::Advice => match hand.advise(rt, call, &gate) {
-            Ok(advised) => advised.version,
-            Err(_) => panic!(rt; "no advice"),
-        },
-        Work::Change => {
-            let eff = None;
-            let command = Command::Clear {
-                call,
-                clearance,
-                eff,
-            };
-            match hand.change(rt, command, &gate) {
-                Ok(entered) => entered.version,
-                Err(_) => panic!(rt; "not entered"),
-            }
-        }
+        Work::Probe => probed(rt, hand, gate),
+        Work::Advice => advised(rt, hand, gate),
+        Work::Change => entered(rt, hand, clear(rt, b"DDD1", 360, None), gate),
     }
 }
 
@@ -100,12 +115,9 @@ fn enter<R: Threads + Wait + Sync + Abort>(
 {
     let mut hand = desk.hand(seat);
     meeting.wait(rt);
-    let entered = hand.change(rt, outer(callsign(rt, b"BBB1"), 10), &OpenGate);
+    let version = entered(rt, &mut hand, outer(callsign(rt, b"BBB1"), 10), &OpenGate);
     meeting.wait(rt);
-    match entered {
-        Ok(entered) => entered.version,
-        Err(_) => panic!(rt; "not entered"),
-    }
+    version
 }
 
 /// Both at once: the version of the work, and that of the flight that was entered meanwhile.

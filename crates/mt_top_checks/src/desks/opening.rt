@@ -1,14 +1,20 @@
 //! A desk with two seats, and flights for it.
 ghost use Rattle.std.specs.Prelude.{◌≡◌, ◌≤◌, [], ◌∷◌};
+ghost use Rattle.std.specs.Thread.{IsSync};
 ghost use Rattle.mt_base.specs.Bounds.{IsAskedFor, IsBoundedCommand};
 ghost use Rattle.mt_desk.specs.Desk.{IsReady};
+ghost use Rattle.mt_top_checks.specs.Same.{IsSameHand};
 
 use crate::commands::{STILL, shared_tables};
 use mt_base::{Callsign, Command, Row, Rules, Straight};
-use mt_desk::{Desk, Seat};
+use mt_board::Board;
+use mt_desk::{Desk, Hand, Seat};
+use mt_io::Gate;
 use mt_picture::Picture;
 use std::alloc::Global;
 use std::process::Abort;
+use std::sync::Wait;
+use std::thread::Threads;
 
 /// A desk over the opening picture, its first seat, and one that was split off it.
 pub fn opened(rt: &impl Abort, alloc: Global) -> (Desk, Seat, Seat)
@@ -18,11 +24,28 @@ pub fn opened(rt: &impl Abort, alloc: Global) -> (Desk, Seat, Seat)
 {
     let tables = shared_tables(rt, alloc);
     let picture = Picture::make(alloc, Rules::usual(), tables).expect(rt, "memory");
-    let Ok((desk, mut first)) = Desk::make(alloc, picture) else {
-        panic!(rt; "no memory")
+    let (desk, mut first) = match Desk::make(alloc, picture) {
+        Ok(made) => made,
+        Err(_) => panic!(rt; "no memory"),
     };
     let second = desk.split(&mut first);
     (desk, first, second)
+}
+
+/// Enters a command through a gate, and gives the version with it.
+pub fn entered<R: Threads + Wait + Sync + Abort, G: Gate>(
+    rt: &R,
+    hand: &mut Hand<'_>,
+    command: Command,
+    gate: &G,
+) -> u64
+    requires sync { IsSync R.row }
+    requires bounded { IsBoundedCommand command }
+    requires asked_for { IsAskedFor command }
+    ensures same { IsSameHand hand.old hand.new }
+{
+    let entered = hand.change(rt, command, gate);
+    entered.ok().expect(rt, "an entry").version
 }
 
 /// An external flight that stays over the origin for 100 seconds, so many thousand feet up.

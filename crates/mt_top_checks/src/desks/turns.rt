@@ -94,8 +94,9 @@ fn three_seats_keep_each_entry_once_and_in_order(rt: HostRuntime) {
     let register = Register {
         entries: Vec::new(rt.alloc()),
     };
-    let Ok((turn, mut first)) = Turn::make(rt.alloc(), register) else {
-        panic!(rt; "no memory")
+    let (turn, mut first) = match Turn::make(rt.alloc(), register) {
+        Ok(made) => made,
+        Err(_) => panic!(rt; "no memory"),
     };
     let held = turn.enter(&rt, &mut first);
     let entries = held.value().count();
