@@ -8,6 +8,8 @@ mod conflicts;
 #[cfg(test)]
 mod desks;
 #[cfg(test)]
+mod links;
+#[cfg(test)]
 mod names;
 #[cfg(test)]
 mod picture;

@@ -3,7 +3,7 @@ ghost use Rattle.std.specs.Prelude.{◌≡◌, ◌≤◌};
 ghost use Rattle.std.specs.Thread.{IsSync};
 
 use super::seated::seated;
-use mt_io::{Door, OpenGate, TcpDoor};
+use mt_io::{Door, Duplex, OpenGate, TcpDoor};
 use mt_session::{Outcome, session};
 use mt_workers::MemOutbox;
 use std::alloc::Global;
@@ -50,6 +50,20 @@ fn open<N: Net<Listener = TcpListener, Stream = TcpStream>>(
     None
 }
 
+/// One session over a link and a seat alone: how it ended.
+fn outcome_over<R: Threads + Wait + Sync + Abort, L: Duplex>(
+    rt: &R,
+    alloc: Global,
+    link: &mut L,
+) -> Outcome
+    requires sync { IsSync R.row }
+{
+    let none = None::<&mut MemOutbox>;
+    let (board, outcome) = session(rt, alloc, seated(rt, alloc), link, none, &OpenGate);
+    drop(board);
+    outcome
+}
+
 /// Serves the one link of the door, and gives it back: how its session ended, and whether the door has a link left.
 fn serve_one<R: Threads + Wait + Sync + Abort, N: Net<Listener = TcpListener, Stream = TcpStream>>(
     rt: &R,
@@ -58,12 +72,10 @@ fn serve_one<R: Threads + Wait + Sync + Abort, N: Net<Listener = TcpListener, St
 ) -> (Outcome, bool)
     requires sync { IsSync R.row }
 {
-    let board = seated(rt, alloc);
     let Ok(Some(mut link)) = door.next_link() else {
         panic!(rt; "no link came")
     };
-    let none = None::<&mut MemOutbox>;
-    let (_, outcome) = session(rt, alloc, board, &mut link, none, &OpenGate);
+    let outcome = outcome_over(rt, alloc, &mut link);
     door.back(link);
     (outcome, matches!(door.next_link(), Ok(Some(_))))
 }
@@ -90,12 +102,12 @@ fn serve_and_ask<
 
 #[test]
 fn session_over_tcp_is_answered(rt: HostRuntime) {
-    let alloc = rt.alloc();
     let mut door = TcpDoor::of(&rt);
     let port = open(&mut door, 47_811).expect(&rt, "a free port");
-    let (served, answered) = serve_and_ask(&rt, &rt, alloc, door, port);
+    let (served, answered) = serve_and_ask(&rt, &rt, rt.alloc(), door, port);
     assert!(&rt; served == (Outcome::Ended, false));
-    assert!(&rt; answered.ok().expect(&rt, "an answer").as_str() == REPLIES);
+    let answer = answered.ok().expect(&rt, "an answer");
+    assert!(&rt; answer.as_str() == REPLIES);
 }
 
 #[test]

@@ -2,10 +2,9 @@
 ghost use Rattle.std.specs.Prelude.{◌≤◌, None, vec_len};
 ghost use Rattle.std.specs.Thread.{IsSync};
 
-use super::scene::{AMPLE, words_of};
-use mt_base::Words;
-use mt_io::{Failed, MemDoor, MemSink, MemSource, OpenGate, Source};
-use mt_top::{Status, run};
+use super::scene::{AMPLE, run_over, source_of};
+use mt_io::{Failed, MemDoor, MemSink, OpenGate, Source};
+use mt_top::Status;
 use std::alloc::Global;
 use std::process::Abort;
 use std::sync::Wait;
@@ -92,29 +91,28 @@ fn count_lines(bytes: &[u8]) -> usize {
     count
 }
 
-// Whether an input that fails behind these bytes is answered up to its last whole line.
-fn is_answered<R: Abort + Threads + Wait + Sync>(
+// A run over that input and no door, and an output with so much room: how it ended, and the output.
+fn ended<R: Abort + Threads + Wait + Sync, S: Source>(
     rt: &R,
     alloc: Global,
-    words: &Words,
-    given: &[u8],
-) -> bool
+    words: &str,
+    input: &mut S,
+    room: u32,
+) -> (Status, MemSink)
+    requires sync { IsSync R.row }
+{
+    let mut door = no_door(rt, alloc);
+    run_over(rt, alloc, words, input, room, &mut door, &OpenGate)
+}
+
+// Whether an input that fails behind these bytes is answered up to its last whole line.
+fn is_answered<R: Abort + Threads + Wait + Sync>(rt: &R, alloc: Global, given: &[u8]) -> bool
     requires sync { IsSync R.row }
 {
     let bytes = given.to_vec(alloc).expect(rt, "memory");
     let (at, faults) = (0, 0);
     let mut source = Torn { bytes, at, faults };
-    let mut sink = MemSink::make(alloc, AMPLE).expect(rt, "memory");
-    let mut door = no_door(rt, alloc);
-    let ended = run(
-        rt,
-        alloc,
-        words,
-        &mut source,
-        &mut sink,
-        &mut door,
-        &OpenGate,
-    );
+    let (ended, sink) = ended(rt, alloc, "replay", &mut source, AMPLE);
     let wanted = first_lines(OUTPUT, count_lines(given));
     ended == Status::ReadFault && sink.held() == wanted.as_bytes()
 }
@@ -123,25 +121,14 @@ fn is_answered<R: Abort + Threads + Wait + Sync>(
 fn is_full<R: Abort + Threads + Wait + Sync>(
     rt: &R,
     alloc: Global,
-    words: &Words,
+    words: &str,
     room: u32,
     taken: &[u8],
 ) -> bool
     requires sync { IsSync R.row }
 {
-    let bytes = INPUT.as_bytes().to_vec(alloc).expect(rt, "memory");
-    let mut source = MemSource::of(bytes);
-    let mut sink = MemSink::make(alloc, room).expect(rt, "memory");
-    let mut door = no_door(rt, alloc);
-    let ended = run(
-        rt,
-        alloc,
-        words,
-        &mut source,
-        &mut sink,
-        &mut door,
-        &OpenGate,
-    );
+    let mut source = source_of(rt, alloc, INPUT);
+    let (ended, sink) = ended(rt, alloc, words, &mut source, room);
     ended == Status::WriteFault && sink.held() == taken
 }
 
@@ -149,9 +136,8 @@ fn is_full<R: Abort + Threads + Wait + Sync>(
 fn check_torn<R: Abort + Threads + Wait + Sync>(rt: &R, alloc: Global)
     requires sync { IsSync R.row }
 {
-    let words = words_of(rt, alloc, "replay");
     for given in 0..INPUT.len() {
-        let is_answered = is_answered(rt, alloc, &words, &INPUT.as_bytes()[..given]);
+        let is_answered = is_answered(rt, alloc, &INPUT.as_bytes()[..given]);
         assert!(rt; is_answered, "{given}");
     }
 }
@@ -160,11 +146,10 @@ fn check_torn<R: Abort + Threads + Wait + Sync>(rt: &R, alloc: Global)
 fn check_full<R: Abort + Threads + Wait + Sync>(rt: &R, alloc: Global, words: &str, output: &str)
     requires sync { IsSync R.row }
 {
-    let words = words_of(rt, alloc, words);
     for room in 0..output.len() {
         let taken = &output.as_bytes()[..room];
         let room = u32::try_from(room).ok().expect(rt, "a small room");
-        let is_full = is_full(rt, alloc, &words, room, taken);
+        let is_full = is_full(rt, alloc, words, room, taken);
         assert!(rt; is_full, "{room}");
     }
 }

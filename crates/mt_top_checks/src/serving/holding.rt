@@ -1,13 +1,16 @@
 //! Two sessions beside each other: a gate holds each until the other has come as far as the test wants. A server that served one after the other,
 //! or held the turn through a probe or an advice, would never let them.
+ghost use Rattle.std.specs.Thread.{IsSync};
 
-use super::scene::{Case, SETUP, check, check_links, door_of_two, link};
+use super::scene::{Case, SETUP, check, check_links, door_of_two};
+use crate::links::link;
 use mt_io::Gate;
 use mt_top::Status;
 use std::alloc::Global;
 use std::process::Abort;
-use std::sync::Arc;
 use std::sync::atomic::{AtomicBool, AtomicU64, Ordering};
+use std::sync::{Arc, Wait};
+use std::thread::Threads;
 
 /// How often a hold looks before it gives up.
 const LOOKS: u64 = 1_000_000_000;
@@ -124,22 +127,24 @@ const TWO_SESSIONS: Case = Case {
     output: SUMMED_UP,
 };
 
+/// Seat 1 is held while seat 2 is fed: what it sends, and what it is answered.
+fn check_held<R: Threads + Wait + Sync + Abort>(rt: &R, alloc: Global, sent: &str, answered: &str)
+    requires sync { IsSync R.row }
+{
+    let second = link(rt, alloc, FEED);
+    let gate = Hold::of(second.replies().expect(rt, "memory"));
+    let mut door = door_of_two(rt, alloc, link(rt, alloc, sent), second);
+    check(rt, alloc, &TWO_SESSIONS, &mut door, &gate);
+    check_links(rt, &door, &[answered, FED]);
+    assert!(rt; !gate.gave_up.load(Ordering::SeqCst));
+}
+
 #[test]
 fn gate_holds_one(rt: HostRuntime) {
-    let second = link(&rt, rt.alloc(), FEED);
-    let gate = Hold::of(second.replies().expect(&rt, "memory"));
-    let mut door = door_of_two(&rt, rt.alloc(), link(&rt, rt.alloc(), PROBES), second);
-    check(&rt, rt.alloc(), &TWO_SESSIONS, &mut door, &gate);
-    check_links(&rt, &door, &[PROBED, FED]);
-    assert!(&rt; !gate.gave_up.load(Ordering::SeqCst));
+    check_held(&rt, rt.alloc(), PROBES, PROBED);
 }
 
 #[test]
 fn gate_holds_advice(rt: HostRuntime) {
-    let second = link(&rt, rt.alloc(), FEED);
-    let gate = Hold::of(second.replies().expect(&rt, "memory"));
-    let mut door = door_of_two(&rt, rt.alloc(), link(&rt, rt.alloc(), ASKS), second);
-    check(&rt, rt.alloc(), &TWO_SESSIONS, &mut door, &gate);
-    check_links(&rt, &door, &[ADVISED, FED]);
-    assert!(&rt; !gate.gave_up.load(Ordering::SeqCst));
+    check_held(&rt, rt.alloc(), ASKS, ADVISED);
 }

@@ -1,9 +1,9 @@
 //! A client over loopback.
 ghost use Rattle.std.specs.Thread.{IsSync};
 
-use super::scene::{AMPLE, words_of};
-use mt_io::{MemSink, MemSource, OpenGate, TcpDoor};
-use mt_top::{Status, run};
+use super::scene::{AMPLE, run_over, source_of};
+use mt_io::{OpenGate, TcpDoor};
+use mt_top::Status;
 use std::alloc::Global;
 use std::io::{Read, Write};
 use std::net::{Ipv4Addr, Net, TcpListener, TcpStream};
@@ -57,20 +57,10 @@ fn serve<R: Net<Listener = TcpListener, Stream = TcpStream> + Threads + Wait + S
 ) -> bool
     requires sync { IsSync R.row }
 {
-    let words = words_of(rt, alloc, "serve --port=7711 --sessions=1");
-    let begin = b"{\"do\":\"begin\"}\n".to_vec(alloc).expect(rt, "memory");
-    let mut input = MemSource::of(begin);
-    let mut output = MemSink::make(alloc, AMPLE).expect(rt, "memory");
+    let mut input = source_of(rt, alloc, "{\"do\":\"begin\"}\n");
     let mut door = TcpDoor::of(rt);
-    let status = run(
-        rt,
-        alloc,
-        &words,
-        &mut input,
-        &mut output,
-        &mut door,
-        &OpenGate,
-    );
+    let words = "serve --port=7711 --sessions=1";
+    let (status, output) = run_over(rt, alloc, words, &mut input, AMPLE, &mut door, &OpenGate);
     status == Status::Done && output.held() == WRITTEN
 }
 

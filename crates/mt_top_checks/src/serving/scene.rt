@@ -1,8 +1,9 @@
 //! Runs of `serve` over objects in memory.
 ghost use Rattle.std.specs.Thread.{IsSync};
 
+use crate::links::check_held;
 use mt_base::Words;
-use mt_io::{Gate, MemDoor, MemLink, MemSink, MemSource};
+use mt_io::{Door, Gate, MemDoor, MemLink, MemSink, MemSource, Source};
 use mt_top::{Status, run};
 use std::alloc::Global;
 use std::process::Abort;
@@ -22,18 +23,12 @@ pub const SETUP: &str = r#"{"do":"fix","name":"Q0","x":0,"y":0}
 pub const AMPLE: u32 = 65_536;
 
 /// The words of a text, between its blanks.
-pub fn words_of(rt: &impl Abort, alloc: Global, text: &str) -> Words {
+fn words_of(rt: &impl Abort, alloc: Global, text: &str) -> Words {
     let mut words = Words::make(alloc).expect(rt, "memory");
     for word in text.split(' ') {
         words.add(alloc, word).expect(rt, "memory");
     }
     words
-}
-
-/// A link whose client sends this text, with room for all that is answered.
-pub fn link(rt: &impl Abort, alloc: Global, text: &str) -> MemLink {
-    let bytes = text.as_bytes().to_vec(alloc).expect(rt, "memory");
-    MemLink::make(alloc, bytes, AMPLE).expect(rt, "memory")
 }
 
 /// A door with one link.
@@ -60,6 +55,29 @@ pub struct Case {
     pub output: &'static str,
 }
 
+/// Runs the program with these words over an output with so much room: how it ended, and the output.
+pub fn run_over<R: Threads + Wait + Sync + Abort, S: Source, D: Door, G: Gate + Sync>(
+    rt: &R,
+    alloc: Global,
+    words: &str,
+    input: &mut S,
+    room: u32,
+    door: &mut D,
+    gate: &G,
+) -> (Status, MemSink)
+    requires sync { IsSync R.row }
+{
+    let words = words_of(rt, alloc, words);
+    let mut output = MemSink::make(alloc, room).expect(rt, "memory");
+    let status = run(rt, alloc, &words, input, &mut output, door, gate);
+    (status, output)
+}
+
+/// A source of that text.
+pub fn source_of(rt: &impl Abort, alloc: Global, text: &str) -> MemSource {
+    MemSource::of(text.as_bytes().to_vec(alloc).expect(rt, "memory"))
+}
+
 /// Runs a case over a door.
 pub fn check<R: Threads + Wait + Sync + Abort, G: Gate + Sync>(
     rt: &R,
@@ -70,11 +88,8 @@ pub fn check<R: Threads + Wait + Sync + Abort, G: Gate + Sync>(
 )
     requires sync { IsSync R.row }
 {
-    let words = words_of(rt, alloc, case.words);
-    let bytes = case.input.as_bytes().to_vec(alloc).expect(rt, "memory");
-    let mut input = MemSource::of(bytes);
-    let mut output = MemSink::make(alloc, AMPLE).expect(rt, "memory");
-    let status = run(rt, alloc, &words, &mut input, &mut output, door, gate);
+    let mut input = source_of(rt, alloc, case.input);
+    let (status, output) = run_over(rt, alloc, case.words, &mut input, AMPLE, door, gate);
     assert!(rt; status == case.status);
     assert!(rt; output.held() == case.output.as_bytes());
 }
@@ -84,6 +99,6 @@ pub fn check_links(rt: &impl Abort, door: &MemDoor, answers: &[&str]) {
     let links = door.returned();
     assert!(rt; links.len() == answers.len());
     for (link, answer) in links.iter().zip(answers) {
-        assert!(rt; link.held() == answer.as_bytes());
+        check_held(rt, link, answer);
     }
 }

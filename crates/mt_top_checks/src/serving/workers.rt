@@ -2,7 +2,8 @@
 
 ghost use Rattle.std.specs.Thread.{IsSync};
 
-use super::scene::{Case, SETUP, check, check_links, door_of, link};
+use super::scene::{Case, SETUP, check, check_links, door_of};
+use crate::links::link;
 use crate::reports::{JUDGED, REPORTED};
 use mt_io::Gate;
 use mt_top::Status;
