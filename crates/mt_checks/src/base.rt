@@ -1,17 +1,23 @@
 //! Names, copies, words, the order of conflicts, and the bounds of rules.
+ghost use Rattle.std.specs.Prelude.{◌<◌, length};
 
-use crate::conflicts::conflict;
-use crate::names::{callsign, fix_name, type_name};
+use crate::conflicts::{conflict, conflict_of, conflicts};
+use crate::names::{callsign, route, type_name};
 use mt_base::{
-    Base, Callsign, Command, Conflict, Conflicts, Course, Entry, FixName, Kind, Path, Record,
-    Route, RuleName, Rules, TypeName, Words, history_laws, one_published_list_law,
+    Base, Callsign, Command, Conflict, Course, Entry, FixName, Kind, Path, Record, Route, RuleName,
+    Rules, TypeName, Words, history_laws, one_published_list_law,
 };
 use std::process::Abort;
+
+/// A name says its text.
+fn check_bytes(rt: &impl Abort, found: &[u8], text: &[u8]) {
+    assert!(rt; found == text);
+}
 
 /// A text that is a callsign, which then says that text.
 fn check_callsign(rt: &impl Abort, text: &[u8]) {
     let call = callsign(rt, text);
-    assert!(rt; call.bytes() == text);
+    check_bytes(rt, call.bytes(), text);
 }
 
 fn check_no_callsign(rt: &impl Abort, text: &[u8]) {
@@ -36,7 +42,7 @@ fn is_fix(rt: &impl Abort, text: &[u8]) -> bool {
     let Some(name) = FixName::of(text) else {
         return false;
     };
-    assert!(rt; name.bytes() == text);
+    check_bytes(rt, name.bytes(), text);
     true
 }
 
@@ -45,7 +51,7 @@ fn is_type(rt: &impl Abort, text: &[u8]) -> bool {
     let Some(name) = TypeName::of(text) else {
         return false;
     };
-    assert!(rt; name.bytes() == text);
+    check_bytes(rt, name.bytes(), text);
     true
 }
 
@@ -67,12 +73,8 @@ fn fixes_and_types_have_short_names(rt: HostRuntime) {
 }
 
 /// A route of two fixes.
-fn route(rt: &(impl AllocGlobal + Abort)) -> Route {
-    let mut route = Route::make(rt.alloc()).expect(rt, "memory");
-    for name in [b"Q0", b"Q1"] {
-        route.push(fix_name(rt, name)).expect(rt, "memory");
-    }
-    route
+fn two_fixes(rt: &(impl AllocGlobal + Abort)) -> Route {
+    route(rt, rt.alloc(), "Q0 Q1")
 }
 
 /// A plan along that route by the actor 2.
@@ -82,7 +84,7 @@ fn entry(rt: &(impl AllocGlobal + Abort)) -> Entry {
         command: Command::Plan {
             call: callsign(rt, b"DDD1"),
             kind: type_name(rt, b"JA1"),
-            route: route(rt),
+            route: two_fixes(rt),
             at: 7,
             from: 350,
             level: 360,
@@ -104,7 +106,7 @@ const BASE: Base = Base {
 fn record(rt: &(impl AllocGlobal + Abort)) -> Record {
     let course = Course {
         kind: type_name(rt, b"JA1"),
-        route: route(rt),
+        route: two_fixes(rt),
         base: BASE,
         level: 360,
         last: None,
@@ -118,7 +120,7 @@ fn record(rt: &(impl AllocGlobal + Abort)) -> Record {
 }
 
 fn check_route(rt: &(impl AllocGlobal + Abort), found: &Route) {
-    let wanted = route(rt);
+    let wanted = two_fixes(rt);
     assert!(rt; found.items() == wanted.items());
 }
 
@@ -147,10 +149,22 @@ fn check_record(rt: &(impl AllocGlobal + Abort), record: &Record) {
 
 #[test]
 fn copies_have_the_same_route(rt: HostRuntime) {
-    let copy = entry(&rt).copy(rt.alloc()).expect(&rt, "memory");
+    let entry = entry(&rt);
+    let copy = entry.copy(rt.alloc()).expect(&rt, "memory");
+    drop(entry);
     check_entry(&rt, &copy);
-    let copy = record(&rt).copy(rt.alloc()).expect(&rt, "memory");
+    drop(copy);
+    let record = record(&rt);
+    let copy = record.copy(rt.alloc()).expect(&rt, "memory");
+    drop(record);
     check_record(&rt, &copy);
+    drop(copy);
+}
+
+fn check_word(rt: &impl Abort, words: &Words, place: usize, wanted: &str)
+    requires { place < length words.now }
+{
+    assert!(rt; words.word(place) == wanted);
 }
 
 #[test]
@@ -160,22 +174,16 @@ fn words_are_kept_in_order(rt: HostRuntime) {
     words.add(rt.alloc(), "replay").expect(&rt, "memory");
     words.add(rt.alloc(), "").expect(&rt, "memory");
     assert!(rt; words.count() == 2);
-    assert!(rt; words.word(0) == "replay");
-    assert!(rt; words.word(1) == "");
+    check_word(&rt, &words, 0, "replay");
+    check_word(&rt, &words, 1, "");
 }
 
 /// Conflicts in their order.
 fn ordered(rt: &impl Abort) -> [Conflict; 5] {
     [
         conflict(rt, (1, 200), b"B", b"C"),
-        Conflict {
-            kb: Kind::Tentative,
-            ..conflict(rt, (2, 200), b"A", b"B")
-        },
-        Conflict {
-            ka: Kind::Tentative,
-            ..conflict(rt, (2, 200), b"A", b"B")
-        },
+        conflict_of(rt, (2, 200), b"A", b"B", (Kind::Actual, Kind::Tentative)),
+        conflict_of(rt, (2, 200), b"A", b"B", (Kind::Tentative, Kind::Actual)),
         conflict(rt, (2, 200), b"A", b"BA"),
         conflict(rt, (2, 200), b"AA", b"B"),
     ]
@@ -185,12 +193,15 @@ fn ordered(rt: &impl Abort) -> [Conflict; 5] {
 fn conflicts_are_put_in_order_each_once(rt: HostRuntime) {
     one_published_list_law();
     let ordered = ordered(&rt);
-    let mut conflicts = Conflicts::make(rt.alloc()).expect(&rt, "memory");
-    for place in [4, 2, 0, 3, 1, 2] {
-        conflicts.push(ordered[place]).expect(&rt, "memory");
-    }
+    let mut conflicts = conflicts(
+        &rt,
+        &[
+            ordered[4], ordered[2], ordered[0], ordered[3], ordered[1], ordered[2],
+        ],
+    );
     conflicts.order();
     assert!(rt; conflicts.items() == ordered.as_slice());
+    drop(conflicts);
 }
 
 /// The usual rules with one of them set.

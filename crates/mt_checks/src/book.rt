@@ -1,6 +1,7 @@
 //! Books with so many values put in that the oldest still fit, just fit, and no longer fit.
 ghost use Rattle.std.specs.Prelude.{◌≡◌, ◌≤◌};
 
+use crate::cases::assert_number;
 use mt_machine::Book;
 use std::alloc::Global;
 use std::process::Abort;
@@ -17,13 +18,18 @@ fn filled(rt: &impl Abort, alloc: Global, count: u64) -> Book<u64>
     book
 }
 
+/// What a book with so many values put in has under a number.
+fn check_value(rt: &impl Abort, book: &Book<u64>, count: u64, number: u64, wanted: Option<u64>) {
+    assert_number(rt, book.get(number).copied() == wanted, count);
+}
+
 #[test]
 fn an_empty_book_has_no_value(rt: HostRuntime) {
     let book = filled(&rt, rt.alloc(), 0);
     assert!(rt; book.count() == 0);
-    assert!(rt; book.get(0).is_none());
-    assert!(rt; book.get(1).is_none());
-    assert!(rt; book.get(u64::MAX).is_none());
+    check_value(&rt, &book, 0, 0, None);
+    check_value(&rt, &book, 0, 1, None);
+    check_value(&rt, &book, 0, u64::MAX, None);
 }
 
 /// A book with so many values put in has them from the least number that is kept then.
@@ -33,14 +39,14 @@ fn check_book(rt: &(impl AllocGlobal + Abort), count: u64, least: u64)
     requires low { least ≤ 200 }
 {
     let mut book = filled(rt, rt.alloc(), count);
-    assert!(rt; book.count() == count, "{count}");
-    assert!(rt; book.get(0).is_none(), "{count}");
-    assert!(rt; book.get(least - 1).is_none(), "{count}");
-    assert!(rt; book.get(least).copied() == Some(1_000 + least), "{count}");
-    assert!(rt; book.get(count).copied() == Some(1_000 + count), "{count}");
-    assert!(rt; book.get(count + 1).is_none(), "{count}");
-    assert!(rt; book.put(7) == count + 1, "{count}");
-    assert!(rt; book.get(count + 1).copied() == Some(7), "{count}");
+    assert_number(rt, book.count() == count, count);
+    check_value(rt, &book, count, 0, None);
+    check_value(rt, &book, count, least - 1, None);
+    check_value(rt, &book, count, least, Some(1_000 + least));
+    check_value(rt, &book, count, count, Some(1_000 + count));
+    check_value(rt, &book, count, count + 1, None);
+    assert_number(rt, book.put(7) == count + 1, count);
+    check_value(rt, &book, count, count + 1, Some(7));
 }
 
 #[test]

@@ -7,9 +7,29 @@ use std::str::{FromStr, SplitWhitespace};
 /// The values of a case, read one after the other.
 pub type Values<'a> = SplitWhitespace<'a>;
 
+/// What is checked of each case of a table.
+pub trait Check {
+    /// Checks a case.
+    fn check(rt: &(impl Abort + AllocGlobal), case: &str);
+}
+
 /// Whether a line of a table is a case.
-pub fn is_case(line: &str) -> bool {
-    !line.starts_with(';')
+fn is_case(line: &str) -> bool {
+    !line.is_empty() && !line.starts_with(';')
+}
+
+/// Checks each case of a table.
+pub fn check_each<C: Check>(rt: &(impl Abort + AllocGlobal), table: &str) {
+    for line in table.lines() {
+        if is_case(line) {
+            C::check(rt, line);
+        }
+    }
+}
+
+/// The first column of a text, and those behind it.
+pub fn columns<'a>(rt: &impl Abort, text: &'a str) -> (&'a str, &'a str) {
+    text.split_once(" | ").expect(rt, "a further column")
 }
 
 /// The next value.
@@ -40,6 +60,21 @@ where
     N::Err: Drop,
 {
     text.parse().ok().expect(rt, "a number")
+}
+
+/// What is said of a case holds; where it doesn't, the case is told.
+pub fn assert_case(rt: &impl Abort, holds: bool, case: &str) {
+    assert!(rt; holds, "{case}");
+}
+
+/// The same of a case that begins with its second.
+pub fn assert_second(rt: &impl Abort, holds: bool, case: &str) {
+    assert!(rt; holds, "at second {case}");
+}
+
+/// The same of a case that is a number.
+pub fn assert_number(rt: &impl Abort, holds: bool, number: u64) {
+    assert!(rt; holds, "{number}");
 }
 
 /// The case has no further value.

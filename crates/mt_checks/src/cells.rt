@@ -3,7 +3,6 @@ ghost use Rattle.std.specs.Prelude.{◌≡◌, ◌<◌};
 ghost use Rattle.mt_base.specs.Bounds.{IsBoundedStretch};
 ghost use Rattle.mt_grid.specs.Lists.{AreInGrid};
 
-use crate::rows::STILL;
 use mt_base::{Row, Rules, Second, Straight};
 use mt_cover::{Cover, Stay, cover};
 use mt_grid::Grid;
@@ -15,87 +14,188 @@ const AT_EDGE: Row = Row {
     x: 9_000,
     y: 50_000,
     z: 2_400_000,
-    ..STILL
+    r: 0,
+    w: 0,
+    vx: 0,
+    vy: 0,
+    vz: 0,
+    gr: 0,
+    gw: 0,
+    leg: 0,
 };
 
 const OVER_EDGE: Row = Row {
     x: 8_999,
-    ..AT_EDGE
+    y: 50_000,
+    z: 2_400_000,
+    r: 0,
+    w: 0,
+    vx: 0,
+    vy: 0,
+    vz: 0,
+    gr: 0,
+    gw: 0,
+    leg: 0,
 };
 
 /// West of that edge: at the minimum from `AT_EDGE`, one unit less and one more.
 const AT_MINIMUM: Row = Row {
     x: -9_000,
-    ..AT_EDGE
+    y: 50_000,
+    z: 2_400_000,
+    r: 0,
+    w: 0,
+    vx: 0,
+    vy: 0,
+    vz: 0,
+    gr: 0,
+    gw: 0,
+    leg: 0,
 };
 
 const BELOW_MINIMUM: Row = Row {
     x: -8_999,
-    ..AT_EDGE
+    y: 50_000,
+    z: 2_400_000,
+    r: 0,
+    w: 0,
+    vx: 0,
+    vy: 0,
+    vz: 0,
+    gr: 0,
+    gw: 0,
+    leg: 0,
 };
 
 const ABOVE_MINIMUM: Row = Row {
     x: -9_001,
-    ..AT_EDGE
+    y: 50_000,
+    z: 2_400_000,
+    r: 0,
+    w: 0,
+    vx: 0,
+    vy: 0,
+    vz: 0,
+    gr: 0,
+    gw: 0,
+    leg: 0,
 };
 
 /// Comes to the edge with its margin at the end of second 255, and one unit short of it.
 const REACHING: Row = Row {
     x: -9_256,
+    y: 50_000,
+    z: 2_400_000,
+    r: 0,
+    w: 0,
     vx: 1,
-    ..AT_EDGE
+    vy: 0,
+    vz: 0,
+    gr: 0,
+    gw: 0,
+    leg: 0,
 };
 
 const SHORT: Row = Row {
     x: -9_257,
+    y: 50_000,
+    z: 2_400_000,
+    r: 0,
+    w: 0,
     vx: 1,
-    ..AT_EDGE
+    vy: 0,
+    vz: 0,
+    gr: 0,
+    gw: 0,
+    leg: 0,
 };
 
 /// Its margin grows to the edge by the end of second 255, and one unit past it.
 const GROWN: Row = Row {
     x: 12_000,
+    y: 50_000,
+    z: 2_400_000,
     r: 440,
+    w: 0,
+    vx: 0,
+    vy: 0,
+    vz: 0,
     gr: 10,
-    ..AT_EDGE
+    gw: 0,
+    leg: 0,
 };
 
 const OUTGROWN: Row = Row {
     x: 12_000,
+    y: 50_000,
+    z: 2_400_000,
     r: 441,
+    w: 0,
+    vx: 0,
+    vy: 0,
+    vz: 0,
     gr: 10,
-    ..AT_EDGE
+    gw: 0,
+    leg: 0,
 };
 
 /// Flies along the edge between the lines 31 and 32.
 const ALONG: Row = Row {
     x: -300_000,
     y: 0,
+    z: 2_400_000,
+    r: 0,
+    w: 0,
     vx: 480,
-    ..AT_EDGE
+    vy: 0,
+    vz: 0,
+    gr: 0,
+    gw: 0,
+    leg: 0,
 };
 
 /// In a corner of the plane, which it leaves by its margin.
 const CORNER: Row = Row {
     x: 3_686_400,
     y: -3_686_400,
+    z: 2_400_000,
     r: 1_000,
-    ..AT_EDGE
+    w: 0,
+    vx: 0,
+    vy: 0,
+    vz: 0,
+    gr: 0,
+    gw: 0,
+    leg: 0,
 };
 
 const FALLING: Row = Row {
     x: 20_000,
+    y: 50_000,
+    z: 2_400_000,
+    r: 0,
+    w: 0,
     vx: 100,
     vy: -300,
-    ..AT_EDGE
+    vz: 0,
+    gr: 0,
+    gw: 0,
+    leg: 0,
 };
 
 /// The first of lanes that lie 200,000 units apart.
 const LANE: Row = Row {
     x: 0,
     y: 0,
+    z: 2_400_000,
+    r: 0,
+    w: 0,
     vx: 480,
-    ..AT_EDGE
+    vy: 0,
+    vz: 0,
+    gr: 0,
+    gw: 0,
+    leg: 0,
 };
 
 /// The cover of the stretch that flies from a row.
@@ -124,6 +224,7 @@ fn check(rt: &(impl AllocGlobal + Abort), from: Second, to: Second, first: Row, 
         check_stay(rt, stays.next().expect(rt, "a stay"), wanted);
     }
     assert!(rt; stays.next().is_none());
+    drop(cover);
 }
 
 #[test]
@@ -157,7 +258,9 @@ fn with_item(rt: &(impl AllocGlobal + Abort), cover: &Cover, other: &Cover) -> G
 {
     let empty = Grid::make(rt.alloc()).expect(rt, "memory");
     assert!(rt; !is_found(rt, &empty, other));
-    empty.put(7, cover).expect(rt, "memory")
+    let grid = empty.put(7, cover).expect(rt, "memory");
+    drop(empty);
+    grid
 }
 
 /// Once the item 7 is taken out of the grid, nothing is near the other cover.
@@ -167,6 +270,7 @@ fn check_taken(rt: &impl Abort, grid: &Grid, cover: &Cover, other: &Cover)
 {
     let gone = grid.take(7, cover).expect(rt, "memory");
     assert!(rt; !is_found(rt, &gone, other));
+    drop(gone);
 }
 
 /// Whether the second stretch is near the first, once it is put into an empty grid; before that and after it is taken it isn't.
@@ -179,7 +283,12 @@ fn is_near(rt: &(impl AllocGlobal + Abort), one: Row, other: Row) -> bool
     let grid = with_item(rt, &other, &one);
     check_taken(rt, &grid, &other, &one);
     let shared = grid.share().expect(rt, "memory");
-    is_found(rt, &shared, &one)
+    drop(grid);
+    let is_near = is_found(rt, &shared, &one);
+    drop(shared);
+    drop(one);
+    drop(other);
+    is_near
 }
 
 #[test]
@@ -200,9 +309,11 @@ fn with_lane(rt: &(impl AllocGlobal + Abort), grid: Grid, number: u32) -> Grid
     };
     let lane = covered(rt, 0, 1200, first);
     assert!(rt; grid.near(&lane).expect(rt, "memory").is_empty());
-    let grid = grid.put(number, &lane).expect(rt, "memory");
-    assert!(rt; grid.near(&lane).expect(rt, "memory").as_slice() == [number].as_slice());
-    grid
+    let with_lane = grid.put(number, &lane).expect(rt, "memory");
+    drop(grid);
+    assert!(rt; with_lane.near(&lane).expect(rt, "memory").as_slice() == [number].as_slice());
+    drop(lane);
+    with_lane
 }
 
 #[test]
@@ -212,4 +323,5 @@ fn eighteen_lanes_share_no_cell(rt: HostRuntime) {
         grid = with_lane(&rt, grid, number);
     }
     assert!(rt; grid.share().is_ok());
+    drop(grid);
 }

@@ -4,7 +4,7 @@ ghost use Rattle.std.specs.Prelude.{IsTrue};
 ghost use Rattle.mt_frac.specs.FractionOrder.{IsBefore};
 ghost use Rattle.mt_frac.specs.Signs.{IsBoundedLine, IsBoundedQuad};
 
-use crate::cases::{Values, is_case, number, parsed, word};
+use crate::cases::{Check, Values, assert_case, check_each, number, parsed, word};
 use mt_frac::{Frac, Line, Quad};
 use std::cmp::Ordering;
 use std::process::Abort;
@@ -206,21 +206,22 @@ fn is_before(lo: Frac, hi: Frac) -> bool
     matches!(lo.compare(hi), Ordering::Less)
 }
 
-fn check_quadratic(rt: &impl Abort, case: &str) {
-    let mut values = case.split_whitespace();
-    let quad = quadratic(rt, &mut values);
-    let (lo, hi) = interval(rt, &mut values);
-    let wanted = word(rt, &mut values) == "below";
-    assert!(rt; quad.below_zero_in(lo, hi) == wanted, "{case}");
+/// Whether a quadratic is below 0.
+struct Quadratics;
+
+impl Check for Quadratics {
+    fn check(rt: &(impl Abort + AllocGlobal), case: &str) {
+        let mut values = case.split_whitespace();
+        let quad = quadratic(rt, &mut values);
+        let (lo, hi) = interval(rt, &mut values);
+        let wanted = word(rt, &mut values) == "below";
+        assert_case(rt, quad.below_zero_in(lo, hi) == wanted, case);
+    }
 }
 
 #[test]
 fn quadratics_below_zero(rt: HostRuntime) {
-    for line in QUADRATICS.lines() {
-        if is_case(line) {
-            check_quadratic(&rt, line);
-        }
-    }
+    check_each::<Quadratics>(&rt, QUADRATICS);
 }
 
 fn is_equal(left: Frac, right: Frac) -> bool {
@@ -232,61 +233,69 @@ fn is_part(part: (Frac, Frac), begin: Frac, end: Frac) -> bool {
     is_equal(part.0, begin) && is_equal(part.1, end)
 }
 
+/// The part of a line has these ends.
+fn check_ends(rt: &impl Abort, part: (Frac, Frac), begin: &str, end: &str) {
+    assert!(rt; is_part(part, fraction(rt, begin), fraction(rt, end)));
+}
+
 /// The part of a line is as the next values say: `never`, or its ends.
 fn check_part(rt: &impl Abort, part: Option<(Frac, Frac)>, values: &mut Values<'_>) {
     let begin = word(rt, values);
     match part {
         None => assert!(rt; begin == "never"),
-        Some(part) => {
-            let begin = fraction(rt, begin);
-            let end = fraction(rt, word(rt, values));
-            assert!(rt; is_part(part, begin, end));
-        }
+        Some(part) => check_ends(rt, part, begin, word(rt, values)),
     }
 }
 
-fn check_line(rt: &impl Abort, case: &str) {
-    let mut values = case.split_whitespace();
-    let line = line(rt, &mut values);
-    let (lo, hi) = interval(rt, &mut values);
-    check_part(rt, line.below_in(lo, hi), &mut values);
+/// The part of a line below 0.
+struct Lines;
+
+impl Check for Lines {
+    fn check(rt: &(impl Abort + AllocGlobal), case: &str) {
+        let mut values = case.split_whitespace();
+        let line = line(rt, &mut values);
+        let (lo, hi) = interval(rt, &mut values);
+        check_part(rt, line.below_in(lo, hi), &mut values);
+    }
 }
 
 #[test]
 fn parts_of_lines(rt: HostRuntime) {
-    for line in LINES.lines() {
-        if is_case(line) {
-            check_line(&rt, line);
-        }
-    }
+    check_each::<Lines>(&rt, LINES);
 }
 
-fn check_sign(rt: &impl Abort, case: &str) {
-    let mut values = case.split_whitespace();
-    let quad = quadratic(rt, &mut values);
-    let at = fraction(rt, word(rt, &mut values));
-    let wanted = ordering(rt, word(rt, &mut values));
-    assert!(rt; quad.sign_at(at) == wanted, "{case}");
+/// The sign of a quadratic.
+struct Signs;
+
+impl Check for Signs {
+    fn check(rt: &(impl Abort + AllocGlobal), case: &str) {
+        let mut values = case.split_whitespace();
+        let quad = quadratic(rt, &mut values);
+        let at = fraction(rt, word(rt, &mut values));
+        let wanted = ordering(rt, word(rt, &mut values));
+        assert_case(rt, quad.sign_at(at) == wanted, case);
+    }
 }
 
 #[test]
 fn signs_of_quadratics(rt: HostRuntime) {
-    for case in SIGNS.lines() {
-        check_sign(&rt, case);
-    }
+    check_each::<Signs>(&rt, SIGNS);
 }
 
-fn check_order(rt: &impl Abort, case: &str) {
-    let mut values = case.split_whitespace();
-    let left = fraction(rt, word(rt, &mut values));
-    let right = fraction(rt, word(rt, &mut values));
-    let wanted = ordering(rt, word(rt, &mut values));
-    assert!(rt; left.compare(right) == wanted, "{case}");
+/// The order of two fractions.
+struct Orders;
+
+impl Check for Orders {
+    fn check(rt: &(impl Abort + AllocGlobal), case: &str) {
+        let mut values = case.split_whitespace();
+        let left = fraction(rt, word(rt, &mut values));
+        let right = fraction(rt, word(rt, &mut values));
+        let wanted = ordering(rt, word(rt, &mut values));
+        assert_case(rt, left.compare(right) == wanted, case);
+    }
 }
 
 #[test]
 fn orders_of_fractions(rt: HostRuntime) {
-    for case in ORDERS.lines() {
-        check_order(&rt, case);
-    }
+    check_each::<Orders>(&rt, ORDERS);
 }

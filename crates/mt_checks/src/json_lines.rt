@@ -1,5 +1,6 @@
 //! Fields of objects by their values, and objects written as lines.
 
+use crate::cases::{Check, assert_case, check_each, columns};
 use mt_json::{Builder, Fields};
 use serde_json::Value;
 use std::process::Abort;
@@ -58,18 +59,28 @@ fn answers(rt: &(impl Abort + AllocGlobal), fields: &Fields<'_>) -> String {
     format!(in rt.alloc(); "{word:?} {flag:?} {small:?} {whole:?} {length:?}").expect(rt, "memory")
 }
 
-fn check_field(rt: &(impl Abort + AllocGlobal), case: &str) {
-    let (text, wanted) = case.split_once(" | ").expect(rt, "two columns");
-    let value = value(rt, text);
-    let fields = Fields::of(&value).expect(rt, "an object");
-    assert!(rt; answers(rt, &fields).as_str() == wanted, "{text}");
+/// What was found of a text is as wanted.
+fn check_text(rt: &impl Abort, text: &str, found: String, wanted: &str) {
+    assert_case(rt, found.as_str() == wanted, text);
+    drop(found);
+}
+
+/// What a key is.
+struct Kinds;
+
+impl Check for Kinds {
+    fn check(rt: &(impl Abort + AllocGlobal), case: &str) {
+        let (text, wanted) = columns(rt, case);
+        let value = value(rt, text);
+        let fields = Fields::of(&value).expect(rt, "an object");
+        check_text(rt, text, answers(rt, &fields), wanted);
+        drop(value);
+    }
 }
 
 #[test]
 fn a_field_is_by_its_value(rt: HostRuntime) {
-    for case in FIELDS.lines().skip(1) {
-        check_field(&rt, case);
-    }
+    check_each::<Kinds>(&rt, FIELDS);
 }
 
 // An object, the keys that are allowed, and the least other key with its place. In the order of a language the letters of the fourth last
@@ -102,24 +113,29 @@ fn outcome(rt: &(impl Abort + AllocGlobal), fields: &Fields<'_>, allowed: &str) 
     format!(in rt.alloc(); "{outcome:?} {key:?}").expect(rt, "memory")
 }
 
-fn check_keys(rt: &(impl Abort + AllocGlobal), case: &str) {
-    let (text, rest) = case.split_once(" | ").expect(rt, "three columns");
-    let (allowed, wanted) = rest.split_once(" | ").expect(rt, "three columns");
-    let value = value(rt, text);
-    let fields = Fields::of(&value).expect(rt, "an object");
-    assert!(rt; outcome(rt, &fields, allowed).as_str() == wanted, "{text}");
+/// Which keys are allowed.
+struct Keys;
+
+impl Check for Keys {
+    fn check(rt: &(impl Abort + AllocGlobal), case: &str) {
+        let (text, rest) = columns(rt, case);
+        let (allowed, wanted) = columns(rt, rest);
+        let value = value(rt, text);
+        let fields = Fields::of(&value).expect(rt, "an object");
+        check_text(rt, text, outcome(rt, &fields, allowed), wanted);
+        drop(value);
+    }
 }
 
 #[test]
 fn the_least_key_that_is_not_allowed(rt: HostRuntime) {
-    for case in KEYS.lines().skip(1) {
-        check_keys(&rt, case);
-    }
+    check_each::<Keys>(&rt, KEYS);
 }
 
 fn check_no_object(rt: &(impl Abort + AllocGlobal), text: &str) {
     let value = value(rt, text);
     assert!(rt; Fields::of(&value).is_none());
+    drop(value);
 }
 
 #[test]
@@ -133,18 +149,23 @@ fn what_is_no_object_has_no_fields(rt: HostRuntime) {
     let fields = Fields::of(&value).expect(&rt, "an object");
     assert!(rt; fields.key(1) == Some("b"));
     assert!(rt; fields.key(2).is_none());
+    drop(value);
+}
+
+fn add_number(rt: &impl Abort, builder: &mut Builder, key: &str, number: i64) {
+    builder.number(key, number).expect(rt, "memory");
 }
 
 #[test]
 fn a_line_has_its_pairs_in_byte_order(rt: HostRuntime) {
-    let nested = value(&rt, r#"{"y": [null, true, -3, 1.5], "x": {}}"#);
     let mut builder = Builder::make(rt.alloc()).expect(&rt, "memory");
     builder.text("é", "x\n\"\\\u{1}é/").expect(&rt, "memory");
-    builder.number("b", 1).expect(&rt, "memory");
-    builder.number("a\t", i64::MIN).expect(&rt, "memory");
-    builder.number("a", i64::MAX).expect(&rt, "memory");
+    add_number(&rt, &mut builder, "b", 1);
+    add_number(&rt, &mut builder, "a\t", i64::MIN);
+    add_number(&rt, &mut builder, "a", i64::MAX);
+    let nested = value(&rt, r#"{"y": [null, true, -3, 1.5], "x": {}}"#);
     builder.value("B", nested).expect(&rt, "memory");
-    builder.number("b", -7).expect(&rt, "memory");
+    add_number(&rt, &mut builder, "b", -7);
     let bytes = builder.line().expect(&rt, "memory");
     let wanted =
         "{\"B\":{\"x\":{},\"y\":[null,true,-3,1.5]},\"a\":9223372036854775807,\"a\\t\":-9223372036854775808,\"b\":-7,\"é\":\"x\\n\\\"\\\\\\u0001é/\"}\n";

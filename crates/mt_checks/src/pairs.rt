@@ -26,20 +26,24 @@ fn holds(found: &[Edge], a: u32, b: u32) -> bool {
     false
 }
 
+/// So many pairs are found, among them the one of these ends.
+fn check_found(rt: &impl Abort, found: Vec<Edge>, count: usize, ends: (u32, u32)) {
+    assert!(rt; found.len() == count && holds(&found, ends.0, ends.1));
+}
+
 #[test]
 fn pairs_are_found_by_end_and_by_second(rt: HostRuntime) {
     let mut edges = Edges::make(rt.alloc(), 4).expect(&rt, "memory");
     add(&rt, &mut edges, 0, 1, 131, 168);
     add(&rt, &mut edges, 1, 2, 300, 310);
-    let both = edges.of(1).expect(&rt, "memory");
-    assert!(rt; both.len() == 2 && holds(&both, 0, 1) && holds(&both, 1, 2));
+    check_found(&rt, edges.of(1).expect(&rt, "memory"), 2, (0, 1));
+    check_found(&rt, edges.of(1).expect(&rt, "memory"), 2, (1, 2));
     let due = edges.due(256, 512).expect(&rt, "memory");
-    assert!(rt; due.len() == 1 && holds(&due, 1, 2));
+    check_found(&rt, due, 1, (1, 2));
     let mut steps = Steps::new();
     edges.drop_all(0, &mut steps);
     assert!(rt; steps.get() == 7);
-    let rest = edges.of(1).expect(&rt, "memory");
-    assert!(rt; rest.len() == 1 && holds(&rest, 1, 2));
+    check_found(&rt, edges.of(1).expect(&rt, "memory"), 1, (1, 2));
 }
 
 #[test]
@@ -53,11 +57,11 @@ fn dropped_pairs_make_room(rt: HostRuntime) {
     edges.drop_all(0, &mut steps);
     assert!(rt; steps.get() == 19);
     let all = edges.due(0, 10_014_400).expect(&rt, "memory");
-    assert!(rt; all.len() == 1 && holds(&all, 1, 2));
+    check_found(&rt, all, 1, (1, 2));
     assert!(rt; edges.get(0, 1).is_none());
     add(&rt, &mut edges, 0, 1, 10, 20);
     add(&rt, &mut edges, 0, 2, 10, 20);
     add(&rt, &mut edges, 0, 3, 10, 20);
     let all = edges.due(0, 10_014_400).expect(&rt, "memory");
-    assert!(rt; all.len() == 4);
+    check_found(&rt, all, 4, (1, 2));
 }

@@ -2,7 +2,7 @@
 ghost use Rattle.std.specs.Prelude.{◌≤◌};
 ghost use Rattle.mt_base.specs.Bounds.{IsBoundedStretch};
 
-use crate::conflicts::conflict;
+use crate::conflicts::{conflict, conflict_of};
 use crate::rows::EAST;
 use mt_base::{Callsign, Conflict, Kind, Row, Rules, Second, Straight, Tally};
 use mt_plain::all_pairs;
@@ -13,19 +13,46 @@ use std::sync::Arc;
 /// It flies towards `EAST`, from 40 nautical miles away.
 const WEST: Row = Row {
     x: 144_000,
+    y: 0,
+    z: 2_100_000,
+    r: 0,
+    w: 0,
     vx: -480,
-    ..EAST
+    vy: 0,
+    vz: 0,
+    gr: 0,
+    gw: 0,
+    leg: 0,
 };
 
 /// It flies beside it.
-const BESIDE: Row = Row { y: 17_000, ..EAST };
+const BESIDE: Row = Row {
+    x: 0,
+    y: 17_000,
+    z: 2_100_000,
+    r: 0,
+    w: 0,
+    vx: 480,
+    vy: 0,
+    vz: 0,
+    gr: 0,
+    gw: 0,
+    leg: 0,
+};
 
 /// It flies north, away from all.
 const NORTH: Row = Row {
+    x: 0,
     y: -100_000,
+    z: 2_100_000,
+    r: 0,
+    w: 0,
     vx: 0,
     vy: 480,
-    ..EAST
+    vz: 0,
+    gr: 0,
+    gw: 0,
+    leg: 0,
 };
 
 /// The strand of an hour that begins with that row.
@@ -70,28 +97,24 @@ fn check_found(
     assert!(rt; found.items() == wanted);
 }
 
+/// A conflict of what a flight flies with the tentative trajectory.
+fn tentative(rt: &impl Abort, seconds: (Second, Second), a: &[u8]) -> Conflict {
+    conflict_of(rt, seconds, a, b"CCC1", (Kind::Actual, Kind::Tentative))
+}
+
 #[test]
 fn conflicts_come_in_order_and_each_pair_is_tested_once(rt: HostRuntime) {
     let mut tests = Tally::new(&rt);
     let roster = roster(&rt);
-    let east_and_beside = Conflict {
-        kb: Kind::Tentative,
-        ..conflict(&rt, (0, 1199), b"AAA1", b"CCC1")
-    };
+    let east_and_beside = tentative(&rt, (0, 1199), b"AAA1");
     let east_and_west = conflict(&rt, (131, 168), b"AAA1", b"BBB1");
-    let west_and_beside = Conflict {
-        kb: Kind::Tentative,
-        ..conflict(&rt, (143, 156), b"BBB1", b"CCC1")
-    };
+    let west_and_beside = tentative(&rt, (143, 156), b"BBB1");
     let early = [east_and_beside, east_and_west, west_and_beside];
     check_found(&rt, &roster, 0, &early, &mut tests);
     // of six pairs one is of one flight
     assert!(rt; tests.get() == 5);
     let east_and_west = conflict(&rt, (160, 168), b"AAA1", b"BBB1");
-    let east_and_beside = Conflict {
-        kb: Kind::Tentative,
-        ..conflict(&rt, (160, 1359), b"AAA1", b"CCC1")
-    };
+    let east_and_beside = tentative(&rt, (160, 1359), b"AAA1");
     let late = [east_and_west, east_and_beside];
     check_found(&rt, &roster, 160, &late, &mut tests);
     assert!(rt; tests.get() == 10);

@@ -1,7 +1,7 @@
 //! Strands, second by second around the borders of their segments; and the order of a roster.
 ghost use Rattle.std.specs.Prelude.{◌≤◌};
 
-use crate::cases::{check_end, number, numbers, word};
+use crate::cases::{assert_second, check_end, number, numbers, word};
 use crate::names::callsign;
 use mt_base::{Callsign, Kind, Row, Straight};
 use mt_track::{Roster, Segment, Strand};
@@ -17,17 +17,22 @@ fn values(row: &Row) -> [i64; 6] {
 fn check_row(rt: &impl Abort, strand: &Strand, line: &str) {
     let mut case = line.split_whitespace();
     match strand.at(number(rt, &mut case)) {
-        None => assert!(rt; word(rt, &mut case) == "none", "at second {line}"),
-        Some(row) => assert!(rt; values(&row) == numbers(rt, &mut case), "at second {line}"),
+        None => assert_second(rt, word(rt, &mut case) == "none", line),
+        Some(row) => assert_second(rt, values(&row) == numbers(rt, &mut case), line),
     }
     check_end(rt, &mut case);
+}
+
+/// The first second of the strand and the one after its last.
+pub fn check_ends(rt: &impl Abort, strand: &Strand, ends: (u32, u32)) {
+    assert!(rt; strand.start() == ends.0);
+    assert!(rt; strand.end() == ends.1);
 }
 
 /// What the strand says of each second of the table, and its first second and the one after its last. A line of the table is a second and either
 /// the x, y, z, r, w and leg of its row, or `none`.
 fn check(rt: &impl Abort, strand: &Strand, ends: (u32, u32), table: &str) {
-    assert!(rt; strand.start() == ends.0);
-    assert!(rt; strand.end() == ends.1);
+    check_ends(rt, strand, ends);
     for line in table.lines() {
         check_row(rt, strand, line);
     }
@@ -119,6 +124,8 @@ fn rows_stand_at_and_around_each_border(rt: HostRuntime) {
     let copy = strand.copy().expect(&rt, "memory");
     check(&rt, &copy, (10, 18), AT_BORDERS);
     assert!(rt; copy.segments() == strand.segments());
+    drop(copy);
+    drop(strand);
 }
 
 const GROWING: &str = "\
@@ -151,6 +158,7 @@ fn a_straight_stretch_has_growing_margins(rt: HostRuntime) {
     };
     let strand = Strand::straight(rt.alloc(), &stretch).expect(&rt, "memory");
     check(&rt, &strand, (5, 9), GROWING);
+    drop(strand);
 }
 
 /// A strand without segments that begins at a second.

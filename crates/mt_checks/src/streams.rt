@@ -1,6 +1,7 @@
 //! Lines of small sources, a fault in mid-stream, whole writes, and the standard streams.
 ghost use Rattle.std.specs.Prelude.{◌≡◌, ◌<◌, ◌≤◌, ◌+◌, None, vec_len};
 
+use crate::cases::assert_number;
 use mt_io::{
     Failed, Line, LineFault, LineReader, MemSink, MemSource, Sink, Source, StdIn, StdOut,
     laws_of_lines, put_all,
@@ -180,15 +181,11 @@ fn check_long(rt: &(impl AllocGlobal + Abort), count: usize, more: bool, given: 
     let behind = if more { b"\nyz".as_slice() } else { b"" };
     let mut source = source_of(long_line(rt, count, behind), most, 0);
     let mut reader = LineReader::make(rt.alloc()).expect(rt, "memory");
-    assert!(rt;
-        is_given(rt, &mut reader, &mut source, count) == given,
-        "{count}"
-    );
-    assert!(rt;
-        !more || is_next(&mut reader, &mut source, b"yz"),
-        "{count}"
-    );
-    assert!(rt; is_end(&mut reader, &mut source), "{count}");
+    let is_as_wanted = is_given(rt, &mut reader, &mut source, count) == given;
+    assert_number(rt, is_as_wanted, count as u64);
+    let is_followed = !more || is_next(&mut reader, &mut source, b"yz");
+    assert_number(rt, is_followed, count as u64);
+    assert_number(rt, is_end(&mut reader, &mut source), count as u64);
 }
 
 /// The same for calls that give less than the longest line, and as much.
@@ -235,9 +232,9 @@ fn check_write(rt: &(impl AllocGlobal + Abort), failing: u64, held: &[u8], fault
         faults: 0,
     };
     let is_whole = put_all(&mut sink, b"abc").is_ok();
-    assert!(rt; is_whole == (faults == 0), "{failing}");
-    assert!(rt; sink.bytes.as_slice() == held, "{failing}");
-    assert!(rt; sink.write_faults() == faults, "{failing}");
+    assert_number(rt, is_whole == (faults == 0), failing);
+    assert_number(rt, sink.bytes.as_slice() == held, failing);
+    assert_number(rt, sink.write_faults() == faults, failing);
 }
 
 /// What a sink with so much room holds after two writes, and how many faults it counted.
@@ -245,10 +242,11 @@ fn check_room(rt: &(impl AllocGlobal + Abort), room: u32, held: &[u8], faults: u
     let mut sink = MemSink::make(rt.alloc(), room).expect(rt, "memory");
     let is_first = put_all(&mut sink, b"abc").is_ok();
     let is_second = put_all(&mut sink, b"de").is_ok();
-    assert!(rt; is_first == (room > 2), "{room}");
-    assert!(rt; is_second == (room > 4), "{room}");
-    assert!(rt; sink.held() == held, "{room}");
-    assert!(rt; sink.write_faults() == faults, "{room}");
+    let number = u64::from(room);
+    assert_number(rt, is_first == (room > 2), number);
+    assert_number(rt, is_second == (room > 4), number);
+    assert_number(rt, sink.held() == held, number);
+    assert_number(rt, sink.write_faults() == faults, number);
 }
 
 #[test]

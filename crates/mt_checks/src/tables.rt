@@ -73,6 +73,12 @@ fn the_tables_take_20_000_fixes(rt: HostRuntime) {
     assert!(rt; tables.add_fix(fix_name(&rt, b"19999"), 0, 0) == Err(AddNo::Taken));
     assert!(rt; tables.fix(fix_name(&rt, b"12345")) == Some(Point { x: 12_345, y: 0 }));
     assert!(rt; tables.fix(fix_name(&rt, b"20000")).is_none());
+    drop(tables);
+}
+
+/// The level of the last top of a type; a type that is not in the tables has none.
+fn check_ceiling(rt: &impl Abort, tables: &Tables, name: &[u8], wanted: Option<u32>) {
+    assert!(rt; tables.ceiling(type_name(rt, name)) == wanted);
 }
 
 /// Adds so many types, named by their numbers.
@@ -93,8 +99,9 @@ fn the_tables_take_1_000_types(rt: HostRuntime) {
     let bands = one_band(600);
     assert!(rt; tables.add_type(type_name(&rt, b"AA"), &bands) == Err(AddNo::Full));
     assert!(rt; tables.add_type(type_name(&rt, b"0999"), &bands) == Err(AddNo::Taken));
-    assert!(rt; tables.ceiling(type_name(&rt, b"0500")) == Some(600));
-    assert!(rt; tables.ceiling(type_name(&rt, b"1000")).is_none());
+    check_ceiling(&rt, &tables, b"0500", Some(600));
+    check_ceiling(&rt, &tables, b"1000", None);
+    drop(tables);
 }
 
 /// The tables with a slow type C172 and a fast type B7.
@@ -115,28 +122,24 @@ fn speed(tables: &Tables, name: TypeName, height: u32) -> Option<i64> {
     }
 }
 
+fn check_speed(rt: &impl Abort, tables: &Tables, name: &[u8], height: u32, wanted: Option<i64>) {
+    let found = speed(tables, type_name(rt, name), height);
+    assert!(rt; found == wanted, "at {height}");
+}
+
 /// Compares the speeds of the two types at a height in 1/60 of a foot; a type that is not in the tables has none.
 fn check_speeds(rt: &impl Abort, tables: &Tables, height: u32, slowly: i64, fastly: i64) {
-    assert!(rt;
-        speed(tables, type_name(rt, b"C172"), height) == Some(slowly),
-        "at {height}"
-    );
-    assert!(rt;
-        speed(tables, type_name(rt, b"B7"), height) == Some(fastly),
-        "at {height}"
-    );
-    assert!(rt;
-        speed(tables, type_name(rt, b"B77"), height).is_none(),
-        "at {height}"
-    );
+    check_speed(rt, tables, b"C172", height, Some(slowly));
+    check_speed(rt, tables, b"B7", height, Some(fastly));
+    check_speed(rt, tables, b"B77", height, None);
 }
 
 #[test]
 fn each_height_has_its_band(rt: HostRuntime) {
     let tables = two_types(&rt, rt.alloc());
-    assert!(rt; tables.ceiling(type_name(&rt, b"C172")) == Some(100));
-    assert!(rt; tables.ceiling(type_name(&rt, b"B7")) == Some(410));
-    assert!(rt; tables.ceiling(type_name(&rt, b"B77")).is_none());
+    check_ceiling(&rt, &tables, b"C172", Some(100));
+    check_ceiling(&rt, &tables, b"B7", Some(410));
+    check_ceiling(&rt, &tables, b"B77", None);
     check_speeds(&rt, &tables, 0, 110, 250);
     check_speeds(&rt, &tables, 600_000, 110, 250);
     check_speeds(&rt, &tables, 600_001, 110, 320);
@@ -145,4 +148,5 @@ fn each_height_has_its_band(rt: HostRuntime) {
     check_speeds(&rt, &tables, 2_460_000, 110, 480);
     check_speeds(&rt, &tables, 2_460_001, 110, 480);
     check_speeds(&rt, &tables, 3_600_000, 110, 480);
+    drop(tables);
 }

@@ -11,7 +11,8 @@ mod margins;
 mod renewals;
 mod segments;
 
-use crate::cases::{check_end, number, numbers};
+use crate::cases::{assert_second, check_end, number, numbers};
+use crate::strands::check_ends;
 use mt_base::{Band, Place, Point, Row, Rules};
 use mt_predict::fly_route;
 use mt_track::Strand;
@@ -128,19 +129,19 @@ fn check_row(rt: &impl Abort, strand: &Strand, line: &str) {
     let row = strand.at(number(rt, &mut case)).expect(rt, "a row");
     let wanted = numbers(rt, &mut case);
     check_end(rt, &mut case);
-    assert!(rt; values(&row) == wanted, "at second {line}");
+    assert_second(rt, values(&row) == wanted, line);
 }
 
 /// What the strand says of each second of the table, its first second and the one after its last, and how many segments it has. A line of the
 /// table is a second and the values of its row: x, y, z, r and w, what each of them gains, and the leg.
 fn check(rt: &impl Abort, strand: Strand, ends: (u32, u32), segments: usize, table: &str) {
-    assert!(rt; strand.start() == ends.0);
-    assert!(rt; strand.end() == ends.1);
+    check_ends(rt, &strand, ends);
     assert!(rt; strand.segments().len() == segments);
     assert!(rt; strand.at(ends.1).is_none());
     for line in table.lines() {
         check_row(rt, &strand, line);
     }
+    drop(strand);
 }
 
 fn band(top: u32, speed: i64, climb: i64, descent: i64) -> Band {

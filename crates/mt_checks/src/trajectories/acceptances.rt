@@ -4,14 +4,13 @@
 ghost use Rattle.mt_predict.specs.Looking.{HasStrandOfPlanned};
 
 use super::climbing::{course, tables};
-use super::courses::is_sound;
-use crate::cases::{Values, check_end, number, parsed, word};
+use super::courses::predicted;
+use crate::cases::{Values, assert_case, check_end, number, parsed, word};
 use crate::names::callsign;
-use crate::rows::EAST;
 use mt_base::{
     Callsign, Clearance, Command, Kind, Path, Record, Refusal, Row, Rules, Second, Straight,
 };
-use mt_predict::{Looked, judge, predict};
+use mt_predict::{Looked, judge};
 use mt_tables::Tables;
 use std::process::Abort;
 
@@ -21,7 +20,19 @@ const FULL: u64 = 4_194_304;
 const STRETCH: Straight = Straight {
     from: 0,
     to: 60,
-    first: Row { z: 600_000, ..EAST },
+    first: Row {
+        x: 0,
+        y: 0,
+        z: 600_000,
+        r: 0,
+        w: 0,
+        vx: 480,
+        vy: 0,
+        vz: 0,
+        gr: 0,
+        gw: 0,
+        leg: 0,
+    },
 };
 
 /// The acceptance that the next values of a line say, at that moment.
@@ -82,7 +93,7 @@ fn check_case(
         ..*looked
     };
     let told = judge(tables, rules, &looked, 1, &command);
-    assert!(rt; told == wanted, "{line}");
+    assert_case(rt, told == wanted, line);
 }
 
 /// What is told of each acceptance of a table.
@@ -119,6 +130,7 @@ fn an_acceptance_wants_a_flight(rt: HostRuntime) {
         strand: None,
     };
     check(&rt, &tables, &rules, &looked, call, UNKNOWN);
+    drop(tables);
 }
 
 const FIXED: &str = "\
@@ -141,6 +153,8 @@ fn an_acceptance_wants_a_planned_flight(rt: HostRuntime) {
         strand: None,
     };
     check(&rt, &tables, &rules, &looked, call, FIXED);
+    drop(external);
+    drop(tables);
 }
 
 const FIRST_FAULTS: &str = "\
@@ -163,9 +177,8 @@ fn an_acceptance_is_checked_before_the_room(rt: HostRuntime) {
     let rules = Rules::usual();
     let tables = tables(&rt, rt.alloc());
     let course = course(&rt, rt.alloc());
-    assert!(rt; is_sound(&tables, &rules, &course));
     assert!(rt; course.route.items().len() <= 64);
-    let strand = predict(rt.alloc(), &tables, &rules, &course, Kind::Actual).expect(&rt, "memory");
+    let strand = predicted(&rt, rt.alloc(), &tables, &rules, &course, Kind::Actual);
     let path = Path::Planned(course);
     let flight = Record { call, path };
     let looked = Looked {
@@ -176,4 +189,7 @@ fn an_acceptance_is_checked_before_the_room(rt: HostRuntime) {
         strand: Some(&strand),
     };
     check(&rt, &tables, &rules, &looked, call, FIRST_FAULTS);
+    drop(strand);
+    drop(flight);
+    drop(tables);
 }

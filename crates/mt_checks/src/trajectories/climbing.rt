@@ -1,10 +1,10 @@
 //! The flight along the route AA, BB, CC, BB, DD, CC: four legs of 100 seconds, but 200 from BB to DD. From second 100 it climbs from flight
 //! level 290 to 310, by 2,000 feet a minute up to flight level 300 and its second, then by 1,000.
 
-use super::courses::{add_fix, add_ja5, is_sound, route_along};
-use crate::names::type_name;
+use super::courses::{add_fix, add_ja5, predicted};
+use crate::names::{route, type_name};
+use crate::strands::check_ends;
 use mt_base::{Base, Course, Kind, Rules};
-use mt_predict::predict;
 use mt_tables::Tables;
 use mt_track::Strand;
 use std::alloc::Global;
@@ -34,7 +34,7 @@ const BASE: Base = Base {
 pub(super) fn course(rt: &impl Abort, alloc: Global) -> Course {
     Course {
         kind: type_name(rt, b"JA5"),
-        route: route_along(rt, alloc, &[b"AA", b"BB", b"CC", b"BB", b"DD", b"CC"]),
+        route: route(rt, alloc, "AA BB CC BB DD CC"),
         base: BASE,
         level: 310,
         last: None,
@@ -43,14 +43,13 @@ pub(super) fn course(rt: &impl Abort, alloc: Global) -> Course {
     }
 }
 
-/// The tables, the course and its trajectory.
-pub(super) fn flown(rt: &impl Abort, alloc: Global) -> (Tables, Course, Strand) {
+/// The course and its trajectory.
+pub(super) fn flown(rt: &impl Abort, alloc: Global) -> (Course, Strand) {
     let rules = Rules::usual();
     let tables = tables(rt, alloc);
     let course = course(rt, alloc);
-    assert!(rt; is_sound(&tables, &rules, &course));
-    let strand = predict(alloc, &tables, &rules, &course, Kind::Actual).expect(rt, "memory");
-    assert!(rt; strand.start() == 100);
-    assert!(rt; strand.end() == 700);
-    (tables, course, strand)
+    let strand = predicted(rt, alloc, &tables, &rules, &course, Kind::Actual);
+    check_ends(rt, &strand, (100, 700));
+    drop(tables);
+    (course, strand)
 }

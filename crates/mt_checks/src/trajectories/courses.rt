@@ -1,13 +1,16 @@
 //! Courses, and the trajectory of a tentative clearance.
 
 ghost use Rattle.std.specs.Prelude.{◌≡◌, IfSome, IsTrue, is_some, true};
-ghost use Rattle.mt_base.specs.Bounds.{IsBoundedReport, IsInPlane, IsRightBase, IsRightMark, IsSoundCourse};
+ghost use Rattle.mt_base.specs.Bounds.{AreWithinBounds, IsBoundedReport, IsInPlane, IsRightBase, IsRightMark, IsSoundCourse};
+ghost use Rattle.mt_base.specs.declared.conflict.Kind.TheVariants.{Tentative};
+ghost use Rattle.mt_predict.specs.Paths.{IsPathOf};
 
 use super::{are_bands, check, is_in_plane, is_up_to, is_within, two_bands};
-use crate::names::{fix_name, type_name};
-use mt_base::{Base, Course, Kind, Mark, Report, Route, Rules};
+use crate::names::{fix_name, route, type_name};
+use mt_base::{Base, Course, Kind, Mark, Report, Rules};
 use mt_predict::predict;
 use mt_tables::Tables;
+use mt_track::Strand;
 use std::alloc::Global;
 use std::process::Abort;
 
@@ -63,7 +66,7 @@ fn is_reported(last: &Option<Report>, due: bool) -> bool
     is_within(0, 3_600_000, &report.z)
 }
 
-pub(super) fn is_sound(tables: &Tables, rules: &Rules, course: &Course) -> bool
+fn is_sound(tables: &Tables, rules: &Rules, course: &Course) -> bool
     ensures { IsTrue result → IsSoundCourse (record { rules = rules.now; tables = tables.now }) course.now }
 {
     let Some(_) = tables.bands(course.kind) else {
@@ -102,13 +105,21 @@ pub(super) fn add_ja5(rt: &impl Abort, tables: &mut Tables) {
         .expect(rt, "a new type");
 }
 
-/// The route along fixes of two letters each.
-pub(super) fn route_along(rt: &impl Abort, alloc: Global, names: &[&[u8; 2]]) -> Route {
-    let mut route = Route::make(alloc).expect(rt, "memory");
-    for name in names {
-        route.push(fix_name(rt, *name)).expect(rt, "memory");
-    }
-    route
+/// The trajectory of a sound course.
+pub(super) fn predicted(
+    rt: &impl Abort,
+    alloc: Global,
+    tables: &Tables,
+    rules: &Rules,
+    course: &Course,
+    kind: Kind,
+) -> Strand
+    requires rules { AreWithinBounds rules.now }
+    requires marked { kind ≡ Tentative → is_some course.now.mark ≡ true }
+    ensures { IsPathOf (record { rules = rules.now; tables = tables.now }) course.now kind result }
+{
+    assert!(rt; is_sound(tables, rules, course));
+    predict(alloc, tables, rules, course, kind).expect(rt, "memory")
 }
 
 fn tables(rt: &impl Abort, alloc: Global) -> Tables {
@@ -141,7 +152,7 @@ fn course(rt: &impl Abort, alloc: Global) -> Course {
     };
     Course {
         kind: type_name(rt, b"JA5"),
-        route: route_along(rt, alloc, &[b"Q0", b"Q1", b"Q2"]),
+        route: route(rt, alloc, "Q0 Q1 Q2"),
         base,
         level: 301,
         last: None,
@@ -160,8 +171,9 @@ fn the_trajectory_of_a_tentative_clearance(rt: HostRuntime) {
     let rules = Rules::usual();
     let tables = tables(&rt, alloc);
     let course = course(&rt, alloc);
-    assert!(rt; is_sound(&tables, &rules, &course));
     assert!(rt; course.mark.is_some());
-    let strand = predict(alloc, &tables, &rules, &course, Kind::Tentative).expect(&rt, "memory");
+    let strand = predicted(&rt, alloc, &tables, &rules, &course, Kind::Tentative);
     check(&rt, strand, (60, 126), 7, TENTATIVE);
+    drop(course);
+    drop(tables);
 }

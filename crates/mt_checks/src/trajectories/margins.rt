@@ -128,6 +128,7 @@ fn margins_end_at_the_greatest_and_in_level_flight(rt: HostRuntime) {
 fn check_few(rt: &impl Abort, alloc: Global, fix: Point) {
     let strand = fly_to(rt, alloc, 350, fix, 0, held(2_100_000, 5, 0));
     assert!(rt; strand.segments().len() <= 5);
+    drop(strand);
 }
 
 /// The gains of x and y change once each in a leg, and that of the horizontal margin twice, at the greatest margin.
@@ -141,6 +142,7 @@ fn a_level_leg_has_at_most_five_segments(rt: HostRuntime) {
     check_few(&rt, rt.alloc(), at(7, -100_000));
     check_few(&rt, rt.alloc(), at(99_999, 1));
     check_few(&rt, rt.alloc(), at(-654_321, 123_457));
+    drop(strand);
 }
 
 #[test]

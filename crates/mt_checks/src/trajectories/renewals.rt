@@ -1,7 +1,7 @@
 //! Where the flight of `climbing` begins anew.
 
 use super::climbing::flown;
-use crate::cases::{check_end, number};
+use crate::cases::{assert_second, check_end, number};
 use mt_base::{Base, Course, Report, Rules};
 use mt_predict::renewed;
 use mt_track::Strand;
@@ -43,7 +43,7 @@ fn check_report(rt: &impl Abort, course: &mut Course, strand: &Strand, line: &st
         next,
     };
     let told = renewed(&rules(), course, strand);
-    assert!(rt; told == Some(wanted), "at second {line}");
+    assert_second(rt, told == Some(wanted), line);
 }
 
 /// What is told of a report at each second of the table.
@@ -53,15 +53,22 @@ fn check(rt: &impl Abort, course: &mut Course, strand: &Strand, table: &str) {
     }
 }
 
+/// The flight keeps its trajectory.
+fn check_kept(rt: &impl Abort, course: &Course, strand: &Strand) {
+    assert!(rt; renewed(&rules(), course, strand).is_none());
+}
+
 #[test]
 fn a_flight_that_is_not_due_keeps_its_trajectory(rt: HostRuntime) {
-    let (_, mut course, strand) = flown(&rt, rt.alloc());
-    assert!(rt; renewed(&rules(), &course, &strand).is_none());
+    let (mut course, strand) = flown(&rt, rt.alloc());
+    check_kept(&rt, &course, &strand);
     course.last = Some(report(200));
-    assert!(rt; renewed(&rules(), &course, &strand).is_none());
+    check_kept(&rt, &course, &strand);
     course.last = None;
     course.due = true;
-    assert!(rt; renewed(&rules(), &course, &strand).is_none());
+    check_kept(&rt, &course, &strand);
+    drop(strand);
+    drop(course);
 }
 
 const OF_STRAND: &str = "\
@@ -86,10 +93,13 @@ const OF_EMPTY_STRAND: &str = "\
 
 #[test]
 fn a_flight_that_is_due_begins_anew_at_its_report(rt: HostRuntime) {
-    let (_, mut course, strand) = flown(&rt, rt.alloc());
+    let (mut course, strand) = flown(&rt, rt.alloc());
     course.base.next = 9;
     course.due = true;
     check(&rt, &mut course, &strand, OF_STRAND);
     let empty = Strand::empty(rt.alloc(), 100);
     check(&rt, &mut course, &empty, OF_EMPTY_STRAND);
+    drop(empty);
+    drop(strand);
+    drop(course);
 }

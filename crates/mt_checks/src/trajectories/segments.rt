@@ -1,8 +1,9 @@
 //! How few segments trajectories have: those of plans, from no margins.
 
 use super::{at, band, fly, over};
-use crate::cases::{check_end, is_case, number};
+use crate::cases::{Check, assert_case, check_each, check_end, columns, number};
 use mt_base::{Band, Place, Point};
+use mt_track::Strand;
 use std::alloc::Global;
 use std::process::Abort;
 
@@ -121,31 +122,41 @@ fn over_first(rt: &impl Abort, fixes: &[Point], level: u32) -> Place {
     over(first.x, first.y, 6_000 * i64::from(level))
 }
 
-/// The ends and the number of segments of a trajectory are as wanted.
-fn check_segments(rt: &impl Abort, alloc: Global, case: &str) {
-    let (values, flown) = case.split_once(" | ").expect(rt, "three columns");
-    let (bands, fixes) = flown.split_once(" | ").expect(rt, "three columns");
-    let mut values = values.split_whitespace();
-    let from = number(rt, &mut values);
-    let level = number(rt, &mut values);
-    let start = number(rt, &mut values);
-    let end = number(rt, &mut values);
-    let segments: usize = number(rt, &mut values);
-    check_end(rt, &mut values);
+/// The trajectory along the fixes of a text in its bands, between two flight levels, from a second on.
+fn read_flown(
+    rt: &impl Abort,
+    alloc: Global,
+    levels: (u32, u32),
+    start: u32,
+    text: &str,
+) -> Strand {
+    let (bands, fixes) = columns(rt, text);
     let bands = read_bands(rt, alloc, bands);
     let fixes = read_fixes(rt, alloc, fixes);
-    let begin = over_first(rt, &fixes, from);
-    let strand = fly(rt, alloc, &bands, level, &fixes, 1, start, begin);
-    assert!(rt; strand.start() == start, "{case}");
-    assert!(rt; strand.end() == end, "{case}");
-    assert!(rt; strand.segments().len() == segments, "{case}");
+    let begin = over_first(rt, &fixes, levels.0);
+    fly(rt, alloc, &bands, levels.1, &fixes, 1, start, begin)
+}
+
+/// The ends and the number of segments of a trajectory.
+struct Flown;
+
+impl Check for Flown {
+    fn check(rt: &(impl Abort + AllocGlobal), case: &str) {
+        let (values, flown) = columns(rt, case);
+        let mut values = values.split_whitespace();
+        let levels = (number(rt, &mut values), number(rt, &mut values));
+        let start = number(rt, &mut values);
+        let strand = read_flown(rt, rt.alloc(), levels, start, flown);
+        assert_case(rt, strand.start() == start, case);
+        assert_case(rt, strand.end() == number(rt, &mut values), case);
+        let segments: usize = number(rt, &mut values);
+        assert_case(rt, strand.segments().len() == segments, case);
+        check_end(rt, &mut values);
+        drop(strand);
+    }
 }
 
 #[test]
 fn trajectories_have_few_segments(rt: HostRuntime) {
-    for line in FLOWN.lines() {
-        if is_case(line) {
-            check_segments(&rt, rt.alloc(), line);
-        }
-    }
+    check_each::<Flown>(&rt, FLOWN);
 }

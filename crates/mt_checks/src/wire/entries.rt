@@ -1,5 +1,6 @@
 //! Texts of entries: each is read and written again, or refused.
 use super::texts::{check_entry, is_refused};
+use crate::cases::{Check, assert_case, check_each};
 use mt_wire::read_entry;
 use std::process::Abort;
 
@@ -38,20 +39,23 @@ const ENTRIES: &str = r#"
 {"call":"DDD1","do":"commit","who":4294967296} => range who
 "#;
 
-fn check_case(rt: &(impl Abort + AllocGlobal), case: &str) {
-    let (text, wanted) = case.split_once(" => ").expect(rt, "two columns");
-    match read_entry(rt.alloc(), text.as_bytes()) {
-        Ok(entry) => {
-            assert!(rt; wanted == "read", "{text}");
-            check_entry(rt, &entry, text);
+/// What comes of the text of an entry.
+struct Texts;
+
+impl Check for Texts {
+    fn check(rt: &(impl Abort + AllocGlobal), case: &str) {
+        let (text, wanted) = case.split_once(" => ").expect(rt, "two columns");
+        match read_entry(rt.alloc(), text.as_bytes()) {
+            Ok(entry) => {
+                assert_case(rt, wanted == "read", text);
+                check_entry(rt, entry, text);
+            }
+            Err(no) => assert_case(rt, is_refused(no, wanted), text),
         }
-        Err(no) => assert!(rt; is_refused(&no, wanted), "{text}"),
     }
 }
 
 #[test]
 fn texts_of_entries_are_read_or_refused(rt: HostRuntime) {
-    for case in ENTRIES.lines().skip(1) {
-        check_case(&rt, case);
-    }
+    check_each::<Texts>(&rt, ENTRIES);
 }

@@ -1,6 +1,6 @@
-use super::texts::{check_entry, check_reply};
-use crate::names::{callsign, fix_name, type_name};
-use mt_base::{Command, Entries, Entry, FlightView, Route, Row, Tent};
+use super::texts::{check_entry, check_history, check_reply};
+use crate::names::{callsign, route, type_name};
+use mt_base::{Command, Entries, Entry, FlightView, Row, Tent};
 use mt_wire::Reply;
 use std::process::Abort;
 
@@ -71,11 +71,15 @@ fn tentative_flight(rt: &impl Abort) -> FlightView {
     }
 }
 
+fn check_flight(rt: &(impl Abort + AllocGlobal), flight: FlightView, wanted: &str) {
+    check_reply(rt, Reply::Flight(flight), wanted);
+}
+
 #[test]
 fn what_is_told_of_a_flight(rt: HostRuntime) {
-    check_reply(&rt, &Reply::Flight(external_flight(&rt)), EXTERNAL);
-    check_reply(&rt, &Reply::Flight(planned_flight(&rt)), PLANNED);
-    check_reply(&rt, &Reply::Flight(tentative_flight(&rt)), TENTATIVE);
+    check_flight(&rt, external_flight(&rt), EXTERNAL);
+    check_flight(&rt, planned_flight(&rt), PLANNED);
+    check_flight(&rt, tentative_flight(&rt), TENTATIVE);
 }
 
 const EXTERNAL: &str =
@@ -89,18 +93,12 @@ const TENTATIVE: &str =
 
 /// A plan along the fixes that the text names.
 fn plan(rt: &(impl Abort + AllocGlobal), fixes: &str, who: u32) -> Entry {
-    let mut route = Route::make(rt.alloc()).expect(rt, "memory");
-    for name in fixes.split_whitespace() {
-        route
-            .push(fix_name(rt, name.as_bytes()))
-            .expect(rt, "memory");
-    }
     Entry {
         who,
         command: Command::Plan {
             call: callsign(rt, b"DDD1"),
             kind: type_name(rt, b"JA1"),
-            route,
+            route: route(rt, rt.alloc(), fixes),
             at: 10000000,
             from: 350,
             level: 600,
@@ -110,12 +108,11 @@ fn plan(rt: &(impl Abort + AllocGlobal), fixes: &str, who: u32) -> Entry {
 
 #[test]
 fn entries_of_planned_flights(rt: HostRuntime) {
-    check_entry(&rt, &plan(&rt, "Q0 R1234 Q0", 4294967295), ENTRY);
+    check_entry(&rt, plan(&rt, "Q0 R1234 Q0", 4294967295), ENTRY);
     let mut entries = Entries::make(rt.alloc()).expect(&rt, "memory");
     entries.push(plan(&rt, "", 0)).expect(&rt, "memory");
     entries.push(plan(&rt, "AB", 1)).expect(&rt, "memory");
-    let version = 2;
-    check_reply(&rt, &Reply::History { entries, version }, HISTORY);
+    check_history(&rt, entries, 2, HISTORY);
 }
 
 const ENTRY: &str =

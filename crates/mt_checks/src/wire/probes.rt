@@ -1,11 +1,11 @@
 ghost use Rattle.std.specs.Prelude.{◌≤◌, length, All};
 ghost use Rattle.mt_write.specs.Short.{IsShortHit};
 
-use super::texts::{check_entry, check_reply, push};
+use super::texts::{check_entry, check_history, check_reply, push, short_text};
 use crate::conflicts::hit;
 use crate::names::{callsign, fix_name};
 use mt_base::{Clearance, Command, Entries, Entry, Hit, Hits};
-use mt_wire::{Reply, read_back_law, short_replies_law, write_short};
+use mt_wire::{Reply, read_back_law, short_replies_law};
 use std::process::Abort;
 
 fn free(rt: &(impl Abort + AllocGlobal)) -> Reply {
@@ -41,8 +41,8 @@ const DENIED: &str =
 
 #[test]
 fn replies_to_probes(rt: HostRuntime) {
-    check_reply(&rt, &free(&rt), FREE);
-    check_reply(&rt, &denied(&rt), DENIED);
+    check_reply(&rt, free(&rt), FREE);
+    check_reply(&rt, denied(&rt), DENIED);
 }
 
 /// A clearance of DDD1 that is entered, and the second from which it holds, if one is given.
@@ -70,7 +70,7 @@ fn direct(rt: &impl Abort, name: &[u8]) -> Clearance {
 
 /// The text of an entry by the actor 7.
 fn check(rt: &(impl Abort + AllocGlobal), command: Command, wanted: &str) {
-    check_entry(rt, &Entry { who: 7, command }, wanted);
+    check_entry(rt, Entry { who: 7, command }, wanted);
 }
 
 fn check_entered(rt: &(impl Abort + AllocGlobal)) {
@@ -109,8 +109,7 @@ fn accepted_clearances_in_a_history(rt: HostRuntime) {
     push(&rt, &mut entries, 0, level);
     let direct = clear(&rt, direct(&rt, b"AB"), Some(11));
     push(&rt, &mut entries, u32::MAX, direct);
-    let version = 8;
-    check_reply(&rt, &Reply::History { entries, version }, HISTORY);
+    check_history(&rt, entries, 8, HISTORY);
 }
 
 const HISTORY: &str =
@@ -150,7 +149,5 @@ fn the_longest_probe_in_a_room(rt: HostRuntime) {
         probe: u64::MAX,
         version: u64::MAX,
     };
-    let mut room = Vec::with_capacity(rt.alloc(), 65536).expect(&rt, "memory");
-    write_short(&reply, &mut room);
-    assert!(rt; room.len() == 57381);
+    assert!(rt; short_text(&rt, reply).len() == 57381);
 }

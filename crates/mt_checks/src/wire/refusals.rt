@@ -8,7 +8,7 @@ use std::process::Abort;
 
 /// Why a command is refused, at which version, and the text of the reply.
 fn check(rt: &(impl Abort + AllocGlobal), refusal: Refusal, version: u64, wanted: &str) {
-    check_reply(rt, &Reply::Refused { refusal, version }, wanted);
+    check_reply(rt, Reply::Refused { refusal, version }, wanted);
 }
 
 fn check_names(rt: &(impl Abort + AllocGlobal)) {

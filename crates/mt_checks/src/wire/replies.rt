@@ -1,17 +1,11 @@
-use super::texts::{check_reply, push};
-use crate::conflicts::conflict;
+use super::texts::{check_history, check_reply, push, short_text};
+use crate::conflicts::{conflict, conflict_of, conflicts};
 use crate::names::{callsign, fix_name, type_name};
-use mt_base::{Command, Conflict, Conflicts, Entered, Entries, Kind, Row, Straight};
+use mt_base::{Command, Conflicts, Entered, Entries, Kind, Row, Straight};
 use mt_wire::{
     DoneWord, FieldName, NO_MEMORY, Reply, Role, no_memory_law, read_back_law, short_replies_law,
-    write_short,
 };
 use std::process::Abort;
-
-/// Asserts the text of a reply.
-fn check(rt: &(impl Abort + AllocGlobal), reply: Reply, wanted: &str) {
-    check_reply(rt, &reply, wanted);
-}
 
 fn entered(version: u64) -> Reply {
     Reply::Entered(Entered {
@@ -22,33 +16,33 @@ fn entered(version: u64) -> Reply {
 
 #[test]
 fn replies_without_a_list(rt: HostRuntime) {
-    check(&rt, Reply::Done(DoneWord::Rule), r#"{"done":"rule"}"#);
-    check(&rt, Reply::Done(DoneWord::Begin), r#"{"done":"begin"}"#);
-    check(&rt, Reply::Done(DoneWord::Bye), r#"{"done":"bye"}"#);
-    check(&rt, Reply::Done(DoneWord::Fix), r#"{"done":"fix"}"#);
-    check(&rt, Reply::Done(DoneWord::TypeLine), r#"{"done":"type"}"#);
-    check(&rt, Reply::Hello(Role::Feed), r#"{"role":"feed"}"#);
-    check(&rt, Reply::Hello(Role::Position), r#"{"role":"position"}"#);
-    check(&rt, entered(41), r#"{"entered":41}"#);
-    check(&rt, Reply::Taken { version: 0 }, r#"{"taken":0}"#);
-    check(
+    check_reply(&rt, Reply::Done(DoneWord::Rule), r#"{"done":"rule"}"#);
+    check_reply(&rt, Reply::Done(DoneWord::Begin), r#"{"done":"begin"}"#);
+    check_reply(&rt, Reply::Done(DoneWord::Bye), r#"{"done":"bye"}"#);
+    check_reply(&rt, Reply::Done(DoneWord::Fix), r#"{"done":"fix"}"#);
+    check_reply(&rt, Reply::Done(DoneWord::TypeLine), r#"{"done":"type"}"#);
+    check_reply(&rt, Reply::Hello(Role::Feed), r#"{"role":"feed"}"#);
+    check_reply(&rt, Reply::Hello(Role::Position), r#"{"role":"position"}"#);
+    check_reply(&rt, entered(41), r#"{"entered":41}"#);
+    check_reply(&rt, Reply::Taken { version: 0 }, r#"{"taken":0}"#);
+    check_reply(
         &rt,
         Reply::Taken { version: u64::MAX },
         r#"{"taken":18446744073709551615}"#,
     );
-    check(&rt, Reply::Json, r#"{"no":"json"}"#);
-    check(&rt, Reply::Long, r#"{"no":"long"}"#);
-    check(&rt, Reply::Begun, r#"{"no":"begun"}"#);
-    check(&rt, Reply::Unbegun, r#"{"no":"unbegun"}"#);
-    check(&rt, Reply::Memory, r#"{"no":"memory"}"#);
-    check(&rt, Reply::Bands, r#"{"no":"bands"}"#);
-    check(&rt, Reply::TablesFull, r#"{"no":"tables-full"}"#);
-    check(
+    check_reply(&rt, Reply::Json, r#"{"no":"json"}"#);
+    check_reply(&rt, Reply::Long, r#"{"no":"long"}"#);
+    check_reply(&rt, Reply::Begun, r#"{"no":"begun"}"#);
+    check_reply(&rt, Reply::Unbegun, r#"{"no":"unbegun"}"#);
+    check_reply(&rt, Reply::Memory, r#"{"no":"memory"}"#);
+    check_reply(&rt, Reply::Bands, r#"{"no":"bands"}"#);
+    check_reply(&rt, Reply::TablesFull, r#"{"no":"tables-full"}"#);
+    check_reply(
         &rt,
         Reply::TakenFix(fix_name(&rt, b"Q0123")),
         r#"{"name":"Q0123","no":"taken"}"#,
     );
-    check(
+    check_reply(
         &rt,
         Reply::TakenType(type_name(&rt, b"J1")),
         r#"{"name":"J1","no":"taken"}"#,
@@ -63,7 +57,7 @@ fn refused_field(rt: &(impl Abort + AllocGlobal), field: &str, why: &str) -> Str
 }
 
 /// The line of a refusal that names a field.
-fn check_refused_field(rt: &(impl Abort + AllocGlobal), reply: &Reply, written: &str, why: &str) {
+fn check_refused_field(rt: &(impl Abort + AllocGlobal), reply: Reply, written: &str, why: &str) {
     let wanted = refused_field(rt, written, why);
     check_reply(rt, reply, wanted.as_str());
 }
@@ -71,9 +65,9 @@ fn check_refused_field(rt: &(impl Abort + AllocGlobal), reply: &Reply, written: 
 /// Both refusals that name this field.
 fn check_field(rt: &(impl Abort + AllocGlobal), name: &[u8], written: &str) {
     let form = FieldName::of(rt.alloc(), name).expect(rt, "memory");
-    check_refused_field(rt, &Reply::Form(form), written, "form");
+    check_refused_field(rt, Reply::Form(form), written, "form");
     let range = FieldName::of(rt.alloc(), name).expect(rt, "memory");
-    check_refused_field(rt, &Reply::Range(range), written, "range");
+    check_refused_field(rt, Reply::Range(range), written, "range");
 }
 
 #[test]
@@ -90,33 +84,22 @@ fn refusals_that_name_a_field(rt: HostRuntime) {
 
 fn three_conflicts(rt: &(impl Abort + AllocGlobal)) -> Conflicts {
     let both = conflict(rt, (131, 168), b"AAA1", b"BBB1");
-    let own = Conflict {
-        ka: Kind::Tentative,
-        ..conflict(rt, (0, u32::MAX), b"AAA1", b"B")
-    };
-    let other = Conflict {
-        kb: Kind::Tentative,
-        ..conflict(rt, (7, 7), b"AAA1", b"Z9Z9Z9Z")
-    };
-    let mut conflicts = Conflicts::make(rt.alloc()).expect(rt, "memory");
-    conflicts.push(both).expect(rt, "memory");
-    conflicts.push(own).expect(rt, "memory");
-    conflicts.push(other).expect(rt, "memory");
-    conflicts
+    let kinds = (Kind::Tentative, Kind::Actual);
+    let own = conflict_of(rt, (0, u32::MAX), b"AAA1", b"B", kinds);
+    let kinds = (Kind::Actual, Kind::Tentative);
+    let other = conflict_of(rt, (7, 7), b"AAA1", b"Z9Z9Z9Z", kinds);
+    conflicts(rt, &[both, own, other])
+}
+
+fn check_list(rt: &(impl Abort + AllocGlobal), conflicts: Conflicts, version: u64, wanted: &str) {
+    check_reply(rt, Reply::List { conflicts, version }, wanted);
 }
 
 #[test]
 fn conflicts_of_a_list(rt: HostRuntime) {
-    let none = Reply::List {
-        conflicts: Conflicts::make(rt.alloc()).expect(&rt, "memory"),
-        version: 0,
-    };
-    check_reply(&rt, &none, r#"{"conflicts":[],"version":0}"#);
-    let list = Reply::List {
-        conflicts: three_conflicts(&rt),
-        version: 40,
-    };
-    check_reply(&rt, &list, LISTED);
+    let none = r#"{"conflicts":[],"version":0}"#;
+    check_list(&rt, conflicts(&rt, &[]), 0, none);
+    check_list(&rt, three_conflicts(&rt), 40, LISTED);
 }
 
 const LISTED: &str =
@@ -156,8 +139,7 @@ fn entries_of_a_history(rt: HostRuntime) {
     );
     push(&rt, &mut entries, 0, Command::Drop { call });
     push(&rt, &mut entries, 15, Command::Tick { now: 10000000 });
-    let version = 3;
-    check_reply(&rt, &Reply::History { entries, version }, HISTORY);
+    check_history(&rt, entries, 3, HISTORY);
 }
 
 const HISTORY: &str =
@@ -166,13 +148,10 @@ const HISTORY: &str =
 #[test]
 fn a_short_reply_in_a_room(rt: HostRuntime) {
     short_replies_law();
-    let mut room = Vec::with_capacity(rt.alloc(), 65536).expect(&rt, "memory");
-    write_short(
-        &Reply::Entered(Entered {
-            version: 7,
-            verdict: None,
-        }),
-        &mut room,
-    );
-    assert!(rt; room.as_slice() == b"{\"entered\":7}\n".as_slice());
+    let reply = Reply::Entered(Entered {
+        version: 7,
+        verdict: None,
+    });
+    let text = short_text(&rt, reply);
+    assert!(rt; text.as_slice() == b"{\"entered\":7}\n".as_slice());
 }

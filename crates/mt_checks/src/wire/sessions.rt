@@ -2,6 +2,7 @@
 //! 0x0A inside.
 
 use super::texts::is_refused;
+use crate::cases::{Check, assert_case, check_each, columns};
 use mt_base::{Command, Rules};
 use mt_wire::{Place, Request, read_line};
 use std::process::Abort;
@@ -56,29 +57,36 @@ fn word_of(request: &Request) -> &str {
     }
 }
 
+fn is_word_of(request: Request, wanted: &str) -> bool {
+    word_of(&request) == wanted
+}
+
 // Whether a line is read so.
 fn is_read(rt: &(impl Abort + AllocGlobal), line: &[u8], place: Place, wanted: &str) -> bool {
     match read_line(rt.alloc(), line, place, &Rules::usual()) {
-        Ok((who, request)) => who == 0 && word_of(&request) == wanted,
-        Err(no) => is_refused(&no, wanted),
+        Ok((who, request)) => is_word_of(request, wanted) && who == 0,
+        Err(no) => is_refused(no, wanted),
     }
 }
 
-fn check_case(rt: &(impl Abort + AllocGlobal), case: &str) {
-    let (line, rest) = case.split_once(" | ").expect(rt, "four columns");
-    let (feed, rest) = rest.split_once(" | ").expect(rt, "four columns");
-    let (position, plain) = rest.split_once(" | ").expect(rt, "four columns");
-    let line = line.as_bytes();
-    assert!(rt; is_read(rt, line, Place::Feed, feed), "{case}");
-    assert!(rt; is_read(rt, line, Place::Position, position), "{case}");
-    assert!(rt; is_read(rt, line, Place::Plain, plain), "{case}");
+/// How a line is read.
+struct Sessions;
+
+impl Check for Sessions {
+    fn check(rt: &(impl Abort + AllocGlobal), case: &str) {
+        let (line, rest) = columns(rt, case);
+        let (feed, rest) = columns(rt, rest);
+        let (position, plain) = columns(rt, rest);
+        let line = line.as_bytes();
+        assert_case(rt, is_read(rt, line, Place::Feed, feed), case);
+        assert_case(rt, is_read(rt, line, Place::Position, position), case);
+        assert_case(rt, is_read(rt, line, Place::Plain, plain), case);
+    }
 }
 
 #[test]
 fn lines_of_sessions(rt: HostRuntime) {
-    for case in SESSIONS.lines().skip(1) {
-        check_case(&rt, case);
-    }
+    check_each::<Sessions>(&rt, SESSIONS);
 }
 
 #[test]

@@ -3,8 +3,8 @@ use Rattle.mt_write.specs.declared.reply.Reply.TheVariants as reply
 use Rattle.mt_write.proofs.Lengths.{short_text}
 use Rattle.mt_checks.proofs.wire.probes.the_longest_probe_in_a_room.Goals as goal
 
-pub write_short-requires-clause-fits : goal.write_short-requires-clause-fits
-write_short-requires-clause-fits g c =
+pub short_text-requires : goal.short_text-requires
+short_text-requires g c =
     short_text (reply.Probe c.many_hits.result 4294967295 18446744073709551615 18446744073709551615) (record {
       few = c.many_hits.ensures.few;
       each = c.many_hits.ensures.each;
