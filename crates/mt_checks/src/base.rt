@@ -122,6 +122,7 @@ fn record(rt: &(impl AllocGlobal + Abort)) -> Record {
 fn check_route(rt: &(impl AllocGlobal + Abort), found: &Route) {
     let wanted = two_fixes(rt);
     assert!(rt; found.items() == wanted.items());
+    drop(wanted);
 }
 
 fn check_entry(rt: &(impl AllocGlobal + Abort), entry: &Entry) {

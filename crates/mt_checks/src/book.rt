@@ -20,7 +20,8 @@ fn filled(rt: &impl Abort, alloc: Global, count: u64) -> Book<u64>
 
 /// What a book with so many values put in has under a number.
 fn check_value(rt: &impl Abort, book: &Book<u64>, count: u64, number: u64, wanted: Option<u64>) {
-    assert_number(rt, book.get(number).copied() == wanted, count);
+    let found = book.get(number).copied();
+    assert!(rt; found == wanted, "value {number} of {count}");
 }
 
 #[test]
@@ -39,13 +40,13 @@ fn check_book(rt: &(impl AllocGlobal + Abort), count: u64, least: u64)
     requires low { least ≤ 200 }
 {
     let mut book = filled(rt, rt.alloc(), count);
-    assert_number(rt, book.count() == count, count);
+    assert_number(rt, book.count() == count, "count", count);
     check_value(rt, &book, count, 0, None);
     check_value(rt, &book, count, least - 1, None);
     check_value(rt, &book, count, least, Some(1_000 + least));
     check_value(rt, &book, count, count, Some(1_000 + count));
     check_value(rt, &book, count, count + 1, None);
-    assert_number(rt, book.put(7) == count + 1, count);
+    assert_number(rt, book.put(7) == count + 1, "next", count);
     check_value(rt, &book, count, count + 1, Some(7));
 }
 

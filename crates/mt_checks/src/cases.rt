@@ -72,9 +72,14 @@ pub fn assert_second(rt: &impl Abort, holds: bool, case: &str) {
     assert!(rt; holds, "at second {case}");
 }
 
-/// The same of a case that is a number.
-pub fn assert_number(rt: &impl Abort, holds: bool, number: u64) {
-    assert!(rt; holds, "{number}");
+/// The same of a part of a case, which is told with it.
+pub fn assert_part(rt: &impl Abort, holds: bool, part: &str, case: &str) {
+    assert!(rt; holds, "{part} of {case}");
+}
+
+/// The same of a part of a case that is a number.
+pub fn assert_number(rt: &impl Abort, holds: bool, part: &str, number: u64) {
+    assert!(rt; holds, "{part} of {number}");
 }
 
 /// The case has no further value.

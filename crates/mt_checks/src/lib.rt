@@ -1,6 +1,9 @@
 //! Tests of calls of the crates below, of cases that no line of a script can say.
 //!
 //! Cases that lines can say are those of `mt_rows`; what is done with a picture, on threads and through the top call is tested by `mt_top_checks`.
+//!
+//! What costs much to check stands once: values with long drops are given to `drop`, the messages of cases are those of `cases`, and rows are
+//! written out whole, since one that is made from another copies it field by field.
 #![tactic(auto)]
 
 #[cfg(test)]

@@ -182,10 +182,10 @@ fn check_long(rt: &(impl AllocGlobal + Abort), count: usize, more: bool, given: 
     let mut source = source_of(long_line(rt, count, behind), most, 0);
     let mut reader = LineReader::make(rt.alloc()).expect(rt, "memory");
     let is_as_wanted = is_given(rt, &mut reader, &mut source, count) == given;
-    assert_number(rt, is_as_wanted, count as u64);
+    assert_number(rt, is_as_wanted, "line", count as u64);
     let is_followed = !more || is_next(&mut reader, &mut source, b"yz");
-    assert_number(rt, is_followed, count as u64);
-    assert_number(rt, is_end(&mut reader, &mut source), count as u64);
+    assert_number(rt, is_followed, "next line", count as u64);
+    assert_number(rt, is_end(&mut reader, &mut source), "end", count as u64);
 }
 
 /// The same for calls that give less than the longest line, and as much.
@@ -232,9 +232,9 @@ fn check_write(rt: &(impl AllocGlobal + Abort), failing: u64, held: &[u8], fault
         faults: 0,
     };
     let is_whole = put_all(&mut sink, b"abc").is_ok();
-    assert_number(rt, is_whole == (faults == 0), failing);
-    assert_number(rt, sink.bytes.as_slice() == held, failing);
-    assert_number(rt, sink.write_faults() == faults, failing);
+    assert_number(rt, is_whole == (faults == 0), "outcome", failing);
+    assert_number(rt, sink.bytes.as_slice() == held, "bytes", failing);
+    assert_number(rt, sink.write_faults() == faults, "faults", failing);
 }
 
 /// What a sink with so much room holds after two writes, and how many faults it counted.
@@ -243,10 +243,10 @@ fn check_room(rt: &(impl AllocGlobal + Abort), room: u32, held: &[u8], faults: u
     let is_first = put_all(&mut sink, b"abc").is_ok();
     let is_second = put_all(&mut sink, b"de").is_ok();
     let number = u64::from(room);
-    assert_number(rt, is_first == (room > 2), number);
-    assert_number(rt, is_second == (room > 4), number);
-    assert_number(rt, sink.held() == held, number);
-    assert_number(rt, sink.write_faults() == faults, number);
+    assert_number(rt, is_first == (room > 2), "first", number);
+    assert_number(rt, is_second == (room > 4), "second", number);
+    assert_number(rt, sink.held() == held, "bytes", number);
+    assert_number(rt, sink.write_faults() == faults, "faults", number);
 }
 
 #[test]

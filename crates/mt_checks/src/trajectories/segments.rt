@@ -1,7 +1,7 @@
 //! How few segments trajectories have: those of plans, from no margins.
 
 use super::{at, band, fly, over};
-use crate::cases::{Check, assert_case, check_each, check_end, columns, number};
+use crate::cases::{Check, assert_part, check_each, check_end, columns, number};
 use mt_base::{Band, Place, Point};
 use mt_track::Strand;
 use std::alloc::Global;
@@ -147,10 +147,10 @@ impl Check for Flown {
         let levels = (number(rt, &mut values), number(rt, &mut values));
         let start = number(rt, &mut values);
         let strand = read_flown(rt, rt.alloc(), levels, start, flown);
-        assert_case(rt, strand.start() == start, case);
-        assert_case(rt, strand.end() == number(rt, &mut values), case);
+        assert_part(rt, strand.start() == start, "start", case);
+        assert_part(rt, strand.end() == number(rt, &mut values), "end", case);
         let segments: usize = number(rt, &mut values);
-        assert_case(rt, strand.segments().len() == segments, case);
+        assert_part(rt, strand.segments().len() == segments, "segments", case);
         check_end(rt, &mut values);
         drop(strand);
     }

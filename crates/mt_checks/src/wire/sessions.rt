@@ -2,7 +2,7 @@
 //! 0x0A inside.
 
 use super::texts::is_refused;
-use crate::cases::{Check, assert_case, check_each, columns};
+use crate::cases::{Check, assert_part, check_each, columns};
 use mt_base::{Command, Rules};
 use mt_wire::{Place, Request, read_line};
 use std::process::Abort;
@@ -78,9 +78,14 @@ impl Check for Sessions {
         let (feed, rest) = columns(rt, rest);
         let (position, plain) = columns(rt, rest);
         let line = line.as_bytes();
-        assert_case(rt, is_read(rt, line, Place::Feed, feed), case);
-        assert_case(rt, is_read(rt, line, Place::Position, position), case);
-        assert_case(rt, is_read(rt, line, Place::Plain, plain), case);
+        assert_part(rt, is_read(rt, line, Place::Feed, feed), "feed", case);
+        assert_part(
+            rt,
+            is_read(rt, line, Place::Position, position),
+            "position",
+            case,
+        );
+        assert_part(rt, is_read(rt, line, Place::Plain, plain), "plain", case);
     }
 }
 
