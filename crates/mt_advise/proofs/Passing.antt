@@ -26,6 +26,7 @@ use Rattle.mt_base.specs.Picture.{State, flight_of}
 use Rattle.mt_base.specs.Tables.{Setup, Tables, bands_of, ceiling_of, fix_of, fix_checks, length_checks}
 use Rattle.mt_base.specs.WhatIf.{what_if_checks}
 use Rattle.mt_base.proofs.CheckLemmas.{all_pass, all_passed}
+use Rattle.mt_base.proofs.Members.{both_all}
 use Rattle.mt_advise.specs.Trying.{CanBeTried, FliesOn}
 use Rattle.mt_base.specs.Advice.{advice_checks, base_now, candidates, candidates_in, each_once, level_up_to, levels_beside, levels_near, names_ahead}
 
@@ -36,10 +37,6 @@ abbrev IsCandidate : Tables → Course → Base → Clearance → Type 0
 IsCandidate tables course base (Level level) = nat_le level (ceiling_for tables course) ≡ true
 IsCandidate tables course base (Direct fix) = (is_some (fix_of tables fix) ≡ true) × (is_some (place_behind course.route base.next fix) ≡ true)
 
-both : {X : Type 0} (P : X → Type 0) (xs ys : List X) → AllByRecursion P xs → AllByRecursion P ys → AllByRecursion P (xs ++ ys)
-both P [] ys left right = right
-both P (x ∷ xs) ys left right = (left.0, both P xs ys left.1 right)
-
 level_is : (tables : Tables) (course : Course) (base : Base) (level : ℕ) → AllByRecursion (IsCandidate tables course base) (level_up_to (ceiling_for tables course) level)
 level_is tables course base level = by_test (nat_le level (ceiling_for tables course)) refl where
   by_test : (b : Bool) → nat_le level (ceiling_for tables course) ≡ b → AllByRecursion (IsCandidate tables course base) (if b then Level level ∷ [] else [])
@@ -49,7 +46,7 @@ level_is tables course base level = by_test (nat_le level (ceiling_for tables co
 beside_are : (tables : Tables) (course : Course) (base : Base) (level step : ℕ)
     → AllByRecursion (IsCandidate tables course base) (levels_beside (ceiling_for tables course) level step)
 beside_are tables course base level step =
-    both (IsCandidate tables course base) (level_up_to (ceiling_for tables course) (level + step)) _ (level_is tables course base (level + step)) (by_test (nat_le step level)) where
+    both_all (IsCandidate tables course base) (level_up_to (ceiling_for tables course) (level + step)) _ (level_is tables course base (level + step)) (by_test (nat_le step level)) where
       by_test : (b : Bool) → AllByRecursion (IsCandidate tables course base) (if b then level_up_to (ceiling_for tables course) (level - step) else [])
       by_test true = level_is tables course base (level - step)
       by_test false = tt
@@ -58,8 +55,8 @@ levels_are : (tables : Tables) (course : Course) (base : Base) (level : ℕ) →
 levels_are tables course base level =
     let P = IsCandidate tables course base in
     let f = levels_beside (ceiling_for tables course) level in
-    both P (f 10) _ (beside_are tables course base level 10) (both P (f 20) _ (beside_are tables course base level 20)
-    (both P (f 30) _ (beside_are tables course base level 30) (both P (f 40) [] (beside_are tables course base level 40) tt)))
+    both_all P (f 10) _ (beside_are tables course base level 10) (both_all P (f 20) _ (beside_are tables course base level 20)
+    (both_all P (f 30) _ (beside_are tables course base level 30) (both_all P (f 40) [] (beside_are tables course base level 40) tt)))
 
 -- what holds of each name holds of some of them
 all_filtered : (P : List ℕ → Type 0) (p : List ℕ → Bool) (ns : List (List ℕ)) → AllByRecursion P ns → AllByRecursion P (filter p ns)
@@ -126,7 +123,7 @@ candidates_are setup course base sound =
     let K : List ℕ → Type 0 = λ n. is_some (fix_of setup.tables n) ≡ true in
     let behind = drop (suc base.next) course.route in
     let S = StandsIn behind in
-    both (IsCandidate setup.tables course base) (levels_near (ceiling_for setup.tables course) course.level) (map Direct (names_ahead course.route base.next))
+    both_all (IsCandidate setup.tables course base) (levels_near (ceiling_for setup.tables course) course.level) (map Direct (names_ahead course.route base.next))
     (levels_are setup.tables course base course.level)
     (directs setup.tables course base (names_ahead course.route base.next)
     (all_once K (take 8 behind) (all_taken K 8 behind (all_dropped K (suc base.next) course.route known)))

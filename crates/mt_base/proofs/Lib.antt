@@ -1,10 +1,15 @@
+pub mod Cases
 pub mod CheckLemmas
 pub mod ConflictOrder
 pub mod FewAdvised
 pub mod HistoryLemmas
 pub mod HitOrder
+pub mod Members
 pub mod NameLemmas
 pub mod OneAdvice
+pub mod OneConflict
 pub mod OneHits
 pub mod OneOrder
+pub mod Others
 pub mod RuleLemmas
+pub mod Tallies

@@ -7,6 +7,7 @@ pub mod History
 pub mod Instant
 pub mod Loss
 pub mod Name
+pub mod Others
 pub mod Padded
 pub mod Picture
 pub mod Predictor

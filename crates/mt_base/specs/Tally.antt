@@ -1,5 +1,16 @@
-use Rattle.std.specs.Prelude.{ℕ, ◌+◌, ◌-◌, ◌^◌, min}
+use Rattle.std.specs.Prelude.{◌≡◌, ℕ, zero, suc, ◌+◌, ◌-◌, ◌≤◌, ◌^◌, min}
 
 -- one more, up to the type's end
 abbrev pub raised : ℕ → ℕ
 raised count = min (count + 1) (2 ^ 64 - 1)
+
+-- raised that many times by one
+abbrev pub raised_by : ℕ → ℕ → ℕ
+raised_by zero count = count
+raised_by (suc more) count = raised (raised_by more count)
+
+-- it was raised at most that many times
+pub record RoseUpTo (most old new : ℕ) : Type 0 where
+  pub more : ℕ
+  pub within : more ≤ most
+  pub is : new ≡ raised_by more old

@@ -1,5 +1,5 @@
 -- Flights of which the one with some callsign has another path.
-use Rattle.std.proofs.Common.{◌≡◌, ◌≢◌, ℕ, ◌+◌, ◌<◌, suc, Bool, true, false, List, [], ◌∷◌, ◌++◌, length, map, take, drop, get_or, Some, Ok, refl, sym, ◌∙◌, ap, subst, if◌then◌else◌, arith, append_assoc}
+use Rattle.std.proofs.Common.{◌≡◌, ◌≢◌, ℕ, ◌+◌, ◌<◌, suc, Bool, true, false, List, [], ◌∷◌, ◌++◌, length, map, take, drop, get_or, Some, refl, sym, ◌∙◌, ap, subst, if◌then◌else◌, arith, append_assoc}
 use Rattle.std.proofs.Math.Seq.{drop-cons, get_or-append_seam, set-append_seam}
 use Rattle.std.proofs.lemmas.List.{get_or-map, length-map, length-take, map-append, take_more}
 use Rattle.std.proofs.lemmas.List.Elements.{All-from_recursion, recursion_from_All}
@@ -61,7 +61,7 @@ own_kept call other fs own = λ i j d before below same.
 first_apart : (f : Record) (fs : List Record) → HaveOwnCalls (f ∷ fs) → AllByRecursion (λ g. f.call ≢ g.call) fs
 first_apart f fs own = recursion_from_All (λ g. f.call ≢ g.call) fs (λ k d below. own 0 (suc k) d (omega arith) (omega arith))
 
-others_apart : (f : Record) (fs : List Record) → HaveOwnCalls (f ∷ fs) → HaveOwnCalls fs
+pub others_apart : (f : Record) (fs : List Record) → HaveOwnCalls (f ∷ fs) → HaveOwnCalls fs
 others_apart f fs own = λ i j d before below. own (suc i) (suc j) d (omega arith) (omega arith)
 
 -- no flight of the callsign, no change

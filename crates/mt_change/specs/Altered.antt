@@ -1,5 +1,5 @@
 -- What an entry does to the planned flight that it names.
-use Rattle.std.specs.Prelude.{◌≡◌, ◌≤◌, ℕ, Bool, true, false, ◌||◌, List, map, Option, Some, None, unwrap_or, Ok, ⊤}
+use Rattle.std.specs.Prelude.{◌≡◌, ◌≤◌, ℕ, true, false, ◌||◌, Option, Some, None, unwrap_or, Ok, ⊤}
 use Rattle.mt_base.specs.declared.clearance.Clearance.{Clearance}
 use Rattle.mt_base.specs.declared.command.Command.{Command}
 use Rattle.mt_base.specs.declared.command.Command.TheVariants.{Plan, External, Drop, Tick, Renew, Clear, Accept, Tentative, Withdraw, Commit}
@@ -7,7 +7,6 @@ use Rattle.mt_base.specs.declared.command.Command.TheVariants as commands
 use Rattle.mt_base.specs.declared.flight.Course.{Course}
 use Rattle.mt_base.specs.declared.flight.Path.{Path}
 use Rattle.mt_base.specs.declared.flight.Path.TheVariants.{Planned, Outer}
-use Rattle.mt_base.specs.declared.flight.Record.{Record}
 use Rattle.mt_base.specs.declared.verdict.Verdict.{Verdict}
 use Rattle.mt_base.specs.Bounds.{IsBoundedClearance, IsBoundedCommand, IsSoundCourse}
 use Rattle.mt_base.specs.Checks.{judged}

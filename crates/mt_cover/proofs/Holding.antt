@@ -6,7 +6,7 @@ use Rattle.std.specs.Prelude.{slice_get}
 use Rattle.mt_base.specs.declared.row.Row.{Row}
 use Rattle.mt_cover.specs.declared.area.Area.{Area}
 use Rattle.mt_cover.specs.declared.area.Extent.{Extent}
-use Rattle.mt_cover.specs.Box.{area_of, extent_of, grown, grown_by, hull}
+use Rattle.mt_cover.specs.Box.{extent_of, grown, grown_by, hull}
 use Rattle.mt_cover.proofs.Apart.{Holds, Spans}
 
 Spans-own : (z v : ℤ) → Spans (extent_of z v) z v
@@ -38,9 +38,6 @@ not_less m z = omega (arith, ints, clamps)
 
 still : (m z y : ℤ) → y ≤ℤ m → y ≤ℤ int_max m z
 still m z y h = omega (arith, ints, clamps)
-
-pub Holds-own : (row : Row) → Holds (area_of row) row
-Holds-own row = record { x = Spans-own row.x row.vx; y = Spans-own row.y row.vy; margin = omega (arith, ints) }
 
 Holds-new : (a : Area) (row : Row) → Holds (grown a row) row
 Holds-new a row = record {

@@ -17,7 +17,8 @@ use Rattle.mt_cover.specs.Box.{area_of, area_over, half, wider}
 use Rattle.mt_cover.specs.Cells.{IsAt, MissesNone, cells, cells_in, cells_of, cover_of, place, place_from, places, slice_rows, stays_in, stays_of, stays_over}
 use Rattle.mt_cover.proofs.Apart.{Holds, Meet, boxes_meet}
 use Rattle.mt_cover.proofs.Holding.{Holds-slice_get}
-use Rattle.mt_cover.proofs.Members.{Contains-flat_map, Contains-map, Contains-range, slice_get-drop, slice_get-take}
+use Rattle.mt_base.proofs.Members.{Contains-flat_map, Contains-map}
+use Rattle.mt_cover.proofs.Members.{Contains-range, slice_get-drop, slice_get-take}
 
 -- a greater value is in no lesser place
 place_from_rises : (y z : ℤ) → y ≤ℤ z → place_from y ≤ place_from z

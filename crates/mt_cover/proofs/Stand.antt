@@ -1,8 +1,7 @@
 -- The segment at which a slice stands, and what its rows add.
-use Rattle.std.proofs.Common.{◌≡◌, ℕ, zero, suc, min, ◌+◌, ◌-◌, ◌<◌, ◌≤◌, ⊎_elim, ℤ, pos, ◌+ℤ◌, ◌*ℤ◌, List, [], ◌∷◌, ◌++◌, Some, length, get_or, refl, sym, ap, ◌∙◌, arith}
+use Rattle.std.proofs.Common.{◌≡◌, ℕ, zero, suc, min, ◌+◌, ◌-◌, ◌<◌, ◌≤◌, ⊎_elim, List, [], ◌∷◌, ◌++◌, Some, length, get_or, refl, sym, ap, ◌∙◌, arith}
 use Rattle.std.proofs.lemmas.Bool.{cases_lt}
 use Rattle.std.specs.Prelude.{slice_get}
-use Rattle.mt_ring.proofs.Ring.{lin, *ℤ-+ℤ}
 use Rattle.mt_base.specs.declared.row.Row.{Row}
 use Rattle.mt_base.specs.Bounds.{IsBoundedOver}
 use Rattle.mt_base.specs.Trajectory.{straight_rows}
@@ -12,25 +11,12 @@ use Rattle.mt_track.specs.Rows.{row_after}
 use Rattle.mt_track.proofs.Joined.{IsBoundedOver-segment}
 use Rattle.mt_track.proofs.Segments.{edge-length, edge_from, lies_at, row_in}
 use Rattle.mt_track.specs.Laid.{edge}
-use Rattle.mt_track.proofs.Straight.{IsBoundedRow-row_after}
+use Rattle.mt_track.proofs.Straight.{IsBoundedRow-row_after, row_after-add}
 use Rattle.mt_cover.specs.declared.area.Area.{Area}
 use Rattle.mt_cover.specs.Box.{area_of, area_over, grown, grown_by}
 use Rattle.mt_cover.specs.Walk.{Stands, part}
 use Rattle.mt_cover.proofs.Ends.{grown_by-append, grown_by-straight}
 use Rattle.mt_cover.proofs.Parts.{part-more, part-straight}
-
--- so many seconds later, and so many more
-times_sum : (z v : ℤ) (j n : ℕ) → (z +ℤ v *ℤ pos j) +ℤ v *ℤ pos n ≡ z +ℤ v *ℤ pos (j + n)
-times_sum z v j n = let e : v *ℤ pos (j + n) ≡ v *ℤ pos j +ℤ v *ℤ pos n = *ℤ-+ℤ v (pos j) (pos n) in omega (arith, lin, e)
-
-pub row_after-add : (a : Row) (j n : ℕ) → row_after (row_after a j) n ≡ row_after a (j + n)
-row_after-add a j n = λ i. record a {
-  x = times_sum a.x a.vx j n i;
-  y = times_sum a.y a.vy j n i;
-  z = times_sum a.z a.vz j n i;
-  r = times_sum a.r a.gr j n i;
-  w = times_sum a.w a.gw j n i;
-}
 
 -- bounds over some seconds are bounds over fewer
 pub IsBoundedOver-front : (a : Row) (n k : ℕ) → k < n → IsBoundedOver a n → IsBoundedOver a k

@@ -6,7 +6,6 @@ use Rattle.std.proofs.lemmas.List.Elements.{All-weaker}
 use Rattle.std.proofs.lemmas.Result.{IfOk-weaker}
 use Rattle.mt_base.specs.declared.clearance.Clearance.{Clearance}
 use Rattle.mt_base.specs.declared.command.Command.{Command}
-use Rattle.mt_base.specs.declared.command.Command.TheVariants.{Tentative}
 use Rattle.mt_base.specs.declared.command.Refusal.TheVariants.{UnknownCall}
 use Rattle.mt_base.specs.declared.conflict.Conflict.{Conflict}
 use Rattle.mt_base.specs.declared.flight.FlightView.{FlightView}
@@ -31,7 +30,8 @@ use Rattle.mt_board.specs.Asking.{IsRead}
 use Rattle.mt_board.specs.Changing.{IsChanged}
 use Rattle.mt_board.specs.Probing.{IsAdvised, IsNotAdvised, IsNotProbed, IsPast, IsProbed, acceptance}
 use Rattle.mt_board.specs.Seat.{HasSeen, Seat, state_seen}
-use Rattle.mt_picture.specs.Story.{IsGivenFor, IsPreparedFor}
+use Rattle.mt_picture.specs.Story.{IsGivenFor}
+use Rattle.mt_picture.proofs.Given.{prepared_for}
 use Rattle.mt_probe.specs.Hits.{IsProbe, IsTried, IsUnprobed, Tried, told_of}
 use Rattle.mt_probe.specs.Prepared.{IsPrepOf, IsRefusedOn, MakesStrand, Prepared, judged_aside}
 use Rattle.mt_probe.specs.Shot.{Shot}
@@ -73,10 +73,6 @@ past_taken t shot fixed state for same is =
     }
 
 -- ---- commands
-
-prepared_for : (c : Command) (who preparer : ℕ) → preparer ≡ who → IsPreparedFor c who preparer
-prepared_for (Tentative call clearance eff) who preparer is = is
-prepared_for c who preparer is = tt
 
 -- what is prepared on it is a prep of what the seat has seen
 pub given_taken : (t : Seat) (shot : Shot) (who : ℕ) (c : Command) (p : Prepared) → StandsFor t shot → MakesStrand c → IsPrepOf shot who c p

@@ -7,36 +7,6 @@ use Rattle.mt_edges.specs.Laid.{IsLonger, Laid}
 use Rattle.mt_edges.specs.Kept.{IsKept, Spares, node_at, standing}
 use Rattle.mt_edges.proofs.Chains.{chain_kept}
 
-pub longer_none : (next prev : List ℕ) → IsLonger next prev next prev
-longer_none next prev = record { next_length = omega arith; both = λ b. b; next_kept = λ y l. refl; prev_kept = λ y l. refl; prev_length = omega arith }
-
-pub longer_prev : (next prev : List ℕ) (x : ℕ) → IsLonger next prev next (prev ++ x ∷ [])
-longer_prev next prev x = record {
-  next_length = omega arith;
-  both = λ b. omega (arith, length-append prev (x ∷ []));
-  next_kept = λ y l. refl;
-  prev_kept = λ y l. get_or_append_left prev (x ∷ []) 0 y l;
-  prev_length = omega (arith, length-append prev (x ∷ []));
-}
-
-pub longer_both : (next prev : List ℕ) (x y : ℕ) → IsLonger next prev (next ++ x ∷ []) (prev ++ y ∷ [])
-longer_both next prev x y = record {
-  next_length = omega (arith, length-append next (x ∷ []));
-  both = λ b. omega (arith, length-append next (x ∷ []), length-append prev (y ∷ []));
-  next_kept = λ z l. get_or_append_left next (x ∷ []) 0 z l;
-  prev_kept = λ z l. get_or_append_left prev (y ∷ []) 0 z l;
-  prev_length = omega (arith, length-append prev (y ∷ []));
-}
-
-pub longer_more : (next prev next1 prev1 next2 prev2 : List ℕ) → IsLonger next prev next1 prev1 → IsLonger next1 prev1 next2 prev2 → IsLonger next prev next2 prev2
-longer_more next prev next1 prev1 next2 prev2 a b = record {
-  next_length = omega (arith, a.next_length, b.next_length);
-  both = λ k. b.both (a.both k);
-  next_kept = λ y l. b.next_kept y (omega (arith, a.next_length)) ∙ a.next_kept y l;
-  prev_kept = λ y l. b.prev_kept y (omega (arith, a.prev_length)) ∙ a.prev_kept y l;
-  prev_length = omega (arith, a.prev_length, b.prev_length);
-}
-
 pub laid_longer : (next prev next' prev' : List ℕ) (base : ℕ) (lists : ℕ → List ℕ) → IsLonger next prev next' prev' → Laid next prev base lists → Laid next' prev' base lists
 laid_longer next prev next' prev' base lists w l = record {
   some = l.some;

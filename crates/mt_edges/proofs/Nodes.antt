@@ -6,7 +6,7 @@ use Rattle.std.proofs.lemmas.List.Elements.{Contains-append_right, filter-append
 use Rattle.mt_edges.specs.declared.edge.Edge.{Edge}
 use Rattle.mt_edges.specs.Pairs.{AreSame, IsEdge, IsWith, degree, touches, without_end}
 use Rattle.mt_edges.specs.Laid.{Has}
-use Rattle.mt_edges.specs.Kept.{IsDropped, Sound, Spares, Ties, head_of, node_at, standing}
+use Rattle.mt_edges.specs.Kept.{IsDropped, Shape, Sound, Spares, Ties, head_of, node_at, standing}
 
 -- a node that holds a pair is in range
 pub in_range : (nodes : List (Option Edge)) (i : ℕ) (e : Edge) → node_at nodes i ≡ Some e → i < length nodes
@@ -192,6 +192,11 @@ popped nodes free spare x s some read =
     let is : x ≡ get_or free (spare - 1) 0 = get_or_read free (spare - 1) x within read 0 in
     let top = s.empty (spare - 1) (omega arith) in
     (is, omega (arith, is, top.0), subst (λ (z : ℕ). node_at nodes z ≡ None) (sym is) top.1)
+
+-- so the lists have its three places
+pub has_places : (ends base : ℕ) (nodes : List (Option Edge)) (free : List ℕ) (spare x : ℕ) (next : List ℕ) → Shape ends base nodes free spare next → 0 < spare
+    → x ≡ get_or free (spare - 1) x → base + 3 * x + 2 < length next
+has_places ends base nodes free spare x next shape some read = omega (arith, (popped nodes free spare x shape.spares some read).1, shape.room)
 
 pub spares_popped : (nodes : List (Option Edge)) (free : List ℕ) (spare i : ℕ) (e : Edge) → Spares nodes free spare → 0 < spare → i ≡ get_or free (spare - 1) 0
     → Spares (set nodes i (Some e)) free (spare - 1)

@@ -361,12 +361,6 @@ bucket_side ends b e (suc (suc s)) sound few is = omega arith
 abbrev pub DueBelow : List (Option Edge) → ℕ → ℕ → ℕ → List Edge → Type 0
 DueBelow nodes from to b found = IsEach (λ e. (from ≤ e.first) × (e.first < to) × (e.first / 256 < b)) (standing nodes) found
 
-pub due_none : (nodes : List (Option Edge)) (from to : ℕ) → DueBelow nodes from to (from / 256) []
-due_none nodes from to = record {
-  exact = λ e. (λ has. absurd (omega (arith, has.1)), λ has. absurd (omega (arith, has.1.0, has.1.2)));
-  apart = λ i j d less within. absurd (omega (arith, within));
-}
-
 pub due_more : (ends : ℕ) (nodes : List (Option Edge)) (from to b : ℕ) (old new : List Edge) → Sound ends nodes → DueBelow nodes from to b old
     → IsGathered ends (1 + ends + b) from to (standing nodes) old new → DueBelow nodes from to (b + 1) new
 due_more ends nodes from to b old new s before g =

@@ -1,5 +1,5 @@
 -- The order of fractions, over plain numbers: m/e is before n/d where m d < n e, with denominators above 0.
-use Rattle.std.proofs.Common.{ℤ, pos, ◌-ℤ◌, ◌*ℤ◌, ◌≤ℤ◌, ◌<ℤ◌, ◌↔◌, arith}
+use Rattle.std.proofs.Common.{ℤ, pos, ◌-ℤ◌, ◌*ℤ◌, ◌≤ℤ◌, ◌<ℤ◌, arith}
 use Rattle.mt_ring.proofs.Ring.{lin, spread}
 use Rattle.mt_ring.proofs.Signs.{mul_nonneg, mul_pos, weaken, below_cancel}
 
@@ -26,16 +26,3 @@ trans_at_most m e n d x y e+ d+ y+ l r =
     let p2 = mul_nonneg (x *ℤ d -ℤ n *ℤ y) e (omega (arith, lin)) (weaken e+) in
     let q = below_cancel d (m *ℤ y -ℤ x *ℤ e) d+ (simp spread (omega (arith, lin, simp spread at p1, simp spread at p2))) in
     omega (arith, lin)
-
--- a fraction with its numerator and denominator times k has the same order to every other
-pub before_scale : (k m e n d : ℤ) → pos 0 <ℤ k → (m *ℤ d) <ℤ (n *ℤ e) ↔ (m *ℤ (k *ℤ d)) <ℤ ((k *ℤ n) *ℤ e)
-before_scale k m e n d k+ = (
-  (λ h. let p = mul_pos k (n *ℤ e -ℤ m *ℤ d) k+ (omega (arith, lin)) in simp spread (omega (arith, lin, simp spread at p))),
-  (λ h. let q = below_cancel k (m *ℤ d -ℤ n *ℤ e) k+ (simp spread (omega (arith, lin, simp spread at h))) in omega (arith, lin)),
-)
-
-pub scale_before : (k m e n d : ℤ) → pos 0 <ℤ k → (m *ℤ d) <ℤ (n *ℤ e) ↔ ((k *ℤ m) *ℤ d) <ℤ (n *ℤ (k *ℤ e))
-scale_before k m e n d k+ = (
-  (λ h. let p = mul_pos k (n *ℤ e -ℤ m *ℤ d) k+ (omega (arith, lin)) in simp spread (omega (arith, lin, simp spread at p))),
-  (λ h. let q = below_cancel k (m *ℤ d -ℤ n *ℤ e) k+ (simp spread (omega (arith, lin, simp spread at h))) in omega (arith, lin)),
-)

@@ -8,7 +8,7 @@ use Rattle.mt_cover.specs.Cells.{ShareAt}
 use Rattle.mt_grid.specs.declared.placed.Placed.{Placed}
 use Rattle.mt_grid.specs.Lists.{IsNear, IsPutBy, list_at, others, placed, with_stay, with_stays, without_stay, without_stays}
 
-nowhere : (item cell : ℕ) (p : Placed) → ¬ IsPutBy item [] cell p
+pub nowhere : (item cell : ℕ) (p : Placed) → ¬ IsPutBy item [] cell p
 nowhere item cell p h = let k = h.of in omega (arith, k.1)
 
 at_head : {X : Type 0} (xs : List X) (x : X) → Contains (x ∷ xs) x

@@ -1,33 +1,10 @@
 -- Marks: one more of them, and the numbers of a front of them.
-use Rattle.std.proofs.Common.{◌≡◌, ◌↔◌, ◌⊎◌, inl, inr, ⊎_elim, ℕ, zero, suc, ◌+◌, ◌<◌, ◌≤◌, ◌||◌, Bool, true, false, List, [], ◌∷◌, ◌++◌, Contains, length, get_or, set, take, refl, sym, ap, ◌∙◌, subst, arith}
+use Rattle.std.proofs.Common.{◌≡◌, ◌↔◌, ◌⊎◌, inl, inr, ⊎_elim, ℕ, zero, suc, ◌+◌, ◌<◌, ◌≤◌, Bool, true, false, List, [], ◌∷◌, ◌++◌, Contains, length, get_or, take, refl, sym, ap, ◌∙◌, subst, arith}
 use Rattle.std.proofs.lemmas.Bool.{cases_lt, false≢true}
 use Rattle.std.proofs.lemmas.List.{get_or_append_left, get_or_push, length-take-le, length_push, take_more}
 use Rattle.std.proofs.lemmas.List.Elements.{Contains-append_left, Contains-get_or, Contains-push, Contains-push_cases}
 use Rattle.std.specs.List.Sorted.{IsStrictlyIncreasing}
-use Rattle.std.specs.List.{AllByRecursion}
 use Rattle.mt_grid.specs.Marks.{AreMarked, IsMarked}
-
--- marks that aren't set, added behind some, mark nothing
-pub same_marked : (marks more : List Bool) → AllByRecursion (λ b. b ≡ false) more → (k : ℕ) → IsMarked (marks ++ more) k ↔ IsMarked marks k
-same_marked [] [] h k = ((λ m. m), (λ m. m))
-same_marked [] (b ∷ more) h zero = ((λ m. absurd (false≢true (sym h.0 ∙ m))), (λ m. absurd (false≢true m)))
-same_marked [] (b ∷ more) h (suc k) = same_marked [] more h.1 k
-same_marked (b ∷ marks) more h zero = ((λ m. m), (λ m. m))
-same_marked (b ∷ marks) more h (suc k) = same_marked marks more h k
-
--- one mark set where that is wanted
-pub marked_or : (marks : List Bool) (place k : ℕ) (wanted : Bool) → place < length marks
-    → IsMarked (set marks place (get_or marks place false || wanted)) k ↔ (IsMarked marks k ⊎ ((wanted ≡ true) × (place ≡ k)))
-marked_or [] place k wanted below = absurd (omega (arith, below))
-marked_or (true ∷ marks) zero zero wanted below = ((λ m. inl refl), (λ h. refl))
-marked_or (false ∷ marks) zero zero wanted below = ((λ m. inr (m, refl)), (λ h. ⊎_elim (λ m. absurd (false≢true m)) (λ e. e.0) h))
-marked_or (b ∷ marks) zero (suc k) wanted below = ((λ m. inl m), (λ h. ⊎_elim (λ m. m) (λ e. absurd (let p = e.1 in omega (arith, p))) h))
-marked_or (b ∷ marks) (suc place) zero wanted below = ((λ m. inl m), (λ h. ⊎_elim (λ m. m) (λ e. absurd (let p = e.1 in omega (arith, p))) h))
-marked_or (b ∷ marks) (suc place) (suc k) wanted below =
-    let rest = marked_or marks place k wanted (omega (arith, below)) in (
-      (λ m. ⊎_elim (λ o. inl o) (λ e. inr (e.0, ap suc e.1)) (rest.0 m)),
-      (λ h. ⊎_elim (λ m. rest.1 (inl m)) (λ e. rest.1 (inr (e.0, let p = e.1 in omega (arith, p)))) h),
-    )
 
 -- a front with one mark more
 marked_push : (front : List Bool) (b : Bool) (k : ℕ) → IsMarked (front ++ b ∷ []) k ↔ (IsMarked front k ⊎ ((length front ≡ k) × (b ≡ true)))
@@ -65,10 +42,6 @@ rising_push numbers n rising less k below = ⊎_elim inside last (cases_lt (k + 
       let b = get_or_push numbers n 0 (k + 1) (omega (arith, below, long)) in
       let r = less _ (Contains-get_or numbers k 0 (omega (arith, below, long))) in
       omega (arith, a, b, r)
-
--- the numbers of no marks
-pub none_marked : AreMarked [] []
-none_marked = record { rising = λ k h. absurd (omega (arith, h)); same = λ k. ((λ h. absurd (omega (arith, h.1))), (λ m. absurd (false≢true m))) }
 
 -- the numbers of a front with a mark more that is set, and with one that isn't
 numbers_more : (front : List Bool) (numbers : List ℕ) (n : ℕ) → length front ≡ n → AreMarked front numbers → AreMarked (front ++ true ∷ []) (numbers ++ n ∷ [])

@@ -1,5 +1,5 @@
 -- Near items, list by list and stay by stay.
-use Rattle.std.proofs.Common.{◌≡◌, ◌↔◌, ◌⊎◌, inl, inr, ⊎_elim, ℕ, zero, suc, ◌+◌, ◌<◌, List, [], ◌∷◌, ◌++◌, Option, None, Some, Contains, length, get_or, set, take, map, replicate, refl, sym, ap, ◌∙◌, subst, arith, Bool}
+use Rattle.std.proofs.Common.{◌≡◌, ◌↔◌, ◌⊎◌, inl, inr, ⊎_elim, ℕ, zero, suc, ◌+◌, ◌<◌, List, [], ◌∷◌, ◌++◌, Option, None, Some, Contains, length, get_or, set, take, map, replicate, refl, sym, ap, ◌∙◌, subst, Bool}
 use Rattle.std.proofs.lemmas.List.{get_or-map, map-set, take_more}
 use Rattle.std.proofs.lemmas.List.Elements.{Contains-append_left, Contains-push, Contains-push_cases}
 use Rattle.mt_cover.specs.declared.stays.Stay.{Stay}
@@ -71,10 +71,6 @@ near_on grid stays i d old new below before step item =
       (λ h. ⊎_elim (λ o. both.1 (inl ((before item).0 o))) (λ n. both.1 (inr n)) ((step item).0 h)),
       (λ h. ⊎_elim (λ p. (step item).1 (inl ((before item).1 p))) (λ n. (step item).1 (inr n)) (both.0 h)),
     )
-
--- nothing is in, or near, an empty list
-pub none_in : {X : Type 0} (x : X) → ¬ Contains [] x
-none_in x h = omega (arith, h.1)
 
 -- in order, each once
 pub listed : (grid : List (List Placed)) (stays : List Stay) (marks : List Bool) (items : List ℕ) → ((item : ℕ) → IsMarked marks item ↔ IsNear grid stays item)

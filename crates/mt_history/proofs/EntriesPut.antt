@@ -37,12 +37,6 @@ pub record IsPutUpTo (setup : Setup) (entries : List Entry) (n : ℕ) (picture :
 abbrev pub Replays : Story → Type 0
 Replays story = IsReplayable story.setup story.history
 
-pub put_none : (entries : List Entry) (picture : Story) → picture.history ≡ [] → IsPutUpTo picture.setup entries 0 picture
-put_none entries picture opening = record {
-  picture_is = λ i. story_with picture.setup (opening i);
-  replayable = λ i e at. cc;
-}
-
 put_more : (setup : Setup) (entries : List Entry) (n : ℕ) (e : Entry) (picture next : Story) → n < length entries → e ≡ get_or entries n e
     → IsPutUpTo setup entries n picture → next ≡ story_with picture.setup (picture.history ++ e ∷ []) → (Replays picture → Replays next)
     → IsPutUpTo setup entries (suc n) next

@@ -1,5 +1,4 @@
 pub mod Cutting
-pub mod Entering
 pub mod EntriesPut
 pub mod LinesPrinted
 pub mod LinesRead

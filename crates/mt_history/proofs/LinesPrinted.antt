@@ -1,15 +1,13 @@
 -- The lines of printed entries.
-use Rattle.std.proofs.Common.{◌≡◌, ◌<◌, ◌≤◌, ℕ, suc, List, [], ◌∷◌, ◌++◌, length, get_or, take, sym, ◌∙◌, ap, subst, arith, append_assoc, append-nil}
+use Rattle.std.proofs.Common.{◌≡◌, ◌≤◌, ℕ, List, [], ◌∷◌, sym, ◌∙◌, ap, subst, arith, append_assoc}
 use Rattle.std.specs.Prelude.{All}
-use Rattle.std.proofs.Math.Seq.{take-suc}
-use Rattle.std.proofs.lemmas.Grind.{flat_map-append}
 use Rattle.std.proofs.lemmas.List.Elements.{All-head, All-tail}
 use Rattle.serde_json.specs.Written.{compact_text}
 use Rattle.mt_base.specs.declared.command.Entry.{Entry}
 use Rattle.mt_io.specs.Lines.{IsPart, lines_of}
 use Rattle.mt_io.proofs.Lines.{lines_of-first}
 use Rattle.mt_json.proofs.OneLine.{one_line}
-use Rattle.mt_write.specs.Entry.{entry_text, entry_value}
+use Rattle.mt_write.specs.Entry.{entry_value}
 use Rattle.mt_wire.specs.Complete.{IsComplete}
 use Rattle.mt_wire.proofs.EntryLaw.{text_back}
 use Rattle.mt_history.specs.Printed.{AreRead, printed}
@@ -33,12 +31,3 @@ read_back (e ∷ entries) each =
     subst (λ (lines : List (List ℕ)). AreRead lines (e ∷ entries)) (sym (first_printed e entries))
     (read_first (compact_text (entry_value e)) e (lines_of (printed entries)) entries (text_back e (All-head IsComplete e entries each))
     (read_back entries (All-tail IsComplete e entries each)))
-
--- one entry more
-pub printed_more : (entries : List Entry) (n : ℕ) (e : Entry) → n < length entries → e ≡ get_or entries n e
-    → printed (take n entries) ++ entry_text e ≡ printed (take (suc n) entries)
-printed_more entries n e below is =
-    let grown : take (suc n) entries ≡ take n entries ++ e ∷ [] =
-    take-suc entries n e below ∙ ap (λ (x : Entry). take n entries ++ x ∷ []) (sym is) in
-    sym (ap printed grown ∙ flat_map-append entry_text (take n entries) (e ∷ [])
-    ∙ ap (λ (text : List ℕ). printed (take n entries) ++ text) (append-nil (entry_text e)))

@@ -1,5 +1,5 @@
 -- Lines read as entries, one more at a time.
-use Rattle.std.proofs.Common.{◌≡◌, ℕ, zero, suc, List, [], ◌∷◌, ◌++◌, length, map, take, Some, Ok, Err, refl, sym, ◌∙◌, ap, subst, arith, append_assoc, append-nil}
+use Rattle.std.proofs.Common.{◌≡◌, ℕ, zero, suc, List, [], ◌∷◌, ◌++◌, length, map, take, Some, Ok, Err, refl, sym, ◌∙◌, ap, subst, arith, append_assoc}
 use Rattle.std.specs.Prelude.{Result, slice_get}
 use Rattle.std.proofs.lemmas.List.{length-map, map-append, take_at}
 use Rattle.mt_base.specs.declared.command.Entry.{Entry}
@@ -76,11 +76,6 @@ up_to_more bytes rest line others entries e up cut is = record {
   lines_are = up.lines_are ∙ ap (λ (lines : List (List ℕ)). up.done ++ lines) cut ∙ sym (append_assoc up.done (line ∷ []) (lines_of others));
   read = read_push up.done entries line e up.read is;
 }
-
-pub up_to_end : (bytes rest : List ℕ) (entries : List Entry) → IsReadUpTo bytes rest entries → length rest ≡ 0 → AreRead (lines_of bytes) entries
-up_to_end bytes [] entries up none =
-    subst (λ (lines : List (List ℕ)). AreRead lines entries) (sym (up.lines_are ∙ append-nil up.done)) up.read
-up_to_end bytes (b ∷ rest) entries up none = absurd (omega arith)
 
 pub first_bad : (bytes rest line others : List ℕ) (entries : List Entry) (place : ℕ) (refusal : LineNo) → IsReadUpTo bytes rest entries
     → lines_of rest ≡ line ∷ lines_of others → place ≡ length entries → entry line ≡ Err refusal → IsFirstBad bytes place

@@ -1,5 +1,5 @@
 -- Reading more, and moving pieces, one after another.
-use Rattle.std.proofs.Common.{◌≡◌, ◌<◌, ◌≤◌, ℕ, ◌^◌, Bool, true, false, List, [], ◌∷◌, ◌++◌, length, refl, sym, ◌∙◌, ap, subst, arith, append_assoc, append-nil, length-append}
+use Rattle.std.proofs.Common.{◌≡◌, ◌<◌, ℕ, Bool, true, false, List, [], ◌∷◌, ◌++◌, length, refl, sym, ◌∙◌, ap, subst, arith, append_assoc, append-nil, length-append}
 use Rattle.std.proofs.Common.{inl, inr, Ok}
 use Rattle.std.proofs.lemmas.Bool.{cases_eq}
 use Rattle.std.proofs.lemmas.List.{nil_from_length}
@@ -23,25 +23,6 @@ pub record IsGathering (old now : Store) (before mid : Option (List ℕ)) (kept 
 pub IsPart-append : (xs ys : List ℕ) → IsPart xs → IsPart ys → IsPart (xs ++ ys)
 IsPart-append [] ys px py = py
 IsPart-append (x ∷ xs) ys px py = (px.0, IsPart-append xs ys px.1 py)
-
-pub passes_none : (old : Store) (before : Option (List ℕ)) → old.taken ≤ 2 ^ 32 → Passes old old before before []
-passes_none old before limit = record {
-  read = [];
-  from = consumes_none before;
-  count = omega arith;
-  bytes = append-nil old.ahead;
-  limit = limit;
-}
-
--- nothing was read yet
-pub begins : (old : Store) (before : Option (List ℕ)) (kept : List ℕ) (is_long : Bool) → old.taken ≤ 2 ^ 32 → kept ≡ [] → is_long ≡ false
-    → IsGathering old old before before kept is_long
-begins old before kept is_long limit empty short = record {
-  line = [];
-  part = tt;
-  gathered = record { short = λ _. (empty, omega arith); long = λ long. cc };
-  passes = passes_none old before limit;
-}
 
 -- nothing is ahead, and more is read
 pub passes_fill : (old now new : Store) (before mid after : Option (List ℕ)) (front : List ℕ) (more : Bool) → length now.ahead ≡ 0

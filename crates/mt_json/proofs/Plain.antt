@@ -1,16 +1,11 @@
 -- Objects of plain values: what is put in keeps them so, and the whole has no float and can be read.
-use Rattle.std.proofs.Common.{◌≡◌, ℕ, ℤ, pos, negsuc, ◌<◌, ◌≤◌, List, false, Ordering, Less, Equal, Greater, nat_cmp, refl, arith}
+use Rattle.std.proofs.Common.{◌≡◌, ℕ, ◌<◌, ◌≤◌, List, false, Ordering, Less, Equal, Greater, nat_cmp, refl, arith}
 use Rattle.std.specs.Cmp.Lexicographic.{slice_cmp}
 use Rattle.std.specs.Ordering.{match_ordering}
-use Rattle.serde_json.specs.Data.{Data, number, object, Members, no_members, member, put, depth, members_depth}
-use Rattle.serde_json.specs.Find.{of_integer}
+use Rattle.serde_json.specs.Data.{Data, object, Members, no_members, member, put, depth, members_depth}
 use Rattle.serde_json.specs.Read.{max_depth}
 use Rattle.serde_json.specs.Written.{has_float}
 use Rattle.mt_json.specs.Line.{IsPlain, ArePlain}
-
-pub plain-number : (z : ℤ) → IsPlain (number (of_integer z))
-plain-number (pos n) = (refl, omega arith)
-plain-number (negsuc n) = (refl, omega arith)
 
 put_at : (o : Ordering) (k l : List ℕ) (d e : Data) (ms : Members) → IsPlain d → ArePlain (member l e ms) → ArePlain (put k d ms)
     → ArePlain (match_ordering o (member k d (member l e ms)) (member l d ms) (member l e (put k d ms)))

@@ -10,6 +10,7 @@ use Rattle.mt_base.specs.Conflict.{IsSpanOfLoss}
 use Rattle.mt_base.specs.Picture.{NamedTrajectory}
 use Rattle.mt_edges.specs.declared.edge.Edge.{Edge}
 use Rattle.mt_edges.specs.Pairs.{AreSame, IsEach, touches}
+use Rattle.mt_base.proofs.OneConflict.{one_span}
 use Rattle.mt_kept.specs.declared.open_pair.OpenPair.{OpenPair}
 use Rattle.mt_kept.specs.Places.{at, horizon}
 use Rattle.mt_kept.specs.Losing.{AreKept, IsPair, Loses, Touches}
@@ -17,9 +18,8 @@ use Rattle.mt_kept.specs.Window.{AreOpen, IsOpen, edge_of}
 use Rattle.mt_kept.specs.Made.{is_closed, is_open, quiet, touches_place}
 use Rattle.mt_kept.specs.Finds.{Agree, AreFindsAt}
 use Rattle.mt_kept.proofs.Keeping.{is_open_is, touches_is}
-use Rattle.mt_kept.proofs.Elements.{Contains-filter, Contains-map, Contains-map_cases, distinct_append, distinct_held, distinct_map}
+use Rattle.mt_base.proofs.Members.{Contains-filter, Contains-map, Contains-map_cases, distinct_append, distinct_held, distinct_map}
 use Rattle.mt_kept.proofs.Moving.{apart_distinct}
-use Rattle.mt_kept.proofs.Windows.{one_span}
 
 -- two pairs of the same places are one
 pub same_pair : (rules : Rules) (places : List (Option NamedTrajectory)) (e f : Edge) → IsPair rules places e → IsPair rules places f → AreSame e f → e ≡ f

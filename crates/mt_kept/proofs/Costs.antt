@@ -1,12 +1,13 @@
 -- How many tests finds cost.
-use Rattle.std.proofs.Common.{◌≡◌, ◌≢◌, ℕ, ◌+◌, ◌*◌, ◌<◌, ◌≤◌, Bool, true, false, cond, not, ◌==◌, ◌&&◌, List, [], ◌∷◌, ◌++◌, length, take, get_or, Option, Some, None, refl, sym, ◌∙◌, ap, subst, arith, le_refl}
+use Rattle.std.proofs.Common.{◌≡◌, ◌≢◌, ℕ, ◌+◌, ◌*◌, ◌<◌, ◌≤◌, Bool, true, false, cond, not, ◌==◌, ◌&&◌, List, [], ◌∷◌, length, take, get_or, Option, Some, None, refl, sym, ◌∙◌, ap, subst, arith}
 use Rattle.std.specs.List.{filter, sum_by}
 use Rattle.std.specs.Str.{bytes_eq}
 use Rattle.std.proofs.lemmas.Bool.{and_from, ne_eqb}
 use Rattle.std.proofs.lemmas.Slice.Eq.{bytes_eq-Decides}
-use Rattle.std.proofs.lemmas.List.Sums.{sum_by-append, sum_by-cons, sum_by-take-le}
+use Rattle.std.proofs.lemmas.List.Sums.{sum_by-cons, sum_by-take-le}
 use Rattle.mt_base.specs.Picture.{NamedTrajectory}
 use Rattle.mt_edges.specs.declared.edge.Edge.{Edge}
+use Rattle.mt_base.proofs.Tallies.{raised_by-add, sum_by-push}
 use Rattle.mt_kept.specs.declared.finds.Candidate.{Candidate}
 use Rattle.mt_kept.specs.declared.finds.Verdict.{Verdict}
 use Rattle.mt_kept.specs.declared.finds.Verdict.TheVariants.{Unknown, Known}
@@ -14,26 +15,16 @@ use Rattle.mt_kept.specs.Places.{at}
 use Rattle.mt_kept.specs.Window.{straddles}
 use Rattle.mt_kept.specs.Made.{IsKnownAs, unknown}
 use Rattle.mt_kept.specs.Finds.{IsOther, asks_one, asks_two, cost, cost_known, cost_of, is_crossing, is_listed, is_other, is_unknown}
-use Rattle.mt_kept.specs.Tests.{RoseUpTo, raised_by}
-use Rattle.mt_kept.proofs.Elements.{take_push}
-use Rattle.mt_kept.proofs.Moving.{raised_by-add}
+use Rattle.mt_base.specs.Tally.{RoseUpTo, raised_by}
+use Rattle.mt_base.proofs.Members.{take_push}
 
 -- no test was made
 pub none_rose : (most old new : ℕ) → new ≡ old → RoseUpTo most old new
 none_rose most old new same = record { more = 0; within = omega arith; is = same }
 
--- one was made where the span straddles an edge of the window
-pub one_rose : (now : ℕ) (e : Edge) (old new : ℕ) → new ≡ raised_by (cond (straddles now e) 1 0) old → RoseUpTo (cond (straddles now e) 1 0) old new
-one_rose now e old new is = record { more = cond (straddles now e) 1 0; within = le_refl (cond (straddles now e) 1 0); is = is }
-
 at_most_one : (b : Bool) → cond b 1 0 ≤ 1
 at_most_one true = omega arith
 at_most_one false = omega arith
-
--- the test over all seconds, and the one in the window
-pub cost_whole : (now : ℕ) (v : Verdict) (old mid : ℕ) → mid ≡ raised_by (unknown v) old → RoseUpTo (cost_of now v) old mid
-cost_whole now Unknown old mid is = record { more = 1; within = omega arith; is = is }
-cost_whole now (Known span) old mid is = record { more = 0; within = omega arith; is = is }
 
 pub cost_both : (now : ℕ) (v : Verdict) (span : ℕ × ℕ) (e : Edge) (old mid new : ℕ) → e.first ≡ span.0 → e.last ≡ span.1 → IsKnownAs v (Some span)
     → mid ≡ raised_by (unknown v) old → RoseUpTo (cond (straddles now e) 1 0) mid new → RoseUpTo (cost_of now v) old new
@@ -74,14 +65,11 @@ RoseUpTo-add m n old mid new first second = record {
   is = second.is ∙ ap (raised_by second.more) first.is ∙ raised_by-add first.more second.more old;
 }
 
-sum_push : {X : Type 0} (f : X → ℕ) (xs : List X) (x : X) → sum_by f (xs ++ x ∷ []) ≡ sum_by f xs + f x
-sum_push f xs x = let last : sum_by f (x ∷ []) ≡ f x + sum_by f [] = sum_by-cons f x [] in omega (arith, sum_by-append f xs (x ∷ []))
-
 -- one candidate more, and some of them
 pub cost_more : (f : Candidate → ℕ) (xs : List Candidate) (i : ℕ) (x : Candidate) (old mid new : ℕ) → i < length xs → x ≡ get_or xs i x
     → RoseUpTo (sum_by f (take i xs)) old mid → RoseUpTo (f x) mid new → RoseUpTo (sum_by f (take (i + 1) xs)) old new
 cost_more f xs i x old mid new below is first second =
-    let more : sum_by f (take (i + 1) xs) ≡ sum_by f (take i xs) + f x = ap (sum_by f) (take_push xs i x below is) ∙ sum_push f (take i xs) x in
+    let more : sum_by f (take (i + 1) xs) ≡ sum_by f (take i xs) + f x = ap (sum_by f) (take_push xs i x below is) ∙ sum_by-push f (take i xs) x in
     rw more (RoseUpTo-add (sum_by f (take i xs)) (f x) old mid new first second)
 
 pub cost_part : (f : Candidate → ℕ) (xs : List Candidate) (i old new : ℕ) → RoseUpTo (sum_by f (take i xs)) old new → RoseUpTo (sum_by f xs) old new

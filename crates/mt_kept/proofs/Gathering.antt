@@ -1,5 +1,5 @@
 -- The pairs of a new trajectory, one candidate more at a time.
-use Rattle.std.proofs.Common.{◌≡◌, ◌≢◌, ℕ, zero, suc, ◌+◌, ◌<◌, ◌≤◌, ⊎_elim, List, [], ◌∷◌, ◌++◌, map, length, take, get_or, Contains, Option, Some, refl, sym, ◌∙◌, ap, subst, arith}
+use Rattle.std.proofs.Common.{◌≡◌, ◌≢◌, ℕ, zero, suc, ◌+◌, ◌<◌, ⊎_elim, List, [], ◌∷◌, ◌++◌, map, length, take, get_or, Contains, Option, Some, sym, ◌∙◌, ap, subst, arith}
 use Rattle.std.specs.List.{AllPairs}
 use Rattle.std.proofs.lemmas.List.{get_or_default, get_or-take, length-take}
 use Rattle.std.proofs.lemmas.List.Elements.{Contains-append_left, Contains-push, Contains-push_cases}
@@ -18,8 +18,7 @@ use Rattle.mt_kept.specs.Made.{IsAddedAt, IsEdgeBetween, IsFind}
 use Rattle.mt_kept.specs.Finds.{AreCandidates, IsOther, IsRight, place_of}
 use Rattle.std.specs.List.Sorted.{IsStrictlyIncreasing}
 use Rattle.std.proofs.lemmas.List.Kept.{AllPairs-from_increasing}
-use Rattle.mt_kept.proofs.Elements.{distinct_of, Contains-none, take_push}
-use Rattle.mt_kept.proofs.Keeping.{at_inside}
+use Rattle.mt_base.proofs.Members.{distinct_of, Contains-none, take_push}
 
 -- where a find came from
 pub record IsFindAmong (rules : Rules) (places : List (Option NamedTrajectory)) (now place : ℕ) (mine : NamedTrajectory) (xs : List Candidate)
@@ -134,15 +133,6 @@ pub right_at : (rules : Rules) (places : List (Option NamedTrajectory)) (place :
     → AreCandidates rules places place mine xs → i < length xs → x ≡ get_or xs i x → (other : NamedTrajectory) → IsOther places place mine x.place other
     → IsRight rules mine other x.verdict
 right_at rules places place mine xs i x candidates below is other there = candidates.right x other (i, below, sym is) there
-
--- what stands in a place that was read
-pub length_seen : (places : List (Option Item)) → length (map seen places) ≡ length places
-length_seen [] = refl
-length_seen (x ∷ xs) = let h = length_seen xs in omega arith
-
-pub no_other_past : (places : List (Option Item)) (place j : ℕ) (mine other : NamedTrajectory) → length places ≤ j → ¬ IsOther (map seen places) place mine j other
-no_other_past places place j mine other past h =
-    let below = at_inside (map seen places) j other h.is in let long = length_seen places in absurd (omega arith)
 
 pub at_read : (places : List (Option Item)) (i : ℕ) (r : Option Item) → i < length places → r ≡ get_or places i r → at (map seen places) i ≡ seen r
 at_read [] i r below is = absurd (omega arith)

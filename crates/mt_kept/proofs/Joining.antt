@@ -14,7 +14,7 @@ use Rattle.mt_kept.specs.Places.{at, horizon, slot_of}
 use Rattle.mt_kept.specs.Losing.{IsPair, Joins, Touches, TouchesSlot}
 use Rattle.mt_kept.specs.Window.{IsFoundOf, edge_of}
 use Rattle.mt_kept.specs.Finds.{Agree, AreCandidates, AreFinds, AreFindsAt, IsOther, place_of}
-use Rattle.mt_kept.proofs.Elements.{Contains-map, Contains-map_cases, Contains-none, distinct_append}
+use Rattle.mt_base.proofs.Members.{Contains-map, Contains-map_cases, Contains-none, distinct_append}
 use Rattle.mt_kept.proofs.Gathering.{AreGathered}
 use Rattle.mt_kept.proofs.Keeping.{even_half, halves, odd_half}
 use Rattle.mt_kept.proofs.Windows.{IsLossSecond-sym, IsSpanOfLoss-sym}

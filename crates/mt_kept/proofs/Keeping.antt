@@ -22,7 +22,7 @@ use Rattle.mt_kept.specs.Window.{AreOpen, IsOpen, IsShown, Shows, edge_of}
 use Rattle.mt_kept.specs.Made.{AreReplaced, avoids, is_open, opens}
 use Rattle.mt_kept.specs.Kept.{IsKept}
 use Rattle.mt_kept.specs.Finds.{AreFinds}
-use Rattle.mt_kept.proofs.Elements.{Contains-filter, Contains-map, Contains-map_cases, Contains-none, distinct_append}
+use Rattle.mt_base.proofs.Members.{Contains-filter, Contains-map, Contains-map_cases, Contains-none, distinct_append}
 
 -- the places of a slot
 pub even_half : (slot : ℕ) → slot_of (2 * slot) ≡ slot

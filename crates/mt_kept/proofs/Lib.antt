@@ -1,4 +1,3 @@
-pub mod Elements
 pub mod Windows
 pub mod Publishing
 pub mod Keeping

@@ -1,5 +1,5 @@
 -- The open pairs of a later moment, and the tests made for them.
-use Rattle.std.proofs.Common.{◌≡◌, ◌≢◌, ℕ, zero, suc, cond, get_or, ◌+◌, ◌<◌, ◌≤◌, ⊎_elim, ◌↔◌, true, List, ◌++◌, map, length, take, Contains, Option, refl, sym, ◌∙◌, ap, subst, arith}
+use Rattle.std.proofs.Common.{◌≡◌, ◌≢◌, ℕ, cond, get_or, ◌+◌, ◌<◌, ◌≤◌, ⊎_elim, ◌↔◌, true, List, ◌++◌, map, length, take, Contains, Option, sym, ◌∙◌, ap, subst, arith}
 use Rattle.std.specs.List.{All, AllPairs, count_by, filter}
 use Rattle.std.proofs.lemmas.Bool.{cases_lt}
 use Rattle.std.proofs.lemmas.Bool.Decides.{nat_tests}
@@ -7,17 +7,17 @@ use Rattle.std.proofs.lemmas.List.Elements.{All-contains, Contains-append_cases,
 use Rattle.std.proofs.lemmas.List.Kept.{AllPairs-filter}
 use Rattle.std.proofs.lemmas.List.Sums.{length-filter}
 use Rattle.std.proofs.lemmas.List.Filters.{length-filter_more}
-use Rattle.mt_base.specs.Tally.{raised}
+use Rattle.mt_base.specs.Tally.{raised_by}
 use Rattle.mt_base.specs.declared.rules.Rules.{Rules}
 use Rattle.mt_base.specs.Picture.{NamedTrajectory, window_end}
 use Rattle.mt_edges.specs.declared.edge.Edge.{Edge}
 use Rattle.mt_edges.specs.Pairs.{AreApart, IsEach}
+use Rattle.mt_base.proofs.Tallies.{raised_by-add}
 use Rattle.mt_kept.specs.declared.open_pair.OpenPair.{OpenPair}
 use Rattle.mt_kept.specs.Losing.{AreKept, IsPair}
 use Rattle.mt_kept.specs.Window.{AreOpen, IsOpen, IsShown, WasTestedOnce, edge_of, straddles}
 use Rattle.mt_kept.specs.Made.{WereTested, is_lasting}
-use Rattle.mt_kept.specs.Tests.{raised_by}
-use Rattle.mt_kept.proofs.Elements.{All-from_held, Contains-filter, Contains-map, Contains-map_cases, distinct_append, distinct_map, distinct_of, distinct_take, Contains-take}
+use Rattle.mt_base.proofs.Members.{All-from_held, Contains-filter, Contains-map, Contains-map_cases, distinct_append, distinct_map, distinct_of, distinct_take, Contains-take}
 
 -- pairs with different ends are different
 pub apart_distinct : (edges : List Edge) → AreApart edges → AllPairs (λ e f. e ≢ f) edges
@@ -115,10 +115,6 @@ tested_once rules places old_moment now edges due pairs old new later kept opene
           (kept.sound e ((reaching_is rules places old_moment now edges due pairs later opened is_due e).0 listed).0, h.1));
       is = tested.is ∙ ap (λ (n : ℕ). raised_by n old) (sym (length-filter (straddles now) first));
     }
-
-pub raised_by-add : (m n count : ℕ) → raised_by n (raised_by m count) ≡ raised_by (m + n) count
-raised_by-add m zero count = let e : m + 0 ≡ m = omega arith in rw e refl
-raised_by-add m (suc n) count = let e : m + suc n ≡ suc (m + n) = omega arith in rw e (ap raised (raised_by-add m n count))
 
 -- the tests so far, and that of one more edge
 pub tested_more : (now : ℕ) (edges : List Edge) (i : ℕ) (old mid new : ℕ) → (d : Edge) → i < length edges

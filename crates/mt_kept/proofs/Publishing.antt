@@ -16,13 +16,14 @@ use Rattle.mt_base.specs.declared.rules.Rules.{Rules}
 use Rattle.mt_base.specs.Conflict.{IsLossSecond, IsSpanOfLoss}
 use Rattle.mt_base.specs.Picture.{IsOf, IsOfSome, IsPublishedOf, NamedTrajectory, conflict_cmp, window_end}
 use Rattle.mt_edges.specs.declared.edge.Edge.{Edge}
+use Rattle.mt_base.proofs.OneConflict.{one_conflict}
 use Rattle.mt_kept.specs.declared.open_pair.OpenPair.{OpenPair}
 use Rattle.mt_kept.specs.Places.{at, held, horizon, seen}
 use Rattle.mt_kept.specs.Losing.{AreKept, IsPair, Loses}
 use Rattle.mt_kept.specs.Window.{AreOpen, IsFoundOf, IsOpen, IsShown, Shows, edge_of}
 use Rattle.mt_kept.specs.Made.{IsInOrder}
-use Rattle.mt_kept.proofs.Elements.{Contains-cases, Contains-head, Contains-later, Contains-map_cases, Contains-none, IsSeen}
-use Rattle.mt_kept.proofs.Windows.{IsLossSecond-sym, IsSpanOfLoss-sym, is_open_at, one_span}
+use Rattle.mt_base.proofs.Members.{Contains-cases, Contains-head, Contains-later, Contains-map_cases, Contains-none, IsSeen}
+use Rattle.mt_kept.proofs.Windows.{IsLossSecond-sym, IsSpanOfLoss-sym, is_open_at}
 
 -- a trajectory that stands in some place
 pub record Stands (places : List (Option NamedTrajectory)) (t : NamedTrajectory) : Type 0 where
@@ -58,19 +59,6 @@ one_before s t Greater e apart = inr (let flip = nat_list_cmp_total.antisymm t s
 pub before_or_after : (s t : List ℕ) → s ≢ t → (slice_cmp nat_cmp s t ≡ Less) ⊎ (slice_cmp nat_cmp t s ≡ Less)
 before_or_after s t apart = one_before s t (slice_cmp nat_cmp s t) refl apart
 
--- there is one conflict of two trajectories in the window
-pub one_of : (rules : Rules) (now : ℕ) (left right : NamedTrajectory) (c d : Conflict) → IsOf rules now left right c → IsOf rules now left right d → c ≡ d
-one_of rules now left right c d is other =
-    let e = one_span rules left.path right.path now (window_end now) c.first c.last d.first d.last is.span other.span in
-    λ i. record {
-      first = e.0 i;
-      a = (is.calls.0 ∙ sym other.calls.0) i;
-      b = (is.calls.1 ∙ sym other.calls.1) i;
-      ka = (is.kinds.0 ∙ sym other.kinds.0) i;
-      kb = (is.kinds.1 ∙ sym other.kinds.1) i;
-      last = e.1 i;
-    }
-
 -- what is found of two trajectories, whichever comes first, is the conflict that they have
 pub found_is : (rules : Rules) (now : ℕ) (left right : NamedTrajectory) (c : Conflict) (shown : Option Conflict) → IsOf rules now left right c
     → IsFoundOf rules now left right shown ⊎ IsFoundOf rules now right left shown → shown ≡ Some c
@@ -80,7 +68,7 @@ found_is rules now left right c None is either =
     ⊎_elim (λ none. absurd (none c.first low high is.span.first_is))
     (λ none. absurd (none c.first low high (IsLossSecond-sym rules left.path right.path c.first is.span.first_is))) either
 found_is rules now left right c (Some d) is either =
-    let same : IsOf rules now left right d → Some d ≡ Some c = λ other. ap Some (one_of rules now left right d c other is) in
+    let same : IsOf rules now left right d → Some d ≡ Some c = λ other. ap Some (one_conflict rules now left right d c other is) in
     let swapped : IsOf rules now right left d → Some d ≡ Some c = λ other. absurd (not_both left.call right.call is.apart other.apart) in
     ⊎_elim (λ found. ⊎_elim same swapped found) (λ found. ⊎_elim swapped same found) either
 
@@ -231,9 +219,6 @@ Shows-some pairs o d some c = (
       (λ h. record { pair = h.pair; held = Contains-append_left pairs (o ∷ []) h.pair h.held; shown = h.shown })
       (λ same. record { pair = o; held = Contains-push pairs o; shown = some ∙ ap Some same }) either),
 )
-
-pub Shows-nothing : (c : Conflict) → ¬ Shows [] c
-Shows-nothing c h = Contains-none h.pair h.held
 
 pub list_more : (pairs : List OpenPair) (o : OpenPair) (list list' : List Conflict) (d : Conflict) → ((c : Conflict) → Contains list c ↔ Shows pairs c)
     → o.conflict ≡ Some d → list' ≡ list ++ d ∷ [] → (c : Conflict) → Contains list' c ↔ Shows (pairs ++ o ∷ []) c

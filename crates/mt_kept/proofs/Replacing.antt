@@ -19,7 +19,7 @@ use Rattle.mt_kept.specs.Made.{AreReplaced, WereDropped, touches_slot}
 use Rattle.mt_kept.specs.Places.{slot_of, with_slot}
 use Rattle.mt_kept.specs.Window.{edge_of}
 use Rattle.mt_kept.proofs.Keeping.{at_inside, length_slot, even_half, halves, odd_half, touches_is}
-use Rattle.mt_kept.proofs.Elements.{All-from_held, Contains-filter, Contains-map_cases, Contains-none, take_push}
+use Rattle.mt_base.proofs.Members.{All-from_held, Contains-filter, Contains-map_cases, Contains-none, take_push}
 
 -- the pairs of both places of a slot, taken out
 apart_from : (end : ℕ) (e : Edge) → (touches end e ≡ false) ↔ ((e.a ≢ end) × (e.b ≢ end))
@@ -156,11 +156,3 @@ were_steps rules places slot edges old new kept dropped = record {
   touches_slot_is slot e t = ⊎_elim
       (λ first. touches_slot_by slot (2 * slot) e (even_half slot) first)
       (λ second. touches_slot_by slot (2 * slot + 1) e (odd_half slot) second) (either (touches (2 * slot) e) (touches (2 * slot + 1) e) t)
-
-pub no_steps : (rules : Rules) (places : List (Option NamedTrajectory)) (slot old new : ℕ) → new ≡ old → WereStepsOf rules places slot old new
-no_steps rules places slot old new same = record {
-  edges = [];
-  distinct = λ i j d before below. absurd (omega arith);
-  each = λ k d below. absurd (omega arith);
-  within = omega arith;
-}

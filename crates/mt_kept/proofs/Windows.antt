@@ -71,13 +71,3 @@ pub is_open_at : (rules : Rules) (a b : Trajectory) (now k : ℕ) (e : Edge) →
     → now ≤ k → k < window_end now → IsLossSecond rules a b k → IsOpen now e
 is_open_at rules a b now k e early whole low high loss =
     let h = whole.none_outside k (omega arith) (omega arith) loss in (omega arith, omega arith)
-
--- there is one span
-pub one_span : (rules : Rules) (a b : Trajectory) (from to first last first' last' : ℕ) → IsSpanOfLoss rules a b from to first last
-    → IsSpanOfLoss rules a b from to first' last' → (first ≡ first') × (last ≡ last')
-one_span rules a b from to first last first' last' s t =
-    let h1 = t.none_outside first s.inside.0 (omega (arith, s.inside.1, s.inside.2)) s.first_is in
-    let h2 = s.none_outside first' t.inside.0 (omega (arith, t.inside.1, t.inside.2)) t.first_is in
-    let h3 = t.none_outside last (omega (arith, s.inside.0, s.inside.1)) s.inside.2 s.last_is in
-    let h4 = s.none_outside last' (omega (arith, t.inside.0, t.inside.1)) t.inside.2 t.last_is in
-    (omega arith, omega arith)

@@ -5,5 +5,4 @@ pub mod Laws
 pub mod Losing
 pub mod Made
 pub mod Places
-pub mod Tests
 pub mod Window

@@ -17,7 +17,7 @@ use Rattle.mt_kept.specs.declared.open_pair.OpenPair.{OpenPair}
 use Rattle.mt_kept.specs.Finds.{IsOther}
 use Rattle.mt_kept.specs.Losing.{AvoidsSlot}
 use Rattle.mt_kept.specs.Places.{horizon, slot_of}
-use Rattle.mt_kept.specs.Tests.{raised_by}
+use Rattle.mt_base.specs.Tally.{raised_by}
 use Rattle.mt_kept.specs.Window.{IsFoundOf, IsOpen, edge_of, straddles}
 
 -- a pair doesn't end before the moment; it is open; it is not

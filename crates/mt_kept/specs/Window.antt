@@ -8,7 +8,7 @@ use Rattle.mt_edges.specs.declared.edge.Edge.{Edge}
 use Rattle.mt_kept.specs.declared.open_pair.OpenPair.{OpenPair}
 use Rattle.mt_kept.specs.Losing.{IsPair}
 use Rattle.mt_kept.specs.Places.{at}
-use Rattle.mt_kept.specs.Tests.{raised_by}
+use Rattle.mt_base.specs.Tally.{raised_by}
 
 -- A pair is open where its span over all seconds meets the window: it begins before the window's end and doesn't end before the moment.
 abbrev pub IsOpen : ℕ → Edge → Type 0

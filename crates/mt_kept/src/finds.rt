@@ -8,7 +8,7 @@ ghost use Rattle.mt_track.specs.Named.{named};
 ghost use Rattle.mt_kept.specs.Finds.{Agree, AreCandidates, AreFindsAt, IsOther, IsRight, cost, cost_of};
 ghost use Rattle.mt_kept.specs.Made.{IsAdded, IsAddedAt, IsEdgeOf, IsKnownAs, unknown};
 ghost use Rattle.mt_kept.specs.Places.{horizon, seen};
-ghost use Rattle.mt_kept.specs.Tests.{RoseUpTo, raised_by};
+ghost use Rattle.mt_base.specs.Tally.{RoseUpTo, raised_by};
 ghost use Rattle.mt_kept.specs.Window.{IsFoundOf, IsOpen, straddles};
 
 use crate::open_pair::{OpenPair, is_open, push_pair};

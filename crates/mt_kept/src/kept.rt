@@ -9,7 +9,7 @@ ghost use Rattle.mt_kept.specs.Finds.{Agree, AreCandidates, AreFinds, AreFindsAt
 ghost use Rattle.mt_kept.specs.Losing.{TouchesSlot};
 ghost use Rattle.mt_kept.specs.Made.{AreReplaced, WereDropped};
 ghost use Rattle.mt_kept.specs.Places.{held, seen, with_slot};
-ghost use Rattle.mt_kept.specs.Tests.{RoseUpTo};
+ghost use Rattle.mt_base.specs.Tally.{RoseUpTo};
 ghost use Rattle.mt_kept.specs.Window.{WasTestedOnce};
 
 use crate::finds::{Candidate, gather};

@@ -9,7 +9,7 @@ ghost use Rattle.mt_track.specs.Named.{named};
 ghost use Rattle.mt_kept.specs.Losing.{IsPair};
 ghost use Rattle.mt_kept.specs.Made.{IsInOrder, WereTested, conflict_of};
 ghost use Rattle.mt_kept.specs.Places.{horizon, seen};
-ghost use Rattle.mt_kept.specs.Tests.{raised_by};
+ghost use Rattle.mt_base.specs.Tally.{raised_by};
 ghost use Rattle.mt_kept.specs.Window.{IsFoundOf, IsOpen, IsShown, Shows, edge_of, straddles};
 
 use crate::open_pair::{OpenPair, WINDOW, is_straddling};

@@ -22,7 +22,7 @@ use Rattle.mt_base.specs.Trajectory.{Trajectory}
 use Rattle.mt_base.specs.WhatIf.{AreHits, AreHitsOf, IsHit, IsWhatIf, course_in, course_on, trajectory_cleared, what_if_checks}
 use Rattle.mt_law.proofs.Bare.{judge_bare, what_if_bare}
 use Rattle.mt_law.proofs.Flights.{found_changed}
-use Rattle.mt_law.proofs.Lists.{Contains-map, Contains-map_cases}
+use Rattle.mt_base.proofs.Members.{Contains-map, Contains-map_cases}
 
 -- a state without the tentative clearance of a callsign, at some version
 abbrev pub bare_at : List ℕ → State → ℕ → State

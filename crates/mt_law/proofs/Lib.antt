@@ -6,7 +6,6 @@ pub mod Decided
 pub mod Flights
 pub mod Hits
 pub mod Left
-pub mod Lists
 pub mod Lowered
 pub mod Marks
 pub mod Passing

@@ -1,17 +1,9 @@
 -- Requests that are answered one after the other.
-use Rattle.std.proofs.Common.{◌≡◌, ◌⊎◌, ⊎_elim, ℕ, ◌+◌, ◌%◌, List, refl, add-one, nat_eq}
+use Rattle.std.proofs.Common.{◌≡◌, ℕ, ◌+◌, ◌%◌, List, refl, add-one, nat_eq}
 use Rattle.std.specs.Prelude.{MatchBool}
 use Rattle.mt_make.specs.Input.{callsign}
-use Rattle.mt_read.specs.declared.request.Request.{Request}
-use Rattle.mt_write.specs.declared.reply.Reply.{Reply}
-use Rattle.mt_write.specs.declared.reply.Reply.TheVariants.{Memory}
-use Rattle.mt_world.specs.World.{IsServed, IsStarved, World}
+use Rattle.mt_world.specs.World.{World}
 use Rattle.mt_load.specs.Load.{EachDivided}
-
--- a request whose reply isn't `memory` was served
-pub served_of : (w next : World) (who : ℕ) (request : Request) (reply : Reply) → (reply ≡ Memory → ⊥)
-    → IsServed w who request reply next ⊎ IsStarved w who request reply next → IsServed w who request reply next
-served_of w next who request reply not served = ⊎_elim (λ served. served) (λ starved. absurd (not starved.reply_is)) served
 
 -- no flight
 pub each_none : (Does : World → List ℕ → World → Type 0) (divisor : ℕ) (w : World) → EachDivided Does divisor 0 w w

@@ -1,6 +1,5 @@
 -- The picture of a load run has begun at its end.
 use Rattle.std.proofs.Common.{◌≡◌, ◌∙◌, ℕ, zero, suc, ◌%◌, Bool, true, false, List, [], ◌∷◌, ◌++◌, refl, ap, nat_eq}
-use Rattle.std.specs.Prelude.{MatchBool}
 use Rattle.mt_base.specs.declared.command.Command.TheVariants.{Drop, Tick}
 use Rattle.mt_make.specs.Input.{bands, callsign, each_below, fix, kind_name, plan_of}
 use Rattle.mt_read.specs.declared.request.Request.{Request}
@@ -10,6 +9,7 @@ use Rattle.mt_write.specs.declared.reply.Reply.{Reply}
 use Rattle.mt_write.specs.declared.reply.Reply.TheVariants.{Advice}
 use Rattle.mt_script.proofs.Keeping.{kept_served}
 use Rattle.mt_world.specs.World.{IsServed, World, opening_world}
+use Rattle.mt_base.proofs.Cases.{on_either}
 use Rattle.mt_load.specs.Load.{AreAsked, EachDivided, IsAdviceTaken, IsAdvisedFlight, IsAsked, IsDroppedFlight, IsFirstAccepted, IsLoadRun}
 
 -- what is left of a world that has begun has begun
@@ -25,10 +25,6 @@ by_asked w next who request asked begun = by_served w next who request asked.rep
 by_all : (requests : List Request) (w end : World) (who : ℕ) → AreAsked w who requests end → w.begun ≡ true → end.begun ≡ true
 by_all [] w end who same begun = by_same w end same begun
 by_all (request ∷ requests) w end who (next, asked, rest) begun = by_all requests next end who rest (by_asked w next who request asked begun)
-
-on_either : (b : Bool) (P Q R : Type 0) → (P → R) → (Q → R) → MatchBool b P Q → R
-on_either true P Q R p q m = p m
-on_either false P Q R p q m = q m
 
 -- `begin` begins, where that hasn't come before
 after_begin : (w next : World) (who : ℕ) → IsAsked w who Begin next → next.begun ≡ true

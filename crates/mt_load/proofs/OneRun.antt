@@ -1,6 +1,5 @@
 -- A load run ends in one world.
-use Rattle.std.proofs.Common.{◌≡◌, ◌∙◌, ℕ, zero, suc, ◌%◌, Bool, true, false, List, [], ◌∷◌, sym, subst, nat_eq}
-use Rattle.std.specs.Prelude.{MatchBool}
+use Rattle.std.proofs.Common.{◌≡◌, ◌∙◌, ℕ, zero, suc, ◌%◌, List, [], ◌∷◌, sym, subst, nat_eq}
 use Rattle.mt_base.specs.declared.command.Command.TheVariants.{Drop, Tick}
 use Rattle.mt_make.specs.Input.{callsign, inputs}
 use Rattle.mt_read.specs.declared.request.Request.{Request}
@@ -10,6 +9,7 @@ use Rattle.mt_write.specs.declared.reply.Reply.{Reply}
 use Rattle.mt_write.specs.declared.reply.Reply.TheVariants.{Advice}
 use Rattle.mt_world.specs.World.{IsServed, World, opening_world, setup_of}
 use Rattle.mt_world.proofs.OneAnswer.{one_served}
+use Rattle.mt_base.proofs.Cases.{on_both}
 use Rattle.mt_load.specs.declared.summary.Summary.{Summary}
 use Rattle.mt_load.specs.Load.{AreAsked, EachDivided, IsAdviceTaken, IsAdvisedFlight, IsAsked, IsDroppedFlight, IsFirstAccepted, IsLoadRun}
 use Rattle.mt_load.specs.Summary.{IsLoaded, IsSummary}
@@ -22,10 +22,6 @@ all_asked : (requests : List Request) (w a b : World) (who : ℕ) → AreAsked w
 all_asked [] w a b who x y = x ∙ sym y
 all_asked (request ∷ requests) w a b who (next, first, rest) (other, also, others) =
     all_asked requests other a b who (subst (λ (v : World). AreAsked v who requests a) (one_asked w next other who request first also) rest) others
-
-on_both : (bit : Bool) (P Q P' Q' R : Type 0) → (P → P' → R) → (Q → Q' → R) → MatchBool bit P Q → MatchBool bit P' Q' → R
-on_both true P Q P' Q' R p q x y = p x y
-on_both false P Q P' Q' R p q x y = q x y
 
 one_each : (Does : World → List ℕ → World → Type 0) (divisor n : ℕ) (w a b : World)
     → ((v u t : World) (call : List ℕ) → Does v call u → Does v call t → u ≡ t) → EachDivided Does divisor n w a → EachDivided Does divisor n w b

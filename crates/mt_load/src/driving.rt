@@ -57,10 +57,8 @@ fn ask<R: Threads + Sync>(
     requires bounded { IsBoundedRequest script.old.rules request.now }
     ensures { OnOk result (IsAsked script.old who request.now script.new) }
 {
-    match script.serve(rt, alloc, who, request) {
-        Reply::Memory => Err(Memory),
-        _ => Ok(()),
-    }
+    serve(rt, alloc, script, who, request)?;
+    Ok(())
 }
 
 // Asks for what an actor requests, in order.

@@ -1,6 +1,6 @@
 -- An advice, one clearance more at a time.
-use Rattle.std.proofs.Common.{◌≡◌, Bool, true, false, ℕ, ◌+◌, ◌<◌, ◌≤◌, List, [], ◌∷◌, ◌++◌, All, Some, None, Ok, length, map, take, get_or, refl, sym, ◌∙◌, ap, subst, if◌then◌else◌, arith}
-use Rattle.std.proofs.lemmas.List.{append-nil, length-map, map-append, take_all, take_more}
+use Rattle.std.proofs.Common.{◌≡◌, Bool, true, false, ℕ, ◌+◌, ◌<◌, ◌≤◌, List, [], ◌∷◌, ◌++◌, All, None, Ok, length, map, take, get_or, refl, sym, ◌∙◌, ap, subst, if◌then◌else◌, arith}
+use Rattle.std.proofs.lemmas.List.{append-nil, length-map, map-append, take_more}
 use Rattle.std.proofs.lemmas.List.Elements.{All-from_recursion, All-push, filter-append, recursion_from_All}
 use Rattle.std.specs.List.{AllByRecursion, filter}
 use Rattle.mt_advise.specs.Trying.{CanBeTried}
@@ -19,9 +19,6 @@ module _ (setup : Setup) (s : State) (call : List ℕ) where
 
   abbrev Among : List Clearance → List Clearance → Type 0
   Among clearances free = AreFreeAmong setup s call clearances free
-
-  pub none_yet : Among [] []
-  none_yet = record { tried = []; all = refl; each = λ k d below. absurd (omega arith); free_is = refl }
 
   -- one more that is tried
   one_more : (clearances free : List Clearance) (c : Clearance) (hits : List Hit) (b : Bool) → Among clearances free

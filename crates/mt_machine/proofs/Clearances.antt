@@ -18,7 +18,7 @@ use Rattle.mt_base.specs.Picture.{State, flight_of, trajectory_of}
 use Rattle.mt_base.specs.Tables.{Setup}
 use Rattle.mt_base.specs.Trajectory.{Trajectory}
 use Rattle.mt_base.specs.WhatIf.{AreHits, AreHitsOf, aimed, trajectory_cleared, what_if_checks}
-use Rattle.mt_base.proofs.CheckLemmas.{all_pass, answer_is}
+use Rattle.mt_base.proofs.CheckLemmas.{all_pass}
 use Rattle.mt_predict.proofs.Refusing.{check-false, check-true, passed_alike, refused_alike}
 use Rattle.mt_change.specs.Sound.{IsSoundState}
 use Rattle.mt_change.proofs.Passed.{halves, ok_is}

@@ -1,35 +1,28 @@
-use Rattle.std.proofs.Common.{◌≡◌, ◌≢◌, ℕ, ℤ, ◌+◌, ◌<◌, ◌≤◌, pos, ◌≤ℤ◌, ◌<ℤ◌, Bool, true, not, List, [], ◌∷◌, ◌++◌, length, map, Option, Some, None, Result, Ok, Err, IsOk, refl, sym, ap, arith, length-append}
+use Rattle.std.proofs.Common.{◌≡◌, ◌≢◌, ℕ, ℤ, ◌+◌, ◌<◌, ◌≤◌, pos, ◌≤ℤ◌, ◌<ℤ◌, true, not, List, [], ◌∷◌, ◌++◌, length, Ok, refl, sym, ap, arith, length-append}
 use Rattle.std.proofs.lemmas.Int.{ints}
-use Rattle.std.proofs.lemmas.Bool.Decides.{nat_tests}
-use Rattle.std.proofs.lemmas.List.{map-append}
 use Rattle.std.proofs.lemmas.List.Elements.{All-push, All-filter, All-from_recursion}
 use Rattle.std.proofs.lemmas.List.Filters.{length-filter_both}
 use Rattle.std.proofs.lemmas.List.Kept.{AllPairs-filter}
 use Rattle.std.proofs.lemmas.List.Quantifiers.{all_pairs_push}
-use Rattle.std.specs.List.{AllByRecursion, filter}
+use Rattle.std.specs.List.{filter}
 use Rattle.std.specs.Option.{option_map_or}
-use Rattle.std.specs.Prelude.{int_lt, nat_le, is_some, unwrap_or, ⊤}
+use Rattle.std.specs.Prelude.{int_lt, is_some, unwrap_or}
 use Rattle.std.specs.Str.{bytes_eq}
-use Rattle.mt_base.specs.declared.clearance.Clearance.{Clearance}
 use Rattle.mt_base.specs.declared.command.Command.{Command}
 use Rattle.mt_base.specs.declared.command.Command.TheVariants.{Plan, External, Drop, Tick, Renew, Clear, Accept, Tentative, Withdraw, Commit}
 use Rattle.mt_base.specs.declared.command.Command.TheVariants as commands
 use Rattle.mt_base.specs.declared.command.Entry.{Entry}
-use Rattle.mt_base.specs.declared.command.Refusal.{Refusal}
-use Rattle.mt_base.specs.declared.flight.Course.{Course}
 use Rattle.mt_base.specs.declared.flight.Path.{Path}
 use Rattle.mt_base.specs.declared.flight.Path.TheVariants.{Planned, Outer}
 use Rattle.mt_base.specs.declared.flight.Straight.{Straight}
-use Rattle.mt_base.specs.declared.route.RouteNo.{RouteNo}
-use Rattle.mt_base.specs.Bounds.{AreWithinBounds, IsBoundedCommand, IsInPlane, IsSoundCourse, IsSoundFlight, IsSoundPath}
-use Rattle.mt_base.specs.Checks.{judged}
-use Rattle.mt_base.specs.History.{IsDecided, checks, course_of, filled, first_of, look_at, refusal_of, route_checks}
+use Rattle.mt_base.specs.Bounds.{AreWithinBounds, IsBoundedCommand, IsInPlane, IsSoundFlight, IsSoundPath}
+use Rattle.mt_base.specs.History.{IsDecided, checks, course_of, filled, first_of, look_at, route_checks}
 use Rattle.mt_base.specs.Cleared.{aim_checks}
 use Rattle.mt_base.specs.Picture.{State, flight_of, opening, trajectory_of}
 use Rattle.mt_base.specs.Predictor.{points_of}
-use Rattle.mt_base.specs.Tables.{Setup, Tables, bands_of, fix_checks, length_checks}
+use Rattle.mt_base.specs.Tables.{Setup}
 use Rattle.mt_base.specs.WhatIf.{course_in, what_if_checks}
-use Rattle.mt_base.proofs.CheckLemmas.{all_pass, all_passed, answer_is}
+use Rattle.mt_base.proofs.CheckLemmas.{all_passed, answer_is}
 use Rattle.mt_change.specs.Sound.{IsSoundState, Passes}
 use Rattle.mt_change.proofs.Passed.{halves}
 use Rattle.mt_change.proofs.Plans.{sound_course}

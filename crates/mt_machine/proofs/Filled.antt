@@ -1,8 +1,7 @@
 -- An entry that was decided is the actor's command with the second from which it holds.
 use Rattle.std.proofs.Common.{◌≡◌, ℕ, ◌≤◌, List, [], Some, None, Ok, sym, ◌∙◌, ap, subst, refl}
 use Rattle.mt_base.specs.declared.command.Command.{Command}
-use Rattle.mt_base.specs.declared.command.Command.TheVariants.{Plan, External, Drop, Tick, Renew, Clear, Accept, Tentative, Withdraw, Commit}
-use Rattle.mt_base.specs.declared.command.Command.TheVariants as commands
+use Rattle.mt_base.specs.declared.command.Command.TheVariants.{Clear, Tentative}
 use Rattle.mt_base.specs.declared.command.Entry.{Entry}
 use Rattle.mt_base.specs.declared.hit.Hit.{Hit}
 use Rattle.mt_base.specs.Bounds.{IsBoundedCommand}
@@ -15,30 +14,14 @@ use Rattle.mt_change.proofs.Filling.{filled_twice}
 -- a command whose second is filled is judged as it was
 filled_checks : (setup : Setup) (s : State) (who : ℕ) (c : Command)
     → checks setup (look_at s (filled s.now c)) who (filled s.now c) ≡ checks setup (look_at s c) who c
-filled_checks setup s who (Plan call kind route at from level) = refl
-filled_checks setup s who (External call straight) = refl
-filled_checks setup s who (Drop call) = refl
-filled_checks setup s who (commands.Report call report) = refl
-filled_checks setup s who (Tick next) = refl
-filled_checks setup s who (Renew call) = refl
 filled_checks setup s who (Clear call clearance eff) = refl
-filled_checks setup s who (Accept call clearance eff probed) = refl
 filled_checks setup s who (Tentative call clearance eff) = refl
-filled_checks setup s who (Withdraw call force) = refl
-filled_checks setup s who (Commit call) = refl
+filled_checks setup s who c = refl
 
 filled_hits : (setup : Setup) (s : State) (c : Command) (hits : List Hit) → HasHits setup s c hits → HasHits setup s (filled s.now c) hits
-filled_hits setup s (Plan call kind route at from level) hits has = has
-filled_hits setup s (External call straight) hits has = has
-filled_hits setup s (Drop call) hits has = has
-filled_hits setup s (commands.Report call report) hits has = has
-filled_hits setup s (Tick next) hits has = has
-filled_hits setup s (Renew call) hits has = has
 filled_hits setup s (Clear call clearance eff) hits has = has
-filled_hits setup s (Accept call clearance eff probed) hits has = has
 filled_hits setup s (Tentative call clearance eff) hits has = has
-filled_hits setup s (Withdraw call force) hits has = has
-filled_hits setup s (Commit call) hits has = has
+filled_hits setup s c hits has = has
 
 -- an entry that was decided is the actor's command, with its second filled
 entry_is : (setup : Setup) (s : State) (who : ℕ) (c : Command) (e : Entry) → judge setup s who c ≡ Ok e → record { who = who; command = filled s.now c } ≡ e
@@ -56,45 +39,21 @@ decided_is setup s who c e decided =
       again = rw (filled_checks setup s who c, filled_twice s.now c) (decided.0 ∙ ap Ok (sym (entry_is setup s who c e decided.0)))
 
 filled_bounded : (now : ℕ) (c : Command) → now ≤ 10000000 → IsBoundedCommand c → IsBoundedCommand (filled now c)
-filled_bounded now (Plan call kind route at from level) early within = within
-filled_bounded now (External call straight) early within = within
-filled_bounded now (Drop call) early within = within
-filled_bounded now (commands.Report call report) early within = within
-filled_bounded now (Tick next) early within = within
-filled_bounded now (Renew call) early within = within
 filled_bounded now (Clear call clearance (Some eff)) early within = within
 filled_bounded now (Clear call clearance None) early within = (within.0, early)
-filled_bounded now (Accept call clearance eff probed) early within = within
 filled_bounded now (Tentative call clearance (Some eff)) early within = within
 filled_bounded now (Tentative call clearance None) early within = (within.0, early)
-filled_bounded now (Withdraw call force) early within = within
-filled_bounded now (Commit call) early within = within
+filled_bounded now c early within = within
 
 filled_in_time : (now place : ℕ) (c : Command) → IsInTime place c → IsInTime place (filled now c)
-filled_in_time now place (Plan call kind route at from level) in_time = in_time
-filled_in_time now place (External call straight) in_time = in_time
-filled_in_time now place (Drop call) in_time = in_time
-filled_in_time now place (commands.Report call report) in_time = in_time
-filled_in_time now place (Tick next) in_time = in_time
-filled_in_time now place (Renew call) in_time = in_time
 filled_in_time now place (Clear call clearance eff) in_time = in_time
-filled_in_time now place (Accept call clearance eff probed) in_time = in_time
 filled_in_time now place (Tentative call clearance eff) in_time = in_time
-filled_in_time now place (Withdraw call force) in_time = in_time
-filled_in_time now place (Commit call) in_time = in_time
+filled_in_time now place c in_time = in_time
 
 filled_free : (setup : Setup) (h : List Entry) (now : ℕ) (c : Command) → WasFree setup h c → WasFree setup h (filled now c)
-filled_free setup h now (Plan call kind route at from level) free = free
-filled_free setup h now (External call straight) free = free
-filled_free setup h now (Drop call) free = free
-filled_free setup h now (commands.Report call report) free = free
-filled_free setup h now (Tick next) free = free
-filled_free setup h now (Renew call) free = free
 filled_free setup h now (Clear call clearance eff) free = free
-filled_free setup h now (Accept call clearance eff probed) free = free
 filled_free setup h now (Tentative call clearance eff) free = free
-filled_free setup h now (Withdraw call force) free = free
-filled_free setup h now (Commit call) free = free
+filled_free setup h now c free = free
 
 -- what holds of a command holds of its entry
 pub entry_bounded : (setup : Setup) (s : State) (who : ℕ) (c : Command) (e : Entry) → IsDecided setup s who c (Ok e) → s.now ≤ 10000000

@@ -1,5 +1,5 @@
 -- The book of what was probed: the last 64 values, under numbers from 1 up.
-use Rattle.std.specs.Prelude.{ℕ, ◌+◌, ◌-◌, List, [], ◌∷◌, ◌++◌, length, Option, None, slice_get, if◌then◌else◌, nat_lt, refl}
+use Rattle.std.specs.Prelude.{ℕ, ◌+◌, ◌-◌, List, [], ◌∷◌, ◌++◌, length, map, Option, None, slice_get, if◌then◌else◌, nat_lt, refl}
 use Rattle.std.specs.Coded.{Coded, code_by, coded×, coded_list, coded_ℕ}
 use Rattle.mt_base.specs.Tally.{raised}
 use Rattle.circular_buffer.specs.Buffer.{keep_last}
@@ -23,3 +23,12 @@ module _ {P : Type 0} where
   -- the value that was put in under that number, where it is kept
   abbrev pub probe_at : Book P → ℕ → Option P
   probe_at book n = if nat_lt book.count (n + length book.last) then slice_get book.last (n + length book.last - (book.count + 1)) else None
+
+-- a book with some values more, in order
+abbrev pub with_all : {P : Type 0} → Book P → List P → Book P
+with_all book [] = book
+with_all book (p ∷ ps) = with_all (with_probe book p) ps
+
+-- a book of values as the book of what is told of them
+abbrev pub told_book : {P Q : Type 0} → (P → Q) → Book P → Book Q
+told_book told book = record { count = book.count; last = map told book.last }

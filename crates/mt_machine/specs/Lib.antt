@@ -2,4 +2,3 @@ pub mod Advising
 pub mod Book
 pub mod Deciding
 pub mod Hits
-pub mod Others

@@ -1,6 +1,6 @@
 //! The book of what was probed: the last values, under numbers of their own.
 ghost use Rattle.std.specs.Prelude.{◌≡◌, ◌<◌, ◌≤◌, ◌+◌, ◌^◌, ◌↔◌, IfOk, is_some, option_copied, true};
-ghost use Rattle.mt_machine.specs.Book.{empty_book, probe_at, with_probe};
+ghost use Rattle.mt_machine.specs.Book.{empty_book, probe_at, with_all, with_probe};
 
 use circular_buffer::HeapCircularBuffer;
 use mt_base::Memory;
@@ -56,6 +56,15 @@ impl<P: Drop> Book<P> {
         self.last.push_back(probe);
         self.count = self.count.saturating_add(1);
         self.count
+    }
+
+    /// Puts values in, in order.
+    pub fn put_all(&mut self, probes: Vec<P>)
+        ensures { self.new ≡ with_all self.old probes.items }
+    {
+        for probe in probes {
+            self.put(probe);
+        }
     }
 
     /// The value with that number; `None` exactly where the number is none of the last 64 that were given.

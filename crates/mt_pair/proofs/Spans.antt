@@ -1,7 +1,6 @@
 -- The span of the loss seconds of a range, one part of it after another.
-use Rattle.std.proofs.Common.{◌≡◌, ℕ, ◌+◌, ◌-◌, ◌<◌, ◌≤◌, ℤ, pos, ◌+ℤ◌, ◌*ℤ◌, Option, Some, None, length, sym, ap, subst, ◌∙◌, ◌↔◌, arith, refl, ⊎_elim}
+use Rattle.std.proofs.Common.{◌≡◌, ℕ, ◌+◌, ◌-◌, ◌<◌, ◌≤◌, Option, Some, None, length, sym, ap, subst, ◌∙◌, ◌↔◌, arith, refl, ⊎_elim}
 use Rattle.std.proofs.lemmas.Bool.{cases_lt, le-ltb, lt-ltb}
-use Rattle.std.proofs.lemmas.Int.{ints}
 use Rattle.std.proofs.lemmas.Option.{slice_get_within}
 use Rattle.mt_base.specs.declared.row.Row.{Row}
 use Rattle.mt_base.specs.declared.rules.Rules.{Rules}
@@ -9,6 +8,7 @@ use Rattle.mt_base.specs.Conflict.{IsConflict, IsLossSecond}
 use Rattle.mt_base.specs.Loss.{LosesIn}
 use Rattle.mt_base.specs.Trajectory.{Trajectory, row_at}
 use Rattle.mt_track.specs.Rows.{row_after}
+use Rattle.mt_track.proofs.Straight.{row_after-add}
 use Rattle.mt_pair.specs.Span.{IsSpan, joined}
 
 -- a second where both rows are known
@@ -87,18 +87,6 @@ pub IsSpan-conflict : (rules : Rules) (a b : Trajectory) (from to : ℕ) (span :
 IsSpan-conflict rules a b from to None none = none
 IsSpan-conflict rules a b from to (Some span) is =
     record { inside = is.inside; first_is = is.first_is; last_is = is.last_is; none_outside = is.none_outside }
-
--- later rows of a later row
-pub row_after-add : (a : Row) (m n : ℕ) → row_after (row_after a m) n ≡ row_after a (m + n)
-row_after-add a m n = λ i. record a {
-  x = more a.x a.vx i;
-  y = more a.y a.vy i;
-  z = more a.z a.vz i;
-  r = more a.r a.gr i;
-  w = more a.w a.gw i;
-} where
-  more : (z v : ℤ) → (z +ℤ v *ℤ pos m) +ℤ v *ℤ pos n ≡ z +ℤ v *ℤ pos (m + n)
-  more z v = omega (arith, ints)
 
 -- the rows of a second, counted from a later row of each
 pub loses_after : (rules : Rules) (a b : Row) (s t from k : ℕ) → s ≤ from → t ≤ from → from ≤ k

@@ -17,10 +17,10 @@ use Rattle.mt_kept.specs.declared.finds.Verdict.{Verdict}
 use Rattle.mt_kept.specs.declared.finds.Verdict.TheVariants.{Known, Unknown}
 use Rattle.mt_kept.specs.Finds.{IsRight, asks_one, asks_two, cost, is_crossing, is_listed, is_other, is_unknown, place_of}
 use Rattle.mt_kept.specs.Places.{at}
-use Rattle.mt_kept.specs.Tests.{RoseUpTo}
+use Rattle.mt_base.specs.Tally.{RoseUpTo}
 use Rattle.mt_kept.specs.Window.{is_straddling}
 use Rattle.mt_kept.proofs.Costs.{cost_sum}
-use Rattle.mt_kept.proofs.Elements.{All-from_held, Contains-filter, Contains-map, Contains-map_cases, distinct_held, distinct_map}
+use Rattle.mt_base.proofs.Members.{All-from_held, Contains-filter, Contains-map, Contains-map_cases, distinct_held, distinct_map}
 use Rattle.mt_kept.proofs.Gathering.{rising_once}
 use Rattle.mt_kept.proofs.Keeping.{halves}
 use Rattle.mt_probe.specs.Items.{kind_at}

@@ -1,16 +1,10 @@
 -- How many flights there are.
-use Rattle.std.proofs.Common.{◌≡◌, Bool, true, false, ℕ, suc, ◌+◌, ◌<◌, ◌≤◌, List, [], ◌∷◌, ◌++◌, length, take, get_or, Option, Some, None, option_map, refl, sym, ◌∙◌, ap, arith, nat_lt, if◌then◌else◌}
+use Rattle.std.proofs.Common.{◌≡◌, ℕ, suc, ◌+◌, ◌<◌, ◌≤◌, List, [], ◌∷◌, ◌++◌, length, take, get_or, Option, Some, None, option_map, refl, sym, ◌∙◌, ap, arith}
 use Rattle.std.proofs.lemmas.List.{length-map, take_all, take_more}
 use Rattle.mt_base.specs.declared.flight.Record.{Record}
 use Rattle.mt_probe.specs.declared.flight.Flight.{Flight}
-use Rattle.mt_probe.specs.Shot.{filed_among, flights_in, in_order, records_in}
-
-length_filed : (f : Flight) (gs : List Flight) → length (filed_among f gs) ≡ suc (length gs)
-length_filed f [] = refl
-length_filed f (g ∷ gs) = by_test (nat_lt f.filed g.filed) (length_filed f gs) where
-  by_test : (b : Bool) → length (filed_among f gs) ≡ suc (length gs) → length (if b then f ∷ g ∷ gs else g ∷ filed_among f gs) ≡ suc (suc (length gs))
-  by_test true rest = refl
-  by_test false rest = ap suc rest
+use Rattle.mt_probe.specs.Shot.{flights_in, in_order, records_in}
+use Rattle.mt_probe.proofs.Whole.{length_filed}
 
 length_ordered : (fs : List Flight) → length (in_order fs) ≡ length fs
 length_ordered [] = refl

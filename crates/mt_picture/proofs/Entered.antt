@@ -1,13 +1,12 @@
 -- What a command leaves of the flight that it names, as it is put into a slot.
-use Rattle.std.proofs.Common.{◌≡◌, ◌≢◌, Bool, true, false, not, ℕ, ◌+◌, ◌<◌, ◌≤◌, inl, List, [], ◌∷◌, ◌++◌, Option, Some, None, length, map, option_map, refl, sym, ◌∙◌, ap, ap₂, subst, arith, Ok}
+use Rattle.std.proofs.Common.{◌≡◌, ◌≢◌, Bool, true, false, ℕ, ◌+◌, ◌<◌, ◌≤◌, inl, List, [], ◌∷◌, ◌++◌, Option, Some, None, length, map, option_map, refl, sym, ◌∙◌, ap, ap₂, subst, arith, Ok}
 use Rattle.std.proofs.lemmas.List.Folds.{find-append}
 use Rattle.std.proofs.lemmas.Slice.Eq.{bytes_eq-Decides}
-use Rattle.std.specs.Prelude.{is_some, option_and_then}
+use Rattle.std.specs.Prelude.{option_and_then}
 use Rattle.std.specs.Arc.{arc_value}
 use Rattle.std.specs.Str.{bytes_eq}
 use Rattle.mt_base.specs.declared.command.Command.{Command}
-use Rattle.mt_base.specs.declared.command.Command.TheVariants.{Accept, Clear, Commit, Drop, External, Plan, Renew, Tentative, Tick, Withdraw}
-use Rattle.mt_base.specs.declared.command.Command.TheVariants as commands
+use Rattle.mt_base.specs.declared.command.Command.TheVariants.{Drop, External, Plan, Tentative, Tick}
 use Rattle.mt_base.specs.declared.conflict.Kind.{Kind}
 use Rattle.mt_base.specs.declared.conflict.Kind.TheVariants as kinds
 use Rattle.mt_base.specs.declared.flight.Mark.{Mark}
@@ -34,6 +33,7 @@ use Rattle.mt_probe.specs.Standing.{IsSoundEntry, IsSoundShot}
 use Rattle.mt_probe.proofs.Left.{found_changed, passes}
 use Rattle.mt_probe.proofs.Placed.{filled_inside, found_there}
 use Rattle.mt_probe.proofs.Whole.{own_calls, replaced_alike}
+use Rattle.mt_base.proofs.Cases.{is_none}
 use Rattle.mt_picture.specs.Entries.{IsFiling}
 use Rattle.mt_picture.specs.Places.{IsNewOrStays}
 use Rattle.mt_picture.specs.Putting.{IsPutBy}
@@ -94,10 +94,6 @@ own_actual setup f sound = ap path_in sound.kept
 
 -- ---- what is filed
 
-is_none : {X : Type 0} (at : Option X) → not (is_some at) ≡ true → at ≡ None
-is_none None none = refl
-is_none (Some x) none = cc
-
 -- the flight that is found behind others, none of which has the callsign
 behind : (call : List ℕ) (rs : List Record) (new card : Record) → flight_of rs call ≡ None → new.call ≡ call → flight_of (rs ++ new ∷ []) call ≡ Some card → new ≡ card
 behind call rs new card none own is =
@@ -129,15 +125,7 @@ filed_last setup s who (External call straight) card filing left =
     let same : new ≡ card = behind call s.records new card none refl left.card_is in
     subst (λ (r : Record). IsFiledLast setup who s.now (External call straight) s.records r) same
     (record { none = none; records = refl; unmarked = refl; still = refl })
-filed_last setup s who (Drop call) card filing left = absurd filing
-filed_last setup s who (commands.Report call report) card filing left = absurd filing
-filed_last setup s who (Tick now) card filing left = absurd filing
-filed_last setup s who (Renew call) card filing left = absurd filing
-filed_last setup s who (Clear call clearance eff) card filing left = absurd filing
-filed_last setup s who (Accept call clearance eff probed) card filing left = absurd filing
-filed_last setup s who (Tentative call clearance eff) card filing left = absurd filing
-filed_last setup s who (Withdraw call force) card filing left = absurd filing
-filed_last setup s who (Commit call) card filing left = absurd filing
+filed_last setup s who command card filing left = absurd filing
 
 -- so the command alone says what is filed
 pub filed_unique : (setup : Setup) (s r : State) (who whom : ℕ) (c : Command) (card other : Record) → IsFiling c → judged_aside setup s who c ≡ Ok (tt {0})
@@ -154,15 +142,7 @@ filed_unique setup s r who whom (External call straight) card other filing one c
     let none_too = is_none (flight_of r.records call) (passes setup r whom c two).0 in
     let new : Record = record { call = call; path = Outer straight } in
     sym (behind call s.records new card none refl card_is) ∙ behind call r.records new other none_too refl other_is
-filed_unique setup s r who whom (Drop call) card other filing one card_is two other_is = absurd filing
-filed_unique setup s r who whom (commands.Report call report) card other filing one card_is two other_is = absurd filing
-filed_unique setup s r who whom (Tick next) card other filing one card_is two other_is = absurd filing
-filed_unique setup s r who whom (Renew call) card other filing one card_is two other_is = absurd filing
-filed_unique setup s r who whom (Clear call clearance eff) card other filing one card_is two other_is = absurd filing
-filed_unique setup s r who whom (Accept call clearance eff probed) card other filing one card_is two other_is = absurd filing
-filed_unique setup s r who whom (Tentative call clearance eff) card other filing one card_is two other_is = absurd filing
-filed_unique setup s r who whom (Withdraw call force) card other filing one card_is two other_is = absurd filing
-filed_unique setup s r who whom (Commit call) card other filing one card_is two other_is = absurd filing
+filed_unique setup s r who whom command card other filing one card_is two other_is = absurd filing
 
 -- of no trajectory at all, or of one with this stamp
 none_new : (f : Flight) (version : ℕ) (old : Option Flight) → f.mark ≡ None → IsNewOrStays old version f kinds.Tentative
@@ -239,14 +219,8 @@ still_altered : (now : ℕ) (c : Command) → Alters c → now_after (filled now
 still_altered now (Plan call kind route at from level) alters = absurd alters
 still_altered now (External call straight) alters = absurd alters
 still_altered now (Drop call) alters = absurd alters
-still_altered now (commands.Report call report) alters = refl
 still_altered now (Tick next) alters = absurd alters
-still_altered now (Renew call) alters = refl
-still_altered now (Clear call clearance eff) alters = refl
-still_altered now (Accept call clearance eff probed) alters = refl
-still_altered now (Tentative call clearance eff) alters = refl
-still_altered now (Withdraw call force) alters = refl
-still_altered now (Commit call) alters = refl
+still_altered now c alters = refl
 
 -- a flight that is altered is put into its slot
 pub put_altered : (shot : Shot) (slot : ℕ) (old f : Flight) (who : ℕ) (c : Command) → IsSoundShot shot → flight_at shot slot ≡ Some old

@@ -3,8 +3,7 @@ use Rattle.std.proofs.Common.{◌≡◌, ℕ, ◌<◌, Bool, true, false, List, 
 use Rattle.std.specs.Arc.{arc_value}
 use Rattle.std.specs.Prelude.{IfOk, IfSome, is_some, Result, Ok, Err}
 use Rattle.mt_base.specs.declared.command.Command.{Command}
-use Rattle.mt_base.specs.declared.command.Command.TheVariants.{Accept, Clear, Commit, Drop, External, Plan, Renew, Tentative, Tick, Withdraw}
-use Rattle.mt_base.specs.declared.command.Command.TheVariants as commands
+use Rattle.mt_base.specs.declared.command.Command.TheVariants.{Accept, External, Plan}
 use Rattle.mt_base.specs.declared.flight.Path.{Path}
 use Rattle.mt_base.specs.declared.flight.Path.TheVariants.{Outer, Planned}
 use Rattle.mt_base.specs.declared.flight.Record.{Record}
@@ -48,59 +47,24 @@ first_here shot slot f finds first sound inside are was is = record {
 pub no_first : (setup : Setup) (s : State) (c : Command) (first : Option Hit) → is_probed c ≡ false → first ≡ None → IsFirstHit setup s c first
 no_first setup s c first unprobed none = subst (IsFirstHit setup s c) (sym none) (by_command c unprobed) where
   by_command : (c : Command) → is_probed c ≡ false → HasHits setup s c []
-  by_command (Plan call kind route at from level) is = refl
-  by_command (External call straight) is = refl
-  by_command (Drop call) is = refl
-  by_command (commands.Report call report) is = refl
-  by_command (Tick next) is = refl
-  by_command (Renew call) is = refl
-  by_command (Clear call clearance eff) is = refl
   by_command (Accept call clearance eff probed) is = absurd (cc)
-  by_command (Tentative call clearance eff) is = refl
-  by_command (Withdraw call force) is = refl
-  by_command (Commit call) is = refl
+  by_command c is = refl
 
 pub filing_kind : (c : Command) → IsFiling c → kind_made c ≡ Actual
 filing_kind (Plan call kind route at from level) filing = refl
 filing_kind (External call straight) filing = refl
-filing_kind (Drop call) filing = absurd filing
-filing_kind (commands.Report call report) filing = absurd filing
-filing_kind (Tick next) filing = absurd filing
-filing_kind (Renew call) filing = absurd filing
-filing_kind (Clear call clearance eff) filing = absurd filing
-filing_kind (Accept call clearance eff probed) filing = absurd filing
-filing_kind (Tentative call clearance eff) filing = absurd filing
-filing_kind (Withdraw call force) filing = absurd filing
-filing_kind (Commit call) filing = absurd filing
+filing_kind c filing = absurd filing
 
 pub filing_unprobed : (c : Command) → IsFiling c → is_probed c ≡ false
 filing_unprobed (Plan call kind route at from level) filing = refl
 filing_unprobed (External call straight) filing = refl
-filing_unprobed (Drop call) filing = absurd filing
-filing_unprobed (commands.Report call report) filing = absurd filing
-filing_unprobed (Tick next) filing = absurd filing
-filing_unprobed (Renew call) filing = absurd filing
-filing_unprobed (Clear call clearance eff) filing = absurd filing
-filing_unprobed (Accept call clearance eff probed) filing = absurd filing
-filing_unprobed (Tentative call clearance eff) filing = absurd filing
-filing_unprobed (Withdraw call force) filing = absurd filing
-filing_unprobed (Commit call) filing = absurd filing
+filing_unprobed c filing = absurd filing
 
 -- the hits of an acceptance are those of the trajectory that it leaves
 accept_hits : (shot : Shot) (slot who : ℕ) (call : List ℕ) (old : Flight) (card : Record) (t : Trajectory) (hits : List Hit) (c : Command) → IsSoundShot shot
     → is_probed c ≡ true → flight_at shot slot ≡ Some old → old.card.call ≡ card.call → IsLeft shot.setup (state_in shot) who c card
     → card.path ≡ path_after shot.setup who (filled shot.now c) old.card.path → t ≡ trajectory_of shot.setup card.path
     → AreHitsOf shot.setup (state_in shot) card.call t hits → HasHits shot.setup (state_in shot) c hits
-accept_hits shot slot who call old card t hits (Plan kall kind route at from level) sound probed at_is own left path flies all = absurd (cc)
-accept_hits shot slot who call old card t hits (External kall straight) sound probed at_is own left path flies all = absurd (cc)
-accept_hits shot slot who call old card t hits (Drop kall) sound probed at_is own left path flies all = absurd (cc)
-accept_hits shot slot who call old card t hits (commands.Report kall report) sound probed at_is own left path flies all = absurd (cc)
-accept_hits shot slot who call old card t hits (Tick next) sound probed at_is own left path flies all = absurd (cc)
-accept_hits shot slot who call old card t hits (Renew kall) sound probed at_is own left path flies all = absurd (cc)
-accept_hits shot slot who call old card t hits (Clear kall clearance eff) sound probed at_is own left path flies all = absurd (cc)
-accept_hits shot slot who call old card t hits (Tentative kall clearance eff) sound probed at_is own left path flies all = absurd (cc)
-accept_hits shot slot who call old card t hits (Withdraw kall force) sound probed at_is own left path flies all = absurd (cc)
-accept_hits shot slot who call old card t hits (Commit kall) sound probed at_is own left path flies all = absurd (cc)
 accept_hits shot slot who call old card t hits (Accept kall clearance eff at_version) sound probed at_is own left path flies all =
     let e : kall ≡ card.call = let l = left.call_is in cc in
     let found : flight_of (records_in shot.slots) kall ≡ Some old.card =
@@ -114,6 +78,7 @@ accept_hits shot slot who call old card t hits (Accept kall clearance eff at_ver
           let two : t ≡ trajectory_cleared shot.setup course clearance eff = flies ∙ ap (trajectory_of shot.setup) one in
           subst (λ (k : List ℕ). AreHitsOf shot.setup (state_in shot) k (trajectory_cleared shot.setup course clearance eff) hits) (sym e)
           (subst (λ (u : Trajectory). AreHitsOf shot.setup (state_in shot) card.call u hits) two all)
+accept_hits shot slot who call old card t hits c sound probed at_is own left path flies all = absurd (cc)
 
 pub first_of_remade : (shot : Shot) (slot who : ℕ) (old : Flight) (card : Record) (t : Trajectory) (c : Command) (first : Option Hit) → IsSoundShot shot
     → flight_at shot slot ≡ Some old → old.card.call ≡ card.call → IsLeft shot.setup (state_in shot) who c card

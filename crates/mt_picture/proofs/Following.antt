@@ -1,10 +1,8 @@
 -- The finds of a slot into which a flight is put.
-use Rattle.std.proofs.Common.{◌≡◌, ℕ, ℤ, pos, ◌≤ℤ◌, ◌+◌, ◌*◌, ◌<◌, ◌≤◌, length, List, [], ◌++◌, Option, Some, None, get_or, option_map, refl, sym, ◌∙◌, ap, subst, arith}
-use Rattle.std.proofs.lemmas.Int.{ints}
+use Rattle.std.proofs.Common.{◌≡◌, ℕ, ◌+◌, ◌*◌, ◌<◌, length, List, [], ◌++◌, Option, Some, None, get_or, option_map, refl, sym, ◌∙◌, ap, subst, arith}
 use Rattle.std.proofs.lemmas.List.{append-nil}
 use Rattle.mt_base.specs.declared.conflict.Kind.TheVariants.{Actual, Tentative}
 use Rattle.mt_base.specs.declared.rules.Rules.{Rules}
-use Rattle.mt_base.specs.Bounds.{AreWithinBounds}
 use Rattle.mt_base.specs.Picture.{NamedTrajectory}
 use Rattle.mt_kept.specs.declared.open_pair.OpenPair.{OpenPair}
 use Rattle.mt_kept.specs.Finds.{AreFinds}
@@ -15,11 +13,6 @@ use Rattle.mt_probe.specs.declared.flight.Made.{Made}
 use Rattle.mt_picture.specs.Finding.{AreFindsFor}
 use Rattle.mt_picture.specs.Places.{all_places, first_of, made_of_kind, second_of}
 use Rattle.mt_picture.proofs.Slotted.{at_first, at_second, joined, length_places}
-
-pub few_slots : (n : ℕ) (rules : Rules) → AreWithinBounds rules → pos n ≡ rules.flights → n ≤ 1024
-few_slots n rules bounds is = few n rules.flights is bounds.flights.most where
-  few : (n : ℕ) (z : ℤ) → pos n ≡ z → z ≤ℤ pos 1024 → n ≤ 1024
-  few n z is most = omega (arith, ints)
 
 -- what stands in the places of a flight is of its callsign
 pub first_call : (f : Flight) (t : NamedTrajectory) → first_of (Some f) ≡ Some t → t.call ≡ f.card.call

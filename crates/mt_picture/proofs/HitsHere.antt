@@ -23,14 +23,15 @@ use Rattle.mt_kept.specs.Losing.{IsPair, Loses, TouchesSlot}
 use Rattle.mt_kept.specs.Made.{is_open}
 use Rattle.mt_kept.specs.Places.{at}
 use Rattle.mt_kept.specs.Window.{IsFoundOf, IsOpen, IsShown, edge_of}
-use Rattle.mt_kept.proofs.Elements.{Contains-map_cases, Contains-none, take_push}
+use Rattle.mt_base.proofs.Members.{Contains-map_cases, take_push}
 use Rattle.mt_kept.proofs.Keeping.{even_half, is_open_is}
-use Rattle.mt_kept.proofs.Windows.{IsLossSecond-sym, IsSpanOfLoss-sym, is_open_at, one_span}
+use Rattle.mt_kept.proofs.Windows.{IsLossSecond-sym, IsSpanOfLoss-sym, is_open_at}
 use Rattle.mt_probe.specs.declared.flight.Flight.{Flight}
 use Rattle.mt_probe.specs.Shot.{Shot, flight_at}
 use Rattle.mt_probe.specs.Shot.{state_of as state_in}
 use Rattle.mt_probe.specs.Standing.{IsSoundShot}
 use Rattle.mt_probe.proofs.Placed.{filled_inside, record_placed, record_there}
+use Rattle.mt_base.proofs.OneConflict.{one_span}
 use Rattle.mt_picture.specs.Hits.{AreHitsAmong, IsHitOfOne, hit_by, hit_of, is_flown}
 use Rattle.mt_picture.specs.Places.{all_places, first_of, made_of_kind}
 use Rattle.mt_picture.proofs.Entered.{own_actual}
@@ -66,9 +67,6 @@ no_more finds i o call now hits below at_is is so_far = rw (take_push finds i o 
   (λ held. (push (take i finds) o call now hit).1 (inl ((so_far hit).0 held))),
   (λ some. ⊎_elim (λ before. (so_far hit).1 before) (λ also. absurd (let both = sym is ∙ also in cc)) ((push (take i finds) o call now hit).0 some)),
 ))
-
-pub no_hits : (call : List ℕ) (now : ℕ) (hit : Hit) → Contains [] hit ↔ IsHitOfOne [] call now hit
-no_hits call now hit = ((λ held. absurd (Contains-none hit held)), (λ one. absurd (Contains-none one.pair one.held)))
 
 pub all_hits : (finds : List OpenPair) (i : ℕ) (call : List ℕ) (now : ℕ) (hits ordered : List Hit) → length finds ≤ i
     → ((hit : Hit) → Contains hits hit ↔ IsHitOfOne (take i finds) call now hit)

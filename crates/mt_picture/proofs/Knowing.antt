@@ -27,11 +27,11 @@ use Rattle.mt_probe.specs.Prepared.{Prepared}
 use Rattle.mt_probe.specs.Shot.{Shot, flight_at, kept_of, made_named, made_of}
 use Rattle.mt_probe.specs.Standing.{IsSoundShot}
 use Rattle.mt_probe.proofs.Covered.{even_kind, odd_kind}
-use Rattle.mt_probe.proofs.Members.{in_front}
+use Rattle.mt_base.proofs.Members.{Contains-head}
 use Rattle.mt_probe.proofs.Nearby.{near_by_loss}
 use Rattle.mt_picture.specs.Places.{all_places, first_of, made_of_kind, second_of}
 use Rattle.mt_picture.specs.Stamps.{HaveStood}
-use Rattle.mt_picture.specs.Verdicts.{AreNear, IsKnown, IsLaterAt, IsPreps}
+use Rattle.mt_picture.specs.Verdicts.{AreNear, IsKnown, IsPreps}
 use Rattle.mt_picture.proofs.Slotted.{at_first, at_second}
 
 -- what is found says the conflict over all seconds
@@ -60,22 +60,6 @@ found_right shot slot kind p known stamp card found stood stamp_is card_is early
     let is = says (made_of_kind f kind made) (record { there = there; apart = apart }) (ap (λ (r : Record). r.call) (sym d)) refl in
     subst (λ (t : Trajectory). IsConflict p.setup.rules t (arc_value made.strand) 0 horizon (whole_of found)) (sym (preps is_known))
     (whole_is p.setup.rules p.state.now p.strand (made_of_kind f kind made) found is)
-
--- a trajectory that was made after a prep
-pub later_there : (slot : Option Flight) (kind : Kind) (p : Prepared) (stamp : ℕ)
-    → Some stamp ≡ option_map (λ (m : Made). m.stamp) (option_and_then (λ f. made_of f kind) slot) → p.state.version < stamp → IsLaterAt p slot kind
-later_there slot kind p stamp stamp_is later f made at_is made_is =
-    let s : Some stamp ≡ Some made.stamp = rw (at_is, made_is) at stamp_is in
-    let e : stamp ≡ made.stamp = cc in
-    omega (arith, e, later)
-
--- or isn't there
-pub later_none : (slot : Option Flight) (kind : Kind) (p : Prepared)
-    → None ≡ option_map (λ (m : Made). m.stamp) (option_and_then (λ f. made_of f kind) slot) → IsLaterAt p slot kind
-later_none slot kind p none f made at_is made_is = let s : None ≡ Some made.stamp = rw (at_is, made_is) at none in absurd (cc)
-
-pub later_no_card : (slot : Option Flight) (kind : Kind) (p : Prepared) → None ≡ option_map (λ (f : Flight). f.card) slot → IsLaterAt p slot kind
-later_no_card slot kind p none f made at_is made_is = let s : None ≡ Some f.card = rw at_is at none in absurd (cc)
 
 -- what stands in a place: the trajectory of a kind of the flight in its slot
 pub record StandsAt (slots : List (Option Flight)) (j : ℕ) (t : NamedTrajectory) : Type 0 where
@@ -129,12 +113,12 @@ in_named call None made is = absurd (cc)
 in_named call (Some m) made is =
     let e : m ≡ made = cc in
     subst (λ (n : Made). Contains (made_named call Tentative (Some (arc_value m.strand))) (record { call = call; kind = Tentative; path = arc_value n.strand })) e
-    (in_front _ [])
+    (Contains-head _ [])
 
 pub kept_made : (f : Flight) (kind : Kind) (made : Made) → made_of f kind ≡ Some made → Contains (kept_of f) (made_of_kind f kind made)
 kept_made f Actual made is =
     let e : f.actual ≡ made = cc in
-    subst (λ (m : Made). Contains (kept_of f) (made_of_kind f Actual m)) e (in_front (made_of_kind f Actual f.actual) _)
+    subst (λ (m : Made). Contains (kept_of f) (made_of_kind f Actual m)) e (Contains-head (made_of_kind f Actual f.actual) _)
 kept_made f Tentative made is = let held = in_named f.card.call f.mark made is in (suc held.0, omega (arith, held.1), held.2)
 
 -- the stays of what stands in a place are those of its item

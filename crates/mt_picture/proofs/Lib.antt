@@ -5,6 +5,7 @@ pub mod Counting
 pub mod Entered
 pub mod FirstHit
 pub mod Following
+pub mod Given
 pub mod HitsHere
 pub mod Knowing
 pub mod Looked

@@ -1,18 +1,13 @@
 -- The opening picture.
-use Rattle.std.proofs.Common.{◌≡◌, ℕ, zero, suc, ◌*◌, List, [], ◌∷◌, get_or, replicate, Option, Some, None, refl, sym, ◌∙◌, ap, arith}
+use Rattle.std.proofs.Common.{◌≡◌, ℕ, zero, suc, ◌*◌, List, [], ◌∷◌, replicate, Option, None, refl, sym, ◌∙◌, ap, arith}
 use Rattle.mt_base.specs.Picture.{NamedTrajectory, opening}
 use Rattle.mt_base.specs.Tables.{Setup}
 use Rattle.mt_kept.specs.Kept.{Watched}
-use Rattle.mt_probe.specs.declared.flight.Flight.{Flight}
 use Rattle.mt_probe.specs.Shot.{Shot}
 use Rattle.mt_probe.specs.Shot.{state_of as state_in}
+use Rattle.mt_probe.proofs.Placed.{nothing_at}
 use Rattle.mt_picture.specs.Places.{all_places}
 use Rattle.mt_picture.specs.Stamps.{IsPicture}
-
-nothing_at : (n i : ℕ) (f : Flight) → get_or (replicate n None) i None ≡ Some f → ⊥
-nothing_at zero i f is = cc
-nothing_at (suc n) zero f is = cc
-nothing_at (suc n) (suc i) f is = nothing_at n i f is
 
 empty_places : (n : ℕ) → replicate (2 * n) None ≡ all_places (replicate n None)
 empty_places zero = refl

@@ -24,6 +24,7 @@ use Rattle.mt_probe.specs.declared.flight.Flight.{Flight}
 use Rattle.mt_probe.specs.Prepared.{MakesStrand, judged_aside, roomy}
 use Rattle.mt_probe.proofs.Left.{found_call}
 use Rattle.mt_machine.specs.Deciding.{IsFirstHit}
+use Rattle.mt_base.proofs.Cases.{room_for_one}
 use Rattle.mt_picture.specs.Entries.{IsFiling, IsReport, IsWithdrawal}
 
 abbrev Holds : Refusal × Bool → Type 0
@@ -42,9 +43,6 @@ both_of : (xs ys : List (Refusal × Bool)) → AllByRecursion Holds xs → AllBy
 both_of [] ys one two = two
 both_of (x ∷ xs) ys one two = (one.0, both_of xs ys one.1 two)
 
-room : (h : ℤ) → pos 1 ≤ℤ h → int_lt (pos 0) h ≡ true
-room h some = grind (arith, ints)
-
 few : (n : ℕ) (h : ℤ) → int_lt (pos n) h ≡ true → h ≤ℤ pos 4194304 → n < 2 ^ 40
 few n h below most = grind (arith, ints)
 
@@ -59,10 +57,10 @@ module _ (setup : Setup) (s : State) (who : ℕ) (rules : AreWithinBounds setup.
   tests c passed = all_passed (checks setup (look_at s c) who c) (tt {0}) (let ok : IsOk (judged (checks setup (look_at s c) who c) (tt {0})) = rw passed refl in ok)
 
   entry_room : int_lt (pos 0) setup.rules.history ≡ true
-  entry_room = room setup.rules.history rules.history.least
+  entry_room = room_for_one setup.rules.history rules.history.least
 
   flight_room : int_lt (pos 0) setup.rules.flights ≡ true
-  flight_room = room setup.rules.flights rules.flights.least
+  flight_room = room_for_one setup.rules.flights rules.flights.least
 
   -- and that there is room for the entry
   pub has_entry : (c : Command) → All c → int_lt (pos s.version) setup.rules.history ≡ true
@@ -117,15 +115,7 @@ module _ (setup : Setup) (s : State) (who : ℕ) (rules : AreWithinBounds setup.
   has_seat : (c : Command) → IsFiling c → All c → int_lt (pos (length s.records)) setup.rules.flights ≡ true
   has_seat (Plan call kind route at from level) filing all = (end_of (route_checks setup.tables route) _ all.1.1).1.1.0
   has_seat (External call straight) filing all = all.1.0
-  has_seat (Drop call) filing all = absurd filing
-  has_seat (commands.Report call report) filing all = absurd filing
-  has_seat (Tick next) filing all = absurd filing
-  has_seat (Renew call) filing all = absurd filing
-  has_seat (Clear call clearance eff) filing all = absurd filing
-  has_seat (Accept call clearance eff probed) filing all = absurd filing
-  has_seat (Tentative call clearance eff) filing all = absurd filing
-  has_seat (Withdraw call force) filing all = absurd filing
-  has_seat (Commit call) filing all = absurd filing
+  has_seat c filing all = absurd filing
 
   pub seat_passed : (c : Command) → IsFiling c → Pass c → int_lt (pos (length s.records)) setup.rules.flights ≡ true
   seat_passed c filing passed = has_seat c filing (tests c passed)
@@ -151,31 +141,19 @@ planned_some (Some r) e = refl
 
 -- a command that makes no trajectory and is neither a tick nor a drop
 pub plain_other : (c : Command) → (MakesStrand c → ⊥) → ((now : ℕ) → c ≡ Tick now → ⊥) → ((call : List ℕ) → c ≡ Drop call → ⊥) → IsReport c ⊎ IsWithdrawal c
-plain_other (Plan call kind route at from level) plain no_tick no_drop = absurd (plain tt)
-plain_other (External call straight) plain no_tick no_drop = absurd (plain tt)
 plain_other (Drop call) plain no_tick no_drop = absurd (no_drop call refl)
 plain_other (commands.Report call report) plain no_tick no_drop = inl tt
 plain_other (Tick now) plain no_tick no_drop = absurd (no_tick now refl)
-plain_other (Renew call) plain no_tick no_drop = absurd (plain tt)
-plain_other (Clear call clearance eff) plain no_tick no_drop = absurd (plain tt)
-plain_other (Accept call clearance eff probed) plain no_tick no_drop = absurd (plain tt)
-plain_other (Tentative call clearance eff) plain no_tick no_drop = absurd (plain tt)
 plain_other (Withdraw call force) plain no_tick no_drop = inr tt
-plain_other (Commit call) plain no_tick no_drop = absurd (plain tt)
+plain_other c plain no_tick no_drop = absurd (plain tt)
 
 pub withdraws : (c : Command) → IsReport c ⊎ IsWithdrawal c → ¬ IsReport c → IsWithdrawal c
 withdraws c which none = ⊎_elim (λ reports. absurd (none reports)) (λ is. is) which
 
 -- it has no hits
 pub plain_free : (setup : Setup) (s : State) (c : Command) → (MakesStrand c → ⊥) → IsFirstHit setup s c None
-plain_free setup s (Plan call kind route at from level) plain = absurd (plain tt)
-plain_free setup s (External call straight) plain = absurd (plain tt)
 plain_free setup s (Drop call) plain = refl
 plain_free setup s (commands.Report call report) plain = refl
 plain_free setup s (Tick now) plain = refl
-plain_free setup s (Renew call) plain = absurd (plain tt)
-plain_free setup s (Clear call clearance eff) plain = absurd (plain tt)
-plain_free setup s (Accept call clearance eff probed) plain = absurd (plain tt)
-plain_free setup s (Tentative call clearance eff) plain = absurd (plain tt)
 plain_free setup s (Withdraw call force) plain = refl
-plain_free setup s (Commit call) plain = absurd (plain tt)
+plain_free setup s c plain = absurd (plain tt)

@@ -2,8 +2,7 @@
 use Rattle.std.proofs.Common.{◌≡◌, ℕ, ◌+◌, ◌*◌, ◌/◌, ⊎_elim, ◌↔◌, List, [], ◌∷◌, ◌++◌, length, length-append, Contains, Option, Some, None, option_map, Ok, Err, refl, sym, ◌∙◌, ap, subst}
 use Rattle.std.specs.Arc.{arc_value}
 use Rattle.mt_base.specs.declared.command.Command.{Command}
-use Rattle.mt_base.specs.declared.command.Command.TheVariants.{Accept, Clear, Commit, Drop, External, Plan, Renew, Tentative as Marks, Tick, Withdraw}
-use Rattle.mt_base.specs.declared.command.Command.TheVariants as commands
+use Rattle.mt_base.specs.declared.command.Command.TheVariants.{Tentative as Marks}
 use Rattle.mt_base.specs.declared.command.Entered.{Entered}
 use Rattle.mt_base.specs.declared.command.Entry.{Entry}
 use Rattle.mt_base.specs.declared.command.Refusal.{Refusal}
@@ -31,7 +30,7 @@ use Rattle.mt_probe.specs.Shot.{Shot, made_named}
 use Rattle.mt_probe.specs.Shot.{state_of as state_in}
 use Rattle.mt_probe.specs.Standing.{IsSoundShot}
 use Rattle.mt_probe.proofs.Gathered.{at_kept, kept_at}
-use Rattle.mt_probe.proofs.Members.{front_or_rest, none_in}
+use Rattle.mt_base.proofs.Members.{Contains-cases, Contains-none}
 use Rattle.mt_picture.specs.Places.{all_places, first_of, made_of_kind, second_of}
 use Rattle.mt_picture.specs.Stamps.{IsPicture}
 use Rattle.mt_picture.specs.Story.{IsEntered, IsRefused, Story}
@@ -53,9 +52,9 @@ published_same rules now some all cs same is = record {
 in_second : (call : List ℕ) (mark : Option Made) (t : NamedTrajectory)
     → Contains (made_named call Tentative (option_map (λ (m : Made). arc_value m.strand) mark)) t
     → (made : Made) × (mark ≡ Some made) × (record { call = call; kind = Tentative; path = arc_value made.strand } ≡ t)
-in_second call None t held = absurd (none_in t held)
-in_second call (Some m) t held = ⊎_elim (λ same. (m, refl, same)) (λ none. absurd (none_in t none))
-    (front_or_rest (record { call = call; kind = Tentative; path = arc_value m.strand }) [] t held)
+in_second call None t held = absurd (Contains-none t held)
+in_second call (Some m) t held = ⊎_elim (λ same. (m, refl, same)) (λ none. absurd (Contains-none t none))
+    (Contains-cases (record { call = call; kind = Tentative; path = arc_value m.strand }) [] t held)
 
 module _ (shot : Shot) (sound : IsSoundShot shot) (t : NamedTrajectory) where
   pub to : Contains (held (all_places shot.slots)) t → Contains (trajectories shot.setup (state_in shot)) t
@@ -76,7 +75,7 @@ module _ (shot : Shot) (sound : IsSoundShot shot) (t : NamedTrajectory) where
       let m = in_second f.card.call f.mark t rest in
       let second : second_of (Some f) ≡ Some t = rw m.1 (ap Some m.2) in
       held_at (all_places shot.slots) (2 * i + 1) t (at_second shot.slots i ∙ ap second_of k.at ∙ second))
-      (front_or_rest (made_of_kind f Actual f.actual) (made_named f.card.call Tentative (option_map (λ (m : Made). arc_value m.strand) f.mark)) t k.kept)
+      (Contains-cases (made_of_kind f Actual f.actual) (made_named f.card.call Tentative (option_map (λ (m : Made). arc_value m.strand) f.mark)) t k.kept)
 
 pub published_now : (shot : Shot) (h : List Entry) (kept : Watched) (cs : List Conflict) → IsPicture shot h kept → IsSoundShot shot
     → IsPublishedOf kept.rules kept.moment (held kept.places) cs → IsPublished shot.setup (state_of shot.setup h) cs
@@ -103,17 +102,8 @@ stale_now shot h who c hit version stands is first version_is =
     (subst (λ (s : State). IsDecided shot.setup s who c (Err (Stale hit))) stands (stale shot.setup (state_in shot) who c hit is first.0 first.1), version_is ∙ version_now shot h stands)
 
 verdict_filled : (setup : Setup) (s : State) (now : ℕ) (c : Command) → verdict_in setup s c ≡ verdict_in setup s (filled now c)
-verdict_filled setup s now (Plan call kind route at from level) = refl
-verdict_filled setup s now (External call straight) = refl
-verdict_filled setup s now (Drop call) = refl
-verdict_filled setup s now (commands.Report call report) = refl
-verdict_filled setup s now (Tick next) = refl
-verdict_filled setup s now (Renew call) = refl
-verdict_filled setup s now (Clear call clearance eff) = refl
-verdict_filled setup s now (Accept call clearance eff probed) = refl
 verdict_filled setup s now (Marks call clearance eff) = refl
-verdict_filled setup s now (Withdraw call force) = refl
-verdict_filled setup s now (Commit call) = refl
+verdict_filled setup s now c = refl
 
 pub entered_now : (shot after : Shot) (h later : List Entry) (who : ℕ) (c : Command) (version : ℕ) (verdict : Option Verdict) → state_in shot ≡ state_of shot.setup h
     → judged (checks shot.setup (look_at (state_in shot) c) who c) (tt {0}) ≡ Ok (tt {0}) → HasHits shot.setup (state_in shot) c [] → after.setup ≡ shot.setup

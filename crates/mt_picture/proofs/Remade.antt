@@ -1,6 +1,5 @@
 -- A flight with a new trajectory in the place of an old one, and one that keeps what it had.
 use Rattle.std.proofs.Common.{◌≡◌, ℕ, ◌+◌, ◌≤◌, ◌⊎◌, inl, inr, ⊎_elim, List, Option, Some, None, option_map, refl, sym, ◌∙◌, ap, ap₂, subst}
-use Rattle.std.specs.Prelude.{option_and_then}
 use Rattle.std.specs.Arc.{arc_value}
 use Rattle.mt_base.specs.declared.clearance.Clearance.{Clearance}
 use Rattle.mt_base.specs.declared.command.Command.{Command}
@@ -68,11 +67,6 @@ same_second s r same = second_stamped s ∙ ap (option_map named_with) same ∙ 
 
 pub mark_stays : (setup : Setup) (who now : ℕ) (c : Command) (path : Path) → IsRemaking c → kind_made c ≡ kinds.Actual → ((call : List ℕ) → c ≡ Commit call → ⊥)
     → marked_of setup (path_after setup who (filled now c) path) ≡ marked_of setup path
-mark_stays setup who now (Plan call kind route at from level) path remaking actual no_commit = absurd remaking
-mark_stays setup who now (External call straight) path remaking actual no_commit = absurd remaking
-mark_stays setup who now (Drop call) path remaking actual no_commit = absurd remaking
-mark_stays setup who now (commands.Report call report) path remaking actual no_commit = absurd remaking
-mark_stays setup who now (Tick next) path remaking actual no_commit = absurd remaking
 mark_stays setup who now (Renew call) (Planned course) remaking actual no_commit = refl
 mark_stays setup who now (Renew call) (Outer stretch) remaking actual no_commit = refl
 mark_stays setup who now (Clear call clearance eff) (Planned course) remaking actual no_commit = refl
@@ -80,8 +74,8 @@ mark_stays setup who now (Clear call clearance eff) (Outer stretch) remaking act
 mark_stays setup who now (Accept call clearance eff probed) (Planned course) remaking actual no_commit = refl
 mark_stays setup who now (Accept call clearance eff probed) (Outer stretch) remaking actual no_commit = refl
 mark_stays setup who now (Tentative call clearance eff) path remaking actual no_commit = absurd (cc)
-mark_stays setup who now (Withdraw call force) path remaking actual no_commit = absurd remaking
 mark_stays setup who now (Commit call) path remaking actual no_commit = absurd (no_commit call refl)
+mark_stays setup who now c path remaking actual no_commit = absurd remaking
 
 no_mark : (setup : Setup) (who now : ℕ) (call : List ℕ) (path : Path) → marked_of setup (path_after setup who (filled now (Commit call)) path) ≡ None
 no_mark setup who now call (Outer stretch) = refl
@@ -92,100 +86,43 @@ no_mark setup who now call (Planned course) = by_mark course.mark where
 
 actual_stays : (setup : Setup) (who now : ℕ) (c : Command) (path : Path) → kind_made c ≡ kinds.Tentative
     → trajectory_of setup (path_after setup who (filled now c) path) ≡ trajectory_of setup path
-actual_stays setup who now (Plan call kind route at from level) path mark = absurd (cc)
-actual_stays setup who now (External call straight) path mark = absurd (cc)
-actual_stays setup who now (Drop call) path mark = absurd (cc)
-actual_stays setup who now (commands.Report call report) path mark = absurd (cc)
-actual_stays setup who now (Tick next) path mark = absurd (cc)
-actual_stays setup who now (Renew call) path mark = absurd (cc)
-actual_stays setup who now (Clear call clearance eff) path mark = absurd (cc)
-actual_stays setup who now (Accept call clearance eff probed) path mark = absurd (cc)
 actual_stays setup who now (Tentative call clearance eff) (Planned course) mark = refl
 actual_stays setup who now (Tentative call clearance eff) (Outer stretch) mark = refl
-actual_stays setup who now (Withdraw call force) path mark = absurd (cc)
-actual_stays setup who now (Commit call) path mark = absurd (cc)
+actual_stays setup who now c path mark = absurd (cc)
 
 pub report_actual : (setup : Setup) (who now : ℕ) (c : Command) (path : Path) → IsReport c → trajectory_of setup (path_after setup who (filled now c) path) ≡ trajectory_of setup path
-report_actual setup who now (Plan call kind route at from level) path reports = absurd reports
-report_actual setup who now (External call straight) path reports = absurd reports
-report_actual setup who now (Drop call) path reports = absurd reports
 report_actual setup who now (commands.Report call report) (Planned course) reports = refl
 report_actual setup who now (commands.Report call report) (Outer stretch) reports = refl
-report_actual setup who now (Tick next) path reports = absurd reports
-report_actual setup who now (Renew call) path reports = absurd reports
-report_actual setup who now (Clear call clearance eff) path reports = absurd reports
-report_actual setup who now (Accept call clearance eff probed) path reports = absurd reports
-report_actual setup who now (Tentative call clearance eff) path reports = absurd reports
-report_actual setup who now (Withdraw call force) path reports = absurd reports
-report_actual setup who now (Commit call) path reports = absurd reports
+report_actual setup who now c path reports = absurd reports
 
 pub report_mark : (setup : Setup) (who now : ℕ) (c : Command) (path : Path) → IsReport c → marked_of setup (path_after setup who (filled now c) path) ≡ marked_of setup path
-report_mark setup who now (Plan call kind route at from level) path reports = absurd reports
-report_mark setup who now (External call straight) path reports = absurd reports
-report_mark setup who now (Drop call) path reports = absurd reports
 report_mark setup who now (commands.Report call report) (Planned course) reports = refl
 report_mark setup who now (commands.Report call report) (Outer stretch) reports = refl
-report_mark setup who now (Tick next) path reports = absurd reports
-report_mark setup who now (Renew call) path reports = absurd reports
-report_mark setup who now (Clear call clearance eff) path reports = absurd reports
-report_mark setup who now (Accept call clearance eff probed) path reports = absurd reports
-report_mark setup who now (Tentative call clearance eff) path reports = absurd reports
-report_mark setup who now (Withdraw call force) path reports = absurd reports
-report_mark setup who now (Commit call) path reports = absurd reports
+report_mark setup who now c path reports = absurd reports
 
 pub bare_actual : (setup : Setup) (who now : ℕ) (c : Command) (path : Path) → IsWithdrawal c → trajectory_of setup (path_after setup who (filled now c) path) ≡ trajectory_of setup path
-bare_actual setup who now (Plan call kind route at from level) path withdraws = absurd withdraws
-bare_actual setup who now (External call straight) path withdraws = absurd withdraws
-bare_actual setup who now (Drop call) path withdraws = absurd withdraws
-bare_actual setup who now (commands.Report call report) path withdraws = absurd withdraws
-bare_actual setup who now (Tick next) path withdraws = absurd withdraws
-bare_actual setup who now (Renew call) path withdraws = absurd withdraws
-bare_actual setup who now (Clear call clearance eff) path withdraws = absurd withdraws
-bare_actual setup who now (Accept call clearance eff probed) path withdraws = absurd withdraws
-bare_actual setup who now (Tentative call clearance eff) path withdraws = absurd withdraws
 bare_actual setup who now (Withdraw call force) (Planned course) withdraws = refl
 bare_actual setup who now (Withdraw call force) (Outer stretch) withdraws = refl
-bare_actual setup who now (Commit call) path withdraws = absurd withdraws
+bare_actual setup who now c path withdraws = absurd withdraws
 
 pub bare_mark : (setup : Setup) (who now : ℕ) (c : Command) (path : Path) → IsWithdrawal c → marked_of setup (path_after setup who (filled now c) path) ≡ None
-bare_mark setup who now (Plan call kind route at from level) path withdraws = absurd withdraws
-bare_mark setup who now (External call straight) path withdraws = absurd withdraws
-bare_mark setup who now (Drop call) path withdraws = absurd withdraws
-bare_mark setup who now (commands.Report call report) path withdraws = absurd withdraws
-bare_mark setup who now (Tick next) path withdraws = absurd withdraws
-bare_mark setup who now (Renew call) path withdraws = absurd withdraws
-bare_mark setup who now (Clear call clearance eff) path withdraws = absurd withdraws
-bare_mark setup who now (Accept call clearance eff probed) path withdraws = absurd withdraws
-bare_mark setup who now (Tentative call clearance eff) path withdraws = absurd withdraws
 bare_mark setup who now (Withdraw call force) (Planned course) withdraws = refl
 bare_mark setup who now (Withdraw call force) (Outer stretch) withdraws = refl
-bare_mark setup who now (Commit call) path withdraws = absurd withdraws
+bare_mark setup who now c path withdraws = absurd withdraws
 
 pub report_alters : (c : Command) → IsReport c ⊎ IsWithdrawal c → Alters c
 report_alters (Plan call kind route at from level) is = absurd (⊎_elim (λ r. r) (λ w. w) is)
 report_alters (External call straight) is = absurd (⊎_elim (λ r. r) (λ w. w) is)
 report_alters (Drop call) is = absurd (⊎_elim (λ r. r) (λ w. w) is)
-report_alters (commands.Report call report) is = tt
 report_alters (Tick next) is = absurd (⊎_elim (λ r. r) (λ w. w) is)
-report_alters (Renew call) is = tt
-report_alters (Clear call clearance eff) is = tt
-report_alters (Accept call clearance eff probed) is = tt
-report_alters (Tentative call clearance eff) is = tt
-report_alters (Withdraw call force) is = tt
-report_alters (Commit call) is = tt
+report_alters c is = tt
 
 pub remaking_alters : (c : Command) → IsRemaking c → Alters c
 remaking_alters (Plan call kind route at from level) is = absurd is
 remaking_alters (External call straight) is = absurd is
 remaking_alters (Drop call) is = absurd is
-remaking_alters (commands.Report call report) is = tt
 remaking_alters (Tick next) is = absurd is
-remaking_alters (Renew call) is = tt
-remaking_alters (Clear call clearance eff) is = tt
-remaking_alters (Accept call clearance eff probed) is = tt
-remaking_alters (Tentative call clearance eff) is = tt
-remaking_alters (Withdraw call force) is = tt
-remaking_alters (Commit call) is = tt
+remaking_alters c is = tt
 
 -- ---- a flight that is remade has its own trajectories
 
@@ -216,17 +153,8 @@ other_kind old version (Commit call) card t f actual is = inl (is.rest, (call, r
 
 keeps_actual : (old : Option Flight) (version : ℕ) (c : Command) (card : Record) (t : Trajectory) (f : Flight) → kind_made c ≡ kinds.Tentative
     → IsRemade old version c card t f → Keeps old f kinds.Actual
-keeps_actual old version (Plan call kind route at from level) card t f mark is = absurd (cc)
-keeps_actual old version (External call straight) card t f mark is = absurd (cc)
-keeps_actual old version (Drop call) card t f mark is = absurd (cc)
-keeps_actual old version (commands.Report call report) card t f mark is = absurd (cc)
-keeps_actual old version (Tick next) card t f mark is = absurd (cc)
-keeps_actual old version (Renew call) card t f mark is = absurd (cc)
-keeps_actual old version (Clear call clearance eff) card t f mark is = absurd (cc)
-keeps_actual old version (Accept call clearance eff probed) card t f mark is = absurd (cc)
 keeps_actual old version (Tentative call clearance eff) card t f mark is = is.rest
-keeps_actual old version (Withdraw call force) card t f mark is = absurd (cc)
-keeps_actual old version (Commit call) card t f mark is = absurd (cc)
+keeps_actual old version c card t f mark is = absurd (cc)
 
 module _ (setup : Setup) (who now version : ℕ) (c : Command) (old f : Flight) (card : Record) (t : Trajectory) (remaking : IsRemaking c)
     (is : IsRemade (Some old) version c card t f) (sound : IsSoundEntry setup old)
@@ -311,28 +239,6 @@ put_remade shot slot f who c card t sound there_is remaking left earlier made is
     (λ kind. subst (λ (at : Option Flight). IsNewOrStays at (shot.version + 1) f kind) (sym at_is)
     (remade_stamps shot.setup who shot.now (shot.version + 1) c old f card t remaking one entry by.path made (kind_made c) kind refl))
 
--- a flight that keeps what it had of a kind
-abbrev pub Kept : Option Flight → Kind → Option Made → Type 0
-Kept old kind again = (option_map (λ (m : Made). arc_value m.strand) again ≡ option_map (λ (m : Made). arc_value m.strand) (option_and_then (λ (f : Flight). made_of f kind) old))
-    × (option_map (λ (m : Made). m.stamp) again ≡ option_map (λ (m : Made). m.stamp) (option_and_then (λ (f : Flight). made_of f kind) old))
-
-stamped_same : (f g : Flight) (kind : Kind) (one other : Option Made) → f.card.call ≡ g.card.call
-    → option_map (λ (m : Made). arc_value m.strand) one ≡ option_map (λ (m : Made). arc_value m.strand) other
-    → option_map (λ (m : Made). m.stamp) one ≡ option_map (λ (m : Made). m.stamp) other → stamped f kind one ≡ stamped g kind other
-stamped_same f g kind None None own strands stamps = refl
-stamped_same f g kind None (Some n) own strands stamps = absurd (cc)
-stamped_same f g kind (Some m) None own strands stamps = absurd (cc)
-stamped_same f g kind (Some m) (Some n) own strands stamps =
-    let a : arc_value m.strand ≡ arc_value n.strand = cc in
-    let b : m.stamp ≡ n.stamp = cc in
-    λ i. Some (record { call = own i; kind = kind; path = a i }, b i)
-
-pub keeps_kind : (old : Option Flight) (g f : Flight) (kind : Kind) → old ≡ Some g → f.card.call ≡ g.card.call → Kept old kind (made_of f kind)
-    → stamped_at kind (Some f) ≡ stamped_at kind old
-keeps_kind old g f kind at_is own kept =
-    let one = subst (λ (at : Option Flight). Kept at kind (made_of f kind)) at_is kept in
-    stamped_same f g kind (made_of f kind) (made_of g kind) own one.0 one.1 ∙ ap (stamped_at kind) (sym at_is)
-
 -- and one that a report or a withdrawal leaves
 pub put_kept : (shot : Shot) (slot : ℕ) (old f : Flight) (who : ℕ) (c : Command) → IsSoundShot shot → flight_at shot slot ≡ Some old → old.card.call ≡ f.card.call
     → IsReport c ⊎ IsWithdrawal c → IsLeft shot.setup (state_in shot) who c f.card → f.filed ≡ old.filed → old.filed ≤ shot.version
@@ -377,58 +283,13 @@ module _ (old : Option Flight) (version : ℕ) (card : Record) (f : Flight) (kep
 
   pub as_other : (c : Command) → ((call : List ℕ) (clearance : Clearance) (eff : Option ℕ) → c ≡ Tentative call clearance eff → ⊥) → ((call : List ℕ) → c ≡ Commit call → ⊥)
       → IsRemade old version c card (arc_value made.strand) (record f { actual = made })
-  as_other (Plan call kind route at from level) no_mark no_commit = record { card_is = kept.card_is; filed_is = kept.filed_is; new = refl; stamp = stamp_is kinds.Actual; rest = kept.mark }
-  as_other (External call straight) no_mark no_commit = record { card_is = kept.card_is; filed_is = kept.filed_is; new = refl; stamp = stamp_is kinds.Actual; rest = kept.mark }
-  as_other (Drop call) no_mark no_commit = record { card_is = kept.card_is; filed_is = kept.filed_is; new = refl; stamp = stamp_is kinds.Actual; rest = kept.mark }
-  as_other (commands.Report call report) no_mark no_commit = record { card_is = kept.card_is; filed_is = kept.filed_is; new = refl; stamp = stamp_is kinds.Actual; rest = kept.mark }
-  as_other (Tick next) no_mark no_commit = record { card_is = kept.card_is; filed_is = kept.filed_is; new = refl; stamp = stamp_is kinds.Actual; rest = kept.mark }
-  as_other (Renew call) no_mark no_commit = record { card_is = kept.card_is; filed_is = kept.filed_is; new = refl; stamp = stamp_is kinds.Actual; rest = kept.mark }
-  as_other (Clear call clearance eff) no_mark no_commit = record { card_is = kept.card_is; filed_is = kept.filed_is; new = refl; stamp = stamp_is kinds.Actual; rest = kept.mark }
-  as_other (Accept call clearance eff probed) no_mark no_commit = record { card_is = kept.card_is; filed_is = kept.filed_is; new = refl; stamp = stamp_is kinds.Actual; rest = kept.mark }
   as_other (Tentative call clearance eff) no_mark no_commit = absurd (no_mark call clearance eff refl)
-  as_other (Withdraw call force) no_mark no_commit = record { card_is = kept.card_is; filed_is = kept.filed_is; new = refl; stamp = stamp_is kinds.Actual; rest = kept.mark }
   as_other (Commit call) no_mark no_commit = absurd (no_commit call refl)
-
--- the flight of a slot, kept
-pub kept_is : (old : Option Flight) (card : Record) (f : Flight) → option_map (λ (g : Flight). g.card.call) old ≡ Some card.call → f.card ≡ card
-    → Some f.filed ≡ option_map (λ (g : Flight). g.filed) old → Kept old kinds.Actual (Some f.actual) → Kept old kinds.Tentative f.mark → IsKeptFlight old card f
-kept_is old card f there_is card_is filed_is actual mark =
-    let it = there old card.call there_is in
-    let own : f.card.call ≡ it.flight.card.call = ap (λ (r : Record). r.call) card_is ∙ sym it.own in
-    record {
-      card_is = card_is;
-      filed_is = filed_is;
-      actual = keeps_kind old it.flight f kinds.Actual it.at_is own actual;
-      mark = keeps_kind old it.flight f kinds.Tentative it.at_is own mark;
-    }
-
-none_kept : (old : Option Flight) (card : Record) → option_map (λ (g : Flight). g.card.call) old ≡ Some card.call
-    → (again : Option Made) → Kept old kinds.Actual again → again ≡ None → ⊥
-none_kept None card there_is again kept none = absurd (cc)
-none_kept (Some g) card there_is None kept none = let e = kept.1 in absurd (cc)
-none_kept (Some g) card there_is (Some m) kept none = cc
-
-pub none_again : (old : Option Flight) (card : Record) → option_map (λ (g : Flight). g.card.call) old ≡ Some card.call
-    → (again : Option Made) → option_map (λ (m : Made). arc_value m.strand) again ≡ option_map (λ (m : Made). arc_value m.strand) (option_and_then (λ (f : Flight). made_of f kinds.Actual) old)
-    → option_map (λ (m : Made). m.stamp) again ≡ option_map (λ (m : Made). m.stamp) (option_and_then (λ (f : Flight). made_of f kinds.Actual) old) → again ≡ None → ⊥
-none_again old card there_is again strands stamps none = none_kept old card there_is again (strands, stamps) none
-
-pub none_there : {X : Type 0} (old : Option Flight) (f : Flight → X) (card : Record) → option_map (λ (g : Flight). g.card.call) old ≡ Some card.call → None ≡ option_map f old → ⊥
-none_there None f card there_is none = absurd (cc)
-none_there (Some g) f card there_is none = cc
+  as_other c no_mark no_commit = record { card_is = kept.card_is; filed_is = kept.filed_is; new = refl; stamp = stamp_is kinds.Actual; rest = kept.mark }
 
 not_both : (c : Command) → IsReport c → IsWithdrawal c → ⊥
-not_both (Plan call kind route at from level) reports withdraws = reports
-not_both (External call straight) reports withdraws = reports
-not_both (Drop call) reports withdraws = reports
 not_both (commands.Report call report) reports withdraws = withdraws
-not_both (Tick next) reports withdraws = reports
-not_both (Renew call) reports withdraws = reports
-not_both (Clear call clearance eff) reports withdraws = reports
-not_both (Accept call clearance eff probed) reports withdraws = reports
-not_both (Tentative call clearance eff) reports withdraws = reports
-not_both (Withdraw call force) reports withdraws = reports
-not_both (Commit call) reports withdraws = reports
+not_both c reports withdraws = reports
 
 -- a report and a withdrawal are put into the slot
 pub put_report : (shot : Shot) (slot : ℕ) (card : Record) (f : Flight) (who reported : ℕ) (c : Command) → IsSoundShot shot

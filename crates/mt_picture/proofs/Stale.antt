@@ -20,7 +20,7 @@ use Rattle.mt_change.specs.Altered.{Alters, path_after}
 use Rattle.mt_change.proofs.Alterations.{records_are}
 use Rattle.mt_change.proofs.Changed.{changed_other}
 use Rattle.mt_change.proofs.Filling.{filled_alters, filled_call}
-use Rattle.mt_kept.proofs.Elements.{Contains-filter, Contains-map, Contains-map_cases}
+use Rattle.mt_base.proofs.Members.{Contains-filter, Contains-map, Contains-map_cases}
 use Rattle.mt_probe.specs.Prepared.{IsLeft, IsPrepared, MakesStrand, Prepared, flight_left, judged_aside}
 use Rattle.mt_probe.specs.Shot.{Shot, records_in}
 use Rattle.mt_probe.specs.Shot.{state_of as state_in}
@@ -127,17 +127,8 @@ found_now shot h v call r sound stands within unnamed is =
 -- what a command leaves is the same for the actor that it was prepared for
 path_alike : (setup : Setup) (who whom now : ℕ) (c : Command) (path : Path) → IsPreparedFor c who whom
     → path_after setup whom (filled now c) path ≡ path_after setup who (filled now c) path
-path_alike setup who whom now (Plan call kind route at from level) path same = refl
-path_alike setup who whom now (External call straight) path same = refl
-path_alike setup who whom now (Drop call) path same = refl
-path_alike setup who whom now (commands.Report call report) path same = refl
-path_alike setup who whom now (Tick next) path same = refl
-path_alike setup who whom now (Renew call) path same = refl
-path_alike setup who whom now (Clear call clearance eff) path same = refl
-path_alike setup who whom now (Accept call clearance eff probed) path same = refl
 path_alike setup who whom now (Tentative call clearance eff) path same = ap (λ (w : ℕ). path_after setup w (filled now (Tentative call clearance eff)) path) same
-path_alike setup who whom now (Withdraw call force) path same = refl
-path_alike setup who whom now (Commit call) path same = refl
+path_alike setup who whom now c path same = refl
 
 -- what is left of a flight that is altered
 left_of_one : (setup : Setup) (s : State) (who : ℕ) (c : Command) (call : List ℕ) (r card : Record) → Alters c → call_of c ≡ Some call
@@ -162,12 +153,8 @@ files_or_alters (External call straight) makes = inl tt
 files_or_alters (Drop call) makes = absurd makes
 files_or_alters (commands.Report call report) makes = absurd makes
 files_or_alters (Tick next) makes = absurd makes
-files_or_alters (Renew call) makes = inr tt
-files_or_alters (Clear call clearance eff) makes = inr tt
-files_or_alters (Accept call clearance eff probed) makes = inr tt
-files_or_alters (Tentative call clearance eff) makes = inr tt
 files_or_alters (Withdraw call force) makes = absurd makes
-files_or_alters (Commit call) makes = inr tt
+files_or_alters c makes = inr tt
 
 pub remakes : (c : Command) → MakesStrand c → ¬ IsFiling c → IsRemaking c
 remakes (Plan call kind route at from level) makes none = absurd (none tt)
@@ -175,12 +162,8 @@ remakes (External call straight) makes none = absurd (none tt)
 remakes (Drop call) makes none = absurd makes
 remakes (commands.Report call report) makes none = absurd makes
 remakes (Tick next) makes none = absurd makes
-remakes (Renew call) makes none = tt
-remakes (Clear call clearance eff) makes none = tt
-remakes (Accept call clearance eff probed) makes none = tt
-remakes (Tentative call clearance eff) makes none = tt
 remakes (Withdraw call force) makes none = absurd makes
-remakes (Commit call) makes none = tt
+remakes c makes none = tt
 
 -- what is prepared of a command, on the state that it was prepared on
 record IsLeftThen (setup : Setup) (s : State) (whom : ℕ) (c : Command) (card : Record) : Type 0 where

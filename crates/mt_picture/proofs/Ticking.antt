@@ -11,15 +11,15 @@ use Rattle.mt_base.specs.Tables.{Setup}
 use Rattle.mt_edges.specs.declared.edge.Edge.{Edge}
 use Rattle.mt_kept.specs.Losing.{IsPair}
 use Rattle.mt_kept.specs.Places.{at, horizon}
-use Rattle.mt_kept.specs.Tests.{raised_by}
+use Rattle.mt_base.specs.Tally.{raised_by}
 use Rattle.mt_kept.specs.Window.{WasTestedOnce, straddles}
-use Rattle.mt_kept.proofs.Elements.{All-from_held, Contains-map_cases, distinct_held, distinct_map}
-use Rattle.mt_kept.proofs.Windows.{one_span}
+use Rattle.mt_base.proofs.Members.{All-from_held, Contains-map_cases, distinct_held, distinct_map}
 use Rattle.mt_probe.specs.Items.{kind_at}
 use Rattle.mt_probe.specs.Shot.{Shot}
 use Rattle.mt_probe.specs.Shot.{state_of as state_in}
 use Rattle.mt_probe.specs.Standing.{IsSoundShot}
 use Rattle.mt_probe.proofs.Gathered.{at_kept}
+use Rattle.mt_base.proofs.OneConflict.{one_span}
 use Rattle.mt_picture.specs.Asked.{IsCrossingPair, WasTestedForTick}
 use Rattle.mt_picture.specs.Places.{all_places, made_of_kind}
 use Rattle.mt_picture.specs.Story.{Story}

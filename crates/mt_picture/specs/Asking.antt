@@ -4,7 +4,7 @@ use Rattle.std.specs.List.{sum_by}
 use Rattle.mt_base.specs.Picture.{NamedTrajectory}
 use Rattle.mt_kept.specs.declared.finds.Candidate.{Candidate}
 use Rattle.mt_kept.specs.Finds.{cost}
-use Rattle.mt_kept.specs.Tests.{RoseUpTo}
+use Rattle.mt_base.specs.Tally.{RoseUpTo}
 use Rattle.mt_base.specs.declared.command.Command.{Command}
 use Rattle.mt_probe.specs.Prepared.{Prepared, left_made}
 use Rattle.mt_probe.specs.Shot.{Shot, state_of}

@@ -10,6 +10,7 @@ use Rattle.mt_base.specs.declared.conflict.Conflict.{Conflict}
 use Rattle.mt_base.specs.declared.rules.Rules.{Rules}
 use Rattle.mt_base.specs.Conflict.{IsConflict, IsSpanOfLoss}
 use Rattle.mt_base.specs.Picture.{IsOf, IsOfSome, IsPublishedOf, NamedTrajectory, conflict_cmp, window_end}
+use Rattle.mt_base.proofs.OneConflict.{one_conflict}
 use Rattle.mt_plain.specs.Added.{Adds, IsOfRight}
 
 -- nothing, one more, and one step after another
@@ -38,25 +39,6 @@ pub none_found : (rules : Rules) (now : ℕ) (left right : NamedTrajectory) → 
 none_found rules now left right none c is =
     none c.first is.span.inside.0 (omega (arith, is.span.inside.1, is.span.inside.2)) is.span.first_is
 
-pub one_found : (rules : Rules) (now : ℕ) (left right : NamedTrajectory) (c d : Conflict) → IsOf rules now left right c → IsOf rules now left right d → c ≡ d
-one_found rules now left right c d is other =
-    let s = is.span in
-    let t = other.span in
-    let c_first = t.none_outside c.first s.inside.0 (omega (arith, s.inside.1, s.inside.2)) s.first_is in
-    let d_first = s.none_outside d.first t.inside.0 (omega (arith, t.inside.1, t.inside.2)) t.first_is in
-    let c_last = t.none_outside c.last (omega (arith, s.inside.0, s.inside.1)) s.inside.2 s.last_is in
-    let d_last = s.none_outside d.last (omega (arith, t.inside.0, t.inside.1)) t.inside.2 t.last_is in
-    let first : c.first ≡ d.first = omega (arith, c_first.0, d_first.0) in
-    let last : c.last ≡ d.last = omega (arith, c_last.1, d_last.1) in
-    λ i. record {
-      first = first i;
-      a = (is.calls.0 ∙ sym other.calls.0) i;
-      b = (is.calls.1 ∙ sym other.calls.1) i;
-      ka = (is.kinds.0 ∙ sym other.kinds.0) i;
-      kb = (is.kinds.1 ∙ sym other.kinds.1) i;
-      last = last i;
-    }
-
 abbrev conflict_of : NamedTrajectory → NamedTrajectory → ℕ → ℕ → Conflict
 conflict_of left right first last = record { first = first; a = left.call; b = right.call; ka = left.kind; kb = right.kind; last = last }
 
@@ -66,7 +48,7 @@ pub Adds-found : (rules : Rules) (now : ℕ) (left right : NamedTrajectory) (fir
 Adds-found rules now left right first last old new before span pushed =
     let is : IsOf rules now left right (conflict_of left right first last) =
     record { calls = (refl, refl); kinds = (refl, refl); apart = before; span = span } in
-    rw pushed (Adds-one (IsOf rules now left right) old _ is (λ d other. one_found rules now left right _ d is other))
+    rw pushed (Adds-one (IsOf rules now left right) old _ is (λ d other. one_conflict rules now left right _ d is other))
 
 -- with one right trajectory more
 pub IsOfRight-push : (rules : Rules) (now : ℕ) (left : NamedTrajectory) (rights : List NamedTrajectory) (right : NamedTrajectory) (c : Conflict)

@@ -1,23 +1,17 @@
 -- The number of tests, one trajectory more at a time.
-use Rattle.std.proofs.Common.{◌≡◌, ℕ, zero, suc, ◌+◌, ◌<◌, ◌≤◌, true, List, [], ◌∷◌, ◌++◌, length, map, take, get_or, Result, Ok, Err, OnErr, refl, ap, arith}
-use Rattle.std.proofs.lemmas.List.Sums.{sum_by-append, sum_by-cons, sum_by-take-le}
+use Rattle.std.proofs.Common.{◌≡◌, ℕ, ◌+◌, ◌<◌, ◌≤◌, true, List, [], ◌∷◌, ◌++◌, length, map, take, get_or, Result, Ok, Err, OnErr, refl, arith}
+use Rattle.std.proofs.lemmas.List.Sums.{sum_by-take-le}
 use Rattle.std.proofs.lemmas.List.{take-map}
 use Rattle.std.specs.List.{sum_by}
 use Rattle.std.specs.Cmp.Lexicographic.{slice_cmp}
 use Rattle.std.specs.Ordering.{nat_cmp, is_lt}
 use Rattle.std.specs.declared.cmp.Ordering.{Ordering}
 use Rattle.std.specs.declared.cmp.Ordering.TheVariants.{Less, Equal, Greater}
-use Rattle.mt_base.specs.Tally.{raised}
+use Rattle.mt_base.specs.Tally.{RoseUpTo, raised, raised_by}
 use Rattle.mt_base.specs.Picture.{NamedTrajectory}
-use Rattle.mt_plain.specs.Tests.{RoseUpTo, raised_by, tests_of_pair}
+use Rattle.mt_base.proofs.Tallies.{raised_by-add, sum_by-push}
+use Rattle.mt_plain.specs.Tests.{tests_of_pair}
 use Rattle.mt_plain.proofs.Found.{map_take_push}
-
-pub raised_by-add : (m n count : ℕ) → raised_by n (raised_by m count) ≡ raised_by (m + n) count
-raised_by-add m zero count = let e : m + 0 ≡ m = omega arith in rw e refl
-raised_by-add m (suc n) count = let e : m + suc n ≡ suc (m + n) = omega arith in rw e (ap raised (raised_by-add m n count))
-
-pub sum_by-push : {X : Type 0} (f : X → ℕ) (xs : List X) (x : X) → sum_by f (xs ++ x ∷ []) ≡ sum_by f xs + f x
-sum_by-push f xs x = let last : sum_by f (x ∷ []) ≡ f x + sum_by f [] = sum_by-cons f x [] in omega (arith, sum_by-append f xs (x ∷ []))
 
 -- the sum so far, over what a list is seen as, and one term more
 sum_by-part : {X Y : Type 0} (f : Y → ℕ) (g : X → Y) (xs : List X) (i : ℕ) (x : X) → i < length xs → x ≡ get_or xs i x

@@ -3,7 +3,8 @@ ghost use Rattle.mt_base.specs.Bounds.{AreWithinBounds};
 ghost use Rattle.mt_base.specs.Picture.{IsOf, IsPublishedOf};
 ghost use Rattle.mt_track.specs.Named.{named};
 ghost use Rattle.mt_plain.specs.Added.{Adds, IsOfRight};
-ghost use Rattle.mt_plain.specs.Tests.{RoseUpTo, is_before, raised_by, tests_of_left, tests_of_pair, pairs_of_different_flights};
+ghost use Rattle.mt_base.specs.Tally.{RoseUpTo, raised_by};
+ghost use Rattle.mt_plain.specs.Tests.{is_before, tests_of_left, tests_of_pair, pairs_of_different_flights};
 
 use mt_base::{Conflict, Conflicts, Memory, Rules, Second, Tally};
 use mt_pair::lose;

@@ -56,7 +56,7 @@ duration_is far g t fast enough least =
     within : t ≤ far
     within = ⊎_elim (λ above. absurd (let h = least far above in omega (arith, h, bound_enough far g fast))) (λ h. h) (cases_lt far t)
 
-regroup : (a b : ℕ) → (a * b) * (a * b) ≡ a * a * b * b
+pub regroup : (a b : ℕ) → (a * b) * (a * b) ≡ a * a * b * b
 regroup a b = omega arith
 
 pub seconds_is : (dx dy : ℤ) (e n g s : ℕ) → e ≡ unsigned_abs dx → n ≡ unsigned_abs dy → 1 ≤ g → e * e + n * n ≤ s * s

@@ -1,5 +1,5 @@
 -- Where a sound course begins anew is right.
-use Rattle.std.proofs.Common.{◌≡◌, ℕ, ◌-◌, ◌<◌, true, false, List, length, All, Option, Some, None, nat_lt, unwrap_or, subst, sym, refl, if◌then◌else◌}
+use Rattle.std.proofs.Common.{◌≡◌, ℕ, ◌-◌, ◌<◌, true, false, length, All, Option, Some, None, nat_lt, unwrap_or, subst, sym, refl, if◌then◌else◌}
 use Rattle.std.specs.Prelude.{option_map, slice_get}
 use Rattle.mt_base.specs.declared.flight.Base.{Base}
 use Rattle.mt_base.specs.declared.flight.Course.{Course}

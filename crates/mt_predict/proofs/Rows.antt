@@ -14,7 +14,7 @@ use Rattle.mt_base.specs.Trajectory.{next_row, straight_rows}
 use Rattle.mt_track.specs.Rows.{Continues, row_after}
 use Rattle.mt_track.proofs.Joined.{IsBoundedOver-last, straight_rows-add}
 use Rattle.mt_track.proofs.Segments.{slice_get-append_right}
-use Rattle.mt_track.proofs.Straight.{get_or-straight_rows, length-straight_rows, row_after-none, slice_get-straight_rows}
+use Rattle.mt_track.proofs.Straight.{get_or-straight_rows, length-straight_rows, row_after-none, slice_get-straight_rows, once_more}
 use Rattle.mt_predict.specs.Flying.{EndAt, IsSteady, place_at}
 
 -- where rows end
@@ -30,11 +30,8 @@ once z v = omega (arith, ints)
 pub end_first : (a : Row) → end_of a ≡ place_at a 1
 end_first a = λ i. record { x = once a.x a.vx i; y = once a.y a.vy i; z = once a.z a.vz i; r = once a.r a.gr i; w = once a.w a.gw i }
 
-shift : (z v : ℤ) (k : ℕ) → (z +ℤ v) +ℤ v *ℤ pos k ≡ z +ℤ v *ℤ pos (suc k)
-shift z v k = omega (arith, ints)
-
 place_next : (a : Row) (k : ℕ) → place_at (next_row a) k ≡ place_at a (suc k)
-place_next a k = λ i. record { x = shift a.x a.vx k i; y = shift a.y a.vy k i; z = shift a.z a.vz k i; r = shift a.r a.gr k i; w = shift a.w a.gw k i }
+place_next a k = λ i. record { x = once_more a.x a.vx k i; y = once_more a.y a.vy k i; z = once_more a.z a.vz k i; r = once_more a.r a.gr k i; w = once_more a.w a.gw k i }
 
 -- rows of a leg, one second and a steady stretch at a time
 rows_next : (m : Manner) (leg : Leg) (left n : ℕ) (a b : Place) (row : Row) → left ≡ suc n → row_on m leg n a ≡ row → end_of row ≡ b

@@ -1,6 +1,5 @@
 -- A command that is refused with room aside is refused so where room is looked at, since that is looked at last.
-use Rattle.std.proofs.Common.{◌≡◌, inl, true, ℕ, ℤ, pos, ◌≤ℤ◌, List, [], ◌∷◌, ◌++◌, Result, Ok, Err, IsOk, ap, arith}
-use Rattle.std.proofs.lemmas.Int.{ints}
+use Rattle.std.proofs.Common.{◌≡◌, inl, true, ℕ, pos, List, [], ◌∷◌, ◌++◌, Result, Ok, Err, IsOk, ap}
 use Rattle.std.specs.List.{AllByRecursion}
 use Rattle.std.specs.Option.{option_map_or}
 use Rattle.std.specs.Prelude.{Bool, int_lt, unwrap_or, ⊤}
@@ -17,6 +16,7 @@ use Rattle.mt_base.specs.Picture.{State, flight_of, trajectory_of}
 use Rattle.mt_base.specs.Tables.{Setup}
 use Rattle.mt_base.specs.WhatIf.{course_in, what_if_checks}
 use Rattle.mt_base.proofs.CheckLemmas.{all_pass}
+use Rattle.mt_base.proofs.Cases.{room_for_one}
 use Rattle.mt_probe.specs.Prepared.{MakesStrand, judged_aside, roomy}
 
 abbrev Checks : Type 0
@@ -43,15 +43,12 @@ module _ {A : Type 0} (y : A) (r : Refusal) where
     by_answer (Ok _) ok e = cc
     by_answer (Err x) ok e = cc
 
-room : (h : ℤ) → pos 1 ≤ℤ h → int_lt (pos 0) h ≡ true
-room h some = grind (arith, ints)
-
 module _ {A : Type 0} (y : A) (r : Refusal) (setup : Setup) (s : State) (who : ℕ) (rules : AreWithinBounds setup.rules) where
   entry_room : int_lt (pos 0) setup.rules.history ≡ true
-  entry_room = room setup.rules.history rules.history.least
+  entry_room = room_for_one setup.rules.history rules.history.least
 
   flight_room : int_lt (pos 0) setup.rules.flights ≡ true
-  flight_room = room setup.rules.flights rules.flights.least
+  flight_room = room_for_one setup.rules.flights rules.flights.least
 
   abbrev Roomy : Checks
   Roomy = (HistoryFull, int_lt (pos 0) setup.rules.history) ∷ []

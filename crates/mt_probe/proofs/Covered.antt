@@ -13,12 +13,12 @@ use Rattle.mt_cover.specs.Cells.{cover_of}
 use Rattle.mt_cover.proofs.InGrid.{All-slices}
 use Rattle.mt_grid.specs.declared.placed.Placed.{Placed}
 use Rattle.mt_grid.specs.Lists.{AreNear, IsNear, IsPutBy, list_at, others, placed, with_stay, with_stays, without_stay, without_stays}
-use Rattle.mt_grid.proofs.Held.{put_members, take_members}
+use Rattle.mt_grid.proofs.Held.{put_members, take_members, nowhere}
 use Rattle.mt_probe.specs.declared.flight.Flight.{Flight}
 use Rattle.mt_probe.specs.Gridded.{Holds, grid_with, grid_without, with_path, without_path}
 use Rattle.mt_probe.specs.Items.{AreNearItems, IsNearItem, kind_at, path_of, stays_at, stays_by, stays_of}
 use Rattle.mt_probe.specs.Shot.{Shot}
-use Rattle.mt_probe.proofs.Members.{none_in}
+use Rattle.mt_base.proofs.Members.{Contains-none}
 
 -- the same stays, but for an item
 at_item : ℕ → List Stay → (ℕ → List Stay) → ℕ → List Stay
@@ -59,9 +59,6 @@ cover_inside rules t = All-slices rules t (div_ceil (length t.rows) 256)
 inside : (grid : List (List Placed)) (rules : Rules) (t : Trajectory) → length grid ≡ 4096 → All (λ (stay : Stay). stay.cell < length grid) (cover_of rules t)
 inside grid rules t cells = subst (λ (n : ℕ). All (λ (stay : Stay). stay.cell < n) (cover_of rules t)) (sym cells) (cover_inside rules t)
 
-by_nothing : (item cell : ℕ) (p : Placed) → ¬ IsPutBy item [] cell p
-by_nothing item cell p by = none_in by.stay by.of
-
 -- what is put by other stays of an item, if these are the same
 by_same : (item cell : ℕ) (p : Placed) (some others : List Stay) → some ≡ others → IsPutBy item some cell p → IsPutBy item others cell p
 by_same item cell p some others same by = subst (λ (stays : List Stay). IsPutBy item stays cell p) same by
@@ -87,7 +84,7 @@ module _ (rules : Rules) (item : ℕ) (grid : List (List Placed)) (stays : ℕ �
   } where
     kept : (cell : ℕ) (p : Placed) → IsPutBy p.item (stays p.item) cell p → IsPutBy p.item (at_item item (cover_of rules t) stays p.item) cell p
     kept cell p by = ⊎_elim
-        (λ own. absurd (by_nothing p.item cell p (by_same p.item cell p (stays p.item) [] (ap stays own ∙ bare) by)))
+        (λ own. absurd (nowhere p.item cell p (by_same p.item cell p (stays p.item) [] (ap stays own ∙ bare) by)))
         (λ other. by_same p.item cell p (stays p.item) (at_item item (cover_of rules t) stays p.item) (sym (at_other item (cover_of rules t) stays p.item other)) by)
         (decide p.item item)
 
@@ -112,7 +109,7 @@ module _ (rules : Rules) (item : ℕ) (grid : List (List Placed)) (stays : ℕ �
     cells = without_length item grid (cover_of rules t) ∙ holds.cells;
     held = λ cell p. let members = take_members item grid (cover_of rules t) cell p (inside grid rules t holds.cells) in (
       (λ there. let both = members.0 there in left cell p both.1 ((holds.held cell p).0 both.0)),
-      (λ by. members.1 ((holds.held cell p).1 (back cell p by), λ stay of at own. by_nothing p.item cell p (by_own cell p own by))),
+      (λ by. members.1 ((holds.held cell p).1 (back cell p by), λ stay of at own. nowhere p.item cell p (by_own cell p own by))),
     );
   } where
     left : (cell : ℕ) (p : Placed) → ((stay : Stay) → Contains (cover_of rules t) stay → stay.cell ≡ cell → ¬ (p.item ≡ item))
@@ -127,7 +124,7 @@ module _ (rules : Rules) (item : ℕ) (grid : List (List Placed)) (stays : ℕ �
 
     back : (cell : ℕ) (p : Placed) → IsPutBy p.item (at_item item [] stays p.item) cell p → IsPutBy p.item (stays p.item) cell p
     back cell p by = ⊎_elim
-        (λ own. absurd (by_nothing p.item cell p (by_own cell p own by)))
+        (λ own. absurd (nowhere p.item cell p (by_own cell p own by)))
         (λ other. by_same p.item cell p (at_item item [] stays p.item) (stays p.item) (at_other item [] stays p.item other) by) (decide p.item item)
 
 path_put : (rules : Rules) (item : ℕ) (grid : List (List Placed)) (stays : ℕ → List Stay) (path : Option Trajectory) → Holds grid stays → stays item ≡ []
@@ -255,8 +252,8 @@ pub opening_holds : (rules : Rules) (cells n : ℕ) → cells ≡ 4096 → Holds
 opening_holds rules cells n count = record {
   cells = length-replicate cells [] ∙ count;
   held = λ cell p. (
-    (λ there. absurd (none_in p (subst (λ (list : List Placed). Contains list p) (nothing_listed cells cell) there))),
-    (λ by. absurd (by_nothing p.item cell p (by_same p.item cell p (stays_at rules (replicate n None) p.item) [] (nothing_there rules n (p.item / 2) (kind_at p.item)) by))),
+    (λ there. absurd (Contains-none p (subst (λ (list : List Placed). Contains list p) (nothing_listed cells cell) there))),
+    (λ by. absurd (nowhere p.item cell p (by_same p.item cell p (stays_at rules (replicate n None) p.item) [] (nothing_there rules n (p.item / 2) (kind_at p.item)) by))),
   );
 }
 

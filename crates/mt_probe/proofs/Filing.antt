@@ -12,7 +12,7 @@ use Rattle.mt_base.proofs.OneOrder.{one_order}
 use Rattle.mt_probe.specs.declared.flight.Flight.{Flight}
 use Rattle.mt_probe.specs.Filing.{FilingOrderLaw, filed_cmp}
 use Rattle.mt_probe.specs.Shot.{filed_among, flights_in, in_order, records_in}
-use Rattle.mt_probe.proofs.Members.{front_or_rest, in_front, none_in}
+use Rattle.mt_base.proofs.Members.{Contains-cases, Contains-head, Contains-none}
 use Rattle.mt_probe.proofs.Order.{all_filed, all_ordered, all_placed}
 
 less_is : (x y : ℕ) → x < y → nat_cmp x y ≡ Less
@@ -54,26 +54,26 @@ ordered_sorted (Some f ∷ slots) differ = filed_sorted f (in_order (flights_in 
     (ordered_sorted slots (λ i j g h other g_is h_is. differ (suc i) (suc j) g h (λ same. other (omega (arith, same))) g_is h_is))
 
 there_filed : (f : Flight) (gs : List Flight) → Contains (filed_among f gs) f
-there_filed f [] = in_front f []
+there_filed f [] = Contains-head f []
 there_filed f (g ∷ gs) = by_test (nat_lt f.filed g.filed) (there_filed f gs) where
   by_test : (b : Bool) → Contains (filed_among f gs) f → Contains (if b then f ∷ g ∷ gs else g ∷ filed_among f gs) f
-  by_test true rest = in_front f (g ∷ gs)
+  by_test true rest = Contains-head f (g ∷ gs)
   by_test false rest = Contains-append_right (g ∷ []) (filed_among f gs) f rest
 
 still_filed : (f : Flight) (gs : List Flight) (h : Flight) → Contains gs h → Contains (filed_among f gs) h
-still_filed f [] h held = absurd (none_in h held)
+still_filed f [] h held = absurd (Contains-none h held)
 still_filed f (g ∷ gs) h held = by_test (nat_lt f.filed g.filed) (λ rest. still_filed f gs h rest) where
   by_test : (b : Bool) → (Contains gs h → Contains (filed_among f gs) h) → Contains (if b then f ∷ g ∷ gs else g ∷ filed_among f gs) h
   by_test true rest = Contains-append_right (f ∷ []) (g ∷ gs) h held
   by_test false rest = ⊎_elim
-      (λ same. subst (λ (k : Flight). Contains (g ∷ filed_among f gs) k) same (in_front g (filed_among f gs)))
-      (λ later. Contains-append_right (g ∷ []) (filed_among f gs) h (rest later)) (front_or_rest g gs h held)
+      (λ same. subst (λ (k : Flight). Contains (g ∷ filed_among f gs) k) same (Contains-head g (filed_among f gs)))
+      (λ later. Contains-append_right (g ∷ []) (filed_among f gs) h (rest later)) (Contains-cases g gs h held)
 
 ordered_has : (fs : List Flight) (f : Flight) → Contains fs f → Contains (in_order fs) f
-ordered_has [] f held = absurd (none_in f held)
+ordered_has [] f held = absurd (Contains-none f held)
 ordered_has (g ∷ gs) f held = ⊎_elim
     (λ same. subst (λ (k : Flight). Contains (filed_among g (in_order gs)) k) same (there_filed g (in_order gs)))
-    (λ rest. still_filed g (in_order gs) f (ordered_has gs f rest)) (front_or_rest g gs f held)
+    (λ rest. still_filed g (in_order gs) f (ordered_has gs f rest)) (Contains-cases g gs f held)
 
 has_ordered : (fs : List Flight) (f : Flight) → Contains (in_order fs) f → Contains fs f
 has_ordered fs f held = All-contains (Contains fs) (in_order fs) f

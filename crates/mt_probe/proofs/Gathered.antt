@@ -18,12 +18,12 @@ use Rattle.mt_probe.specs.Finds.{AreFinds, AreOneEach, FindsMore, HasName, IsFou
 use Rattle.mt_probe.specs.Narrow.{all_end}
 use Rattle.mt_probe.specs.Shot.{Shot, flight_at, kept_of, made_named, records_in, state_of}
 use Rattle.mt_probe.specs.Standing.{IsSoundShot}
-use Rattle.mt_probe.proofs.Members.{front_or_rest, in_joined, in_one, none_in}
+use Rattle.mt_base.proofs.Members.{Contains-cases, Contains-flat_map, Contains-flat_map_cases, Contains-none}
 use Rattle.mt_probe.proofs.Placed.{filled_inside, record_placed, record_there}
 
 module _ (rules : Rules) (now : ℕ) (t : Trajectory) where
   pub none_more : (finds : List Found) → FindsMore rules now t [] finds finds
-  none_more finds = record { kept = λ found held. held; exact = λ found held. inl held; listed = λ other held. absurd (none_in other held) }
+  none_more finds = record { kept = λ found held. held; exact = λ found held. inl held; listed = λ other held. absurd (Contains-none other held) }
 
   pub one_more : (other : NamedTrajectory) (found : Found) (old new : List Found) → IsFound rules now t other found → new ≡ old ++ found ∷ []
       → FindsMore rules now t (other ∷ []) old new
@@ -34,7 +34,7 @@ module _ (rules : Rules) (now : ℕ) (t : Trajectory) where
         (Contains-push_cases old found one held);
     listed = λ one held. ⊎_elim
         (λ same. record { found = found; held = Contains-push old found; is = subst (λ (o : NamedTrajectory). IsFound rules now t o found) same is })
-        (λ none. absurd (none_in one none)) (front_or_rest other [] one held);
+        (λ none. absurd (Contains-none one none)) (Contains-cases other [] one held);
   })
 
   still_listed : (finds more : List Found) (other : NamedTrajectory) → ((found : Found) → Contains finds found → Contains more found)
@@ -58,15 +58,15 @@ module _ (rules : Rules) (now : ℕ) (t : Trajectory) where
 
 -- the callsign of what is kept of a flight
 named_call : (call : List ℕ) (kind : Kind) (made : Option Trajectory) (other : NamedTrajectory) → Contains (made_named call kind made) other → other.call ≡ call
-named_call call kind None other held = absurd (none_in other held)
+named_call call kind None other held = absurd (Contains-none other held)
 named_call call kind (Some path) other held =
-    ⊎_elim (λ same. sym (ap (λ (o : NamedTrajectory). o.call) same)) (λ none. absurd (none_in other none))
-    (front_or_rest (record { call = call; kind = kind; path = path }) [] other held)
+    ⊎_elim (λ same. sym (ap (λ (o : NamedTrajectory). o.call) same)) (λ none. absurd (Contains-none other none))
+    (Contains-cases (record { call = call; kind = kind; path = path }) [] other held)
 
 pub kept_call : (f : Flight) (other : NamedTrajectory) → Contains (kept_of f) other → other.call ≡ f.card.call
 kept_call f other held = ⊎_elim (λ same. sym (ap (λ (o : NamedTrajectory). o.call) same))
     (λ rest. named_call f.card.call Tentative (option_map (λ m. arc_value m.strand) f.mark) other rest)
-    (front_or_rest (record { call = f.card.call; kind = Actual; path = arc_value f.actual.strand })
+    (Contains-cases (record { call = f.card.call; kind = Actual; path = arc_value f.actual.strand })
     (made_named f.card.call Tentative (option_map (λ m. arc_value m.strand) f.mark)) other held)
 
 -- the trajectories of the state of a snapshot are those that are kept
@@ -79,7 +79,7 @@ pub record IsKeptAt (shot : Shot) (other : NamedTrajectory) : Type 0 where
 
 pub kept_at : (shot : Shot) (other : NamedTrajectory) → IsSoundShot shot → Contains (trajectories shot.setup (state_of shot)) other → IsKeptAt shot other
 kept_at shot other sound held =
-    let it = in_one (trajectories_of shot.setup) (records_in shot.slots) other held in
+    let it = Contains-flat_map_cases (trajectories_of shot.setup) (records_in shot.slots) other held in
     let placed = record_placed shot.slots it.of it.there in
     let within = subst (λ (r : Record). Contains (trajectories_of shot.setup r) other) (sym placed.card_is) it.within in
     let kept = subst (λ (os : List NamedTrajectory). Contains os other) (sym (sound.sound placed.place placed.flight placed.at).kept) within in
@@ -88,15 +88,15 @@ kept_at shot other sound held =
 pub at_kept : (shot : Shot) (i : ℕ) (f : Flight) (other : NamedTrajectory) → IsSoundShot shot → flight_at shot i ≡ Some f → Contains (kept_of f) other
     → Contains (trajectories shot.setup (state_of shot)) other
 at_kept shot i f other sound at held =
-    in_joined (trajectories_of shot.setup) (records_in shot.slots) f.card other (record_there shot i f sound (filled_inside shot.slots i f at) at)
+    Contains-flat_map (trajectories_of shot.setup) (records_in shot.slots) f.card other (record_there shot i f sound (filled_inside shot.slots i f at) at)
     (subst (λ (os : List NamedTrajectory). Contains os other) (sound.sound i f at).kept held)
 
 -- of each kind, one is kept of a flight
 kept_once : (f : Flight) (a b : NamedTrajectory) → Contains (kept_of f) a → Contains (kept_of f) b → a.kind ≡ b.kind → a ≡ b
 kept_once f a b a_in b_in kinds = ⊎_elim
-    (λ a_first. ⊎_elim (λ b_first. sym a_first ∙ b_first) (λ b_rest. absurd (apart a b a_first b_rest kinds)) (front_or_rest actual rest b b_in))
-    (λ a_rest. ⊎_elim (λ b_first. absurd (apart b a b_first a_rest (sym kinds))) (λ b_rest. same (option_map (λ m. arc_value m.strand) f.mark) a_rest b_rest) (front_or_rest actual rest b b_in))
-    (front_or_rest actual rest a a_in) where
+    (λ a_first. ⊎_elim (λ b_first. sym a_first ∙ b_first) (λ b_rest. absurd (apart a b a_first b_rest kinds)) (Contains-cases actual rest b b_in))
+    (λ a_rest. ⊎_elim (λ b_first. absurd (apart b a b_first a_rest (sym kinds))) (λ b_rest. same (option_map (λ m. arc_value m.strand) f.mark) a_rest b_rest) (Contains-cases actual rest b b_in))
+    (Contains-cases actual rest a a_in) where
       actual : NamedTrajectory
       actual = record { call = f.card.call; kind = Actual; path = arc_value f.actual.strand }
 
@@ -104,9 +104,9 @@ kept_once f a b a_in b_in kinds = ⊎_elim
       rest = made_named f.card.call Tentative (option_map (λ m. arc_value m.strand) f.mark)
 
       kind_of : (made : Option Trajectory) (o : NamedTrajectory) → Contains (made_named f.card.call Tentative made) o → o.kind ≡ Tentative
-      kind_of None o held = absurd (none_in o held)
-      kind_of (Some path) o held = ⊎_elim (λ e. sym (ap (λ (p : NamedTrajectory). p.kind) e)) (λ none. absurd (none_in o none))
-          (front_or_rest (record { call = f.card.call; kind = Tentative; path = path }) [] o held)
+      kind_of None o held = absurd (Contains-none o held)
+      kind_of (Some path) o held = ⊎_elim (λ e. sym (ap (λ (p : NamedTrajectory). p.kind) e)) (λ none. absurd (Contains-none o none))
+          (Contains-cases (record { call = f.card.call; kind = Tentative; path = path }) [] o held)
 
       apart : (x y : NamedTrajectory) → actual ≡ x → Contains rest y → x.kind ≡ y.kind → ⊥
       apart x y first later e =
@@ -115,12 +115,12 @@ kept_once f a b a_in b_in kinds = ⊎_elim
           let both : Actual ≡ Tentative = x_kind ∙ e ∙ y_kind in cc
 
       same : (made : Option Trajectory) → Contains (made_named f.card.call Tentative made) a → Contains (made_named f.card.call Tentative made) b → a ≡ b
-      same None a_held b_held = absurd (none_in a a_held)
+      same None a_held b_held = absurd (Contains-none a a_held)
       same (Some path) a_held b_held =
           let only : NamedTrajectory = record { call = f.card.call; kind = Tentative; path = path } in
           ⊎_elim
-          (λ e. ⊎_elim (λ d. sym e ∙ d) (λ none. absurd (none_in b none)) (front_or_rest only [] b b_held))
-          (λ none. absurd (none_in a none)) (front_or_rest only [] a a_held)
+          (λ e. ⊎_elim (λ d. sym e ∙ d) (λ none. absurd (Contains-none b none)) (Contains-cases only [] b b_held))
+          (λ none. absurd (Contains-none a none)) (Contains-cases only [] a a_held)
 
 -- no two trajectories of the state have one callsign and one kind
 pub one_each : (shot : Shot) → IsSoundShot shot → AreOneEach (trajectories shot.setup (state_of shot))
@@ -147,9 +147,6 @@ module _ (finds : List Found) (call : List ℕ) (kind : Kind) where
       let more : take (i + 1) finds ≡ take i finds ++ found ∷ [] = take_more finds i found below ∙ ap (λ (g : Found). take i finds ++ g ∷ []) (sym is) in
       ⊎_elim (λ before. none f before) (λ same. λ named. not (subst (HasName call kind) (sym same) named))
       (Contains-push_cases (take i finds) found f (rw more at held))
-
-  pub named_here : (i : ℕ) (found : Found) → i < length finds → found ≡ get_or finds i found → Contains finds found
-  named_here i found below is = (i, below, sym is)
 
 pub found_or_quiet : (setup : Setup) (s : State) (own : List ℕ) (t : Trajectory) (finds : List Found) (call : List ℕ) (kind : Kind) (r : Option Found)
     → s.now ≤ 10000000 → AreFinds setup s own t finds → AreOneEach (trajectories setup s) → IsNamedAmong finds call kind r

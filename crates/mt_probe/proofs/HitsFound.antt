@@ -1,5 +1,5 @@
 -- The hits among what is found.
-use Rattle.std.proofs.Common.{Result, Ok, Err, IfOk, ◌≡◌, ◌↔◌, ◌⊎◌, inl, inr, ⊎_elim, ℕ, ◌+◌, ◌<◌, ◌≤◌, List, [], ◌∷◌, ◌++◌, Option, Some, None, Contains, length, take, get_or, refl, sym, ◌∙◌, ap, subst, arith}
+use Rattle.std.proofs.Common.{◌≡◌, ◌↔◌, ◌⊎◌, inl, inr, ⊎_elim, ℕ, ◌+◌, ◌<◌, ◌≤◌, List, [], ◌∷◌, ◌++◌, Option, Some, None, Contains, length, take, get_or, refl, sym, ◌∙◌, ap, subst, arith}
 use Rattle.std.proofs.lemmas.List.{take_all, take_more}
 use Rattle.std.proofs.lemmas.List.Elements.{Contains-append_left, Contains-push, Contains-push_cases}
 use Rattle.std.specs.List.Sorted.{IsStrictlySortedBy}
@@ -19,7 +19,7 @@ use Rattle.mt_probe.specs.declared.finding.Found.{Found}
 use Rattle.mt_probe.specs.Finds.{AreFinds}
 use Rattle.mt_probe.specs.Hits.{IsHitOfOne, hit_by, hit_of}
 use Rattle.mt_probe.specs.Narrow.{all_end}
-use Rattle.mt_probe.proofs.Members.{front_or_rest, in_joined, in_one, none_in}
+use Rattle.mt_base.proofs.Members.{Contains-cases, Contains-flat_map, Contains-flat_map_cases, Contains-none}
 use Rattle.mt_probe.proofs.Spans.{one_conflict}
 
 -- with one find more
@@ -82,19 +82,19 @@ hit_on found hit is =
 
 -- a tentative trajectory is one
 tentative_kind : (setup : Setup) (call : List ℕ) (path : Path) (other : NamedTrajectory) → Contains (tentative_of setup call path) other → other.kind ≡ Tentative
-tentative_kind setup call (Outer stretch) other held = absurd (none_in other held)
+tentative_kind setup call (Outer stretch) other held = absurd (Contains-none other held)
 tentative_kind setup call (Planned course) other held = by_mark course.mark held where
   by_mark : (mark : Option Mark) → Contains (tentative_of setup call (Planned (record course { mark = mark }))) other → other.kind ≡ Tentative
-  by_mark None held = absurd (none_in other held)
-  by_mark (Some mark) held = ⊎_elim (λ same. sym (ap (λ (o : NamedTrajectory). o.kind) same)) (λ none. absurd (none_in other none))
-      (front_or_rest (record { call = call; kind = Tentative; path = trajectory_marked setup course mark }) [] other held)
+  by_mark None held = absurd (Contains-none other held)
+  by_mark (Some mark) held = ⊎_elim (λ same. sym (ap (λ (o : NamedTrajectory). o.kind) same)) (λ none. absurd (Contains-none other none))
+      (Contains-cases (record { call = call; kind = Tentative; path = trajectory_marked setup course mark }) [] other held)
 
 -- the trajectory that is flown, among those of a flight
 pub flown_of : (setup : Setup) (flight : Record) (other : NamedTrajectory) → Contains (trajectories_of setup flight) other → other.kind ≡ Actual
     → other ≡ record { call = flight.call; kind = Actual; path = trajectory_of setup flight.path }
 flown_of setup flight other held actual = ⊎_elim sym
     (λ rest. absurd (let both = sym actual ∙ tentative_kind setup flight.call flight.path other rest in cc))
-    (front_or_rest (record { call = flight.call; kind = Actual; path = trajectory_of setup flight.path }) (tentative_of setup flight.call flight.path) other held)
+    (Contains-cases (record { call = flight.call; kind = Actual; path = trajectory_of setup flight.path }) (tentative_of setup flight.call flight.path) other held)
 
 -- what is found holds the hits
 pub hits_found : (setup : Setup) (s : State) (call : List ℕ) (t : Trajectory) (finds : List Found) (hits : List Hit) → s.now ≤ 10000000
@@ -111,7 +111,7 @@ hits_found setup s call t finds hits early finds_are members sorted = record {
   to hit one =
       let by = hit_back one.found hit one.is in
       let it = finds_are.exact one.found one.held in
-      let at = in_one (trajectories_of setup) s.records it.other it.of.there in
+      let at = Contains-flat_map_cases (trajectories_of setup) s.records it.other it.of.there in
       let flown = flown_of setup at.of it.other at.within (sym it.is.kind_is ∙ by.kind_is) in
       let named = ap (λ (o : NamedTrajectory). o.call) flown in
       let window : IsConflict setup.rules t it.other.path s.now (window_end s.now) (Some (hit.first, hit.last)) =
@@ -127,15 +127,9 @@ hits_found setup s call t finds hits early finds_are members sorted = record {
   from : (hit : Hit) → IsHit setup s call t hit → IsHitOfOne finds hit
   from hit is =
       let other : NamedTrajectory = record { call = is.flight.call; kind = Actual; path = trajectory_of setup is.flight.path } in
-      let there = in_joined (trajectories_of setup) s.records is.flight other is.flies (0, omega arith, refl) in
+      let there = Contains-flat_map (trajectories_of setup) s.records is.flight other is.flies (0, omega arith, refl) in
       let ends = is.span.inside in
       let before : hit.first < all_end = omega (arith, ends.1, ends.2) in
       let it = finds_are.complete other (record { there = there; apart = is.other }) hit.first before is.span.first_is in
       let window = one_conflict setup.rules t other.path s.now (window_end s.now) it.found.window (Some (hit.first, hit.last)) it.is.window is.span in
       record { found = it.found; held = it.held; is = hit_on it.found hit (record { kind_is = it.is.kind_is; with_is = is.with_is ∙ sym it.is.call_is; window_is = window }) }
-
-pub hits_with : {E : Type 0} (setup : Setup) (s : State) (call : List ℕ) (t : Trajectory) (finds : List Found) (r : Result (List Hit) E) → s.now ≤ 10000000
-    → AreFinds setup s call t finds → IfOk r (λ hits. (hit : Hit) → Contains hits hit ↔ IsHitOfOne finds hit) → IfOk r (IsStrictlySortedBy hit_cmp)
-    → IfOk r (AreHitsOf setup s call t)
-hits_with setup s call t finds (Ok hits) early are members sorted = hits_found setup s call t finds hits early are members sorted
-hits_with setup s call t finds (Err e) early are members sorted = tt

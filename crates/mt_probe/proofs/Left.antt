@@ -1,6 +1,5 @@
 -- What the entry of a command leaves of the flight that it names.
-use Rattle.std.proofs.Common.{◌≡◌, ◌≤◌, Bool, true, false, not, ℕ, ℤ, pos, ◌≤ℤ◌, List, [], ◌∷◌, ◌++◌, Option, Some, None, Ok, IsOk, map, refl, sym, ◌∙◌, ap, subst, if◌then◌else◌, arith}
-use Rattle.std.proofs.lemmas.Int.{ints}
+use Rattle.std.proofs.Common.{◌≡◌, ◌≤◌, Bool, true, false, ℕ, pos, List, [], ◌∷◌, ◌++◌, Option, Some, None, Ok, IsOk, map, refl, sym, ◌∙◌, ap, subst, if◌then◌else◌, arith}
 use Rattle.std.proofs.lemmas.List.Folds.{find-append}
 use Rattle.std.proofs.lemmas.Slice.Eq.{bytes_eq-Decides}
 use Rattle.std.specs.List.{AllByRecursion}
@@ -8,7 +7,7 @@ use Rattle.std.specs.Prelude.{int_lt, is_some, option_and_then, option_map}
 use Rattle.std.specs.Str.{bytes_eq}
 use Rattle.mt_base.specs.declared.clearance.Clearance.{Clearance}
 use Rattle.mt_base.specs.declared.command.Command.{Command}
-use Rattle.mt_base.specs.declared.command.Command.TheVariants.{Accept, Clear, Commit, Drop, External, Plan, Renew, Tentative, Tick, Withdraw}
+use Rattle.mt_base.specs.declared.command.Command.TheVariants.{Accept, Drop, External, Plan, Tentative, Tick, Withdraw}
 use Rattle.mt_base.specs.declared.command.Command.TheVariants as commands
 use Rattle.mt_base.specs.declared.command.Refusal.TheVariants.{HistoryFull}
 use Rattle.mt_base.specs.declared.flight.Course.{Course}
@@ -31,6 +30,7 @@ use Rattle.mt_change.proofs.Alterations.{PassesOn, can_alter, planned, records_a
 use Rattle.mt_change.proofs.Filling.{filled_alters, filled_call, filled_passes, filled_twice}
 use Rattle.mt_change.proofs.Passed.{halves}
 use Rattle.mt_change.proofs.Plans.{sound_course}
+use Rattle.mt_base.proofs.Cases.{is_none, room_for_one}
 use Rattle.mt_probe.specs.Items.{WasTestedNear}
 use Rattle.mt_probe.specs.Prepared.{IsLeft, MakesStrand, WasTestedFor, WereFew, judged_aside, kind_made, left_made, named, path_made, roomy}
 use Rattle.mt_probe.specs.Shot.{Shot, state_of}
@@ -67,21 +67,14 @@ passes setup s who command passed =
 last_passes : {F : Type 0} (cs : List (F × Bool)) (e : F) (b : Bool) → b ≡ true → judged (cs ++ (e, b) ∷ []) (tt {0}) ≡ judged cs (tt {0})
 last_passes cs e b passes = judged-append cs ((e, b) ∷ []) (tt {0}) ∙ rw (passes, check-true e) (next-ok (judged cs (tt {0})))
 
-room : (h : ℤ) → pos 1 ≤ℤ h → int_lt (pos 0) h ≡ true
-room h some = grind (arith, ints)
-
 -- an acceptance is refused as a what-if, room aside
 pub accept_is : (setup : Setup) (s : State) (who : ℕ) (call : List ℕ) (clearance : Clearance) (eff probed : ℕ) → AreWithinBounds setup.rules
     → judged_aside setup s who (Accept call clearance eff probed) ≡ judged (what_if_checks setup s.now (flight_of s.records call) call clearance eff) (tt {0})
 accept_is setup s who call clearance eff probed rules =
     last_passes (what_if_checks setup s.now (flight_of s.records call) call clearance eff) HistoryFull (int_lt (pos 0) setup.rules.history)
-    (room setup.rules.history rules.history.least)
+    (room_for_one setup.rules.history rules.history.least)
 
 -- ---- what is filed
-
-pub is_none : {X : Type 0} (at : Option X) → not (is_some at) ≡ true → at ≡ None
-is_none None none = refl
-is_none (Some x) none = cc
 
 -- a flight that is filed behind others, of which none has its callsign, is the one of its callsign
 pub filed_is : (call : List ℕ) (path : Path) (rs : List Record) → flight_of rs call ≡ None
@@ -124,17 +117,8 @@ planned_there setup s who command alters passed = planned setup (roomy s command
 
 made_by : (setup : Setup) (who : ℕ) (now : ℕ) (command : Command) (card : Record) (course : Course) → Alters command
     → card.path ≡ path_after setup who (filled now command) (Planned course) → is_some (path_made setup card (kind_made command)) ≡ true
-made_by setup who now (Plan call kind route at from level) card course alters path = refl
-made_by setup who now (External call straight) card course alters path = refl
-made_by setup who now (Drop call) card course alters path = refl
-made_by setup who now (commands.Report call report) card course alters path = refl
-made_by setup who now (Tick next) card course alters path = refl
-made_by setup who now (Renew call) card course alters path = refl
-made_by setup who now (Clear call clearance eff) card course alters path = refl
-made_by setup who now (Accept call clearance eff probed) card course alters path = refl
 made_by setup who now (Tentative call clearance eff) card course alters path = rw path refl
-made_by setup who now (Withdraw call force) card course alters path = refl
-made_by setup who now (Commit call) card course alters path = refl
+made_by setup who now c card course alters path = refl
 
 pub left_altered : (setup : Setup) (s : State) (who : ℕ) (command : Command) (call : List ℕ) (flight : Record) (course : Course) (path : Path) → Alters command
     → judged_aside setup s who command ≡ Ok (tt {0}) → call_of command ≡ Some call → flight_of s.records call ≡ Some flight → flight.path ≡ Planned course
@@ -182,12 +166,8 @@ alters_by (External call straight) makes no_plan no_external = absurd (no_extern
 alters_by (Drop call) makes no_plan no_external = absurd makes
 alters_by (commands.Report call report) makes no_plan no_external = absurd makes
 alters_by (Tick next) makes no_plan no_external = absurd makes
-alters_by (Renew call) makes no_plan no_external = tt
-alters_by (Clear call clearance eff) makes no_plan no_external = tt
-alters_by (Accept call clearance eff probed) makes no_plan no_external = tt
-alters_by (Tentative call clearance eff) makes no_plan no_external = tt
 alters_by (Withdraw call force) makes no_plan no_external = absurd makes
-alters_by (Commit call) makes no_plan no_external = tt
+alters_by c makes no_plan no_external = tt
 
 pub planned_flight : (setup : Setup) (s : State) (who : ℕ) (command : Command) (call : List ℕ) → Alters command → judged_aside setup s who command ≡ Ok (tt {0})
     → call_of command ≡ Some call → is_some (course_in (flight_of s.records call)) ≡ true

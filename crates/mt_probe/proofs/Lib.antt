@@ -5,7 +5,6 @@ pub mod Gathered
 pub mod HitsFound
 pub mod Left
 pub mod Looking
-pub mod Members
 pub mod Nearby
 pub mod Order
 pub mod Placed

@@ -3,8 +3,6 @@ use Rattle.std.proofs.Common.{◌≡◌, ℕ, Option, Some, None, option_copied,
 use Rattle.std.specs.Arc.{arc_value}
 use Rattle.std.specs.Prelude.{IfSome, option_and_then}
 use Rattle.mt_base.specs.declared.command.Command.{Command}
-use Rattle.mt_base.specs.declared.command.Command.TheVariants.{Accept, Clear, Commit, Drop, External, Plan, Renew, Tentative, Tick, Withdraw}
-use Rattle.mt_base.specs.declared.command.Command.TheVariants as commands
 use Rattle.mt_base.specs.declared.conflict.Kind.TheVariants.{Actual}
 use Rattle.mt_base.specs.declared.flight.Course.{Course}
 use Rattle.mt_base.specs.declared.flight.Path.{Path}
@@ -17,14 +15,15 @@ use Rattle.mt_base.specs.Trajectory.{Trajectory}
 use Rattle.mt_base.specs.WhatIf.{course_in, course_on}
 use Rattle.mt_change.proofs.Plans.{few_names}
 use Rattle.mt_predict.specs.declared.judging.Looked.{Looked}
-use Rattle.mt_predict.specs.Looking.{HasStrand, HasStrandOf, HasStrandOfPlanned}
+use Rattle.mt_predict.specs.Looking.{HasStrand, HasStrandOf}
+use Rattle.mt_predict.proofs.Looks.{any_command}
 use Rattle.mt_probe.specs.declared.flight.Flight.{Flight}
 use Rattle.mt_probe.specs.Items.{path_of}
 use Rattle.mt_probe.specs.Shot.{Shot, flight_at, kept_of}
 use Rattle.mt_probe.specs.Standing.{IsSoundShot}
 
 -- the trajectory that is kept of a flight is the one that it flies
-flown_is : (setup : Setup) (f : Flight) → kept_of f ≡ trajectories_of setup f.card → arc_value f.actual.strand ≡ trajectory_of setup f.card.path
+pub flown_is : (setup : Setup) (f : Flight) → kept_of f ≡ trajectories_of setup f.card → arc_value f.actual.strand ≡ trajectory_of setup f.card.path
 flown_is setup f kept =
     let one : NamedTrajectory = record { call = f.card.call; kind = Actual; path = arc_value f.actual.strand } in
     let other : NamedTrajectory = record { call = f.card.call; kind = Actual; path = trajectory_of setup f.card.path } in
@@ -52,27 +51,13 @@ planned_at shot slot card course strand sound card_is strand_is plan = by_flight
         strand_is = flown ∙ flown_is shot.setup f entry.kept ∙ ap (trajectory_of shot.setup) path;
       }
 
--- so a decision has what it needs
-has_strand : (setup : Setup) (looked : Looked) (command : Command) → HasStrandOfPlanned setup looked → HasStrand setup looked command
-has_strand setup looked (Plan call kind route at from level) has = tt
-has_strand setup looked (External call straight) has = tt
-has_strand setup looked (Drop call) has = tt
-has_strand setup looked (commands.Report call report) has = tt
-has_strand setup looked (Tick next) has = tt
-has_strand setup looked (Renew call) has = tt
-has_strand setup looked (Clear call clearance eff) has = has
-has_strand setup looked (Accept call clearance eff probed) has = has
-has_strand setup looked (Tentative call clearance eff) has = has
-has_strand setup looked (Withdraw call force) has = tt
-has_strand setup looked (Commit call) has = tt
-
 pub nothing_looked : (setup : Setup) (looked : Looked) (command : Command) → option_copied looked.flight ≡ None → HasStrand setup looked command
-nothing_looked setup looked command none = has_strand setup looked command (subst (λ (at : Option Record). IfSome (course_in at) (HasStrandOf setup looked)) (sym none) tt)
+nothing_looked setup looked command none = any_command setup looked command (subst (λ (at : Option Record). IfSome (course_in at) (HasStrandOf setup looked)) (sym none) tt)
 
 pub flight_looked : (shot : Shot) (slot : ℕ) (looked : Looked) (command : Command) → IsSoundShot shot
     → option_copied looked.flight ≡ option_map (λ f. f.card) (flight_at shot slot)
     → option_copied looked.strand ≡ option_and_then (path_of Actual) (flight_at shot slot) → HasStrand shot.setup looked command
-flight_looked shot slot looked command sound card_is strand_is = has_strand shot.setup looked command (by_flight (flight_at shot slot) refl card_is strand_is) where
+flight_looked shot slot looked command sound card_is strand_is = any_command shot.setup looked command (by_flight (flight_at shot slot) refl card_is strand_is) where
   by_path : (f : Flight) → flight_at shot slot ≡ Some f → option_copied looked.strand ≡ Some (arc_value f.actual.strand) → (path : Path) → f.card.path ≡ path
       → IfSome (course_on path) (HasStrandOf shot.setup looked)
   by_path f at strand_is (Outer stretch) path = tt

@@ -29,7 +29,7 @@ use Rattle.mt_probe.specs.Shot.{Shot, kept_of, made_named, state_of}
 use Rattle.mt_probe.specs.Standing.{IsSoundShot}
 use Rattle.mt_probe.proofs.Covered.{at_even, at_odd, even_half, even_kind, odd_half, odd_kind}
 use Rattle.mt_probe.proofs.Gathered.{at_kept, kept_at, kept_call}
-use Rattle.mt_probe.proofs.Members.{front_or_rest, in_front, in_joined, in_one, none_in}
+use Rattle.mt_base.proofs.Members.{Contains-cases, Contains-flat_map, Contains-flat_map_cases, Contains-head, Contains-none}
 
 -- what an item names of another flight is kept of that flight
 pub record IsOther (slots : List (Option Flight)) (call : List ℕ) (item : ℕ) (other : NamedTrajectory) : Type 0 where
@@ -41,8 +41,8 @@ pub record IsOther (slots : List (Option Flight)) (call : List ℕ) (item : ℕ)
 kept_by : (f : Flight) (kind : Kind) (other : NamedTrajectory) → Contains (made_named f.card.call kind (path_of kind f)) other → Contains (kept_of f) other
 kept_by f Actual other held =
     let actual : NamedTrajectory = record { call = f.card.call; kind = Actual; path = arc_value f.actual.strand } in
-    ⊎_elim (λ same. subst (λ (o : NamedTrajectory). Contains (kept_of f) o) same (in_front actual (made_named f.card.call Tentative (path_of Tentative f))))
-    (λ none. absurd (none_in other none)) (front_or_rest actual [] other held)
+    ⊎_elim (λ same. subst (λ (o : NamedTrajectory). Contains (kept_of f) o) same (Contains-head actual (made_named f.card.call Tentative (path_of Tentative f))))
+    (λ none. absurd (Contains-none other none)) (Contains-cases actual [] other held)
 kept_by f Tentative other held = (suc held.0, omega (arith, held.1), held.2)
 
 other_is : (slots : List (Option Flight)) (call : List ℕ) (item : ℕ) (other : NamedTrajectory) → Contains (other_at call slots item) other
@@ -50,7 +50,7 @@ other_is : (slots : List (Option Flight)) (call : List ℕ) (item : ℕ) (other 
 other_is slots call item other held = by_flight (get_or slots (item / 2) None) refl held where
   by_call : (f : Flight) → get_or slots (item / 2) None ≡ Some f → (b : Bool) → bytes_eq f.card.call call ≡ b
       → Contains (if b then [] else made_named f.card.call (kind_at item) (path_of (kind_at item) f)) other → IsOther slots call item other
-  by_call f at true e held = absurd (none_in other held)
+  by_call f at true e held = absurd (Contains-none other held)
   by_call f at false e held = record {
     flight = f;
     at = at;
@@ -59,7 +59,7 @@ other_is slots call item other held = by_flight (get_or slots (item / 2) None) r
   }
 
   by_flight : (at : Option Flight) → get_or slots (item / 2) None ≡ at → Contains (other_of call (kind_at item) at) other → IsOther slots call item other
-  by_flight None is held = absurd (none_in other held)
+  by_flight None is held = absurd (Contains-none other held)
   by_flight (Some f) is held = by_call f is (bytes_eq f.card.call call) refl held
 
 -- and each trajectory that is kept of a flight of another callsign is named by an item of its place
@@ -86,17 +86,17 @@ module _ (rules : Rules) (slots : List (Option Flight)) (call : List ℕ) (i : �
 
   path_named : (kind : Kind) (path : Option Trajectory) (other : NamedTrajectory) → Contains (made_named f.card.call kind path) other
       → stays_of rules path ≡ cover_of rules other.path
-  path_named kind None other held = absurd (none_in other held)
+  path_named kind None other held = absurd (Contains-none other held)
   path_named kind (Some t) other held = ⊎_elim
-      (λ same. ap (λ (o : NamedTrajectory). cover_of rules o.path) same) (λ none. absurd (none_in other none))
-      (front_or_rest (record { call = f.card.call; kind = kind; path = t }) [] other held)
+      (λ same. ap (λ (o : NamedTrajectory). cover_of rules o.path) same) (λ none. absurd (Contains-none other none))
+      (Contains-cases (record { call = f.card.call; kind = kind; path = t }) [] other held)
 
   pub named_by : (other : NamedTrajectory) → Contains (kept_of f) other → IsNamed rules slots call other
   named_by other kept = ⊎_elim
       (λ same.
       let held : Contains (made_named f.card.call Actual (path_of Actual f)) other =
       subst (Contains (made_named f.card.call Actual (path_of Actual f))) same
-      (in_front (record { call = f.card.call; kind = Actual; path = arc_value f.actual.strand }) []) in
+      (Contains-head (record { call = f.card.call; kind = Actual; path = arc_value f.actual.strand }) []) in
       record {
         item = 2 * i;
         among = subst (λ (os : List NamedTrajectory). Contains os other) (sym even_other) held;
@@ -107,7 +107,7 @@ module _ (rules : Rules) (slots : List (Option Flight)) (call : List ℕ) (i : �
         among = subst (λ (os : List NamedTrajectory). Contains os other) (sym odd_other) held;
         stays = at_odd rules slots i ∙ ap (stays_by rules Tentative) at ∙ path_named Tentative (path_of Tentative f) other held;
       })
-      (front_or_rest (record { call = f.card.call; kind = Actual; path = arc_value f.actual.strand })
+      (Contains-cases (record { call = f.card.call; kind = Actual; path = arc_value f.actual.strand })
       (made_named f.card.call Tentative (path_of Tentative f)) other kept)
 
 -- a trajectory that has a loss second with another is near it
@@ -134,8 +134,8 @@ pub found_near : (shot : Shot) (call : List ℕ) (t : Trajectory) (items : List 
     → FindsMore shot.setup.rules shot.now t (others_among call shot.slots items) [] finds → AreFinds shot.setup (state_of shot) call t finds
 found_near shot call t items finds sound laid near found = record {
   exact = λ one held. ⊎_elim
-      (λ before. absurd (none_in one before))
-      (λ by. let named = in_one (other_at call shot.slots) items by.other by.among in
+      (λ before. absurd (Contains-none one before))
+      (λ by. let named = Contains-flat_map_cases (other_at call shot.slots) items by.other by.among in
       let it = other_is shot.slots call named.of by.other named.within in
       record {
         other = by.other;
@@ -150,7 +150,7 @@ found_near shot call t items finds sound laid near found = record {
       let it = kept_at shot other sound of.there in
       let named = named_by shot.setup.rules shot.slots call it.place it.flight it.at (λ same. of.apart (it.call_is ∙ same)) other it.kept in
       let item = near_by_loss shot t other.path named.item k sound.rules laid (sound.laid it.place it.flight other it.at it.kept) loss named.stays in
-      found.listed other (in_joined (other_at call shot.slots) items named.item other ((near.same named.item).1 item) named.among);
+      found.listed other (Contains-flat_map (other_at call shot.slots) items named.item other ((near.same named.item).1 item) named.among);
 }
 
 -- the items near a cover are one list

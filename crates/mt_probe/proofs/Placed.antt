@@ -191,7 +191,7 @@ pub moved_sound : (shot : Shot) (version now : ℕ) → IsSoundShot shot → now
 moved_sound shot version now sound early = record { rules = sound.rules; places = sound.places; sound = sound.sound; laid = sound.laid; apart = sound.apart; early = early }
 
 -- with empty places alone
-nothing_at : (n i : ℕ) (f : Flight) → get_or (replicate n None) i None ≡ Some f → ⊥
+pub nothing_at : (n i : ℕ) (f : Flight) → get_or (replicate n None) i None ≡ Some f → ⊥
 nothing_at zero i f is = cc
 nothing_at (suc n) zero f is = cc
 nothing_at (suc n) (suc i) f is = nothing_at n i f is

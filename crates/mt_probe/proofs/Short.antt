@@ -19,7 +19,7 @@ use Rattle.mt_base.specs.Tables.{Setup}
 use Rattle.mt_base.specs.Trajectory.{Trajectory}
 use Rattle.mt_base.specs.WhatIf.{AreHitsOf, IsHit, hit_cmp}
 use Rattle.mt_base.proofs.HitOrder.{total}
-use Rattle.mt_probe.proofs.Members.{front_or_rest, in_front, none_in}
+use Rattle.mt_base.proofs.Members.{Contains-cases, Contains-head, Contains-none}
 use Rattle.mt_probe.proofs.Spans.{one_conflict}
 
 laws : IsEquivalence bytes_eq
@@ -38,7 +38,7 @@ pub found_in : (call : List ℕ) (rs : List Record) (r : Record) → flight_of r
 found_in call [] r is = absurd (cc)
 found_in call (q ∷ rs) r is = by_test (bytes_eq q.call call) (found_in call rs r) is where
   by_test : (b : Bool) → (flight_of rs call ≡ Some r → Contains rs r) → (if b then Some q else flight_of rs call) ≡ Some r → Contains (q ∷ rs) r
-  by_test true rest is = let same : q ≡ r = cc in subst (Contains (q ∷ rs)) same (in_front q rs)
+  by_test true rest is = let same : q ≡ r = cc in subst (Contains (q ∷ rs)) same (Contains-head q rs)
   by_test false rest is = Contains-append_right (q ∷ []) rs r (rest is)
 
 -- of a callsign there is one
@@ -72,7 +72,7 @@ module _ (setup : Setup) (s : State) (call : List ℕ) (t : Trajectory) (own : H
       (All-map (λ a. h.with ≢ a) (λ (g : Hit). g.with) hits (λ k d below same.
       let later = All-after_first hit_cmp h hits sorted k d below in
       let there : Contains hits (get_or hits k d) = (k, below, get_or_default hits k (get_or hits k d) d below) in
-      let one = one_with h (get_or hits k d) (are h (in_front h hits)) (are (get_or hits k d) (Contains-append_right (h ∷ []) hits (get_or hits k d) there)) same in
+      let one = one_with h (get_or hits k d) (are h (Contains-head h hits)) (are (get_or hits k d) (Contains-append_right (h ∷ []) hits (get_or hits k d) there)) same in
       let tied = tied_itself total h in
       let less : hit_cmp h h ≡ Less = subst (λ (g : Hit). hit_cmp h g ≡ Less) (sym one) later in
       cc))
@@ -93,20 +93,20 @@ module _ (setup : Setup) (s : State) (call : List ℕ) (t : Trajectory) (own : H
       (is_member-Decides bytes_eq-Decides calls q).1 (among q ((is_member-Decides bytes_eq-Decides (call ∷ withs) q).0 member))) in
       omega (arith, fewer, length-map hits (λ (h : Hit). h.with), length-map s.records (λ (r : Record). r.call)) where
         call_of : (r : Record) (rs : List Record) → Contains rs r → Contains (map (λ (q : Record). q.call) rs) r.call
-        call_of r [] held = absurd (none_in r held)
+        call_of r [] held = absurd (Contains-none r held)
         call_of r (q ∷ rs) held = ⊎_elim
-            (λ same. subst (Contains (map (λ (p : Record). p.call) (q ∷ rs))) (ap (λ (p : Record). p.call) same) (in_front q.call (map (λ (p : Record). p.call) rs)))
-            (λ rest. Contains-append_right (q.call ∷ []) (map (λ (p : Record). p.call) rs) r.call (call_of r rs rest)) (front_or_rest q rs r held)
+            (λ same. subst (Contains (map (λ (p : Record). p.call) (q ∷ rs))) (ap (λ (p : Record). p.call) same) (Contains-head q.call (map (λ (p : Record). p.call) rs)))
+            (λ rest. Contains-append_right (q.call ∷ []) (map (λ (p : Record). p.call) rs) r.call (call_of r rs rest)) (Contains-cases q rs r held)
 
         with_of : (q : List ℕ) (hs : List Hit) → ((h : Hit) → Contains hs h → IsHit setup s call t h) → Contains (map (λ (h : Hit). h.with) hs) q
             → Contains (map (λ (r : Record). r.call) s.records) q
-        with_of q [] are held = absurd (none_in q held)
+        with_of q [] are held = absurd (Contains-none q held)
         with_of q (h ∷ hs) are held = ⊎_elim
-            (λ same. let is = are h (in_front h hs) in
+            (λ same. let is = are h (Contains-head h hs) in
             subst (Contains (map (λ (r : Record). r.call) s.records)) (sym is.with_is ∙ same) (call_of is.flight s.records is.flies))
-            (λ rest. with_of q hs (λ g there. are g (Contains-append_right (h ∷ []) hs g there)) rest) (front_or_rest h.with (map (λ (g : Hit). g.with) hs) q held)
+            (λ rest. with_of q hs (λ g there. are g (Contains-append_right (h ∷ []) hs g there)) rest) (Contains-cases h.with (map (λ (g : Hit). g.with) hs) q held)
 
         among : (q : List ℕ) → Contains (call ∷ map (λ (h : Hit). h.with) hits) q → Contains (map (λ (r : Record). r.call) s.records) q
         among q held = ⊎_elim
             (λ same. subst (Contains (map (λ (r : Record). r.call) s.records)) (own_call ∙ same) (call_of flight s.records there))
-            (λ rest. with_of q hits (λ h in_hits. (are.exact h).0 in_hits) rest) (front_or_rest call (map (λ (h : Hit). h.with) hits) q held)
+            (λ rest. with_of q hits (λ h in_hits. (are.exact h).0 in_hits) rest) (Contains-cases call (map (λ (h : Hit). h.with) hits) q held)

@@ -57,9 +57,6 @@ pub follows : (p : Prepared) (call : List ℕ) (clearance : Clearance) (eff prob
     → p.command ≡ Accept call clearance eff probed → AreHitsOf p.setup p.state p.card.call p.strand hits
     → IsWhatIf p.setup p.state call clearance (Some eff) (Ok hits)
 follows p call clearance eff probed hits kept command_is are = (passed, tried) where
-  accepted : Command
-  accepted = Accept call clearance eff probed
-
   passed : judged (what_if_checks p.setup p.state.now (flight_of p.state.records call) call clearance eff) (tt {0}) ≡ Ok (tt {0})
   passed = sym (accept_is p.setup p.state p.who call clearance eff probed kept.rules)
       ∙ subst (λ (c : Command). judged_aside p.setup p.state p.who c ≡ Ok (tt {0})) command_is kept.passed

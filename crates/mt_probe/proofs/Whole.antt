@@ -11,6 +11,7 @@ use Rattle.mt_base.specs.declared.flight.Record.{Record}
 use Rattle.mt_base.specs.Bounds.{IsSoundFlight}
 use Rattle.mt_base.specs.Picture.{HaveOwnCalls, flight_of}
 use Rattle.mt_change.specs.Sound.{IsSoundState}
+use Rattle.mt_change.proofs.Changed.{others_apart}
 use Rattle.mt_probe.specs.declared.flight.Flight.{Flight}
 use Rattle.mt_probe.specs.Putting.{replaced_if}
 use Rattle.mt_probe.specs.Shot.{Shot, filed_among, flights_in, in_order, records_in, state_of}
@@ -64,7 +65,7 @@ own_calls shot sound = apart_pairs (map card_of (in_order (flights_in shot.slots
     (ordered_apart shot.slots (λ i j f g other f_is g_is. (sound.apart i j f g other f_is g_is).calls))
 
 -- there are no more flights than places
-length_filed : (f : Flight) (gs : List Flight) → length (filed_among f gs) ≡ suc (length gs)
+pub length_filed : (f : Flight) (gs : List Flight) → length (filed_among f gs) ≡ suc (length gs)
 length_filed f [] = refl
 length_filed f (g ∷ gs) = by_test (nat_lt f.filed g.filed) (length_filed f gs) where
   by_test : (b : Bool) → length (filed_among f gs) ≡ suc (length gs) → length (if b then f ∷ g ∷ gs else g ∷ filed_among f gs) ≡ suc (suc (length gs))
@@ -104,9 +105,6 @@ sound_state shot sound counted = record {
 first_apart : (r : Record) (rs : List Record) → HaveOwnCalls (r ∷ rs) → (q : ℕ) (d : Record) → q < length rs → r.call ≢ (get_or rs q d).call
 first_apart r rs own q d below = own 0 (suc q) d (omega arith) (omega arith)
 
-rest_apart : (r : Record) (rs : List Record) → HaveOwnCalls (r ∷ rs) → HaveOwnCalls rs
-rest_apart r rs own = λ i j d before below. own (suc i) (suc j) d (omega arith) (omega arith)
-
 untouched : (u : Record → Record) (call : List ℕ) (card : Record) (rs : List Record) → ((r : Record) → r.call ≢ call → u r ≡ r)
     → ((q : ℕ) (d : Record) → q < length rs → call ≢ (get_or rs q d).call) → map (replaced_if call card) rs ≡ map u rs
 untouched u call card [] same apart = refl
@@ -122,7 +120,7 @@ pub replaced_alike : (u : Record → Record) (call : List ℕ) (old : Record) (r
     → ((r : Record) → r.call ≢ call → u r ≡ r) → map (replaced_if call (u old)) rs ≡ map u rs
 replaced_alike u call old [] own is same = refl
 replaced_alike u call old (r ∷ rs) own is same =
-    by_test (bytes_eq r.call call) refl is (replaced_alike u call old rs (rest_apart r rs own)) where
+    by_test (bytes_eq r.call call) refl is (replaced_alike u call old rs (others_apart r rs own)) where
       by_test : (b : Bool) → bytes_eq r.call call ≡ b → (if b then Some r else flight_of rs call) ≡ Some old
           → (flight_of rs call ≡ Some old → ((q : Record) → q.call ≢ call → u q ≡ q) → map (replaced_if call (u old)) rs ≡ map u rs)
           → (if b then u old else r) ∷ map (replaced_if call (u old)) rs ≡ u r ∷ map u rs

@@ -1,5 +1,5 @@
 -- Signs of products, and factors that go out of an order.
-use Rattle.std.proofs.Common.{◌≡◌, ◌⊎◌, inl, inr, ⊎_elim, ℤ, pos, negsuc, ◌-ℤ◌, ◌+ℤ◌, ◌*ℤ◌, neg_ℤ, ◌≤ℤ◌, ◌<ℤ◌, unsigned_abs, arith, zero, suc}
+use Rattle.std.proofs.Common.{◌⊎◌, inl, inr, ⊎_elim, ℤ, pos, negsuc, ◌-ℤ◌, ◌+ℤ◌, ◌*ℤ◌, neg_ℤ, ◌≤ℤ◌, ◌<ℤ◌, arith, zero, suc}
 use Rattle.std.proofs.lemmas.Int.{ints}
 use Rattle.mt_ring.proofs.Ring.{lin, spread}
 
@@ -33,11 +33,6 @@ cases_lt a b = ⊎_elim (λ h. inl (omega (arith, lin))) (λ h. inr (omega (arit
 
 pub contrary : (a : ℤ) → pos 0 ≤ℤ a → a <ℤ pos 0 → ⊥
 contrary a h k = omega (arith, lin)
-
--- a number that isn't negative is its size
-pub as_natural : (z : ℤ) → pos 0 ≤ℤ z → z ≡ pos (unsigned_abs z)
-as_natural (pos n) h = omega (arith, ints)
-as_natural (negsuc n) h = omega (arith, ints)
 
 -- sums and negations
 pub sum_nonneg : (a b : ℤ) → pos 0 ≤ℤ a → pos 0 ≤ℤ b → pos 0 ≤ℤ (a +ℤ b)

@@ -31,9 +31,6 @@ abs_add {m} {n} {a} {b} f g = omega (arith, ints)
 pub abs_sub : {m n : ℕ} {a b : ℤ} → Abs m a → Abs n b → Abs (m + n) (a -ℤ b)
 abs_sub {m} {n} {a} {b} f g = omega (arith, ints)
 
-pub abs_neg : {m : ℕ} {a : ℤ} → Abs m a → Abs m (neg_ℤ a)
-abs_neg {m} {a} f = omega (arith, ints)
-
 pub abs_mul : {m n : ℕ} {a b : ℤ} → Abs m a → Abs n b → Abs (m * n) (a *ℤ b)
 abs_mul {m} {n} {a} {b} f g =
     let p = mul-le-mul (abs_to m a f) (abs_to n b g) in

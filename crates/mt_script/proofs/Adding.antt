@@ -1,29 +1,18 @@
 -- What is answered where a fix or a type is to be added.
-use Rattle.std.proofs.Common.{◌≡◌, ◌⊎◌, inl, inr, ℕ, Bool, true, false, Result, Ok, Err, refl}
+use Rattle.std.proofs.Common.{◌≡◌, ◌⊎◌, inl, inr, ℕ, Bool, true, false, Result, Ok, refl}
 use Rattle.std.specs.Prelude.{MatchBool, ⊤}
 use Rattle.mt_base.specs.Tables.{Tables}
 use Rattle.mt_tables.specs.declared.add_no.AddNo.{AddNo}
-use Rattle.mt_tables.specs.declared.add_no.AddNo.TheVariants as add
-use Rattle.mt_tables.specs.Adding.{Answers}
 use Rattle.mt_read.specs.declared.request.Request.{Request}
 use Rattle.mt_write.specs.declared.reply.DoneWord.{DoneWord}
 use Rattle.mt_write.specs.declared.reply.Reply.{Reply}
 use Rattle.mt_write.specs.declared.reply.Reply.TheVariants.{Done, Memory}
-use Rattle.mt_world.specs.World.{World, IsAdded, IsLeft, IsRefused, IsStarved, not_added}
+use Rattle.mt_world.specs.World.{World, IsAdded, IsLeft, IsRefused, IsStarved}
 
 -- one was added
 pub is_added : (w next : World) (checked : Result ⊤ AddNo) (word : DoneWord) (taken : Reply) (tables : Tables)
     → checked ≡ Ok (tt {0}) → next ≡ record w { tables = tables } → IsAdded w checked word taken tables (Done word) next
 is_added w next checked word taken tables is next_is = rw is (record { reply_is = refl; next_is = next_is })
-
--- it was not
-pub is_not_added : (w : World) (checked : Result ⊤ AddNo) (word : DoneWord) (taken : Reply) (tables : Tables) (refusal : AddNo)
-    → Answers checked (Err refusal)
-    → IsAdded w checked word taken tables (not_added taken refusal) w ⊎ IsRefused w Memory (not_added taken refusal) w
-is_not_added w checked word taken tables add.Taken is = inl (rw is (record { reply_is = refl; same = refl }))
-is_not_added w checked word taken tables add.Bands is = inl (rw is (record { reply_is = refl; same = refl }))
-is_not_added w checked word taken tables add.Full is = inl (rw is (record { reply_is = refl; same = refl }))
-is_not_added w checked word taken tables add.Memory is = inr (record { reply_is = refl; same = refl })
 
 pub on_false : (b : Bool) (P Q : Type 0) → b ≡ false → Q → MatchBool b P Q
 on_false true P Q e q = cc

@@ -14,15 +14,12 @@ use Rattle.mt_read.specs.declared.request.Request.TheVariants as requests
 use Rattle.mt_write.specs.declared.reply.Reply.{Reply}
 use Rattle.mt_world.specs.World.{IsAcceptedOf, IsAdvisedAs, IsLeft, IsOutcome, IsServed, IsStarved, IsTold, IsTried, World, actor_of, is_empty, picture_of}
 use Rattle.mt_base.specs.Tables.{Tables}
+use Rattle.mt_base.proofs.Cases.{on_either}
 use Rattle.mt_script.specs.Kept.{IsBegunWith, IsKept}
 
 when_true : (b : Bool) (P Q : Type 0) → b ≡ true → MatchBool b P Q → P
 when_true true P Q e m = m
 when_true false P Q e m = cc
-
-on_either : (b : Bool) (P Q R : Type 0) → (P → R) → (Q → R) → MatchBool b P Q → R
-on_either true P Q R p q m = p m
-on_either false P Q R p q m = q m
 
 -- a world with these rules and these tables, begun as before
 kept_as : (w next after : World) → next ≡ after → after.rules ≡ w.rules → after.tables ≡ w.tables → after.begun ≡ w.begun → IsKept w next

@@ -7,7 +7,7 @@ use Rattle.mt_desk.specs.Desk.{Desk, IsReady}
 use Rattle.mt_turn.specs.Places.{Place}
 use Rattle.mt_base.specs.declared.command.Entry.{Entry}
 use Rattle.mt_io.specs.Door.{Count, Loses, Gains, gave_one}
-use Rattle.mt_serve.specs.Sitting.{Start, HasBegun, IsSeated, seats_of}
+use Rattle.mt_serve.specs.Sitting.{Start, HasBegun, seats_of}
 use Rattle.mt_serve.specs.Accepting.{Accepting}
 
 pub loses_none : {A : Type 0} (a : Option (List A)) → Loses a a []
@@ -57,13 +57,6 @@ all_moved P x xs ys all is = all_rest P x xs (subst (All P) is all)
 
 pub all_front : {A : Type 0} (P : A → Type 0) (x : A) (xs ys : List A) → All P ys → ys ≡ x ∷ xs → P x
 all_front P x xs ys all is = all_first P x xs (subst (All P) is all)
-
-pub accepting_none : {L : Type 0} (desk : Desk) (c : Count) (still : Option (List L)) (seats : List (Place Entry Setup)) → All (IsReady desk) seats → IsSeated c seats → Accepting desk c c still still seats seats []
-accepting_none desk c still seats ready seated = record {
-  begun = record { port = refl; sessions = refl; given = omega arith; back = refl; links = loses_none _; seats_are = refl };
-  ready = ready;
-  seated = seated;
-}
 
 pub accepting_more : {L : Type 0} (desk : Desk) (c d e : Count) (still left now : Option (List L)) (seats rest after : List (Place Entry Setup)) (starts : List (Start L)) (link : L) (seat : Place Entry Setup)
     → Accepting desk c d still left seats rest starts → (d.given < d.sessions) × (e ≡ gave_one d) × Loses left now (link ∷ []) → rest ≡ seat ∷ after

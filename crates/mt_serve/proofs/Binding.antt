@@ -1,7 +1,7 @@
 -- One history ties all sessions.
 use Rattle.std.proofs.Common.{◌≡◌, ◌+◌, ◌==◌, ◌⊎◌, inl, inr, ℕ, zero, suc, List, [], ◌∷◌, ◌++◌, map, length, get_or, drop, All, Contains, refl, sym, ap, ◌∙◌, subst, append_assoc, eq-eqb, arith}
 use Rattle.std.specs.List.{range_with_len}
-use Rattle.std.proofs.lemmas.List.Elements.{Contains-append_left, Contains-append_right, Contains-append_cases, All-append}
+use Rattle.std.proofs.lemmas.List.Elements.{All-append, All-contains, Contains-append_cases, Contains-append_left, Contains-append_right}
 use Rattle.mt_base.specs.Tables.{Setup}
 use Rattle.mt_desk.specs.Desk.{Desk, IsReady}
 use Rattle.mt_io.specs.declared.source.Source as Source
@@ -18,7 +18,8 @@ use Rattle.mt_serve.specs.Serving.{HasServed}
 use Rattle.mt_serve.specs.Seating.{IsFresh, AllSplit, HasSplit, HasJoined, numbers_of, views_of, joined_of}
 use Rattle.mt_serve.specs.Tied.{AreOver, ends_of, number_of, IsSessions, IsInHistory, IsTied}
 use Rattle.mt_serve.proofs.Seats.{length_map}
-use Rattle.mt_serve.proofs.Members.{none_in, all_at, all_in, contains_map, contains_unmap, contains_filter}
+use Rattle.mt_base.proofs.Members.{All-from_held, Contains-map, Contains-none}
+use Rattle.mt_serve.proofs.Members.{contains_filter, contains_unmap}
 
 map_both : {A B : Type 0} (f : A → B) (xs ys : List A) → map f (xs ++ ys) ≡ map f xs ++ map f ys
 map_both f [] ys = refl
@@ -51,18 +52,18 @@ module _ {L : Type 0} (source : Source.Ghosts L) (sink : Sink.Ghosts L) where
 
   in_mets : (mets : List (Met L)) (rest : List (Place Entry Setup)) (works : List Worked) (hands : List (Place Entry Setup)) (m : Met L) → Contains mets m → Contains (all_views mets rest works hands) m.seat.view
   in_mets mets rest works hands m c =
-      Contains-append_left _ _ _ (Contains-append_left _ _ _ (contains_map (λ (s : Place Entry Setup). s.view) (ends_of mets) m.seat (contains_map (λ (x : Met L). x.seat) mets m c)))
+      Contains-append_left _ _ _ (Contains-append_left _ _ _ (Contains-map (λ (s : Place Entry Setup). s.view) (ends_of mets) m.seat (Contains-map (λ (x : Met L). x.seat) mets m c)))
 
   in_rest : (mets : List (Met L)) (rest : List (Place Entry Setup)) (works : List Worked) (hands : List (Place Entry Setup)) (s : Place Entry Setup) → Contains rest s → Contains (all_views mets rest works hands) s.view
-  in_rest mets rest works hands s c = Contains-append_left _ _ _ (Contains-append_right (views_of (ends_of mets)) _ _ (contains_map (λ (s : Place Entry Setup). s.view) rest s c))
+  in_rest mets rest works hands s c = Contains-append_left _ _ _ (Contains-append_right (views_of (ends_of mets)) _ _ (Contains-map (λ (s : Place Entry Setup). s.view) rest s c))
 
   in_works : (mets : List (Met L)) (rest : List (Place Entry Setup)) (works : List Worked) (hands : List (Place Entry Setup)) (w : Worked) → Contains works w → Contains (all_views mets rest works hands) w.seat.view
   in_works mets rest works hands w c =
-      Contains-append_right (views_of (ends_of mets) ++ views_of rest) _ _ (Contains-append_left _ _ _ (contains_map (λ (s : Place Entry Setup). s.view) (rests_of works) w.seat (contains_map (λ (x : Worked). x.seat) works w c)))
+      Contains-append_right (views_of (ends_of mets) ++ views_of rest) _ _ (Contains-append_left _ _ _ (Contains-map (λ (s : Place Entry Setup). s.view) (rests_of works) w.seat (Contains-map (λ (x : Worked). x.seat) works w c)))
 
   in_hands : (mets : List (Met L)) (rest : List (Place Entry Setup)) (works : List Worked) (hands : List (Place Entry Setup)) (s : Place Entry Setup) → Contains hands s → Contains (all_views mets rest works hands) s.view
   in_hands mets rest works hands s c =
-      Contains-append_right (views_of (ends_of mets) ++ views_of rest) _ _ (Contains-append_right (views_of (rests_of works)) _ _ (contains_map (λ (s : Place Entry Setup). s.view) hands s c))
+      Contains-append_right (views_of (ends_of mets) ++ views_of rest) _ _ (Contains-append_right (views_of (rests_of works)) _ _ (Contains-map (λ (s : Place Entry Setup). s.view) hands s c))
 
   -- What stands when all seats are joined: the first seat knows w
   pub record AreJoined (desk : Desk) (v w : View Entry Setup) (mets : List (Met L)) (rest : List (Place Entry Setup)) (works : List Worked) (hands : List (Place Entry Setup)) : Type 0 where
@@ -87,14 +88,14 @@ module _ {L : Type 0} (source : Source.Ghosts L) (sink : Sink.Ghosts L) where
     joined_is = so.joined.joined ∙ ap (λ js. js ++ joined_of (all_views mets rest works hands)) so.split.joined
 
     join_of : (x : View Entry Setup) → Contains (all_views mets rest works hands) x → Contains w.joined (joined_as x)
-    join_of x c = subst (λ js. Contains js (joined_as x)) (sym joined_is) (contains_map joined_as (all_views mets rest works hands) x c)
+    join_of x c = subst (λ js. Contains js (joined_as x)) (sym joined_is) (Contains-map joined_as (all_views mets rest works hands) x c)
 
     seat_joined : (s : Place Entry Setup) → Contains (seats_of (starts_of mets) ++ rest) s → IsJoined w.joined s.view.number
     seat_joined s c = elim (Contains-append_cases (seats_of (starts_of mets)) rest s c) [
       | inl in_starts ↦
           let a = contains_unmap (λ (z : Start L). z.seat) (starts_of mets) s in_starts in
           let b = contains_unmap (λ (z : Met L). z.from) mets a.0 a.1 in
-          let served = all_at (λ (m : Met L). HasServed source sink m.from.link m.from.seat m.link m.seat m.outcome) mets b.0 so.over b.1 in
+          let served = All-contains (λ (m : Met L). HasServed source sink m.from.link m.from.seat m.link m.seat m.outcome) mets b.0 so.over b.1 in
           (joined_as b.0.seat.view, join_of b.0.seat.view (in_mets mets rest works hands b.0 b.1), served.same.0 ∙ ap (λ (z : Start L). z.seat.view.number) b.2 ∙ ap (λ (z : Place Entry Setup). z.view.number) a.2)
       | inr in_rests ↦ (joined_as s.view, join_of s.view (in_rest mets rest works hands s in_rests), refl)
     ]
@@ -103,7 +104,7 @@ module _ {L : Type 0} (source : Source.Ghosts L) (sink : Sink.Ghosts L) where
     hand_joined s c = elim (Contains-append_cases (froms_of works) hands s c) [
       | inl in_froms ↦
           let a = contains_unmap (λ (z : Worked). z.from) works s in_froms in
-          let worked = all_at IsRested works a.0 so.worked a.1 in
+          let worked = All-contains IsRested works a.0 so.worked a.1 in
           (joined_as a.0.seat.view, join_of a.0.seat.view (in_works mets rest works hands a.0 a.1), worked.same.0 ∙ ap (λ (z : Place Entry Setup). z.view.number) a.2)
       | inr in_rests ↦ (joined_as s.view, join_of s.view (in_hands mets rest works hands s in_rests), refl)
     ]
@@ -115,7 +116,7 @@ module _ {L : Type 0} (source : Source.Ghosts L) (sink : Sink.Ghosts L) where
     ]
 
     fresh_of : (s : Place Entry Setup) → Contains ((seats_of (starts_of mets) ++ rest) ++ (froms_of works ++ hands)) s → IsFresh desk (first_view desk.fixed) s
-    fresh_of s c = all_at (IsFresh desk (first_view desk.fixed)) _ s so.split.fresh c
+    fresh_of s c = All-contains (IsFresh desk (first_view desk.fixed)) _ s so.split.fresh c
 
     module _ (h : List Entry) (closes : Closes number_of w h) where
       mine_of : (x : View Entry Setup) → Contains (all_views mets rest works hands) x → entries_of number_of x.number h ≡ x.mine
@@ -126,11 +127,11 @@ module _ {L : Type 0} (source : Source.Ghosts L) (sink : Sink.Ghosts L) where
 
       fresh_start : (m : Met L) → Contains mets m → IsFresh desk (first_view desk.fixed) m.from.seat
       fresh_start m c =
-          fresh_of m.from.seat (Contains-append_left _ _ _ (Contains-append_left _ _ _ (contains_map (λ (z : Start L). z.seat) (starts_of mets) m.from (contains_map (λ (z : Met L). z.from) mets m c))))
+          fresh_of m.from.seat (Contains-append_left _ _ _ (Contains-append_left _ _ _ (Contains-map (λ (z : Start L). z.seat) (starts_of mets) m.from (Contains-map (λ (z : Met L). z.from) mets m c))))
 
       session_in : (m : Met L) → Contains mets m → IsInHistory source sink desk.fixed h m
       session_in m c =
-          let served = all_at (λ (m : Met L). HasServed source sink m.from.link m.from.seat m.link m.seat m.outcome) mets m so.over c in
+          let served = All-contains (λ (m : Met L). HasServed source sink m.from.link m.from.seat m.link m.seat m.outcome) mets m so.over c in
           let fresh = fresh_start m c in
           let at = in_mets mets rest works hands m c in
           record {
@@ -143,7 +144,7 @@ module _ {L : Type 0} (source : Source.Ghosts L) (sink : Sink.Ghosts L) where
           }
 
       idle_has_none : (e : Entry) (s : Place Entry Setup) → Contains h e → Contains (all_views mets rest works hands) s.view → s.view.number ≡ e.who → IsFresh desk (first_view desk.fixed) s → ⊥
-      idle_has_none e s ce cs is fresh = none_in e (subst (λ es. Contains es e) fresh.mine (in_mine e s.view ce cs is))
+      idle_has_none e s ce cs is fresh = Contains-none e (subst (λ es. Contains es e) fresh.mine (in_mine e s.view ce cs is))
 
       other : (e : Entry) → Contains h e → (x : View Entry Setup) → Contains (all_views mets rest works hands) x → x.number ≡ e.who → IsSessions mets e.who ⊎ IsRenewal e
       other e ce x cx is = elim (Contains-append_cases (views_of (ends_of mets) ++ views_of rest) (views_of (rests_of works) ++ views_of hands) x cx) [
@@ -160,12 +161,12 @@ module _ {L : Type 0} (source : Source.Ghosts L) (sink : Sink.Ghosts L) where
           | inl of_works ↦
               let a = contains_unmap (λ (z : Place Entry Setup). z.view) (rests_of works) x of_works in
               let b = contains_unmap (λ (z : Worked). z.seat) works a.0 a.1 in
-              let worked = all_at IsRested works b.0 so.worked b.1 in
+              let worked = All-contains IsRested works b.0 so.worked b.1 in
               let number : b.0.seat.view.number ≡ e.who = ap (λ (z : Place Entry Setup). z.view.number) b.2 ∙ ap (λ (z : View Entry Setup). z.number) a.2 ∙ is in
-              let fresh = fresh_of b.0.from (Contains-append_right (seats_of (starts_of mets) ++ rest) _ _ (Contains-append_left _ _ _ (contains_map (λ (z : Worked). z.from) works b.0 b.1))) in
+              let fresh = fresh_of b.0.from (Contains-append_right (seats_of (starts_of mets) ++ rest) _ _ (Contains-append_left _ _ _ (Contains-map (λ (z : Worked). z.from) works b.0 b.1))) in
               let mine : b.0.seat.view.mine ≡ worked.added = worked.mine ∙ ap (λ es. es ++ worked.added) fresh.mine in
               let at = in_mine e b.0.seat.view ce (in_works mets rest works hands b.0 b.1) number in
-              inr (all_at IsRenewal worked.added e worked.renewals (subst (λ es. Contains es e) mine at))
+              inr (All-contains IsRenewal worked.added e worked.renewals (subst (λ es. Contains es e) mine at))
           | inr of_hands ↦
               let a = contains_unmap (λ (z : Place Entry Setup). z.view) hands x of_hands in
               absurd (idle_has_none e a.0 ce (in_hands mets rest works hands a.0 a.1) (ap (λ (z : View Entry Setup). z.number) a.2 ∙ is) (fresh_of a.0 (Contains-append_right (seats_of (starts_of mets) ++ rest) _ _ (Contains-append_right (froms_of works) _ _ a.1))))
@@ -174,7 +175,7 @@ module _ {L : Type 0} (source : Source.Ghosts L) (sink : Sink.Ghosts L) where
 
       others : (e : Entry) → Contains h e → IsSessions mets e.who ⊎ IsRenewal e
       others e c = elim (closes.no_others e c) [
-        | inl first ↦ absurd (none_in e (subst (λ es. Contains es e) (closes.mine ∙ so.joined.mine ∙ so.split.mine) (in_entries h e 0 c (sym first))))
+        | inl first ↦ absurd (Contains-none e (subst (λ es. Contains es e) (closes.mine ∙ so.joined.mine ∙ so.split.mine) (in_entries h e 0 c (sym first))))
         | inr joined ↦
             let a = contains_unmap joined_as (all_views mets rest works hands) joined.0 (subst (λ js. Contains js joined.0) joined_is joined.1) in
             other e c a.0 a.1 (ap (λ (z : Joined Entry). z.number) a.2 ∙ joined.2)
@@ -186,7 +187,7 @@ module _ {L : Type 0} (source : Source.Ghosts L) (sink : Sink.Ghosts L) where
             let both = sym (map_both (λ (z : Place Entry Setup). z.view.number) (seats_of (starts_of mets)) rest) ∙ so.split.numbers in
             let many : length (numbers_of (seats_of (starts_of mets))) ≡ length mets = omega (arith, length_map (λ (z : Place Entry Setup). z.view.number) (seats_of (starts_of mets)), length_map (λ (z : Start L). z.seat) (starts_of mets), length_map (λ (z : Met L). z.from) mets) in
             range_front (numbers_of (seats_of (starts_of mets))) (numbers_of rest) 1 _ both ∙ ap (λ n. range_with_len 1 n) many;
-        each = all_in (IsInHistory source sink desk.fixed h) mets session_in;
+        each = All-from_held (IsInHistory source sink desk.fixed h) mets session_in;
         others = others;
       }
 
@@ -205,16 +206,16 @@ all_split desk v w seats hands a b = record {
 
 module _ {L : Type 0} (desk : Desk) (v : View Entry Setup) (mets : List (Met L)) (rest : List (Place Entry Setup)) (works : List Worked) (hands : List (Place Entry Setup)) (split : AllSplit desk v (seats_of (starts_of mets) ++ rest) (froms_of works ++ hands)) where
   fresh_at : (s : Place Entry Setup) → Contains ((seats_of (starts_of mets) ++ rest) ++ (froms_of works ++ hands)) s → IsFresh desk (first_view desk.fixed) s
-  fresh_at s c = all_at (IsFresh desk (first_view desk.fixed)) _ s split.fresh c
+  fresh_at s c = All-contains (IsFresh desk (first_view desk.fixed)) _ s split.fresh c
 
   pub ready_mets : All (λ (m : Met L). IsReady desk m.from.seat) mets
-  ready_mets = all_in (λ (m : Met L). IsReady desk m.from.seat) mets (λ m c. (fresh_at m.from.seat (Contains-append_left _ _ _ (Contains-append_left _ _ _ (contains_map (λ (z : Start L). z.seat) (starts_of mets) m.from (contains_map (λ (z : Met L). z.from) mets m c))))).ready)
+  ready_mets = All-from_held (λ (m : Met L). IsReady desk m.from.seat) mets (λ m c. (fresh_at m.from.seat (Contains-append_left _ _ _ (Contains-append_left _ _ _ (Contains-map (λ (z : Start L). z.seat) (starts_of mets) m.from (Contains-map (λ (z : Met L). z.from) mets m c))))).ready)
 
   pub ready_rest : All (IsReady desk) rest
-  ready_rest = all_in (IsReady desk) rest (λ s c. let f = fresh_at s (Contains-append_left _ _ _ (Contains-append_right (seats_of (starts_of mets)) _ _ c)) in f.ready)
+  ready_rest = All-from_held (IsReady desk) rest (λ s c. let f = fresh_at s (Contains-append_left _ _ _ (Contains-append_right (seats_of (starts_of mets)) _ _ c)) in f.ready)
 
   pub ready_works : All (λ (w : Worked). IsReady desk w.from) works
-  ready_works = all_in (λ (w : Worked). IsReady desk w.from) works (λ w c. (fresh_at w.from (Contains-append_right (seats_of (starts_of mets) ++ rest) _ _ (Contains-append_left _ _ _ (contains_map (λ (z : Worked). z.from) works w c)))).ready)
+  ready_works = All-from_held (λ (w : Worked). IsReady desk w.from) works (λ w c. (fresh_at w.from (Contains-append_right (seats_of (starts_of mets) ++ rest) _ _ (Contains-append_left _ _ _ (Contains-map (λ (z : Worked). z.from) works w c)))).ready)
 
   pub ready_hands : All (IsReady desk) hands
-  ready_hands = all_in (IsReady desk) hands (λ s c. let f = fresh_at s (Contains-append_right (seats_of (starts_of mets) ++ rest) _ _ (Contains-append_right (froms_of works) _ _ c)) in f.ready)
+  ready_hands = All-from_held (IsReady desk) hands (λ s c. let f = fresh_at s (Contains-append_right (seats_of (starts_of mets) ++ rest) _ _ (Contains-append_right (froms_of works) _ _ c)) in f.ready)

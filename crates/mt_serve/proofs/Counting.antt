@@ -1,5 +1,6 @@
 -- Sessions counted, one by one.
 use Rattle.std.proofs.Common.{◌≡◌, ◌≤◌, ◌+◌, Bool, true, false, cond, List, [], ◌∷◌, ◌++◌, length, filter, sym, subst, ap, ◌∙◌, arith}
+use Rattle.mt_base.proofs.FewAdvised.{few_filtered}
 use Rattle.mt_serve.specs.Sitting.{Met}
 use Rattle.mt_serve.specs.declared.counts.Counts.{Counts}
 use Rattle.mt_serve.specs.Summary.{counted, is_faulted, is_starved, one_if, with_outcome}
@@ -8,10 +9,6 @@ use Rattle.mt_serve.proofs.Accepts.{length_push}
 length_cond : {A : Type 0} (b : Bool) (y : A) (xs : List A) → length (cond b (y ∷ xs) xs) ≡ length xs + one_if b
 length_cond true y xs = omega arith
 length_cond false y xs = omega arith
-
-one_if_few : (b : Bool) → one_if b ≤ 1
-one_if_few true = omega arith
-one_if_few false = omega arith
 
 -- how many pass a test, with one more
 filter_push : {A : Type 0} (test : A → Bool) (xs : List A) (x : A) → length (filter test (xs ++ x ∷ [])) ≡ length (filter test xs) + one_if (test x)
@@ -25,11 +22,6 @@ counted_more {L} past x =
     ∙ ap (λ n. record { sessions = length past + 1; faulted = n; starved = (counted (past ++ x ∷ [])).starved }) (filter_push (λ (m : Met L). is_faulted m.outcome) past x)
     ∙ ap (λ n. record { sessions = length past + 1; faulted = (with_outcome x.outcome (counted past)).faulted; starved = n }) (filter_push (λ (m : Met L). is_starved m.outcome) past x)
 
--- no more pass a test than there are
-filter_few : {A : Type 0} (test : A → Bool) (xs : List A) → length (filter test xs) ≤ length xs
-filter_few test [] = omega arith
-filter_few test (y ∷ xs) = omega (arith, length_cond (test y) y (filter test xs), one_if_few (test y), filter_few test xs)
-
 pub counted_parts : {L : Type 0} (past : List (Met L)) (counts : Counts) → counts ≡ counted past → (counts.faulted ≤ counts.sessions) × (counts.starved ≤ counts.sessions)
 counted_parts {L} past counts is = subst (λ (c : Counts). (c.faulted ≤ c.sessions) × (c.starved ≤ c.sessions)) (sym is)
-    (filter_few (λ (m : Met L). is_faulted m.outcome) past, filter_few (λ (m : Met L). is_starved m.outcome) past)
+    (few_filtered (λ (m : Met L). is_faulted m.outcome) past, few_filtered (λ (m : Met L). is_starved m.outcome) past)

@@ -105,10 +105,3 @@ module _ {L : Type 0} (source : Source.Ghosts L) (sink : Sink.Ghosts L) where
     idle = served.idle;
     fixed_is = served.same.3 ∙ ready.fixed_is;
   }
-
-pub rested_ready : (desk : Desk) (before after : Place Entry Setup) → HasWorked before after → IsReady desk before → IsReady desk after
-rested_ready desk before after worked ready = record {
-  home_is = worked.home ∙ ready.home_is;
-  idle = worked.idle;
-  fixed_is = worked.same.3 ∙ ready.fixed_is;
-}

@@ -27,18 +27,6 @@ pub length_both : {A : Type 0} (xs ys : List A) → length (xs ++ ys) ≡ length
 length_both [] ys = omega arith
 length_both (x ∷ xs) ys = omega (arith, length_both xs ys)
 
-pub split_none : (desk : Desk) (v : View Entry Setup) → v.phase ≡ Idle → HasSplit desk v v []
-split_none desk v idle = record {
-  number = refl;
-  seen = refl;
-  mine = refl;
-  joined = refl;
-  idle = idle;
-  gave = sym (append-nil _);
-  numbers = refl;
-  fresh = λ k d below. absurd (omega arith);
-}
-
 pub split_more : (desk : Desk) (v w w' : View Entry Setup) (seats : List (Place Entry Setup)) (s : Place Entry Setup) → HasSplit desk v w seats
     → w' ≡ giver w → s.view ≡ newcomer w → IsReady desk s → HasSplit desk v w' (seats ++ s ∷ [])
 split_more desk v w w' seats s so gives comes own =

@@ -1,8 +1,8 @@
 -- What is given in place of a reply is a reply.
-use Rattle.std.proofs.Common.{◌≡◌, ◌<◌, ◌≤◌, inl, inr, ⊎_elim, ℕ, Bool, true, false, List, length, Option, Some, None, Result, Ok, Err, refl, sym, ◌∙◌, ap, true≢false, arith}
+use Rattle.std.proofs.Common.{◌≡◌, ◌<◌, ◌≤◌, inl, inr, ⊎_elim, ℕ, false, List, length, Option, Some, None, Result, Ok, Err, refl, sym, ◌∙◌, ap, true≢false, arith}
 use Rattle.std.proofs.lemmas.Bool.{lt-ltb}
 use Rattle.std.proofs.lemmas.Bool.Decides.{nat_tests}
-use Rattle.std.specs.Prelude.{MatchBool, nat_lt}
+use Rattle.std.specs.Prelude.{nat_lt}
 use Rattle.mt_base.specs.declared.clearance.Clearance.{Clearance}
 use Rattle.mt_base.specs.declared.command.Command.{Command}
 use Rattle.mt_base.specs.declared.command.Entered.{Entered}
@@ -17,6 +17,7 @@ use Rattle.mt_board.specs.Probing.{Probe}
 use Rattle.mt_board.specs.Seat.{HasLooked, Seat}
 use Rattle.mt_board.proofs.SeatLemmas.{looked_itself}
 use Rattle.mt_lines.specs.Given.{IsGivenFor, is_brief}
+use Rattle.mt_lines.proofs.Brief.{not_given}
 use Rattle.mt_base.specs.Rules.{usual_rules}
 use Rattle.mt_machine.specs.Book.{probe_at}
 use Rattle.mt_read.specs.Line.{Gives, line as read_as}
@@ -26,6 +27,7 @@ use Rattle.mt_read.specs.declared.request.Request.{Request}
 use Rattle.mt_read.specs.declared.request.Request.TheVariants as requests
 use Rattle.mt_write.specs.declared.reply.Reply.{Reply}
 use Rattle.mt_write.specs.declared.reply.Reply.TheVariants as replies
+use Rattle.mt_base.proofs.Cases.{on_either}
 use Rattle.mt_session.specs.Following.{IsDone, Standing, job_if, job_of}
 use Rattle.mt_session.specs.Served.{IsAcceptedOf, IsAnswered, IsCommanded, IsGiven, IsLeft, IsRepliedTo, IsServed, IsStarvedOf, IsTold, IsTried, ask_of, entered_reply, is_empty}
 use Rattle.mt_session.specs.Session.{Session, asked, or_reply, place_of, with_seat}
@@ -33,10 +35,6 @@ use Rattle.mt_session.specs.Session.{Session, asked, or_reply, place_of, with_se
 -- nothing but what was seen has changed
 abbrev pub IsIdle : Session → Session → Type 0
 IsIdle s next = (seat : Seat) × HasLooked s.seat seat × (next ≡ with_seat s seat)
-
--- a brief reply is none of those that are not brief
-not_given : (given reply : Reply) (P : Type 0) → reply ≡ given → is_brief given ≡ true → is_brief reply ≡ false → P
-not_given given reply P is brief not_brief = absurd (true≢false (sym brief ∙ ap is_brief (sym is) ∙ not_brief))
 
 given_idle : (s : Session) (given reply : Reply) (next : Session) → IsGiven given s reply next → IsIdle s next
 given_idle s given reply next g = (s.seat, looked_itself s.seat, g.next_is)
@@ -65,14 +63,10 @@ tried_idle : (s : Session) (call : List ℕ) (clearance : Clearance) (eff : Opti
 tried_idle s call clearance eff seat (Ok probe) reply next b tried = not_given _ reply _ tried.1.reply_is refl b
 tried_idle s call clearance eff seat (Err denied) reply next b tried = (seat, denied_looked s.seat seat _ denied tried.0, tried.1.next_is)
 
-by_bool : (b : Bool) (P Q R : Type 0) → (P → R) → (Q → R) → MatchBool b P Q → R
-by_bool true P Q R p q m = p m
-by_bool false P Q R p q m = q m
-
 accepted_idle : (s : Session) (found : Option Probe) (reply : Reply) (next : Session) → is_brief reply ≡ false → IsAcceptedOf s found reply next → IsIdle s next
 accepted_idle s None reply next b r = (r.seat, r.seen.looked, r.given.next_is)
 accepted_idle s (Some probe) reply next b a =
-    by_bool (is_empty probe.hits) _ _ _ (command_idle s _ reply next b) (λ r. (r.seat, r.seen.looked, r.given.next_is)) a
+    on_either (is_empty probe.hits) _ _ _ (command_idle s _ reply next b) (λ r. (r.seat, r.seen.looked, r.given.next_is)) a
 
 served_idle : (s : Session) (request : Request) (reply : Reply) (next : Session) → is_brief reply ≡ false → IsServed s request reply next → IsIdle s next
 served_idle s (requests.Hello role) reply next b g = not_given _ reply _ g.reply_is refl b

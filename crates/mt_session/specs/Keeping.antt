@@ -1,20 +1,15 @@
 -- What the parts of a session are as one.
-use Rattle.std.specs.Prelude.{◌≡◌, List, [], ◌∷◌, map, All}
+use Rattle.std.specs.Prelude.{◌≡◌, List, All}
 use Rattle.mt_base.specs.Picture.{State}
 use Rattle.mt_base.specs.Tables.{Setup}
 use Rattle.mt_board.specs.Probing.{IsPast, Probe}
 use Rattle.mt_board.specs.Seat.{GoesOn, IsSameSeat, Seat}
-use Rattle.mt_machine.specs.Book.{Book, with_probe}
 use Rattle.mt_session.specs.Session.{Session}
 
 -- a session, and what tells the turn that its seat is of
 pub record Held (H : Type 0) : Type 0 where
   pub session : Session
   pub home : H
-
--- a book of values that tell probes, as a book of probes
-abbrev pub told_book : {P : Type 0} → (P → Probe) → Book P → Book Probe
-told_book told book = record { count = book.count; last = map told book.last }
 
 -- each probe that is kept was tried on the state of the first entries that the seat has seen, as many as its version says
 abbrev pub ArePast : {P : Type 0} → (P → Probe) → (P → Setup) → (P → State) → Seat → List P → Type 0
@@ -25,8 +20,3 @@ pub record StaysOn {H : Type 0} (old new : Held H) : Type 0 where
   pub same : IsSameSeat old.session.seat new.session.seat
   pub begins : GoesOn old.session.seat.seen new.session.seat.seen
   pub home : new.home ≡ old.home
-
--- a book with some values more, in order
-abbrev pub with_all : {P : Type 0} → Book P → List P → Book P
-with_all book [] = book
-with_all book (p ∷ ps) = with_all (with_probe book p) ps

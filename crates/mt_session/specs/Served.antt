@@ -17,7 +17,7 @@ use Rattle.mt_board.specs.Changing.{IsChanged}
 use Rattle.mt_board.specs.Probing.{IsAdvised, IsNotAdvised, IsNotProbed, IsProbed, Probe, acceptance}
 use Rattle.mt_board.specs.Seat.{HasLooked, HasSeen, Seat}
 use Rattle.mt_board.specs.Settling.{IsNotSettled, IsSettled}
-use Rattle.mt_machine.specs.Book.{Book, probe_at, with_probe}
+use Rattle.mt_machine.specs.Book.{probe_at, with_all, with_probe}
 use Rattle.mt_read.specs.declared.request.Request.{Request}
 use Rattle.mt_read.specs.declared.request.Request.TheVariants as requests
 use Rattle.mt_write.specs.declared.reply.AdviceItem.{AdviceItem}
@@ -82,11 +82,7 @@ pub record IsTriedBy (s : Session) (call : List ℕ) (clearance : Clearance) (ef
   pub result : Result Probe No
   pub tried : IsTried s call clearance eff seat result reply next
 
--- A book with some probes more, in order; and the clearances of probes, each with the number that its probe gets behind so many.
-abbrev pub with_probes : Book Probe → List Probe → Book Probe
-with_probes book [] = book
-with_probes book (p ∷ ps) = with_probes (with_probe book p) ps
-
+-- the clearances of probes, each with the number that its probe gets behind so many
 abbrev pub items_from : ℕ → List Probe → List AdviceItem
 items_from count [] = []
 items_from count (p ∷ ps) = record { clearance = p.clearance; probe = raised count } ∷ items_from (raised count) ps
@@ -99,7 +95,7 @@ pub record IsAdvisedTo (s : Session) (call : List ℕ) (reply : Reply) (next : S
   pub probes : List Probe
   pub advised : IsAdvised s.seat seat call eff version probes
   pub given : IsGiven (replies.Advice (items_from s.book.count probes) call eff version)
-      (record s { book = with_probes s.book probes; seat = seat }) reply next
+      (record s { book = with_all s.book probes; seat = seat }) reply next
 
 -- or its refusal
 pub record IsAdviceDenied (s : Session) (call : List ℕ) (reply : Reply) (next : Session) : Type 0 where

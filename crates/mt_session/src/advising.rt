@@ -1,40 +1,23 @@
 //! Advice.
-ghost use Rattle.std.specs.Prelude.{◌≡◌, ◌⊎◌, List, All, map, IfOk, IfErr};
+ghost use Rattle.std.specs.Prelude.{◌≡◌, ◌⊎◌, All, map, IfOk, IfErr};
 ghost use Rattle.std.specs.Thread.{IsSync};
 ghost use Rattle.mt_board.specs.Probing.{IsAdvised, IsNotAdvised};
 ghost use Rattle.mt_lines.specs.Fit.{IsFit};
 ghost use Rattle.mt_write.specs.Short.{IsShortAdvised};
-ghost use Rattle.mt_session.specs.Keeping.{ArePast, StaysOn, with_all};
-ghost use Rattle.mt_session.specs.Served.{IsAdviceDenied, IsAdvisedTo, IsLooked, items_from, with_probes};
+ghost use Rattle.mt_machine.specs.Book.{with_all};
+ghost use Rattle.mt_session.specs.Keeping.{ArePast, StaysOn};
+ghost use Rattle.mt_session.specs.Served.{IsAdviceDenied, IsAdvisedTo, IsLooked, items_from};
 ghost use Rattle.mt_session.specs.Session.{with_seat};
 
 use crate::serving::Serving;
 use crate::telling::refused;
-use mt_base::{Callsign, Clearance, Memory};
+use mt_base::{Callsign, Memory};
 use mt_board::{Advised, Board, No, Probed};
 use mt_io::Gate;
-use mt_machine::Book;
 use mt_wire::{AdviceItem, AdviceList, Reply};
 use std::alloc::Global;
 use std::sync::Wait;
 use std::thread::Threads;
-
-// A clearance, and the number of its probe.
-fn item_of(clearance: Clearance, probe: u64) -> AdviceItem
-    ensures is { result ≡ record { clearance = clearance; probe = probe } }
-    ensures short { IsShortAdvised result }
-{
-    match &clearance {
-        Clearance::Level(level) => {
-            let _feet = *level;
-            AdviceItem { clearance, probe }
-        }
-        Clearance::Direct(fix) => {
-            let _letters = fix.bytes();
-            AdviceItem { clearance, probe }
-        }
-    }
-}
 
 // The clearances of some probes, each with the number that its probe gets behind so many.
 fn items_from<P: Probed>(alloc: Global, count: u64, probes: &[P]) -> Result<AdviceList, Memory>
@@ -45,18 +28,9 @@ fn items_from<P: Probed>(alloc: Global, count: u64, probes: &[P]) -> Result<Advi
     let mut number = count;
     for probe in probes {
         number = number.saturating_add(1);
-        items.push(item_of(probe.clearance(), number))?;
+        items.push(AdviceItem::of(probe.clearance(), number))?;
     }
     Ok(items)
-}
-
-// Puts values in a book, in order.
-fn put_all<P: Drop>(book: &mut Book<P>, probes: Vec<P>)
-    ensures { book.new ≡ with_all book.old probes.items }
-{
-    for probe in probes {
-        book.put(probe);
-    }
 }
 
 impl<B: Board> Serving<B> {
@@ -80,10 +54,10 @@ impl<B: Board> Serving<B> {
     // Puts probes in the book, in order.
     fn keep_all(&mut self, probes: Vec<B::Probe>)
         requires { ArePast B.Probe.told B.Probe.fixed B.Probe.state self.old.session.seat probes.items }
-        ensures kept { self.new.session ≡ record self.old.session { book = with_probes self.old.session.book (map B.Probe.told probes.items) } }
+        ensures kept { self.new.session ≡ record self.old.session { book = with_all self.old.session.book (map B.Probe.told probes.items) } }
         ensures on { StaysOn self.old self.new }
     {
-        put_all(&mut self.book, probes);
+        self.book.put_all(probes);
     }
 
     // Tells the clearances of a flight that are free of conflicts, and puts a probe of each in the book.

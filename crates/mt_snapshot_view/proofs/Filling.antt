@@ -5,7 +5,7 @@ use Rattle.std.proofs.lemmas.List.Elements.{Contains-append_left, Contains-appen
 use Rattle.std.specs.Prelude.{option_map}
 use Rattle.mt_probe.specs.declared.flight.Flight.{Flight}
 use Rattle.mt_probe.specs.Shot.{Shot, flight_at}
-use Rattle.mt_probe.proofs.Members.{in_front}
+use Rattle.mt_base.proofs.Members.{Contains-head}
 use Rattle.mt_probe.proofs.Placed.{filled_inside}
 use Rattle.mt_snapshot_view.specs.declared.order.Filed.{Filed}
 use Rattle.mt_snapshot_view.specs.Order.{IsFilledPlace}
@@ -51,7 +51,7 @@ one_more shot xs place filing below is x =
           let filing_same : filing ≡ filled.0.flight.filed = cc in
           let at_same : filing ≡ x.at = filing_same ∙ sym filled.0.at_is in
           let one : new ≡ x = λ i. record { at = at_same i; place = sym same i } in
-          subst (λ (y : Filed). Contains (xs ++ new ∷ []) y) one (Contains-append_right xs (new ∷ []) new (in_front new []))),
+          subst (λ (y : Filed). Contains (xs ++ new ∷ []) y) one (Contains-append_right xs (new ∷ []) new (Contains-head new []))),
     )
 
 -- an empty one

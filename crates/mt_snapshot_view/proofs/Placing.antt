@@ -14,7 +14,7 @@ use Rattle.mt_probe.specs.Filing.{AreFiled, filed_cmp}
 use Rattle.mt_probe.specs.Shot.{Shot, flight_at, flights_in}
 use Rattle.mt_probe.specs.Standing.{IsSoundShot}
 use Rattle.mt_probe.proofs.Filing.{filing_order}
-use Rattle.mt_probe.proofs.Members.{front_or_rest, in_front, none_in}
+use Rattle.mt_base.proofs.Members.{Contains-cases, Contains-head, Contains-none}
 use Rattle.mt_snapshot_view.specs.declared.order.Filed.{Filed}
 use Rattle.mt_snapshot_view.specs.Order.{ArePlaced, IsFilledPlace, card_at}
 use Rattle.mt_snapshot_view.proofs.FiledOrder.{place_cmp}
@@ -26,7 +26,7 @@ AreFilled shot (x ∷ xs) = IsFilledPlace shot x × AreFilled shot xs
 
 pub are_filled : (shot : Shot) (xs : List Filed) → ((x : Filed) → Contains xs x → IsFilledPlace shot x) → AreFilled shot xs
 are_filled shot [] each = tt
-are_filled shot (x ∷ xs) each = (each x (in_front x xs), are_filled shot xs (λ y held. each y (Contains-append_right (x ∷ []) xs y held)))
+are_filled shot (x ∷ xs) each = (each x (Contains-head x xs), are_filled shot xs (λ y held. each y (Contains-append_right (x ∷ []) xs y held)))
 
 -- the flights there
 abbrev flights : (shot : Shot) (xs : List Filed) → AreFilled shot xs → List Flight
@@ -40,12 +40,12 @@ cards shot (x ∷ xs) filled = rw filled.0.there (ap (λ (cs : List (Option Reco
 -- a place is among the first of these, or another one
 has_flight : (shot : Shot) (xs : List Filed) (filled : AreFilled shot xs) (x : Filed) (f : Flight) → Contains xs x → flight_at shot x.place ≡ Some f
     → Contains (flights shot xs filled) f
-has_flight shot [] filled x f held is = absurd (none_in x held)
+has_flight shot [] filled x f held is = absurd (Contains-none x held)
 has_flight shot (y ∷ ys) filled x f held is = ⊎_elim
     (λ same. let is_same : filled.0.flight ≡ f = (cc) in
-    subst (λ (g : Flight). Contains (flights shot (y ∷ ys) filled) g) is_same (in_front filled.0.flight (flights shot ys filled.1)))
+    subst (λ (g : Flight). Contains (flights shot (y ∷ ys) filled) g) is_same (Contains-head filled.0.flight (flights shot ys filled.1)))
     (λ later. Contains-append_right (filled.0.flight ∷ []) (flights shot ys filled.1) f (has_flight shot ys filled.1 x f later is))
-    (front_or_rest y ys x held)
+    (Contains-cases y ys x held)
 
 -- each of the flights is that of a place
 record IsOfPlace (shot : Shot) (xs : List Filed) (f : Flight) : Type 0 where
@@ -54,18 +54,18 @@ record IsOfPlace (shot : Shot) (xs : List Filed) (f : Flight) : Type 0 where
   there : flight_at shot place.place ≡ Some f
 
 of_place : (shot : Shot) (xs : List Filed) (filled : AreFilled shot xs) (f : Flight) → Contains (flights shot xs filled) f → IsOfPlace shot xs f
-of_place shot [] filled f held = absurd (none_in f held)
+of_place shot [] filled f held = absurd (Contains-none f held)
 of_place shot (x ∷ xs) filled f held = ⊎_elim
-    (λ same. record { place = x; held = in_front x xs; there = subst (λ (g : Flight). flight_at shot x.place ≡ Some g) same filled.0.there })
+    (λ same. record { place = x; held = Contains-head x xs; there = subst (λ (g : Flight). flight_at shot x.place ≡ Some g) same filled.0.there })
     (λ later. let rest = of_place shot xs filled.1 f later in
     record { place = rest.place; held = Contains-append_right (x ∷ []) xs rest.place rest.held; there = rest.there })
-    (front_or_rest filled.0.flight (flights shot xs filled.1) f held)
+    (Contains-cases filled.0.flight (flights shot xs filled.1) f held)
 
 -- a flight at a place is one of the flights, and each of the flights is at a place
 in_flights : (slots : List (Option Flight)) (i : ℕ) (f : Flight) → get_or slots i None ≡ Some f → Contains (flights_in slots) f
 in_flights [] i f is = absurd (cc)
 in_flights (None ∷ slots) zero f is = absurd (cc)
-in_flights (Some g ∷ slots) zero f is = let same : g ≡ f = cc in subst (λ (h : Flight). Contains (g ∷ flights_in slots) h) same (in_front g (flights_in slots))
+in_flights (Some g ∷ slots) zero f is = let same : g ≡ f = cc in subst (λ (h : Flight). Contains (g ∷ flights_in slots) h) same (Contains-head g (flights_in slots))
 in_flights (None ∷ slots) (suc i) f is = in_flights slots i f is
 in_flights (Some g ∷ slots) (suc i) f is = Contains-append_right (g ∷ []) (flights_in slots) f (in_flights slots i f is)
 
@@ -74,12 +74,12 @@ record IsAt (slots : List (Option Flight)) (f : Flight) : Type 0 where
   is : get_or slots place None ≡ Some f
 
 at_place : (slots : List (Option Flight)) (f : Flight) → Contains (flights_in slots) f → IsAt slots f
-at_place [] f held = absurd (none_in f held)
+at_place [] f held = absurd (Contains-none f held)
 at_place (None ∷ slots) f held = let rest = at_place slots f held in record { place = suc rest.place; is = rest.is }
 at_place (Some g ∷ slots) f held = ⊎_elim
     (λ same. record { place = 0; is = ap Some same })
     (λ later. let rest = at_place slots f later in record { place = suc rest.place; is = rest.is })
-    (front_or_rest g (flights_in slots) f held)
+    (Contains-cases g (flights_in slots) f held)
 
 -- of two filled places, the one before has the flight that was filed before
 filed_before : (shot : Shot) (x y : Filed) → IsSoundShot shot → (p : IsFilledPlace shot x) (q : IsFilledPlace shot y) → place_cmp x y ≡ Less

@@ -10,7 +10,7 @@ use Rattle.mt_probe.specs.declared.flight.Flight.{Flight}
 use Rattle.mt_probe.specs.Shot.{Shot, flight_at, state_of}
 use Rattle.mt_probe.specs.Standing.{IsSoundShot}
 use Rattle.mt_probe.proofs.Placed.{placed}
-use Rattle.mt_snapshot_view.proofs.Trajectories.{flown_is}
+use Rattle.mt_probe.proofs.Looking.{flown_is}
 
 -- the flight of a callsign, with the trajectory that it flies
 pub view_is : (shot : Shot) (sec : Option ℕ) (place : ℕ) (card : Record) (t : Trajectory) (found : Option Record) → IsSoundShot shot

@@ -1,5 +1,5 @@
 -- The trajectories that are kept of the flight at a place. No public contract cites these.
-use Rattle.std.specs.Prelude.{◌≢◌, ℕ, List, [], Option, All, option_and_then}
+use Rattle.std.specs.Prelude.{ℕ, List, [], Option, option_and_then}
 use Rattle.std.specs.Option.{option_map_or}
 use Rattle.mt_base.specs.declared.conflict.Kind.{Kind}
 use Rattle.mt_base.specs.Picture.{NamedTrajectory}
@@ -14,7 +14,3 @@ path_at shot place kind = option_and_then (path_of kind) (flight_at shot place)
 -- all of them
 abbrev pub kept_at : Shot → ℕ → List NamedTrajectory
 kept_at shot place = option_map_or kept_of (flight_at shot place) []
-
--- trajectories of flights of other callsigns
-abbrev pub AreOfOthers : List ℕ → List NamedTrajectory → Type 0
-AreOfOthers call all = All (λ t. t.call ≢ call) all

@@ -1,9 +1,11 @@
 //! The published conflicts from nothing.
 ghost use Rattle.std.specs.Prelude.{◌≡◌, ◌++◌, IfOk, IfSome, OnOk, OnErr};
 ghost use Rattle.mt_base.specs.Picture.{IsPublished, trajectories};
-ghost use Rattle.mt_plain.specs.Tests.{RoseUpTo, pairs_of_different_flights, raised_by};
+ghost use Rattle.mt_base.specs.Tally.{RoseUpTo, raised_by};
+ghost use Rattle.mt_plain.specs.Tests.{pairs_of_different_flights};
 ghost use Rattle.mt_probe.specs.Shot.{flight_at, made_named, state_of};
-ghost use Rattle.mt_snapshot_view.specs.Kept.{AreOfOthers, kept_at, path_at};
+ghost use Rattle.mt_base.specs.Others.{AreOfOthers};
+ghost use Rattle.mt_snapshot_view.specs.Kept.{kept_at, path_at};
 ghost use Rattle.mt_track.specs.Named.{IsFree};
 
 use crate::order::in_order;

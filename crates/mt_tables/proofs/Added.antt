@@ -1,4 +1,4 @@
-use Rattle.std.proofs.Common.{◌≡◌, ◌≢◌, ℕ, true, not, is_some, Option, None, Some, Ok, Err, IsOk, List, [], ◌∷◌, ◌++◌, nat_eq, refl, sym, subst}
+use Rattle.std.proofs.Common.{◌≡◌, ◌≢◌, ℕ, Ok, Err, IsOk, List, [], ◌∷◌, ◌++◌, nat_eq, refl, sym, subst}
 use Rattle.std.proofs.lemmas.List.Elements.{All-push}
 use Rattle.std.specs.Cmp.Lexicographic.{pointwise}
 use Rattle.indexmap.proofs.CallerLemmas.{insert_entry-new}
@@ -9,13 +9,10 @@ use Rattle.mt_base.specs.Bounds.{AreBoundedBands, AreBoundedTables, IsInPlane}
 use Rattle.mt_base.specs.Checks.{judged}
 use Rattle.mt_base.specs.Tables.{Tables}
 use Rattle.mt_base.proofs.CheckLemmas.{all_passed, refused_has}
+use Rattle.mt_base.proofs.Cases.{is_none}
 use Rattle.mt_tables.specs.declared.add_no.AddNo.{AddNo}
 use Rattle.mt_tables.specs.declared.add_no.AddNo.TheVariants.{Taken, Bands, Full, Memory}
 use Rattle.mt_tables.specs.Adding.{Answers, fix_adding, type_adding, with_fix, with_type}
-
-none_found : {X : Type 0} (found : Option X) → not (is_some found) ≡ true → found ≡ None
-none_found None new = refl
-none_found (Some x) new = cc
 
 -- where the checks are passed, the name is new, and its pair goes last
 pub fix_last : {S : Type 0} (fixes : IndexMap (List ℕ) Point S) (types : List (List ℕ × List Band)) (name : List ℕ) (point : Point)
@@ -24,7 +21,7 @@ pub fix_last : {S : Type 0} (fixes : IndexMap (List ℕ) Point S) (types : List 
 fix_last fixes types name point passed =
     let ok : IsOk (judged (fix_adding (record { fixes = fixes.entries; types = types }) name) (tt {0})) = rw (← passed) refl in
     let tests = all_passed (fix_adding (record { fixes = fixes.entries; types = types }) name) (tt {0}) ok in
-    insert_entry-new (pointwise nat_eq) fixes name point (none_found _ tests.0)
+    insert_entry-new (pointwise nat_eq) fixes name point (is_none _ tests.0)
 
 pub type_last : {S : Type 0} (fixes : List (List ℕ × Point)) (types : IndexMap (List ℕ) (List Band) S) (name : List ℕ) (bands : List Band)
     → Ok (tt {0}) ≡ judged (type_adding (record { fixes = fixes; types = types.entries }) name bands) (tt {0})
@@ -32,7 +29,7 @@ pub type_last : {S : Type 0} (fixes : List (List ℕ × Point)) (types : IndexMa
 type_last fixes types name bands passed =
     let ok : IsOk (judged (type_adding (record { fixes = fixes; types = types.entries }) name bands) (tt {0})) = rw (← passed) refl in
     let tests = all_passed (type_adding (record { fixes = fixes; types = types.entries }) name bands) (tt {0}) ok in
-    insert_entry-new (pointwise nat_eq) types name bands (none_found _ tests.0)
+    insert_entry-new (pointwise nat_eq) types name bands (is_none _ tests.0)
 
 -- the tables stay bounded
 pub bounded_with_fix : (tables : Tables) (name : List ℕ) (point : Point) → AreBoundedTables tables → IsInPlane point.x point.y

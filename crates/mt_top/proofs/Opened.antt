@@ -21,13 +21,7 @@ unopened before held = steps.explained_as _ (OpeningMeans Memory) before before 
 
 pub done_is : (status : Status) → is_done status ≡ true → status ≡ Done
 done_is Done is = refl
-done_is ReadFault is = absurd (true≢false (sym is))
-done_is Spent is = absurd (true≢false (sym is))
-done_is WriteFault is = absurd (true≢false (sym is))
-done_is Usage is = absurd (true≢false (sym is))
-done_is Setup is = absurd (true≢false (sym is))
-done_is DoorFault is = absurd (true≢false (sym is))
-done_is Memory is = absurd (true≢false (sym is))
+done_is status is = absurd (true≢false (sym is))
 
 module _ (before after held held_after : Option (List ℕ)) (w : World) where
   -- the lines are those of a whole script

@@ -1,6 +1,6 @@
-use Rattle.std.proofs.Common.{◌≡◌, ◌<◌, ◌≤◌, inl, inr, ⊎_elim, ℕ, Bool, true, false, List, length, Option, Some, None, Result, Ok, Err, refl, sym, ◌∙◌, ap, true≢false}
+use Rattle.std.proofs.Common.{◌≡◌, ◌<◌, ◌≤◌, inl, inr, ⊎_elim, ℕ, false, List, length, Option, Some, None, Result, Ok, Err, refl}
 use Rattle.std.proofs.lemmas.Bool.{lt-ltb}
-use Rattle.std.specs.Prelude.{MatchBool, ⊤}
+use Rattle.std.specs.Prelude.{⊤}
 use Rattle.mt_base.specs.declared.command.Entry.{Entry}
 use Rattle.mt_base.specs.declared.command.Refusal.{Refusal}
 use Rattle.mt_base.specs.declared.clearance.Clearance.{Clearance}
@@ -15,18 +15,12 @@ use Rattle.mt_read.specs.declared.request.Request.TheVariants as requests
 use Rattle.mt_write.specs.declared.reply.Reply.{Reply}
 use Rattle.mt_write.specs.declared.reply.Reply.TheVariants as replies
 use Rattle.mt_lines.specs.Given.{IsGivenFor, is_brief}
+use Rattle.mt_base.proofs.Cases.{on_either}
+use Rattle.mt_lines.proofs.Brief.{not_given}
 use Rattle.mt_top.specs.Script.{IsAnswered, IsLeftBy, IsReplied, asked}
 use Rattle.mt_machine.specs.Book.{probe_at}
 use Rattle.mt_board.specs.Probing.{Probe}
 use Rattle.mt_world.specs.World.{IsAcceptedOf, IsAdded, IsAdvisedAs, IsLeft, IsOutcome, IsServed, IsTold, IsTried, World, actor_of, is_empty, picture_of}
-
--- a brief reply is none of those that are not brief
-not_given : (given reply : Reply) (P : Type 0) → reply ≡ given → is_brief given ≡ true → is_brief reply ≡ false → P
-not_given given reply P is brief not_brief = absurd (true≢false (sym brief ∙ ap is_brief (sym is) ∙ not_brief))
-
-by_begun : (b : Bool) (P Q R : Type 0) → (P → R) → (Q → R) → MatchBool b P Q → R
-by_begun true P Q R p q m = p m
-by_begun false P Q R p q m = q m
 
 -- so nothing was added where the reply is not brief
 added : (w next : World) (checked : Result ⊤ AddNo) (word : DoneWord) (taken : Reply) (tables : Tables) (reply : Reply) → is_brief reply ≡ false
@@ -53,38 +47,38 @@ told_free w next who call eff (Err refusal) reply b r = r.same
 accepted : (w next : World) (who : ℕ) (found : Option Probe) (reply : Reply) → is_brief reply ≡ false → IsAcceptedOf w who found reply next → next ≡ w
 accepted w next who None reply b r = r.same
 accepted w next who (Some probe) reply b a =
-    by_begun (is_empty probe.hits) _ _ _ (λ changed. outcome w next changed.decision reply b changed.outcome) (λ r. r.same) a
+    on_either (is_empty probe.hits) _ _ _ (λ changed. outcome w next changed.decision reply b changed.outcome) (λ r. r.same) a
 
 -- a reply that is not brief follows no change
 unchanged_by : (w next : World) (who : ℕ) (request : Request) (reply : Reply) → IsServed w who request reply next → is_brief reply ≡ false → next ≡ w
 unchanged_by w next who (requests.Fix name x y) reply served b =
-    by_begun w.begun _ _ _ (λ r. r.same) (added w next _ _ _ _ reply b) served
+    on_either w.begun _ _ _ (λ r. r.same) (added w next _ _ _ _ reply b) served
 unchanged_by w next who (requests.TypeLine name bands) reply served b =
-    by_begun w.begun _ _ _ (λ r. r.same) (added w next _ _ _ _ reply b) served
-unchanged_by w next who (requests.Rule set) reply served b = by_begun w.begun _ _ _ (λ r. r.same) (λ g. not_given _ reply _ g.reply_is refl b) served
-unchanged_by w next who requests.Begin reply served b = by_begun w.begun _ _ _ (λ r. r.same) (λ g. not_given _ reply _ g.reply_is refl b) served
+    on_either w.begun _ _ _ (λ r. r.same) (added w next _ _ _ _ reply b) served
+unchanged_by w next who (requests.Rule set) reply served b = on_either w.begun _ _ _ (λ r. r.same) (λ g. not_given _ reply _ g.reply_is refl b) served
+unchanged_by w next who requests.Begin reply served b = on_either w.begun _ _ _ (λ r. r.same) (λ g. not_given _ reply _ g.reply_is refl b) served
 unchanged_by w next who (requests.Hello role) reply served b = served.next_is
 unchanged_by w next who requests.Bye reply served b = served.next_is
-unchanged_by w next who requests.List reply served b = by_begun w.begun _ _ _ (λ l. l.same) (λ r. r.same) served
-unchanged_by w next who requests.Check reply served b = by_begun w.begun _ _ _ (λ l. l.same) (λ r. r.same) served
-unchanged_by w next who (requests.Flight call sec) reply served b = by_begun w.begun _ _ _ (told (flight_of (picture_of w).records call)) (λ r. r.same) served where
+unchanged_by w next who requests.List reply served b = on_either w.begun _ _ _ (λ l. l.same) (λ r. r.same) served
+unchanged_by w next who requests.Check reply served b = on_either w.begun _ _ _ (λ l. l.same) (λ r. r.same) served
+unchanged_by w next who (requests.Flight call sec) reply served b = on_either w.begun _ _ _ (told (flight_of (picture_of w).records call)) (λ r. r.same) served where
   told : (found : Option Record) → IsTold w call sec found reply next → next ≡ w
   told (Some flight) g = g.next_is
   told None r = r.same
-unchanged_by w next who (requests.History from to) reply served b = by_begun w.begun _ _ _ (λ g. g.next_is) (λ r. r.same) served
+unchanged_by w next who (requests.History from to) reply served b = on_either w.begun _ _ _ (λ g. g.next_is) (λ r. r.same) served
 unchanged_by w next who (requests.Change command) reply served b =
-    by_begun w.begun _ _ _ (λ changed. outcome w next changed.decision reply b changed.outcome) (λ r. r.same) served
+    on_either w.begun _ _ _ (λ changed. outcome w next changed.decision reply b changed.outcome) (λ r. r.same) served
 unchanged_by w next who requests.Take reply served b =
-    by_begun w.begun _ _ _ (λ g. not_given _ reply _ g.reply_is refl b) (λ r. r.same) served
+    on_either w.begun _ _ _ (λ g. not_given _ reply _ g.reply_is refl b) (λ r. r.same) served
 unchanged_by w next who (requests.Probe call clearance eff) reply served b =
-    by_begun w.begun _ _ _ (λ probed. tried w next who call clearance _ probed.result reply b probed.tried) (λ r. r.same) served
+    on_either w.begun _ _ _ (λ probed. tried w next who call clearance _ probed.result reply b probed.tried) (λ r. r.same) served
 unchanged_by w next who (requests.Accept number) reply served b =
-    by_begun w.begun _ _ _ (accepted w next who (probe_at (actor_of w who).book number) reply b) (λ r. r.same) served
+    on_either w.begun _ _ _ (accepted w next who (probe_at (actor_of w who).book number) reply b) (λ r. r.same) served
 unchanged_by w next who (requests.Advise call) reply served b =
-    by_begun w.begun _ _ _ (λ advised. told_free w next who call _ advised.result reply b advised.told) (λ r. r.same) served
-unchanged_by w next who requests.Due reply served b = by_begun w.begun _ _ _ (λ g. g.next_is) (λ r. r.same) served
+    on_either w.begun _ _ _ (λ advised. told_free w next who call _ advised.result reply b advised.told) (λ r. r.same) served
+unchanged_by w next who requests.Due reply served b = on_either w.begun _ _ _ (λ g. g.next_is) (λ r. r.same) served
 unchanged_by w next who requests.Settle reply served b =
-    by_begun w.begun _ _ _ (λ settling. not_given _ reply _ settling.given.reply_is refl b) (λ r. r.same) served
+    on_either w.begun _ _ _ (λ settling. not_given _ reply _ settling.given.reply_is refl b) (λ r. r.same) served
 
 unchanged_of : (w next : World) (a : Result (ℕ × Request) Reply) (reply : Reply) → IsAnswered w a reply next → is_brief reply ≡ false → next ≡ w
 unchanged_of w next (Ok a) reply served b = unchanged_by w next a.0 a.1 reply served b

@@ -9,7 +9,7 @@ use Rattle.mt_lines.proofs.Answering.{explained_as}
 use Rattle.mt_picture.specs.Story.{Story}
 use Rattle.mt_serve.specs.Summary.{HasServedWhole}
 use Rattle.mt_serve.specs.declared.counts.Counts.{Counts}
-use Rattle.mt_top.specs.Opening.{Begins, OpeningMeans}
+use Rattle.mt_top.specs.Opening.{Begins}
 use Rattle.mt_top.specs.Serve.{Appended, AreServed, Doorway, IsClosingLine, IsFront, IsNothing, IsShown, SaysClosing, ServeMeans}
 use Rattle.mt_top.specs.declared.status.Status.{Status}
 use Rattle.mt_top.specs.declared.status.Status.TheVariants.{Done, Usage, Setup, ReadFault, WriteFault, DoorFault, Spent, Memory}
@@ -31,24 +31,6 @@ says_later closed counts faulted f g h Spent held after later none = absurd none
 says_later closed counts faulted f g h Usage held after later none = absurd none
 
 module _ {L : Type 0} (source : Source.Ghosts L) (sink : Sink.Ghosts L) (port sessions : ℕ) (old new : Doorway L) (f g : ℕ) where
-  -- the picture hasn't begun
-  before_begin : (status : Status) (input left written : List ℕ) → OpeningMeans status input left written → new ≡ old
-      → ServeMeans source sink port sessions old new f g status input left written
-  before_begin Setup input left written means same = (means, same)
-  before_begin ReadFault input left written means same = (means, same)
-  before_begin Spent input left written means same = (means, same)
-  before_begin WriteFault input left written means same = inl (means, same)
-  before_begin Memory input left written means same = inl (means, same)
-  before_begin Done input left written none same = absurd none
-  before_begin Usage input left written none same = absurd none
-  before_begin DoorFault input left written none same = absurd none
-
-  pub unbegun : (status : Status) (before after held held_after : Option (List ℕ)) → new ≡ old → Explains (OpeningMeans status) before after held held_after
-      → Explains (ServeMeans source sink port sessions old new f g status) before after held held_after
-  unbegun status before after held held_after same explained =
-      explained_as (OpeningMeans status) (ServeMeans source sink port sessions old new f g status) before after held held_after
-      (λ input left written means. before_begin status input left written means same) explained
-
   -- the picture has begun, and there was no memory for serving
   pub unserved : (picture : Story) (before after held held_after : Option (List ℕ)) → new ≡ old
       → Explains (λ input left written. Begins input left written picture) before after held held_after

@@ -1,7 +1,6 @@
 -- Lines of a script, by the steps of lines answered one by one.
 use Rattle.std.proofs.Common.{◌≡◌, ◌≤◌, ◌||◌, ◌&&◌, inl, inr, ⊎_elim, ℕ, Bool, true, false, List, length, refl, sym, ap, ◌∙◌, Result, Ok, Err, true≢false}
 use Rattle.std.specs.declared.option.Option.{Option}
-use Rattle.std.specs.declared.option.Option.TheVariants.{None}
 use Rattle.std.specs.Io.KnownBytes.{Appends}
 use Rattle.mt_io.specs.Reading.{Reading, Takes, IsDone, IsStopped, IsFaultAt, fresh}
 use Rattle.mt_io.specs.declared.line.LineFault.{LineFault}
@@ -59,14 +58,6 @@ pub long_goes_on : (until_begun : Bool) (w : World) → (until_begun ≡ true �
     → is_last until_begun given ≡ is_farewell given || false
 long_goes_on until_begun w unbegun given for =
     last_given until_begun w replies.Long unbegun given for ∙ ap (λ b. is_farewell given || b) (none_set_up until_begun w.begun unbegun)
-
--- where a line isn't the last one, the picture has not begun that the lines are to set up
-pub stays_unbegun : (given : Result Bool Failed) (until_begun begun : Bool) → ending given (until_begun && begun) ≡ None → until_begun ≡ true → begun ≡ false
-stays_unbegun (Ok false) true false goes is = refl
-stays_unbegun (Ok false) true true goes is = cc
-stays_unbegun (Ok true) true begun goes is = cc
-stays_unbegun (Err failed) true begun goes is = cc
-stays_unbegun given false begun goes is = cc
 
 module _ (until_begun : Bool) where
   -- before the first line

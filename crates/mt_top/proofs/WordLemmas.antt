@@ -11,7 +11,7 @@ use Rattle.mt_io.proofs.Known.{consumes_none}
 use Rattle.mt_lines.specs.Answering.{Explains}
 use Rattle.mt_lines.proofs.Answering.{explained_as, nothing}
 use Rattle.mt_top.specs.declared.status.Status.{Status}
-use Rattle.mt_top.specs.declared.status.Status.TheVariants.{Done, Usage, Setup, ReadFault, WriteFault, DoorFault, Spent, Memory}
+use Rattle.mt_top.specs.declared.status.Status.TheVariants.{Done, Usage, WriteFault, Memory}
 use Rattle.mt_top.specs.Load.{IsSummaryLine, LoadMeans, SaysSummary}
 use Rattle.mt_top.specs.Serve.{Doorway}
 use Rattle.mt_top.specs.Run.{RunMeans, SaysUsage, TaskMeans, UsageMeans, usage_line}
@@ -44,12 +44,7 @@ pub usage_explained : (status : Status) (before held held_after : Option (List �
 usage_explained Usage before held held_after appended = wrote (UsageMeans Usage) before held held_after usage_line appended (λ left. (refl, refl))
 usage_explained WriteFault before held held_after (front, rest, line_is, appended) =
     wrote (UsageMeans WriteFault) before held held_after front appended (λ left. (refl, (rest, line_is)))
-usage_explained Done before held held_after none = absurd none
-usage_explained ReadFault before held held_after none = absurd none
-usage_explained Spent before held held_after none = absurd none
-usage_explained Setup before held held_after none = absurd none
-usage_explained DoorFault before held held_after none = absurd none
-usage_explained Memory before held held_after none = absurd none
+usage_explained status before held held_after none = absurd none
 
 -- a load run
 pub summary_explained : (flights number : ℕ) (status : Status) (before held held_after : Option (List ℕ)) → SaysSummary flights number status held held_after
@@ -61,8 +56,4 @@ summary_explained flights number WriteFault before held held_after (line, summed
     (λ left. (refl, (rest, subst (IsSummaryLine flights number) line_is summed)))
 summary_explained flights number Memory before held held_after same =
     subst (λ (after : Option (List ℕ)). Explains (LoadMeans flights number Memory) before before held after) (sym same) (nothing before held)
-summary_explained flights number Usage before held held_after none = absurd none
-summary_explained flights number ReadFault before held held_after none = absurd none
-summary_explained flights number Spent before held held_after none = absurd none
-summary_explained flights number Setup before held held_after none = absurd none
-summary_explained flights number DoorFault before held held_after none = absurd none
+summary_explained flights number status before held held_after none = absurd none

@@ -6,7 +6,7 @@ use Rattle.mt_io.specs.Writing.{AppendsFront}
 use Rattle.mt_load.specs.declared.summary.Summary.{Summary}
 use Rattle.mt_load.specs.Summary.{IsLoaded, summary_text}
 use Rattle.mt_top.specs.declared.status.Status.{Status}
-use Rattle.mt_top.specs.declared.status.Status.TheVariants.{Done, Usage, Setup, ReadFault, WriteFault, DoorFault, Spent, Memory}
+use Rattle.mt_top.specs.declared.status.Status.TheVariants.{Done, WriteFault, Memory}
 
 -- the line of the summary of a load run
 pub record IsSummaryLine (flights number : ℕ) (line : List ℕ) : Type 0 where
@@ -20,19 +20,11 @@ abbrev pub LoadMeans : ℕ → ℕ → Status → List ℕ → List ℕ → List
 LoadMeans flights number Done input left written = (left ≡ input) × IsSummaryLine flights number written
 LoadMeans flights number WriteFault input left written = (left ≡ input) × ((unwritten : List ℕ) × IsSummaryLine flights number (written ++ unwritten))
 LoadMeans flights number Memory input left written = (left ≡ input) × (written ≡ [])
-LoadMeans flights number Usage input left written = ⊥
-LoadMeans flights number ReadFault input left written = ⊥
-LoadMeans flights number Spent input left written = ⊥
-LoadMeans flights number Setup input left written = ⊥
-LoadMeans flights number DoorFault input left written = ⊥
+LoadMeans flights number status input left written = ⊥
 
 -- the same by what the output holds
 abbrev pub SaysSummary : ℕ → ℕ → Status → Option (List ℕ) → Option (List ℕ) → Type 0
 SaysSummary flights number Done before after = (line : List ℕ) × IsSummaryLine flights number line × Appends before after line
 SaysSummary flights number WriteFault before after = (line : List ℕ) × IsSummaryLine flights number line × AppendsFront before after line
 SaysSummary flights number Memory before after = after ≡ before
-SaysSummary flights number Usage before after = ⊥
-SaysSummary flights number ReadFault before after = ⊥
-SaysSummary flights number Spent before after = ⊥
-SaysSummary flights number Setup before after = ⊥
-SaysSummary flights number DoorFault before after = ⊥
+SaysSummary flights number status before after = ⊥

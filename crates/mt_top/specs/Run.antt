@@ -61,23 +61,13 @@ usage_line = codes "usage: mtcd replay | serve [--port P] [--sessions N] [--work
 abbrev pub UsageMeans : Status → List ℕ → List ℕ → List ℕ → Type 0
 UsageMeans Usage input left written = (left ≡ input) × (written ≡ usage_line)
 UsageMeans WriteFault input left written = (left ≡ input) × ((unwritten : List ℕ) × (usage_line ≡ written ++ unwritten))
-UsageMeans Done input left written = ⊥
-UsageMeans ReadFault input left written = ⊥
-UsageMeans Spent input left written = ⊥
-UsageMeans Memory input left written = ⊥
-UsageMeans Setup input left written = ⊥
-UsageMeans DoorFault input left written = ⊥
+UsageMeans status input left written = ⊥
 
 -- the same by what the output holds
 abbrev pub SaysUsage : Status → Option (List ℕ) → Option (List ℕ) → Type 0
 SaysUsage Usage before after = Appends before after usage_line
 SaysUsage WriteFault before after = AppendsFront before after usage_line
-SaysUsage Done before after = ⊥
-SaysUsage ReadFault before after = ⊥
-SaysUsage Spent before after = ⊥
-SaysUsage Memory before after = ⊥
-SaysUsage Setup before after = ⊥
-SaysUsage DoorFault before after = ⊥
+SaysUsage status before after = ⊥
 
 module _ {L : Type 0} (source : Source.Ghosts L) (sink : Sink.Ghosts L) (old new : Doorway L) (before now : ℕ) where
   -- What a run's status says, by what its words ask for; only words that ask to serve call the door. `before` and `now` are what the output counts
@@ -94,11 +84,7 @@ module _ {L : Type 0} (source : Source.Ghosts L) (sink : Sink.Ghosts L) (old new
 
 -- no fault of the outside
 abbrev pub IsNoFault : Status → Type 0
-IsNoFault Done = Unit {0}
-IsNoFault Usage = Unit {0}
-IsNoFault Setup = Unit {0}
-IsNoFault Spent = Unit {0}
-IsNoFault Memory = Unit {0}
 IsNoFault ReadFault = ⊥
 IsNoFault WriteFault = ⊥
 IsNoFault DoorFault = ⊥
+IsNoFault status = Unit {0}

@@ -3,33 +3,18 @@ use Rattle.std.proofs.Common.{◌≡◌, ℕ, ◌+◌, [], ◌∷◌, length, ta
 use Rattle.std.specs.Result.{result_ok}
 use Rattle.std.proofs.lemmas.List.{take-append-le, take_all}
 use Rattle.mt_base.specs.declared.command.Command.{Command}
-use Rattle.mt_base.specs.declared.command.Command.TheVariants.{Accept, Clear, Commit, Drop, External, Plan, Renew, Tentative, Tick, Withdraw}
-use Rattle.mt_base.specs.declared.command.Command.TheVariants as commands
 use Rattle.mt_base.specs.declared.command.Entered.{Entered}
-use Rattle.mt_base.specs.History.{IsInTime, state_of}
+use Rattle.mt_base.specs.History.{state_of}
 use Rattle.mt_base.specs.Picture.{State}
 use Rattle.mt_base.specs.Tables.{Setup}
 use Rattle.mt_board.specs.declared.no.No.{No}
 use Rattle.mt_base.proofs.HistoryLemmas.{version_is}
-use Rattle.mt_picture.specs.Story.{IsEntered, IsPreparedFor, IsPrepFor, Story}
+use Rattle.mt_picture.specs.Story.{IsEntered, IsPrepFor, Story}
+use Rattle.mt_picture.proofs.Given.{prepared_for}
 use Rattle.mt_top_checks.specs.Growing.{IsLater, IsOfPast}
 use Rattle.mt_probe.specs.Prepared.{IsPrepOf, MakesStrand, Prepared}
 use Rattle.mt_probe.specs.Shot.{Shot}
 use Rattle.mt_probe.specs.Shot.{state_of as state_in}
-
--- the actor that a prep is for
-for_actor : (command : Command) (who preparer : ℕ) → preparer ≡ who → IsPreparedFor command who preparer
-for_actor (Tentative call clearance eff) who preparer same = same
-for_actor (Plan call kind route at from level) who preparer same = tt
-for_actor (External call straight) who preparer same = tt
-for_actor (Drop call) who preparer same = tt
-for_actor (commands.Report call report) who preparer same = tt
-for_actor (Tick next) who preparer same = tt
-for_actor (Renew call) who preparer same = tt
-for_actor (Clear call clearance eff) who preparer same = tt
-for_actor (Accept call clearance eff probed) who preparer same = tt
-for_actor (Withdraw call force) who preparer same = tt
-for_actor (Commit call) who preparer same = tt
 
 -- a prep that is made on the snapshot now is of the past
 pub past_now : (story : Story) (shot : Shot) (who : ℕ) (command : Command) (p : Prepared) → shot.setup ≡ story.setup
@@ -63,7 +48,7 @@ prep_for story who command p makes same actor past = record {
   makes = makes;
   setup_is = past.setup_is;
   command_is = same;
-  who_is = for_actor command who p.who actor;
+  who_is = prepared_for command who p.who actor;
   within = past.within;
   state_is = past.state_is;
 }
@@ -99,17 +84,3 @@ later_published before after who command (Err e) is same = later_same before aft
 pub ok_was : {T E : Type 0} (r : Result T E) (x : T) → result_ok r ≡ Some x → r ≡ Ok x
 ok_was (Ok y) x is = cc
 ok_was (Err e) x is = absurd (cc)
-
--- a command that makes no trajectory is no acceptance
-pub in_time : (command : Command) (place : ℕ) → (MakesStrand command → ⊥) → IsInTime place command
-in_time (Accept call clearance eff probed) place none = absurd (none tt)
-in_time (Tentative call clearance eff) place none = tt
-in_time (Plan call kind route at from level) place none = tt
-in_time (External call straight) place none = tt
-in_time (Drop call) place none = tt
-in_time (commands.Report call report) place none = tt
-in_time (Tick next) place none = tt
-in_time (Renew call) place none = tt
-in_time (Clear call clearance eff) place none = tt
-in_time (Withdraw call force) place none = tt
-in_time (Commit call) place none = tt

@@ -1,16 +1,15 @@
 -- Segments of which no two neighbours are in one: what is pushed keeps them so, and the rows have one such list.
 use Rattle.std.proofs.Common.{◌≡◌, ℕ, zero, suc, ◌+◌, ◌-◌, ◌<◌, ◌≤◌, List, [], ◌∷◌, ◌++◌, length, get_or, set, Some, sym, ap, ◌∙◌, subst, arith, refl, ⊎_elim}
 use Rattle.std.proofs.lemmas.Bool.{cases_lt}
-use Rattle.std.proofs.lemmas.List.{append-nil, append_cancel_left}
+use Rattle.std.proofs.lemmas.List.{append_cancel_left}
 use Rattle.std.specs.Prelude.{slice_get}
 use Rattle.mt_base.specs.declared.row.Row.{Row}
-use Rattle.mt_base.specs.declared.flight.Straight.{Straight}
-use Rattle.mt_base.specs.Trajectory.{Trajectory, straight, straight_rows}
+use Rattle.mt_base.specs.Trajectory.{Trajectory}
 use Rattle.mt_track.specs.declared.segment.Segment.{Segment}
-use Rattle.mt_track.specs.Laid.{Adjoin, AreApart, AreSegmentsOf, Covers, all_rows, rows_of}
+use Rattle.mt_track.specs.Laid.{Adjoin, AreApart, AreSegmentsOf, all_rows, rows_of}
 use Rattle.mt_track.specs.Rows.{row_after}
 use Rattle.mt_track.proofs.Segments.{row_in}
-use Rattle.mt_track.proofs.Straight.{length-straight_rows, row_after-none}
+use Rattle.mt_track.proofs.Straight.{row_after-none}
 
 pub AreApart-first : (ss : List Segment) (s : Segment) → length ss ≡ 0 → AreApart (ss ++ s ∷ [])
 AreApart-first [] s none = tt
@@ -89,21 +88,3 @@ one_list from to (s ∷ ss) (t ∷ ts) lie also apart other same =
 
 pub same_segments : (t : Trajectory) (ss ts : List Segment) → AreSegmentsOf t ss → AreSegmentsOf t ts → ss ≡ ts
 same_segments t ss ts are also = one_list t.start (t.start + length t.rows) ss ts are.adjoin also.adjoin are.apart also.apart (are.rows ∙ sym also.rows)
-
--- the one segment of a straight stretch
-pub covers_straight : (s : Straight) (from to : ℕ) → s.from < s.to → s.from ≤ from → to ≤ s.to → Covers (straight s) 0 from to
-covers_straight s from to some begun ahead = record {
-  segments = one ∷ [];
-  segment = one;
-  are = record {
-    adjoin = (refl, some, omega (arith, length-straight_rows s.first (s.to - s.from), some));
-    rows = append-nil (straight_rows s.first (s.to - s.from));
-    apart = tt;
-  };
-  place = omega arith;
-  is = refl;
-  begun = begun;
-  ahead = ahead;
-} where
-  one : Segment
-  one = record { from = s.from; to = s.to; first = s.first }

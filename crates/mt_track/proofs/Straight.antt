@@ -1,14 +1,13 @@
 -- Straight rows: how many there are, which the k-th is, that each keeps its bounds, and that each is continued by the next.
-use Rattle.std.proofs.Common.{◌≡◌, ℕ, zero, suc, ◌+◌, ◌-◌, ◌<◌, ◌≤◌, ℤ, pos, negsuc, ◌+ℤ◌, ◌*ℤ◌, length, Some, All, false, sym, ap, ◌∙◌, subst, arith, refl, mul-le-mul, le_refl}
+use Rattle.std.proofs.Common.{◌≡◌, ℕ, zero, suc, ◌+◌, ◌-◌, ◌<◌, ◌≤◌, ℤ, pos, negsuc, ◌+ℤ◌, ◌*ℤ◌, length, Some, All, sym, ap, ◌∙◌, subst, arith, refl, mul-le-mul, le_refl}
 use Rattle.std.proofs.lemmas.Int.{ints}
 use Rattle.std.proofs.lemmas.Option.{get_or_from_slice_get}
-use Rattle.std.specs.Prelude.{slice_get, slice_index_or, nat_lt}
+use Rattle.std.specs.Prelude.{slice_get, slice_index_or}
 use Rattle.std.specs.List.{AllAdjacentBelow}
 use Rattle.mt_ring.proofs.Ring.{lin}
 use Rattle.mt_base.specs.declared.row.Row.{Row}
-use Rattle.mt_base.specs.declared.flight.Straight.{Straight}
 use Rattle.mt_base.specs.Bounds.{IsBoundedOver, IsBoundedRow, IsKeptOver, IsWithin}
-use Rattle.mt_base.specs.Trajectory.{next_row, row_at, straight, straight_rows}
+use Rattle.mt_base.specs.Trajectory.{next_row, straight_rows}
 use Rattle.mt_track.specs.Rows.{Continues, row_after}
 
 -- a gain over no second, and over one second more
@@ -18,7 +17,7 @@ times_none z v = omega (arith, ints)
 times_more : (v : ℤ) (k : ℕ) → v *ℤ pos (suc k) ≡ v *ℤ pos k +ℤ v
 times_more v k = omega (arith, ints)
 
-once_more : (z v : ℤ) (k : ℕ) → (z +ℤ v) +ℤ v *ℤ pos k ≡ z +ℤ v *ℤ pos (suc k)
+pub once_more : (z v : ℤ) (k : ℕ) → (z +ℤ v) +ℤ v *ℤ pos k ≡ z +ℤ v *ℤ pos (suc k)
 once_more z v k = omega (arith, lin, times_more v k)
 
 pub row_after-none : (a : Row) → row_after a 0 ≡ a
@@ -28,6 +27,19 @@ row_after-none a = λ i. record a {
   z = times_none a.z a.vz i;
   r = times_none a.r a.gr i;
   w = times_none a.w a.gw i;
+}
+
+-- so many seconds later, and so many more
+times_sum : (z v : ℤ) (j n : ℕ) → (z +ℤ v *ℤ pos j) +ℤ v *ℤ pos n ≡ z +ℤ v *ℤ pos (j + n)
+times_sum z v j n = omega (arith, ints)
+
+pub row_after-add : (a : Row) (j n : ℕ) → row_after (row_after a j) n ≡ row_after a (j + n)
+row_after-add a j n = λ i. record a {
+  x = times_sum a.x a.vx j n i;
+  y = times_sum a.y a.vy j n i;
+  z = times_sum a.z a.vz j n i;
+  r = times_sum a.r a.gr j n i;
+  w = times_sum a.w a.gw j n i;
 }
 
 pub row_after-next : (a : Row) (k : ℕ) → row_after (next_row a) k ≡ row_after a (suc k)
@@ -99,9 +111,3 @@ AllAdjacent-straight_rows a n k d below =
     let within : k + 1 < n = omega (arith, length-straight_rows a n) in
     let now : k < n = omega arith in
     rw (get_or-straight_rows a n k d now, get_or-straight_rows a n (k + 1) d within) (Continues-row_after a k)
-
--- The row of each second of a straight stretch: each value, and so many times its gain.
-pub row_at-straight : (s : Straight) (k : ℕ) → s.from ≤ k → k < s.to → row_at (straight s) k ≡ Some (row_after s.first (k - s.from))
-row_at-straight s k begun within =
-    let e : nat_lt k s.from ≡ false = grind arith in
-    rw e (slice_get-straight_rows s.first (s.to - s.from) (k - s.from) (omega arith))

@@ -93,10 +93,6 @@ module _ {E : Type 0} where
     grows_entries n seats lent log (inr (x, is, more)) l below e i = ⊎_elim (below e) (λ (h : Contains (x ∷ []) e). subst (λ z. number z < seats) (only_there x e h) (subst (λ k. k < seats) (sym is) l))
         (Contains-append_cases lent (x ∷ []) e (subst (λ h. Contains h e) more i))
 
-pub length-up_to : (n : ℕ) → length (up_to n) ≡ n
-length-up_to zero = refl
-length-up_to (suc n) = let h = length-up_to n in omega (arith, length-append (up_to n) (suc n ∷ []))
-
 pub up_to_has : (n k : ℕ) → 0 < k → k ≤ n → Contains (up_to n) k
 up_to_has zero k l h = absurd (omega arith)
 up_to_has (suc n) k l h = dite (dec_le k n) (λ below. Contains-append_left (up_to n) (suc n ∷ []) k (up_to_has n k l below))

@@ -3,7 +3,7 @@ use Rattle.std.proofs.Common.{◌≡◌, ◌+◌, ◌*◌, ◌≤◌, ◌≤ℤ�
 use Rattle.std.proofs.lemmas.Int.{ints}
 use Rattle.std.specs.Prelude.{int_lt}
 use mir.Syntax.{w128}
-use Rattle.mt_ring.proofs.Sizes.{Abs, abs_add, abs_sub, abs_mul, abs_weaken, fits_128}
+use Rattle.mt_ring.proofs.Sizes.{Abs, abs_add, abs_sub, abs_mul, fits_128}
 use Rattle.mt_base.specs.Bounds.{IsWithin}
 use Rattle.mt_watch.specs.declared.vector.Vector.{Vector}
 use Rattle.mt_watch.specs.Plane.{IsProduct, IsSmall, cross, dot}

@@ -95,8 +95,6 @@ refused_depth version (refusal.Stale first) = omega arith
 refused_depth version cause = omega arith
 
 reply_read : (r : Reply) → HoldsWhole (reply_value r) → of_json (outline (reply_value r)) ≡ Some (reply_value r)
-reply_read (reply.Done word) h = refl
-reply_read (reply.Hello role) h = refl
 reply_read (reply.Taken version) h = rw (numbered (pos version) h.0) refl
 reply_read (reply.Entered entered) h = entered_read entered.version entered.verdict h
 reply_read (reply.List conflicts version) h = rw (items_read conflict_value conflict_read conflicts h.0, numbered (pos version) h.1.0) refl
@@ -113,23 +111,13 @@ reply_read (reply.Flight view) h = flight_read view h
 reply_read (reply.Due calls version) h = rw (items_read string (λ call _. refl) calls h.0, numbered (pos version) h.1.0) refl
 reply_read (reply.Settled left version) h = rw (items_read string (λ call _. refl) left h.0, numbered (pos version) h.1.0) refl
 reply_read (reply.History entries version) h = rw (items_read entry_value (λ e. entry_read e.who e.command) entries h.0, numbered (pos version) h.1.0) refl
-reply_read reply.Json h = refl
-reply_read reply.Long h = refl
-reply_read reply.Begun h = refl
-reply_read reply.Unbegun h = refl
-reply_read reply.Bands h = refl
-reply_read reply.TablesFull h = refl
-reply_read reply.Memory h = refl
-reply_read (reply.Form name) h = refl
-reply_read (reply.Range name) h = refl
-reply_read (reply.TakenFix name) h = refl
-reply_read (reply.TakenType name) h = refl
 reply_read (reply.Refused (refusal.UnknownCall call) version) h = rw (numbered (pos version) h.1.1.0) refl
 reply_read (reply.Refused (refusal.UnknownType name) version) h = rw (numbered (pos version) h.1.1.0) refl
 reply_read (reply.Refused (refusal.UnknownFix name) version) h = rw (numbered (pos version) h.1.1.0) refl
 reply_read (reply.Refused (refusal.TentativeHeld owner) version) h = rw (numbered (pos owner) h.1.0, numbered (pos version) h.1.1.0) refl
 reply_read (reply.Refused (refusal.Stale first) version) h = rw (hit_read first h.0, numbered (pos version) h.1.1.0) refl
 reply_read (reply.Refused cause version) h = rw (numbered (pos version) h.1.0) refl
+reply_read r h = refl
 
 reply_depth : (r : Reply) → tree.depth (outline (reply_value r)) ≤ 4
 reply_depth (reply.Entered entered) = entered_depth entered.version entered.verdict

@@ -1,6 +1,5 @@
 -- The acceptance of a probe of an actor's book.
-use Rattle.std.proofs.Common.{◌≡◌, ◌⊎◌, inl, inr, ℕ, ◌<◌, ◌≤◌, Bool, true, false, List, [], ◌∷◌, length, map, get_or, Option, Some, Result, Ok, Err, IfOk, refl, sym, ◌∙◌, ap, subst, ◌==◌, arith}
-use Rattle.std.proofs.lemmas.Bool.Decides.{nat_tests}
+use Rattle.std.proofs.Common.{◌≡◌, ◌⊎◌, inl, inr, ℕ, ◌<◌, Bool, true, false, List, [], ◌∷◌, length, map, get_or, Option, Some, Result, Ok, Err, IfOk, refl, sym, ◌∙◌, ap, subst, ◌==◌, arith}
 use Rattle.std.specs.Option.{option_map}
 use Rattle.std.specs.Prelude.{IfErr, MatchBool, OnErr}
 use Rattle.mt_base.specs.declared.command.Command.{Command}
@@ -15,25 +14,21 @@ use Rattle.mt_base.specs.Tables.{Setup}
 use Rattle.mt_base.specs.WhatIf.{IsWhatIf}
 use Rattle.mt_board.specs.declared.no.No.{No}
 use Rattle.mt_board.specs.Probing.{Probe, acceptance}
-use Rattle.mt_machine.specs.Book.{Book, probe_at}
+use Rattle.mt_machine.specs.Book.{probe_at}
+use Rattle.mt_machine.proofs.Books.{all_at, told_at}
 use Rattle.mt_picture.specs.Story.{IsEntered, IsGivenFor, IsRefused as IsDenied, Story}
 use Rattle.mt_picture.proofs.Counted.{history_counted}
 use Rattle.mt_probe.specs.Hits.{IsTried, Tried, told_of}
 use Rattle.mt_write.specs.declared.reply.Reply.{Reply}
 use Rattle.mt_write.specs.declared.reply.Reply.TheVariants as replies
 use Rattle.mt_world.specs.declared.actor.Actor.{Actor}
-use Rattle.mt_world.specs.Sound.{IsKeptOf, IsSoundActor, IsSoundWorld, shown, told_book}
+use Rattle.mt_world.specs.Sound.{IsKeptOf, IsSoundWorld, shown}
 use Rattle.mt_world.specs.Told.{entered_reply}
 use Rattle.mt_world.specs.World.{IsAcceptedOf, IsAccepted, IsChanged, IsRefused, World, actor_of, is_empty}
 use Rattle.mt_world.specs.World as world
-use Rattle.mt_world.proofs.Books.{all_at, told_at}
 use Rattle.mt_world.proofs.Entering.{changed_is, same_setup}
 use Rattle.mt_world.proofs.Taking.{seen}
 use Rattle.mt_world.proofs.WorldLemmas.{actor_is, actor_sound}
-
-pub empty_list : {A : Type 0} (xs : List A) → (length xs == 0) ≡ true → xs ≡ []
-empty_list [] none = refl
-empty_list (x ∷ xs) none = grind (arith, nat_tests, none)
 
 full_list : {A : Type 0} (xs : List A) → (length xs == 0) ≡ false → is_empty xs ≡ false
 full_list [] some = cc
@@ -78,7 +73,7 @@ module _ (story : Story) (actors : List Actor) (who : ℕ) (a : Actor) (sound : 
   pub told_found : probe_at (actor_of (seen story actors) who).book number ≡ Some (told_of p)
   told_found =
       let within : who < length actors = rw sound.sixteen below in
-      ap (λ (b : world.Actor). probe_at b.book number) (actor_is actors who a within is) ∙ told_at a.book number ∙ ap (option_map told_of) found
+      ap (λ (b : world.Actor). probe_at b.book number) (actor_is actors who a within is) ∙ told_at told_of a.book number ∙ ap (option_map told_of) found
 
   pub not_free : (reply : Reply) → (length p.hits == 0) ≡ false → reply ≡ replies.Refused NotFree (length story.history)
       → IsAccepted (seen story actors) who number reply (seen story actors)

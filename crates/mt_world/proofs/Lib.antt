@@ -1,6 +1,5 @@
 pub mod Accepting
 pub mod Advice
-pub mod Books
 pub mod BriefHits
 pub mod Entering
 pub mod OneAnswer

@@ -1,6 +1,6 @@
 -- A request of a world has one reply.
-use Rattle.std.proofs.Common.{◌≡◌, ℕ, Bool, true, false, List, length, Option, Some, None, Result, Ok, Err, sym, subst, ◌∙◌, ap}
-use Rattle.std.specs.Prelude.{MatchBool, unwrap_or, ⊤}
+use Rattle.std.proofs.Common.{◌≡◌, ℕ, List, length, Option, Some, None, Result, Ok, Err, sym, subst, ◌∙◌, ap}
+use Rattle.std.specs.Prelude.{unwrap_or, ⊤}
 use Rattle.mt_base.specs.declared.command.Command.{Command}
 use Rattle.mt_base.specs.declared.command.Entry.{Entry}
 use Rattle.mt_base.specs.declared.command.Refusal.{Refusal}
@@ -22,6 +22,7 @@ use Rattle.mt_write.specs.declared.reply.DoneWord.{DoneWord}
 use Rattle.mt_write.specs.declared.reply.Reply.{Reply}
 use Rattle.mt_write.specs.declared.reply.Reply.TheVariants.{List as listed, Settled as settled}
 use Rattle.mt_board.specs.Probing.{Probe}
+use Rattle.mt_base.proofs.Cases.{on_both}
 use Rattle.mt_world.specs.World.{IsAcceptedOf, IsAdded, IsAdvised, IsAdvisedAs, IsChanged, IsGiven, IsListed, IsOutcome, IsProbed, IsRefused, IsServed, IsSettling, IsTold, IsTried, World, actor_of, is_empty, picture_of, picture_taken, setup_of}
 use Rattle.mt_world.proofs.OneSolution.{one_advised, one_decision, one_renewal, one_what_if}
 
@@ -45,10 +46,6 @@ one_added : (w : World) (checked : Result ⊤ AddNo) (word : DoneWord) (taken : 
     → IsAdded w checked word taken tables r next → IsAdded w checked word taken tables s other → AreOne r s next other
 one_added w (Ok _) word taken tables r s next other x y = one_given _ _ r s next other x y
 one_added w (Err refusal) word taken tables r s next other x y = one_refused w _ r s next other x y
-
-by_begun : (b : Bool) (P Q P' Q' R : Type 0) → (P → P' → R) → (Q → Q' → R) → MatchBool b P Q → MatchBool b P' Q' → R
-by_begun true P Q P' Q' R p q x y = p x y
-by_begun false P Q P' Q' R p q x y = q x y
 
 one_outcome : (w : World) (d : Result Entry Refusal) (r s : Reply) (next other : World) → IsOutcome w d r next → IsOutcome w d s other
     → AreOne r s next other
@@ -79,7 +76,7 @@ one_accepted : (w : World) (who : ℕ) (found : Option Probe) (r s : Reply) (nex
     → IsAcceptedOf w who found s other → AreOne r s next other
 one_accepted w who None r s next other x y = one_refused w _ r s next other x y
 one_accepted w who (Some probe) r s next other x y =
-    by_begun (is_empty probe.hits) _ _ _ _ _ (one_changed w who _ r s next other) (one_refused w _ r s next other) x y
+    on_both (is_empty probe.hits) _ _ _ _ _ (one_changed w who _ r s next other) (one_refused w _ r s next other) x y
 
 one_told : (w : World) (who : ℕ) (call : List ℕ) (eff : ℕ) (advice : Result (List Clearance) Refusal) (r s : Reply) (next other : World)
     → IsAdvisedAs w who call eff advice r next → IsAdvisedAs w who call eff advice s other → AreOne r s next other
@@ -104,30 +101,30 @@ one_settled w who r s next other x y =
 pub one_served : (w : World) (who : ℕ) (request : Request) (r s : Reply) (next other : World) → IsServed w who request r next
     → IsServed w who request s other → AreOne r s next other
 one_served w who (requests.Fix name a b) r s next other x y =
-    by_begun w.begun _ _ _ _ _ (one_refused w _ r s next other) (one_added w _ _ _ _ r s next other) x y
+    on_both w.begun _ _ _ _ _ (one_refused w _ r s next other) (one_added w _ _ _ _ r s next other) x y
 one_served w who (requests.TypeLine name bands) r s next other x y =
-    by_begun w.begun _ _ _ _ _ (one_refused w _ r s next other) (one_added w _ _ _ _ r s next other) x y
-one_served w who (requests.Rule set) r s next other x y = by_begun w.begun _ _ _ _ _ (one_refused w _ r s next other) (one_given _ _ r s next other) x y
-one_served w who requests.Begin r s next other x y = by_begun w.begun _ _ _ _ _ (one_refused w _ r s next other) (one_given _ _ r s next other) x y
+    on_both w.begun _ _ _ _ _ (one_refused w _ r s next other) (one_added w _ _ _ _ r s next other) x y
+one_served w who (requests.Rule set) r s next other x y = on_both w.begun _ _ _ _ _ (one_refused w _ r s next other) (one_given _ _ r s next other) x y
+one_served w who requests.Begin r s next other x y = on_both w.begun _ _ _ _ _ (one_refused w _ r s next other) (one_given _ _ r s next other) x y
 one_served w who (requests.Hello role) r s next other x y = one_given _ _ r s next other x y
 one_served w who requests.Bye r s next other x y = one_given _ _ r s next other x y
-one_served w who requests.List r s next other x y = by_begun w.begun _ _ _ _ _ (one_listed w r s next other) (one_refused w _ r s next other) x y
-one_served w who requests.Check r s next other x y = by_begun w.begun _ _ _ _ _ (one_listed w r s next other) (one_refused w _ r s next other) x y
+one_served w who requests.List r s next other x y = on_both w.begun _ _ _ _ _ (one_listed w r s next other) (one_refused w _ r s next other) x y
+one_served w who requests.Check r s next other x y = on_both w.begun _ _ _ _ _ (one_listed w r s next other) (one_refused w _ r s next other) x y
 one_served w who (requests.Flight call sec) r s next other x y =
-    by_begun w.begun _ _ _ _ _ (one_told (flight_of (picture_of w).records call)) (one_refused w _ r s next other) x y where
+    on_both w.begun _ _ _ _ _ (one_told (flight_of (picture_of w).records call)) (one_refused w _ r s next other) x y where
       one_told : (found : Option Record) → IsTold w call sec found r next → IsTold w call sec found s other → AreOne r s next other
       one_told (Some flight) a b = one_given _ _ r s next other a b
       one_told None a b = one_refused w _ r s next other a b
 one_served w who (requests.History from to) r s next other x y =
-    by_begun w.begun _ _ _ _ _ (one_given _ _ r s next other) (one_refused w _ r s next other) x y
+    on_both w.begun _ _ _ _ _ (one_given _ _ r s next other) (one_refused w _ r s next other) x y
 one_served w who (requests.Change command) r s next other x y =
-    by_begun w.begun _ _ _ _ _ (one_changed w who command r s next other) (one_refused w _ r s next other) x y
-one_served w who requests.Take r s next other x y = by_begun w.begun _ _ _ _ _ (one_given _ _ r s next other) (one_refused w _ r s next other) x y
+    on_both w.begun _ _ _ _ _ (one_changed w who command r s next other) (one_refused w _ r s next other) x y
+one_served w who requests.Take r s next other x y = on_both w.begun _ _ _ _ _ (one_given _ _ r s next other) (one_refused w _ r s next other) x y
 one_served w who (requests.Probe call clearance eff) r s next other x y =
-    by_begun w.begun _ _ _ _ _ (one_probed w who call clearance eff r s next other) (one_refused w _ r s next other) x y
+    on_both w.begun _ _ _ _ _ (one_probed w who call clearance eff r s next other) (one_refused w _ r s next other) x y
 one_served w who (requests.Accept number) r s next other x y =
-    by_begun w.begun _ _ _ _ _ (one_accepted w who (probe_at (actor_of w who).book number) r s next other) (one_refused w _ r s next other) x y
+    on_both w.begun _ _ _ _ _ (one_accepted w who (probe_at (actor_of w who).book number) r s next other) (one_refused w _ r s next other) x y
 one_served w who (requests.Advise call) r s next other x y =
-    by_begun w.begun _ _ _ _ _ (one_advice_told w who call r s next other) (one_refused w _ r s next other) x y
-one_served w who requests.Due r s next other x y = by_begun w.begun _ _ _ _ _ (one_given _ _ r s next other) (one_refused w _ r s next other) x y
-one_served w who requests.Settle r s next other x y = by_begun w.begun _ _ _ _ _ (one_settled w who r s next other) (one_refused w _ r s next other) x y
+    on_both w.begun _ _ _ _ _ (one_advice_told w who call r s next other) (one_refused w _ r s next other) x y
+one_served w who requests.Due r s next other x y = on_both w.begun _ _ _ _ _ (one_given _ _ r s next other) (one_refused w _ r s next other) x y
+one_served w who requests.Settle r s next other x y = on_both w.begun _ _ _ _ _ (one_settled w who r s next other) (one_refused w _ r s next other) x y

@@ -1,8 +1,6 @@
 -- What is tried on the snapshot that an actor has taken.
-use Rattle.std.proofs.Common.{◌≡◌, ◌⊎◌, inl, inr, ℕ, ◌<◌, Bool, true, List, [], ◌∷◌, length, map, take, get_or, Option, Some, Result, Ok, Err, IfOk, refl, subst, sym, ◌∙◌, ap, arith}
-use Rattle.std.specs.Prelude.{MatchBool}
+use Rattle.std.proofs.Common.{◌≡◌, ◌⊎◌, inl, inr, ℕ, ◌<◌, true, List, length, map, take, get_or, Option, Some, Result, Ok, Err, IfOk, refl, subst, sym, ◌∙◌, ap}
 use Rattle.mt_base.specs.declared.clearance.Clearance.{Clearance}
-use Rattle.mt_base.specs.declared.command.Entry.{Entry}
 use Rattle.mt_base.specs.declared.hit.Hit.{Hit}
 use Rattle.mt_base.specs.Advice.{IsAdvice}
 use Rattle.mt_base.specs.History.{state_of}
@@ -13,19 +11,17 @@ use Rattle.mt_board.specs.declared.no.No.{No}
 use Rattle.mt_board.specs.declared.no.No.TheVariants as nos
 use Rattle.mt_board.specs.Probing.{Probe, free_probe}
 use Rattle.mt_lines.specs.Fit.{AreBrief}
-use Rattle.mt_machine.specs.Book.{Book, with_probe}
+use Rattle.mt_machine.specs.Book.{with_all, with_probe}
 use Rattle.mt_picture.specs.Story.{Story}
 use Rattle.mt_probe.specs.Hits.{IsTried, Tried, told_of}
-use Rattle.mt_probe.specs.Shot.{Shot}
 use Rattle.mt_probe.specs.Shot.{state_of as state_in}
 use Rattle.mt_snapshot_advice.specs.Advised.{IsAdvisedOn}
 use Rattle.mt_write.specs.declared.reply.AdviceItem.{AdviceItem}
-use Rattle.mt_write.specs.declared.reply.Reply.{Reply}
 use Rattle.mt_write.specs.declared.reply.Reply.TheVariants as replies
 use Rattle.mt_world.specs.declared.actor.Actor.{Actor}
 use Rattle.mt_world.specs.Sound.{IsAdvisedOf, IsProbeOf, IsSoundActor, IsSoundWorld, IsUnadvisedOf, IsUnprobedOf, clearances_of, shown}
 use Rattle.mt_world.specs.Told.{no_reply}
-use Rattle.mt_world.specs.World.{IsAdvised, IsProbed, IsRefused, World, actor_of, items_from, picture_taken, setup_of, with_book, with_probes}
+use Rattle.mt_world.specs.World.{IsAdvised, IsProbed, IsRefused, World, actor_of, items_from, picture_taken, with_book}
 use Rattle.mt_world.specs.World as world
 use Rattle.mt_world.proofs.Advice.{tried_are}
 use Rattle.mt_world.proofs.BriefHits.{brief_hits}
@@ -99,7 +95,7 @@ brief_tried p tried = brief_hits p.prep.setup p.prep.state p.call p.clearance (S
 -- advice to the actor
 pub advised_is : (w next : World) (who : ℕ) (call : List ℕ) (eff version count : ℕ) (probes : List Tried) (items : List AdviceItem)
     → IsAdvisedOf w who call eff version probes → count ≡ (actor_of w who).book.count → items ≡ items_from count (clearances_of probes)
-    → next ≡ with_book w who (with_probes (actor_of w who).book (map told_of probes)) → IsAdvised w who call (replies.Advice items call eff version) next
+    → next ≡ with_book w who (with_all (actor_of w who).book (map told_of probes)) → IsAdvised w who call (replies.Advice items call eff version) next
 advised_is w next who call eff version count probes items of counted listed is =
     let tried : clearances_of probes ≡ of.clearances = tried_are probes call eff version of.clearances of.told in
     record {
@@ -108,8 +104,8 @@ advised_is w next who call eff version count probes items of counted listed is =
       told = record {
         reply_is = (λ i. replies.Advice (listed i) call (of.eff_is i) (of.version_is i))
             ∙ (λ i. replies.Advice (items_from (counted i) (tried i)) call (picture_taken w who).now (actor_of w who).taken);
-        next_is = is ∙ (λ i. with_book w who (with_probes (actor_of w who).book (of.told i)))
-            ∙ (λ i. with_book w who (with_probes (actor_of w who).book (map (free_probe call (of.eff_is i) (of.version_is i)) of.clearances)));
+        next_is = is ∙ (λ i. with_book w who (with_all (actor_of w who).book (of.told i)))
+            ∙ (λ i. with_book w who (with_all (actor_of w who).book (map (free_probe call (of.eff_is i) (of.version_is i)) of.clearances)));
       };
     }
 

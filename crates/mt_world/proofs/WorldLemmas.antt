@@ -1,5 +1,5 @@
 -- What a world keeps as it goes on.
-use Rattle.std.proofs.Common.{◌≡◌, ◌⊎◌, inl, inr, ℕ, zero, suc, ◌<◌, Bool, true, false, List, [], ◌∷◌, ◌++◌, All, length, map, replicate, take, get_or, Result, Ok, Err, refl, sym, ◌∙◌, ap, ap₂, subst, arith, length-append}
+use Rattle.std.proofs.Common.{◌≡◌, ◌⊎◌, inl, inr, ℕ, zero, suc, ◌<◌, Bool, true, false, List, [], ◌∷◌, ◌++◌, All, length, map, replicate, get_or, refl, sym, ◌∙◌, ap, ap₂, subst, arith, length-append}
 use Rattle.std.proofs.lemmas.List.{length-set, map-set, take-append-le, take_all}
 use Rattle.std.specs.Prelude.{MatchBool, slice_set}
 use Rattle.mt_base.specs.declared.command.Entry.{Entry}
@@ -7,13 +7,13 @@ use Rattle.mt_base.specs.History.{IsLegal, state_of}
 use Rattle.mt_base.specs.Picture.{State}
 use Rattle.mt_base.specs.Tables.{Setup}
 use Rattle.mt_base.proofs.HistoryLemmas.{version_is}
-use Rattle.mt_machine.specs.Book.{Book, empty_book}
+use Rattle.mt_machine.specs.Book.{Book, empty_book, told_book}
 use Rattle.mt_picture.specs.Story.{Story}
-use Rattle.mt_probe.specs.Hits.{Tried}
+use Rattle.mt_probe.specs.Hits.{Tried, told_of}
 use Rattle.mt_probe.specs.Shot.{Shot}
 use Rattle.mt_probe.specs.Shot.{state_of as state_in}
 use Rattle.mt_world.specs.declared.actor.Actor.{Actor}
-use Rattle.mt_world.specs.Sound.{IsKeptOf, IsSoundActor, IsSoundWorld, IsTakenOf, shown, told_book}
+use Rattle.mt_world.specs.Sound.{IsKeptOf, IsSoundActor, IsSoundWorld, IsTakenOf, shown}
 use Rattle.mt_world.specs.World.{new_actor}
 use Rattle.mt_world.specs.World as world
 
@@ -94,9 +94,9 @@ actor_is actors i a below is = actor_at actors i a new_actor below ∙ sym (ap s
 -- the actors as the definition has them, once one has another book
 pub book_view : (actors : List Actor) (i : ℕ) (a : Actor) (book : Book Tried) → i < length actors → a ≡ get_or actors i a
     → map shown (slice_set actors i (record { taken = a.taken; book = book }))
-    ≡ slice_set (map shown actors) i (record (get_or (map shown actors) i new_actor) { book = told_book book })
+    ≡ slice_set (map shown actors) i (record (get_or (map shown actors) i new_actor) { book = told_book told_of book })
 book_view actors i a book below is = map-set shown actors i (record { taken = a.taken; book = book })
-    ∙ ap (λ (b : world.Actor). slice_set (map shown actors) i (record b { book = told_book book })) (sym (actor_is actors i a below is))
+    ∙ ap (λ (b : world.Actor). slice_set (map shown actors) i (record b { book = told_book told_of book })) (sym (actor_is actors i a below is))
 
 -- and once one has taken another snapshot
 pub taken_view : (actors : List Actor) (i : ℕ) (a : Actor) (shot : Shot) → i < length actors → a ≡ get_or actors i a
@@ -117,25 +117,8 @@ now_taken setup h shot same is =
       state_is = is ∙ ap (state_of setup) (sym (take_all shot.version h (omega (arith, counted))));
     }
 
-nothing_legal : (setup : Setup) → IsLegal setup []
-nothing_legal setup = record { replayable = λ i e at. cc; free = λ i e at. cc }
-
 abbrev pub IsFirst : Shot → Actor → Type 0
 IsFirst shot actor = (actor.taken ≡ shot) × (actor.book ≡ empty_book)
-
-first_sound : (setup : Setup) (shot : Shot) (a : Actor) → IsTakenOf setup [] shot → IsFirst shot a → IsSoundActor setup [] a
-first_sound setup shot a taken is = record {
-  taken = subst (IsTakenOf setup []) (sym is.0) taken;
-  kept = rw is.1 (λ k d below. absurd (omega arith));
-}
-
-pub first_world : (setup : Setup) (h : List Entry) (shot : Shot) (actors : List Actor) → h ≡ [] → shot.setup ≡ setup → state_in shot ≡ state_of setup h
-    → length actors ≡ 16 → All (IsFirst shot) actors → IsSoundWorld (record { setup = setup; history = h }) actors
-first_world setup h shot actors none same is sixteen all = record {
-  legal = rw none (nothing_legal setup);
-  sixteen = sixteen;
-  each = λ k d below. rw none (first_sound setup shot (get_or actors k d) (rw none at (now_taken setup h shot same is)) (all k d below));
-}
 
 -- actors as they are at first are those of the definition
 pub shown_first : (shot : Shot) (actors : List Actor) (n : ℕ) → shot.version ≡ 0 → length actors ≡ n → All (IsFirst shot) actors

@@ -1,5 +1,5 @@
 -- What ties a world's actors to its picture. No public contract cites these.
-use Rattle.std.specs.Prelude.{◌≡◌, ◌≤◌, ℕ, List, [], ◌∷◌, length, map, take, All, Option, Ok, Err, ⊤, unwrap_or}
+use Rattle.std.specs.Prelude.{◌≡◌, ◌≤◌, ℕ, List, length, map, take, All, Option, Ok, Err, ⊤, unwrap_or}
 use Rattle.mt_base.specs.declared.clearance.Clearance.{Clearance}
 use Rattle.mt_base.specs.declared.command.Entry.{Entry}
 use Rattle.mt_base.specs.Advice.{IsAdvice}
@@ -8,8 +8,8 @@ use Rattle.mt_base.specs.Tables.{Setup}
 use Rattle.mt_base.specs.WhatIf.{IsWhatIf}
 use Rattle.mt_board.specs.declared.no.No.{No}
 use Rattle.mt_board.specs.declared.no.No.TheVariants as nos
-use Rattle.mt_board.specs.Probing.{Probe, free_probe}
-use Rattle.mt_machine.specs.Book.{Book, with_probe}
+use Rattle.mt_board.specs.Probing.{free_probe}
+use Rattle.mt_machine.specs.Book.{told_book}
 use Rattle.mt_picture.specs.Story.{Story}
 use Rattle.mt_probe.specs.Hits.{Tried, told_of}
 use Rattle.mt_probe.specs.Shot.{Shot}
@@ -44,18 +44,9 @@ pub record IsSoundWorld (story : Story) (actors : List Actor) : Type 0 where
   pub sixteen : length actors ≡ 16
   pub each : All (IsSoundActor story.setup story.history) actors
 
--- a book of probes by what is told of them
-abbrev pub told_book : Book Tried → Book Probe
-told_book book = record { count = book.count; last = map told_of book.last }
-
--- with some probes more, in order
-abbrev pub with_all : Book Tried → List Tried → Book Tried
-with_all book [] = book
-with_all book (p ∷ ps) = with_all (with_probe book p) ps
-
 -- an actor as the definition has it
 abbrev pub shown : Actor → world.Actor
-shown actor = record { taken = actor.taken.version; book = told_book actor.book }
+shown actor = record { taken = actor.taken.version; book = told_book told_of actor.book }
 
 -- what was tried, in order
 abbrev pub clearances_of : List Tried → List Clearance

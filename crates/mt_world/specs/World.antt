@@ -1,5 +1,5 @@
 -- The world of a script: what each request is answered, and what it leaves.
-use Rattle.std.specs.Prelude.{◌≡◌, ℕ, ◌-◌, Bool, true, false, List, [], ◌∷◌, ◌++◌, length, map, replicate, take, drop, get_or, slice_set, nat_lt, unwrap_or, Option, Some, None, Result, Ok, Err, MatchBool, ◌⊎◌, ⊤, if◌then◌else◌}
+use Rattle.std.specs.Prelude.{◌≡◌, ℕ, ◌-◌, Bool, true, false, List, [], ◌∷◌, ◌++◌, length, map, replicate, take, drop, get_or, slice_set, unwrap_or, Option, Some, None, Result, Ok, Err, MatchBool, ◌⊎◌, ⊤}
 use Rattle.mt_base.specs.declared.command.Entry.{Entry}
 use Rattle.mt_base.specs.declared.command.Refusal.{Refusal}
 use Rattle.mt_base.specs.declared.conflict.Conflict.{Conflict}
@@ -20,7 +20,7 @@ use Rattle.mt_base.specs.Tables.{Setup, Tables, no_tables}
 use Rattle.mt_base.specs.View.{view_of}
 use Rattle.mt_base.specs.WhatIf.{IsWhatIf}
 use Rattle.mt_board.specs.Probing.{Probe, acceptance, free_probe}
-use Rattle.mt_machine.specs.Book.{Book, empty_book, probe_at, with_probe}
+use Rattle.mt_machine.specs.Book.{Book, empty_book, probe_at, with_all, with_probe}
 use Rattle.mt_tables.specs.declared.add_no.AddNo.{AddNo}
 use Rattle.mt_tables.specs.declared.add_no.AddNo.TheVariants as add
 use Rattle.mt_tables.specs.Adding.{fix_adding, type_adding, with_fix, with_type}
@@ -150,11 +150,7 @@ IsAcceptedOf w who (Some probe) reply next = MatchBool (is_empty probe.hits)
 abbrev pub IsAccepted : World → ℕ → ℕ → Reply → World → Type 0
 IsAccepted w who number reply next = IsAcceptedOf w who (probe_at (actor_of w who).book number) reply next
 
--- A book with some probes more, in order; and advised clearances, each with the number that its probe gets behind so many.
-abbrev pub with_probes : Book Probe → List Probe → Book Probe
-with_probes book [] = book
-with_probes book (p ∷ ps) = with_probes (with_probe book p) ps
-
+-- advised clearances, each with the number that its probe gets behind so many
 abbrev pub items_from : ℕ → List Clearance → List AdviceItem
 items_from count [] = []
 items_from count (c ∷ cs) = record { clearance = c; probe = raised count } ∷ items_from (raised count) cs
@@ -163,7 +159,7 @@ items_from count (c ∷ cs) = record { clearance = c; probe = raised count } ∷
 abbrev pub IsAdvisedAs : World → ℕ → List ℕ → ℕ → Result (List Clearance) Refusal → Reply → World → Type 0
 IsAdvisedAs w who call eff (Ok advised) reply next =
     IsGiven (replies.Advice (items_from (actor_of w who).book.count advised) call eff (actor_of w who).taken)
-    (with_book w who (with_probes (actor_of w who).book (map (free_probe call eff (actor_of w who).taken) advised))) reply next
+    (with_book w who (with_all (actor_of w who).book (map (free_probe call eff (actor_of w who).taken) advised))) reply next
 IsAdvisedAs w who call eff (Err refusal) reply next = IsRefused w (replies.Refused refusal (actor_of w who).taken) reply next
 
 -- what is answered where advice is asked for: the advice on the state that its actor has taken

@@ -4,36 +4,19 @@ ghost use Rattle.mt_probe.specs.Hits.{told_of};
 ghost use Rattle.mt_write.specs.Short.{IsShortAdvised};
 ghost use Rattle.mt_write.specs.declared.reply.Reply.TheVariants as replies;
 ghost use Rattle.mt_lines.specs.Fit.{IsFit};
-ghost use Rattle.mt_world.specs.Sound.{IsAdvisedOf, IsKeptOf, IsUnadvisedOf, clearances_of, with_all};
-ghost use Rattle.mt_world.specs.World.{IsAdvised, IsRefused, actor_of, items_from, setup_of, with_book, with_probes};
+ghost use Rattle.mt_machine.specs.Book.{with_all};
+ghost use Rattle.mt_world.specs.Sound.{IsAdvisedOf, IsKeptOf, IsUnadvisedOf, clearances_of};
+ghost use Rattle.mt_world.specs.World.{IsAdvised, IsRefused, actor_of, items_from, setup_of, with_book};
 
 use crate::telling::refused;
 use crate::world::World;
-use mt_base::{Callsign, Clearance, Memory};
+use mt_base::{Callsign, Memory};
 use mt_board::{Advised, No, Probed};
-use mt_machine::Book;
 use mt_probe::Probe;
 use mt_snapshot_advice::advise;
 use mt_write::{AdviceItem, AdviceList, Reply};
 use std::alloc::Global;
 use std::thread::Threads;
-
-// A clearance and the number of its probe.
-fn item_of(clearance: Clearance, probe: u64) -> AdviceItem
-    ensures is { result ≡ record { clearance = clearance; probe = probe } }
-    ensures short { IsShortAdvised result }
-{
-    match &clearance {
-        Clearance::Level(level) => {
-            let _feet = *level;
-            AdviceItem { clearance, probe }
-        }
-        Clearance::Direct(fix) => {
-            let _letters = fix.bytes();
-            AdviceItem { clearance, probe }
-        }
-    }
-}
 
 // The clearances of some probes, each with the number that its probe gets behind so many.
 fn items_from(alloc: Global, count: u64, probes: &[Probe]) -> Result<AdviceList, Memory>
@@ -44,18 +27,9 @@ fn items_from(alloc: Global, count: u64, probes: &[Probe]) -> Result<AdviceList,
     let mut number = count;
     for probe in probes {
         number = number.saturating_add(1);
-        items.push(item_of(probe.clearance(), number))?;
+        items.push(AdviceItem::of(probe.clearance(), number))?;
     }
     Ok(items)
-}
-
-// Puts probes in a book, in order.
-fn put_all(book: &mut Book<Probe>, probes: Vec<Probe>)
-    ensures { book.new ≡ with_all book.old probes.items }
-{
-    for probe in probes {
-        book.put(probe);
-    }
 }
 
 impl World {
@@ -111,8 +85,8 @@ impl World {
     fn keep_all(&mut self, who: u32, probes: Vec<Probe>)
         requires who { who ≤ 15 }
         requires kept { All (IsKeptOf (setup_of self.old) self.old.history) probes.items }
-        ensures { self.new ≡ with_book self.old who (with_probes (actor_of self.old who).book (map told_of probes.items)) }
+        ensures { self.new ≡ with_book self.old who (with_all (actor_of self.old who).book (map told_of probes.items)) }
     {
-        put_all(&mut self.actors[who as usize].book, probes);
+        self.actors[who as usize].book.put_all(probes);
     }
 }

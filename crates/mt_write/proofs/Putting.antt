@@ -13,7 +13,3 @@ pub puts_then : (r : Result ⊤ Memory) (old mid new : Vec ℕ) (a b : List ℕ)
 puts_then (Ok u) old mid new a b first then =
     (then.0 ∙ ap (λ s. s ++ b) first.0 ∙ append_assoc old.items a b, omega (arith, then.1, first.1, length-append a b), omega (arith, then.2, first.2))
 puts_then (Err e) old mid new a b first then = omega (arith, then, first.1, first.2, length-append a b)
-
--- where there is no room for the first, there is none for both
-pub puts_short : (e : Memory) (old mid : Vec ℕ) (a b : List ℕ) → Puts (Err e) old mid a → Puts (Err e) old mid (a ++ b)
-puts_short e old mid a b h = omega (arith, h, length-append a b)

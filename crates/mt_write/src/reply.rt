@@ -1,3 +1,7 @@
+//! Replies, and what stands in them.
+ghost use Rattle.std.specs.Prelude.{◌≡◌};
+ghost use Rattle.mt_write.specs.Short.{IsShortAdvised};
+
 use mt_base::{
     Calls, Callsign, Clearance, Conflicts, Entered, Entries, FieldName, FixName, FlightView, Hits,
     Listed, Refusal, Role, Second, TypeName,
@@ -25,6 +29,25 @@ pub struct AdviceItem {
     pub clearance: Clearance,
     /// The number under which it can be accepted.
     pub probe: u64,
+}
+
+impl AdviceItem {
+    /// A clearance and the number of its probe, which are short enough for any line.
+    pub fn of(clearance: Clearance, probe: u64) -> AdviceItem
+        ensures is { result ≡ record { clearance = clearance; probe = probe } }
+        ensures short { IsShortAdvised result }
+    {
+        match &clearance {
+            Clearance::Level(level) => {
+                let _feet = *level;
+                AdviceItem { clearance, probe }
+            }
+            Clearance::Direct(fix) => {
+                let _letters = fix.bytes();
+                AdviceItem { clearance, probe }
+            }
+        }
+    }
 }
 
 /// Advised clearances, seen as their list.

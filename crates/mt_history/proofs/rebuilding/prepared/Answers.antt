@@ -2,7 +2,7 @@ use Rattle.std.proofs.Common.{◌∙◌, ap, subst}
 use Rattle.mt_base.specs.Bounds.{AreWithinBounds}
 use Rattle.mt_base.specs.Tables.{Setup}
 use Rattle.mt_picture.specs.Story.{Story}
-use Rattle.mt_history.proofs.Entering.{denied_now, given_now}
+use Rattle.mt_picture.proofs.Given.{denied_now, given_now}
 use Rattle.mt_history.proofs.rebuilding.prepared.Goals as goal
 
 pub returns-clause-refused : goal.returns-clause-refused

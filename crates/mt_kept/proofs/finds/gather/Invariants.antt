@@ -3,7 +3,7 @@ use Rattle.std.specs.List.{sum_by}
 use Rattle.mt_track.specs.Named.{named}
 use Rattle.mt_kept.specs.Finds.{cost}
 use Rattle.mt_kept.specs.Places.{seen}
-use Rattle.mt_kept.specs.Tests.{RoseUpTo}
+use Rattle.mt_base.specs.Tally.{RoseUpTo}
 use Rattle.mt_kept.proofs.Gathering.{AreGathered}
 use Rattle.mt_kept.proofs.finds.gather.Given as goal
 

@@ -1,7 +1,7 @@
 use Rattle.std.proofs.Common.{sym, ◌∙◌, refl}
 use Rattle.std.proofs.lemmas.List.{append-nil, append_assoc, take_all}
 use Rattle.std.proofs.lemmas.List.Elements.{filter-append}
-use Rattle.mt_kept.proofs.Elements.{take_push}
+use Rattle.mt_base.proofs.Members.{take_push}
 use Rattle.mt_kept.proofs.lists.add_open.Goals as goal
 use Rattle.mt_kept.proofs.lists.add_open.Goals.{then-is_open+in_ok-push, else-is_open}
 

@@ -2,7 +2,7 @@ use Rattle.std.proofs.Common.{refl}
 use Rattle.std.proofs.lemmas.Bool.{eq-eqb, ne_eqb}
 use Rattle.std.proofs.lemmas.List.{append-nil, take_all}
 use Rattle.std.proofs.lemmas.List.Elements.{filter-append}
-use Rattle.mt_kept.proofs.Elements.{take_push}
+use Rattle.mt_base.proofs.Members.{take_push}
 use Rattle.mt_kept.proofs.lists.at_place.Goals as goal
 use Rattle.mt_kept.proofs.lists.at_place.Goals.{then-pair-place+in_ok-push, then-pair-place-via-then-pair-place, then-pair-place-via-else-pair-place+then-pair-place-2, else-pair-place+else-pair-place-2}
 

@@ -2,7 +2,7 @@ use Rattle.std.proofs.Common.{refl}
 use Rattle.std.proofs.lemmas.Bool.{eq-eqb, ne_eqb}
 use Rattle.std.proofs.lemmas.List.{append-nil, take_all}
 use Rattle.std.proofs.lemmas.List.Elements.{filter-append}
-use Rattle.mt_kept.proofs.Elements.{take_push}
+use Rattle.mt_base.proofs.Members.{take_push}
 use Rattle.mt_kept.proofs.lists.elsewhere.Goals as goal
 use Rattle.mt_kept.proofs.lists.elsewhere.Goals.{then-pair-slot+then-pair-slot-2+in_ok-push, else-pair-slot, else-pair-slot-via-else-pair-slot, else-pair-slot-via-then-pair-slot+else-pair-slot-2}
 

@@ -2,7 +2,7 @@ use Rattle.std.proofs.Common.{refl}
 use Rattle.std.proofs.lemmas.Bool.{le-leb, lt-leb}
 use Rattle.std.proofs.lemmas.List.{append-nil, map-append, take_all}
 use Rattle.std.proofs.lemmas.List.Elements.{filter-append}
-use Rattle.mt_kept.proofs.Elements.{take_push}
+use Rattle.mt_base.proofs.Members.{take_push}
 use Rattle.mt_kept.proofs.lists.lasting.Goals as goal
 use Rattle.mt_kept.proofs.lists.lasting.Goals.{then-now-pair+in_ok-push, else-now-pair}
 

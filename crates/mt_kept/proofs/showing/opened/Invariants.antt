@@ -2,7 +2,7 @@ use Rattle.std.proofs.Common.{◌≡◌, map, take}
 use Rattle.std.specs.List.{All, count_by}
 use Rattle.mt_kept.specs.Places.{seen}
 use Rattle.mt_kept.specs.Window.{IsShown, edge_of, straddles}
-use Rattle.mt_kept.specs.Tests.{raised_by}
+use Rattle.mt_base.specs.Tally.{raised_by}
 use Rattle.mt_kept.proofs.showing.opened.Given as goal
 
 abbrev pub invariant-loop-edge : goal.invariant-loop-edge

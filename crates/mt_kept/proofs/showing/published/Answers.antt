@@ -4,7 +4,7 @@ use Rattle.mt_base.specs.declared.conflict.Conflict.{Conflict}
 use Rattle.mt_kept.specs.declared.open_pair.OpenPair.{OpenPair}
 use Rattle.mt_kept.specs.Window.{Shows}
 use Rattle.mt_kept.proofs.Publishing.{list_more, list_same}
-use Rattle.mt_kept.proofs.Elements.{take_push}
+use Rattle.mt_base.proofs.Members.{take_push}
 use Rattle.mt_kept.proofs.showing.published.Goals as goal
 use Rattle.mt_kept.proofs.showing.published.Goals.{in-Some+in_ok-push, in_default}
 

@@ -1,6 +1,4 @@
-use Rattle.std.proofs.Common.{◌≡◌, Ok}
-use Rattle.mt_base.specs.Tables.{Setup, setup_with}
-use Rattle.mt_machine.specs.Advising.{AreAsked, AreFreeAmong}
+use Rattle.mt_base.specs.Tables.{setup_with}
 use Rattle.mt_machine.proofs.Advised.{advice_is, each_free, few_free}
 use Rattle.mt_machine.proofs.advising.advise.Goals as goal
 

@@ -1,6 +1,5 @@
 use Rattle.std.proofs.Common.{true, false}
 use Rattle.mt_base.specs.Tables.{Setup, setup_with}
-use Rattle.mt_machine.specs.Advising.{AreFreeAmong, WasTried}
 use Rattle.mt_machine.proofs.Advised.{tried_more}
 use Rattle.mt_machine.proofs.advising.free_among.Goals as goal
 use Rattle.mt_machine.proofs.advising.free_among.Goals.{then-branch+in_ok-push, else-branch}

@@ -1,4 +1,4 @@
-use Rattle.mt_machine.proofs.Others.{others_before}
+use Rattle.mt_base.proofs.Others.{others_before}
 use Rattle.mt_machine.proofs.strands.roster_of.Goals as goal
 
 pub add_flight-requires-clause-free : goal.add_flight-requires-clause-free

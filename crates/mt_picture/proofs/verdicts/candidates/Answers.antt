@@ -1,7 +1,7 @@
 use Rattle.std.proofs.Common.{refl, get_or}
 use Rattle.std.proofs.lemmas.List.{get_or_default, take_all}
 use Rattle.mt_kept.specs.declared.finds.Candidate.{Candidate}
-use Rattle.mt_kept.proofs.Elements.{Contains-none}
+use Rattle.mt_base.proofs.Members.{Contains-none}
 use Rattle.mt_picture.specs.Verdicts.{IsKnown}
 use Rattle.mt_picture.proofs.Knowing.{known_more, places_more}
 use Rattle.mt_picture.proofs.verdicts.candidates.Goals as goal

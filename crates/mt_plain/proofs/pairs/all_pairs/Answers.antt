@@ -3,7 +3,8 @@ use Rattle.std.proofs.lemmas.List.{take_all}
 use Rattle.mt_track.specs.declared.roster.Item.{Item}
 use Rattle.mt_track.specs.Named.{named}
 use Rattle.mt_plain.specs.Added.{Adds}
-use Rattle.mt_plain.specs.Tests.{RoseUpTo, pairs_of_different_flights, tests_of_left}
+use Rattle.mt_base.specs.Tally.{RoseUpTo}
+use Rattle.mt_plain.specs.Tests.{pairs_of_different_flights, tests_of_left}
 use Rattle.mt_plain.proofs.Found.{Adds-more, IsOfTwo, IsOfTwo-push, IsPublishedOf-all, map_take_push}
 use Rattle.mt_plain.proofs.Tallies.{RoseUpTo-part, on_err, raised_by-push}
 use Rattle.mt_plain.proofs.pairs.all_pairs.Goals as goal

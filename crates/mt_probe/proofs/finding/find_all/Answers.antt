@@ -1,13 +1,15 @@
-use Rattle.std.proofs.Common.{◌≡◌, ◌∙◌, ◌≤◌, ◌+◌, ◌*◌, List, ℕ, [], ap, get_or, length, length-append, refl, subst, sym, take, arith}
+use Rattle.std.proofs.Common.{◌≡◌, ◌∙◌, ◌≤◌, ◌+◌, ◌*◌, List, ℕ, [], Ok, Result, ap, get_or, length, length-append, refl, subst, sym, take, arith}
 use Rattle.std.proofs.lemmas.List.{get_or_default, take_all}
 use Rattle.mt_base.specs.Picture.{NamedTrajectory}
 use Rattle.mt_cover.specs.Cells.{cover_of}
 use Rattle.mt_probe.specs.Finds.{FindsMore}
 use Rattle.mt_probe.specs.Items.{AreNearItems, other_at, others_among}
 use Rattle.mt_probe.proofs.Gathered.{both_more, none_more}
-use Rattle.mt_probe.proofs.Members.{ok_alike}
 use Rattle.mt_probe.proofs.Nearby.{fewer, found_near, near_once, one_item_more}
 use Rattle.mt_probe.proofs.finding.find_all.Goals as goal
+
+ok_alike : {X E : Type 0} (x y : X) (one other : Result X E) → one ≡ Ok x → other ≡ Ok y → one ≡ other → x ≡ y
+ok_alike x y one other x_is y_is same = let both = sym x_is ∙ same ∙ y_is in cc
 
 pub loop-item-init : goal.loop-item-init
 loop-item-init c =

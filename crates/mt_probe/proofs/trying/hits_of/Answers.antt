@@ -3,7 +3,7 @@ use Rattle.std.proofs.lemmas.List.Elements.{All-push}
 use Rattle.mt_base.specs.declared.hit.Hit.{Hit}
 use Rattle.mt_base.specs.Name.{is_name}
 use Rattle.mt_probe.proofs.HitsFound.{all_hits, hit_more, no_more}
-use Rattle.mt_probe.proofs.Members.{all_among}
+use Rattle.mt_base.proofs.Members.{all_among}
 use Rattle.mt_probe.proofs.trying.hits_of.Goals as goal
 use Rattle.mt_probe.proofs.trying.hits_of.Goals.{in-Some+in_ok-push, in_default}
 

@@ -13,13 +13,13 @@ loop-probe-preserved g c =
     let x = c.probe-item.result in
     let more : map told (take (i + 1) ps) ≡ map told (take i ps) ++ told x ∷ [] =
     ap (map told) (take_more ps i x c.loop-probe-test.true ∙ ap (λ y. take i ps ++ y ∷ []) (sym c.probe-item.is)) ∙ map-append told (take i ps) (x ∷ []) in
-    let short : All IsShortAdvised (c.loop-probe.items ++ c.item_of.result ∷ []) =
-    All-push IsShortAdvised c.loop-probe.items c.item_of.result c.loop-probe.invariant.2 c.item_of.ensures.short in (
+    let short : All IsShortAdvised (c.loop-probe.items ++ c.of.result ∷ []) =
+    All-push IsShortAdvised c.loop-probe.items c.of.result c.loop-probe.invariant.2 c.of.ensures.short in (
       rw (
         more,
         item_more c.args.count (map told (take i ps)) (told x),
         c.in_ok-push.ensures.ok,
-        c.item_of.ensures.is,
+        c.of.ensures.is,
         c.clearance.ensures,
         c.saturating_add-number.ensures,
         c.loop-probe.invariant.0,

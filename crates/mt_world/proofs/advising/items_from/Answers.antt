@@ -1,4 +1,4 @@
-use Rattle.std.proofs.Common.{◌≡◌, ◌∙◌, ◌+◌, ◌++◌, ◌∷◌, [], ap, map, sym, refl, take, All}
+use Rattle.std.proofs.Common.{◌≡◌, ◌∙◌, ◌+◌, ◌++◌, ◌∷◌, [], ap, sym, refl, take, All}
 use Rattle.std.proofs.lemmas.List.{map-append, take_more}
 use Rattle.std.proofs.lemmas.List.Elements.{All-push}
 use Rattle.mt_write.specs.Short.{IsShortAdvised}
@@ -15,13 +15,13 @@ loop-probe-preserved c =
     let more : clearances_of (take (i + 1) ps) ≡ clearances_of (take i ps) ++ x.clearance ∷ [] =
     ap clearances_of (take_more ps i x c.loop-probe-test.true ∙ ap (λ (y : Tried). take i ps ++ y ∷ []) (sym c.probe-item.is))
     ∙ map-append (λ (p : Tried). p.clearance) (take i ps) (x ∷ []) in
-    let short : All IsShortAdvised (c.loop-probe.items ++ c.item_of.result ∷ []) =
-    All-push IsShortAdvised c.loop-probe.items c.item_of.result c.loop-probe.invariant.2 c.item_of.ensures.short in (
+    let short : All IsShortAdvised (c.loop-probe.items ++ c.of.result ∷ []) =
+    All-push IsShortAdvised c.loop-probe.items c.of.result c.loop-probe.invariant.2 c.of.ensures.short in (
       rw (
         more,
         item_more c.args.count (clearances_of (take i ps)) x.clearance,
         c.in_ok-push.ensures.ok,
-        c.item_of.ensures.is,
+        c.of.ensures.is,
         c.clearance.ensures,
         c.saturating_add-number.ensures,
         c.loop-probe.invariant.0,

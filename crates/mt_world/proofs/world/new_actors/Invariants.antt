@@ -1,4 +1,4 @@
-use Rattle.std.proofs.Common.{◌≡◌, ◌≤◌, ◌-◌, length}
+use Rattle.std.proofs.Common.{◌≤◌, ◌-◌, length}
 use Rattle.std.specs.List.{All}
 use Rattle.mt_world.proofs.WorldLemmas.{IsFirst}
 use Rattle.mt_world.proofs.world.new_actors.Given as goal

@@ -1,6 +1,6 @@
 use Rattle.std.proofs.Common.{Some, length-set, arith}
 use Rattle.mt_edges.proofs.Adds.{three, ties_filled}
-use Rattle.mt_edges.proofs.Nodes.{popped, sound_filled, spares_popped, with_new}
+use Rattle.mt_edges.proofs.Nodes.{has_places, popped, sound_filled, spares_popped, with_new}
 use Rattle.mt_edges.proofs.table.Table.put.Goals as goal
 
 pub link-requires : goal.link-requires
@@ -41,32 +41,16 @@ returns-clause-edges c =
     with_new _ _ _ p.1 p.2
 
 pub overflow_mul-first : goal.overflow_mul-first
-overflow_mul-first c =
-    let p = popped _ _ _ c.index-node.result.now c.requires.kept.shape.spares c.requires.spare c.index-node.ensures in
-    let r = c.requires.kept.shape.room in
-    let h = c.args.self.now.links.next.ok in
-    omega (arith, p.1, r, h.0)
+overflow_mul-first c = omega (arith, has_places _ _ _ _ _ c.index-node.result.now _ c.requires.kept.shape c.requires.spare c.index-node.ensures, c.args.self.now.links.next.ok.0)
 
 pub overflow_add-first : goal.overflow_add-first
-overflow_add-first c =
-    let p = popped _ _ _ c.index-node.result.now c.requires.kept.shape.spares c.requires.spare c.index-node.ensures in
-    let r = c.requires.kept.shape.room in
-    let h = c.args.self.now.links.next.ok in
-    omega (arith, p.1, r, h.0)
+overflow_add-first c = omega (arith, has_places _ _ _ _ _ c.index-node.result.now _ c.requires.kept.shape c.requires.spare c.index-node.ensures, c.args.self.now.links.next.ok.0)
 
 pub overflow_add-first-2 : goal.overflow_add-first-2
-overflow_add-first-2 c =
-    let p = popped _ _ _ c.index-node.result.now c.requires.kept.shape.spares c.requires.spare c.index-node.ensures in
-    let r = c.requires.kept.shape.room in
-    let h = c.args.self.now.links.next.ok in
-    omega (arith, p.1, r, h.0)
+overflow_add-first-2 c = omega (arith, has_places _ _ _ _ _ c.index-node.result.now _ c.requires.kept.shape c.requires.spare c.index-node.ensures, c.args.self.now.links.next.ok.0)
 
 pub overflow_add-first-3 : goal.overflow_add-first-3
-overflow_add-first-3 c =
-    let p = popped _ _ _ c.index-node.result.now c.requires.kept.shape.spares c.requires.spare c.index-node.ensures in
-    let r = c.requires.kept.shape.room in
-    let h = c.args.self.now.links.next.ok in
-    omega (arith, p.1, r, h.0)
+overflow_add-first-3 c = omega (arith, has_places _ _ _ _ _ c.index-node.result.now _ c.requires.kept.shape c.requires.spare c.index-node.ensures, c.args.self.now.links.next.ok.0)
 
 pub overflow_add-self-2 : goal.overflow_add-self-2
 overflow_add-self-2 c =

@@ -6,7 +6,7 @@ use Rattle.mt_kept.specs.Finds.{AreFinds}
 use Rattle.mt_kept.specs.Losing.{TouchesSlot}
 use Rattle.mt_kept.specs.Made.{AreReplaced, WereDropped, avoids, opens}
 use Rattle.mt_kept.specs.Places.{seen, with_slot}
-use Rattle.mt_kept.proofs.Elements.{All-from_held}
+use Rattle.mt_base.proofs.Members.{All-from_held}
 use Rattle.mt_kept.proofs.Keeping.{kept_put, length_slot, map_slot, open_put}
 use Rattle.mt_kept.proofs.Replacing.{finds_sound, were_steps}
 use Rattle.mt_kept.proofs.kept.Kept.change.Goals as goal

@@ -1,5 +1,6 @@
 use Rattle.std.proofs.Common.{refl}
-use Rattle.mt_session.proofs.Books.{past_all, told_all}
+use Rattle.mt_machine.proofs.Books.{told_all}
+use Rattle.mt_session.proofs.Books.{past_all}
 use Rattle.mt_session.proofs.serving.Serving.keep_all.Goals as goal
 
 pub invariant_of-self : goal.invariant_of-self

@@ -1,18 +1,12 @@
 use Rattle.std.proofs.Common.{◌≡◌, false, refl}
 use Rattle.mt_top.specs.Status.{is_done}
 use Rattle.mt_top.specs.declared.status.Status.{Status}
-use Rattle.mt_top.specs.declared.status.Status.TheVariants.{Done, Usage, Setup, ReadFault, WriteFault, DoorFault, Spent, Memory}
+use Rattle.mt_top.specs.declared.status.Status.TheVariants.{Done}
 use Rattle.mt_top.proofs.status.Status.is_done.Goals as goal
 
 not_done : (status : Status) → (status ≡ Done → ⊥) → false ≡ is_done status
 not_done Done other = absurd (other refl)
-not_done Usage other = refl
-not_done Setup other = refl
-not_done ReadFault other = refl
-not_done WriteFault other = refl
-not_done DoorFault other = refl
-not_done Spent other = refl
-not_done Memory other = refl
+not_done status other = refl
 
 pub returns-in-Done : goal.returns-in-Done
 returns-in-Done c = rw c.in-Done.is refl

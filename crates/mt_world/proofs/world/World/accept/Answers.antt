@@ -7,7 +7,8 @@ use Rattle.mt_write.specs.declared.reply.Reply.TheVariants as replies
 use Rattle.mt_world.specs.Told.{entered_reply}
 use Rattle.mt_world.specs.World.{IsChanged, IsRefused}
 use Rattle.mt_picture.specs.Story.{Story}
-use Rattle.mt_world.proofs.Accepting.{accept_bounded, accept_free, accept_given, accept_in_time, accepted, accepting, empty_list, not_free, published_is}
+use Rattle.mt_base.proofs.Cases.{empty_list}
+use Rattle.mt_world.proofs.Accepting.{accept_bounded, accept_free, accept_given, accept_in_time, accepted, accepting, not_free, published_is}
 use Rattle.mt_world.proofs.Entering.{sound_after}
 use Rattle.mt_world.proofs.Taking.{seen}
 use Rattle.mt_world.proofs.WorldLemmas.{on_true}

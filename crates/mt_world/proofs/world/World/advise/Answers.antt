@@ -1,4 +1,4 @@
-use Rattle.std.proofs.Common.{◌<◌, ◌≡◌, ◌∙◌, ap, inl, length, sym, arith}
+use Rattle.std.proofs.Common.{◌<◌, ◌∙◌, ap, inl, length, sym, arith}
 use Rattle.mt_world.specs.Sound.{clearances_of}
 use Rattle.mt_world.specs.World as world
 use Rattle.mt_world.proofs.Advice.{items_length, tried_length}

@@ -1,4 +1,3 @@
-use Rattle.std.proofs.Common.{◌≡◌}
 use Rattle.mt_world.proofs.Entering.{changed_is}
 use Rattle.mt_world.proofs.WorldLemmas.{on_true_or}
 use Rattle.mt_world.proofs.world.World.change.Goals as goal

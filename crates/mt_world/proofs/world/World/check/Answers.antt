@@ -1,4 +1,4 @@
-use Rattle.std.proofs.Common.{◌≡◌, ap, inl, refl, true}
+use Rattle.std.proofs.Common.{ap, inl, refl}
 use Rattle.mt_write.specs.declared.reply.Reply.TheVariants as replies
 use Rattle.mt_world.proofs.WorldLemmas.{on_true}
 use Rattle.mt_world.proofs.world.World.check.Goals as goal

@@ -1,4 +1,4 @@
-use Rattle.std.proofs.Common.{◌≡◌, ap₂, inl, refl, true, List, ℕ}
+use Rattle.std.proofs.Common.{ap₂, inl, refl, List, ℕ}
 use Rattle.mt_write.specs.declared.reply.Reply.TheVariants as replies
 use Rattle.mt_world.proofs.WorldLemmas.{on_true}
 use Rattle.mt_world.proofs.world.World.due.Goals as goal

@@ -1,12 +1,4 @@
-use Rattle.std.proofs.Common.{◌≡◌, ◌∙◌, ap, inl, refl, sym, true, Option, Some, None, List, ℕ}
-use Rattle.std.specs.Option.{option_map}
-use Rattle.mt_base.specs.declared.flight.FlightView.{FlightView}
-use Rattle.mt_base.specs.declared.flight.Record.{Record}
-use Rattle.mt_base.specs.Picture.{flight_of}
-use Rattle.mt_base.specs.View.{view_of}
-use Rattle.mt_write.specs.declared.reply.Reply.{Reply}
-use Rattle.mt_write.specs.declared.reply.Reply.TheVariants as replies
-use Rattle.mt_world.specs.World.{picture_of, setup_of}
+use Rattle.std.proofs.Common.{◌∙◌, inl, sym}
 use Rattle.mt_world.proofs.WorldLemmas.{on_true}
 use Rattle.mt_world.proofs.Viewed.{not_there, there}
 use Rattle.mt_world.proofs.world.World.flight.Goals as goal

@@ -1,12 +1,12 @@
-use Rattle.std.proofs.Common.{◌<◌, ◌≡◌, ◌∙◌, ap, get_or, length, map, slice_set, sym, true, arith}
+use Rattle.std.proofs.Common.{◌<◌, ◌∙◌, ap, get_or, length, map, slice_set, sym, true, arith}
 use Rattle.mt_board.specs.Probing.{Probe}
 use Rattle.mt_machine.specs.Book.{Book, with_probe}
+use Rattle.mt_machine.proofs.Books.{all_push, told_push}
 use Rattle.mt_picture.specs.Story.{Story}
 use Rattle.mt_probe.specs.Hits.{told_of}
 use Rattle.mt_world.specs.Sound.{IsKeptOf, shown}
 use Rattle.mt_world.specs.World.{new_actor}
 use Rattle.mt_world.specs.World as world
-use Rattle.mt_world.proofs.Books.{all_push, told_push}
 use Rattle.mt_world.proofs.WorldLemmas.{actor_is, actor_sound, book_view, sound_set}
 use Rattle.mt_world.proofs.world.World.keep.Goals as goal
 
@@ -26,7 +26,7 @@ returns-clause-kept c =
     let a = c.index_mut.result.now in
     let within : c.args.who < length items = rw c.self.invariant.sixteen (omega (arith, c.requires.who)) in
     let actor = actor_is items c.args.who a within c.index_mut.ensures.value in
-    let book = told_push a.book c.args.probe ∙ ap (λ (b : world.Actor). with_probe b.book (told_of c.args.probe)) (sym actor) in
+    let book = told_push told_of a.book c.args.probe ∙ ap (λ (b : world.Actor). with_probe b.book (told_of c.args.probe)) (sym actor) in
     rw (← c.self.view_is, c.put.ensures.kept) (λ i. record {
       rules = c.self.inside.picture.setup.rules;
       tables = c.self.inside.picture.setup.tables;

@@ -1,4 +1,4 @@
-use Rattle.std.proofs.Common.{◌≡◌, ap, inl, refl, subst, sym, List}
+use Rattle.std.proofs.Common.{ap, inl, refl, subst, sym, List}
 use Rattle.mt_base.specs.declared.conflict.Conflict.{Conflict}
 use Rattle.mt_base.specs.History.{state_of}
 use Rattle.mt_base.specs.Picture.{IsPublished}

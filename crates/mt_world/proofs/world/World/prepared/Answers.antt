@@ -1,9 +1,8 @@
-use Rattle.std.proofs.Common.{◌≡◌, ◌∙◌, ap, subst, sym}
-use Rattle.mt_base.specs.declared.rules.Rules.{Rules}
+use Rattle.std.proofs.Common.{◌∙◌, ap, subst}
 use Rattle.mt_base.specs.Bounds.{AreWithinBounds}
 use Rattle.mt_base.specs.Tables.{Setup}
 use Rattle.mt_picture.specs.Story.{Story}
-use Rattle.mt_world.proofs.Entering.{denied_now, given_now}
+use Rattle.mt_picture.proofs.Given.{denied_now, given_now}
 use Rattle.mt_world.proofs.world.World.prepared.Goals as goal
 
 pub returns-clause-refused : goal.returns-clause-refused

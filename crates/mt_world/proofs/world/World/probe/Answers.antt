@@ -1,4 +1,4 @@
-use Rattle.std.proofs.Common.{◌≡◌, ◌∙◌, inl, refl, sym, true}
+use Rattle.std.proofs.Common.{◌∙◌, inl}
 use Rattle.mt_world.proofs.Taking.{brief_tried, probed_is, unprobed_is}
 use Rattle.mt_world.proofs.WorldLemmas.{on_true, on_true_or}
 use Rattle.mt_world.proofs.world.World.probe.Goals as goal

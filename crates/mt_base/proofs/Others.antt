@@ -1,4 +1,4 @@
-use Rattle.std.proofs.Common.{◌≡◌, ◌≢◌, ℕ, ◌<◌, List, [], ◌∷◌, ◌++◌, length, take, get_or, Option, Some, None, ◌∙◌, ap, arith}
+use Rattle.std.proofs.Common.{◌≡◌, ◌≢◌, ℕ, ◌<◌, List, [], ◌∷◌, length, take, get_or, Option, Some, None, ◌∙◌, ap, arith}
 use Rattle.std.proofs.lemmas.List.{get_or-take, get_or_default, length-take}
 use Rattle.std.proofs.lemmas.List.Elements.{All-from_recursion, recursion_from_All}
 use Rattle.std.specs.List.{AllByRecursion, flat_map}
@@ -8,12 +8,8 @@ use Rattle.mt_base.specs.declared.flight.Path.TheVariants.{Planned, Outer}
 use Rattle.mt_base.specs.declared.flight.Record.{Record}
 use Rattle.mt_base.specs.Picture.{HaveOwnCalls, tentative_of, trajectories_of}
 use Rattle.mt_base.specs.Tables.{Setup}
-use Rattle.mt_machine.specs.Others.{AreOfOthers}
-
--- what holds of all of two lists holds of all of both
-joined : {X : Type 0} (P : X → Type 0) (xs ys : List X) → AllByRecursion P xs → AllByRecursion P ys → AllByRecursion P (xs ++ ys)
-joined P [] ys all rest = rest
-joined P (x ∷ xs) ys all rest = (all.0, joined P xs ys all.1 rest)
+use Rattle.mt_base.specs.Others.{AreOfOthers}
+use Rattle.mt_base.proofs.Members.{both_all}
 
 -- a flight's tentative trajectory has its callsign
 tentative : (setup : Setup) (call own : List ℕ) (path : Path) → own ≢ call → AllByRecursion (λ t. t.call ≢ call) (tentative_of setup own path)
@@ -28,7 +24,7 @@ others : (setup : Setup) (call : List ℕ) (flights : List Record) → AllByRecu
     → AllByRecursion (λ t. t.call ≢ call) (flat_map (trajectories_of setup) flights)
 others setup call [] all = tt
 others setup call (f ∷ fs) all =
-    joined (λ t. t.call ≢ call) (trajectories_of setup f) (flat_map (trajectories_of setup) fs) (all.0, tentative setup call f.call f.path all.0)
+    both_all (λ t. t.call ≢ call) (trajectories_of setup f) (flat_map (trajectories_of setup) fs) (all.0, tentative setup call f.call f.path all.0)
     (others setup call fs all.1)
 
 -- the flights before one have other callsigns

@@ -1,10 +1,10 @@
--- Which elements lists have.
+-- Which members lists have.
 use Rattle.std.proofs.Common.{◌≡◌, ℕ, suc, ◌+◌, ◌<◌, ◌⊎◌, inl, inr, ⊎_elim, ◌↔◌, Bool, true, false, true≢false, cond, List, [], ◌∷◌, ◌++◌, Contains, length, map, take, get_or, refl, sym, ◌∙◌, ap, subst, arith}
-use Rattle.std.specs.List.{All, AllPairs, filter}
+use Rattle.std.specs.List.{All, AllByRecursion, AllPairs, filter, flat_map}
 use Rattle.std.proofs.Math.ListN.{get_or-map}
-use Rattle.std.proofs.lemmas.List.{take_more, get_or-take, length-map, length-take}
+use Rattle.std.proofs.lemmas.List.{take_more, get_or-take, get_or_default, length-map, length-take}
 use Rattle.std.proofs.lemmas.List.Kept.{AllPairs-cons}
-use Rattle.std.proofs.lemmas.List.Elements.{All-append, All-map, filter-append, Contains-get_or, Contains-append_right, Contains-append_cases, Contains-push_cases}
+use Rattle.std.proofs.lemmas.List.Elements.{All-append, All-contains, All-map, Contains-get_or, Contains-append_left, Contains-append_right, Contains-append_cases, Contains-push_cases}
 
 pub Contains-none : {X : Type 0} (x : X) → ¬ Contains [] x
 Contains-none x held = omega (arith, held.1)
@@ -60,9 +60,30 @@ Contains-map {Y = Y} f (z ∷ xs) x held = ⊎_elim
     (λ later. Contains-later (f z) (map f xs) (f x) (Contains-map f xs x later))
     (Contains-cases z xs x held)
 
--- a push of a list, one element more
-pub filter_push : {X : Type 0} (p : X → Bool) (xs : List X) (x : X) → filter p (xs ++ x ∷ []) ≡ filter p xs ++ cond (p x) (x ∷ []) []
-filter_push p xs x = filter-append p xs (x ∷ [])
+-- a member of one of the lists that are joined
+pub record IsInOne {X Y : Type 0} (f : X → List Y) (xs : List X) (y : Y) : Type 0 where
+  pub of : X
+  pub there : Contains xs of
+  pub within : Contains (f of) y
+
+pub Contains-flat_map_cases : {X Y : Type 0} (f : X → List Y) (xs : List X) (y : Y) → Contains (flat_map f xs) y → IsInOne f xs y
+Contains-flat_map_cases f [] y held = absurd (Contains-none y held)
+Contains-flat_map_cases f (x ∷ xs) y held = ⊎_elim
+    (λ first. record { of = x; there = Contains-head x xs; within = first })
+    (λ rest. let it = Contains-flat_map_cases f xs y rest in record { of = it.of; there = Contains-later x xs it.of it.there; within = it.within })
+    (Contains-append_cases (f x) (flat_map f xs) y held)
+
+pub Contains-flat_map : {X Y : Type 0} (f : X → List Y) (xs : List X) (x : X) (y : Y) → Contains xs x → Contains (f x) y → Contains (flat_map f xs) y
+Contains-flat_map f [] x y there within = absurd (Contains-none x there)
+Contains-flat_map f (z ∷ xs) x y there within = ⊎_elim
+    (λ same. Contains-append_left (f z) (flat_map f xs) y (subst (λ w. Contains (f w) y) (sym same) within))
+    (λ rest. Contains-append_right (f z) (flat_map f xs) y (Contains-flat_map f xs x y rest within))
+    (Contains-cases z xs x there)
+
+-- what holds of all of two lists holds of all of both
+pub both_all : {X : Type 0} (P : X → Type 0) (xs ys : List X) → AllByRecursion P xs → AllByRecursion P ys → AllByRecursion P (xs ++ ys)
+both_all P [] ys all rest = rest
+both_all P (x ∷ xs) ys all rest = (all.0, both_all P xs ys all.1 rest)
 
 -- no two elements of two lists, one behind the other, are equal
 pub distinct_append : {X : Type 0} (R : X → X → Type 0) (xs ys : List X) → AllPairs R xs → AllPairs R ys
@@ -113,3 +134,8 @@ pub distinct_held : {X : Type 0} (R S : X → X → Type 0) (xs : List X) → ((
 distinct_held R S xs weaker all = λ i j d before below.
     let i_below : i < length xs = omega arith in
     weaker (get_or xs i d) (get_or xs j d) (Contains-get_or xs i d i_below) (Contains-get_or xs j d below) (all i j d before below)
+
+-- what holds of all members of a list holds of all of one that has no others
+pub all_among : {X : Type 0} (P : X → Type 0) (xs ys : List X) → All P xs → ((x : X) → Contains ys x → Contains xs x) → All P ys
+all_among P xs ys all among = λ k d below.
+    All-contains P xs (get_or ys k d) all (among (get_or ys k d) (k, below, get_or_default ys k (get_or ys k d) d below))

@@ -1,34 +1,24 @@
 -- Commands that are prepared on the state of a picture now.
-use Rattle.std.proofs.Common.{◌≡◌, ℕ, Bool, true, false, List, length, take, Some, Err, sym, ◌∙◌, ap, subst, true≢false, arith}
-use Rattle.std.specs.Prelude.{IsTrue, ◌↔◌}
+use Rattle.std.proofs.Common.{◌≡◌, ℕ, List, length, take, Some, Err, sym, ◌∙◌, ap, subst, arith}
 use Rattle.std.proofs.Math.Seq.{take-length}
 use Rattle.mt_base.specs.declared.command.Command.{Command}
-use Rattle.mt_base.specs.declared.command.Command.TheVariants.{Accept, Tentative}
+use Rattle.mt_base.specs.declared.command.Command.TheVariants.{Tentative}
 use Rattle.mt_base.specs.declared.command.Entry.{Entry}
-use Rattle.mt_base.specs.Bounds.{AreWithinBounds, IsBoundedCommand}
+use Rattle.mt_base.specs.Bounds.{AreWithinBounds}
 use Rattle.mt_base.specs.History.{state_of}
 use Rattle.mt_base.specs.Picture.{State}
 use Rattle.mt_base.specs.Tables.{Setup}
 use Rattle.mt_base.proofs.HistoryLemmas.{version_is}
 use Rattle.mt_board.specs.declared.no.No.{No}
 use Rattle.mt_board.specs.declared.no.No.TheVariants as nos
-use Rattle.mt_change.specs.Altered.{IsBoundedBesides}
 use Rattle.mt_picture.specs.Story.{IsGivenFor, IsPreparedFor, IsRefused, Story}
 use Rattle.mt_probe.specs.Prepared.{IsPrepOf, IsRefusedOn, MakesStrand, Prepared, judged_aside}
 use Rattle.mt_probe.specs.Shot.{Shot}
 use Rattle.mt_probe.specs.Shot.{state_of as state_in}
 use Rattle.mt_probe.proofs.Aside.{aside_refused}
 
--- bounded besides the version that it names
-pub bounded_besides : (c : Command) → IsBoundedCommand c → IsBoundedBesides c
-bounded_besides (Accept call clearance eff probed) bounded = (bounded.0, bounded.1)
-bounded_besides c bounded = bounded
-
-pub not_made : (b : Bool) (M : Type 0) → IsTrue b ↔ M → b ≡ false → M → ⊥
-not_made true M is none made = absurd (true≢false none)
-not_made false M is none made = absurd (true≢false (sym (is.1 made)))
-
-prepared_for : (c : Command) (who preparer : ℕ) → preparer ≡ who → IsPreparedFor c who preparer
+-- what is prepared for an actor is prepared for the one that asks
+pub prepared_for : (c : Command) (who preparer : ℕ) → preparer ≡ who → IsPreparedFor c who preparer
 prepared_for (Tentative call clearance eff) who preparer is = is
 prepared_for c who preparer is = tt
 
