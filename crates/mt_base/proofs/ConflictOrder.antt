@@ -16,7 +16,7 @@ use Rattle.mt_base.specs.contracts.conflict.ConflictPartialEq.TheImpl as conflic
 use Rattle.mt_base.specs.contracts.conflict.ConflictEq.TheImpl.Laws as eq_laws
 use Rattle.mt_base.specs.contracts.conflict.KindOrd.TheImpl as kind
 
-kinds : (x y : Kind) → kind.ghosts.cmp x y ≡ kind_cmp x y
+pub kinds : (x y : Kind) → kind.ghosts.cmp x y ≡ kind_cmp x y
 kinds Actual Actual = refl
 kinds Actual Tentative = refl
 kinds Tentative Actual = refl
@@ -57,7 +57,7 @@ then_second Greater p e = cc
 pub one_text : (s t : List ℕ) → slice_cmp nat_cmp s t ≡ Equal → s ≡ t
 one_text = slice_cmp-IsAntisymmetric nat_cmp-IsAntisymmetric
 
-one_kind : (x y : Kind) → kind_cmp x y ≡ Equal → x ≡ y
+pub one_kind : (x y : Kind) → kind_cmp x y ≡ Equal → x ≡ y
 one_kind Actual Actual e = refl
 one_kind Actual Tentative e = cc
 one_kind Tentative Actual e = cc

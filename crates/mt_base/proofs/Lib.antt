@@ -13,3 +13,5 @@ pub mod OneOrder
 pub mod Others
 pub mod RuleLemmas
 pub mod Tallies
+pub mod PiercedOrder
+pub mod Spans

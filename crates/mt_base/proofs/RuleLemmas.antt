@@ -14,7 +14,7 @@ tested low high z w = grind (arith, ints, w.least, w.most)
 
 pub bounded : (rules : Rules) → IsOk (judged (rule_checks rules) (tt {0})) → AreWithinBounds rules
 bounded rules ok =
-    let (sh, (sv, (r0, (gh, (rmax, (w0, (gv, (wmax, (tc, (ta, (tv, (flights, (history, _))))))))))))) = all_passed (rule_checks rules) (tt {0}) ok in
+    let (sh, (sv, (r0, (gh, (rmax, (w0, (gv, (wmax, (tc, (ta, (tv, (flights, (history, (sv2, _)))))))))))))) = all_passed (rule_checks rules) (tt {0}) ok in
     record {
       sh = inside _ _ _ sh;
       sv = inside _ _ _ sv;
@@ -29,6 +29,7 @@ bounded rules ok =
       tv = inside _ _ _ tv;
       flights = inside _ _ _ flights;
       history = inside _ _ _ history;
+      sv2 = inside _ _ _ sv2;
     }
 
 pub every : (rules : Rules) → AreWithinBounds rules → IsOk (judged (rule_checks rules) (tt {0}))
@@ -54,7 +55,7 @@ every rules w = all_pass (rule_checks rules) (tt {0}) (
                     tested _ _ _ w.ta,
                     (
                       tested _ _ _ w.tv,
-                      (tested _ _ _ w.flights, (tested _ _ _ w.history, tt)),
+                      (tested _ _ _ w.flights, (tested _ _ _ w.history, (tested _ _ _ w.sv2, tt))),
                     ),
                   ),
                 ),

@@ -129,7 +129,7 @@ IsBoundedClearance (Direct fix) = ⊤
 
 -- the numbers of a command are within their bounds
 abbrev pub IsBoundedCommand : Command → Type 0
-IsBoundedCommand (Plan call kind route at from level) = (at ≤ 10000000) × (from ≤ 600) × (level ≤ 600)
+IsBoundedCommand (Plan call kind route at from level rvsm) = (at ≤ 10000000) × (from ≤ 600) × (level ≤ 600)
 IsBoundedCommand (External call straight) = IsBoundedStretch straight
 IsBoundedCommand (Drop call) = Unit {0}
 IsBoundedCommand (commands.Report call report) = IsBoundedReport report
@@ -161,3 +161,4 @@ pub record AreWithinBounds (rules : Rules) : Type 0 where
   pub tv : IsWithin (pos 0) (pos 600000) rules.tv
   pub flights : IsWithin (pos 1) (pos 1024) rules.flights
   pub history : IsWithin (pos 1) (pos 4194304) rules.history
+  pub sv2 : IsWithin rules.sv (pos 600000) rules.sv2

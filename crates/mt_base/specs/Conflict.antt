@@ -10,7 +10,7 @@ pub record IsLossSecond (rules : Rules) (a b : Trajectory) (k : ℕ) : Type 0 wh
   pub right : Row
   pub left_is : row_at a k ≡ Some left
   pub right_is : row_at b k ≡ Some right
-  pub loss : LosesIn rules left right
+  pub loss : LosesIn rules a.rvsm b.rvsm left right
 
 -- Of the seconds from `from` up to `to`, `first` is the least loss second and `last` the greatest.
 pub record IsSpanOfLoss (rules : Rules) (a b : Trajectory) (from to first last : ℕ) : Type 0 where

@@ -41,7 +41,7 @@ pub record Look : Type 0 where
 
 -- the callsign that a command names
 abbrev pub call_of : Command → Option (List ℕ)
-call_of (Plan call kind route at from level) = Some call
+call_of (Plan call kind route at from level rvsm) = Some call
 call_of (External call straight) = Some call
 call_of (Drop call) = Some call
 call_of (Tick now) = None
@@ -94,7 +94,7 @@ is_owned who mark = option_map_or (λ (m : Mark). nat_eq m.owner who) mark false
 
 -- What is checked of a command, in order.
 abbrev pub checks : Setup → Look → ℕ → Command → List (Refusal × Bool)
-checks setup look who (Plan call kind route at from level) =
+checks setup look who (Plan call kind route at from level rvsm) =
     (HeldCall, not (is_some look.flight)) ∷
     (UnknownType kind, is_some (bands_of setup.tables kind)) ∷
     (route_checks setup.tables route ++
@@ -177,8 +177,8 @@ first_of [] = record { x = pos 0; y = pos 0 }
 first_of (p ∷ ps) = p
 
 -- the course of a plan
-abbrev pub course_of : Setup → List ℕ → List (List ℕ) → ℕ → ℕ → ℕ → Course
-course_of setup kind route at from level = record {
+abbrev pub course_of : Setup → List ℕ → List (List ℕ) → ℕ → ℕ → ℕ → Bool → Course
+course_of setup kind route at from level rvsm = record {
   kind = kind;
   route = route;
   base = base_of setup.rules (first_of (points_of setup.tables route)) at from;
@@ -186,6 +186,7 @@ course_of setup kind route at from level = record {
   last = None;
   due = false;
   mark = None;
+  rvsm = rvsm;
 }
 
 -- a course with what a clearance leaves of it
@@ -240,8 +241,8 @@ committed_path (Outer stretch) = Outer stretch
 
 -- the records and the moment that an entry leaves
 abbrev pub records_after : Setup → ℕ → Command → List Record → List Record
-records_after setup who (Plan call kind route at from level) flights =
-    flights ++ (record { call = call; path = Planned (course_of setup kind route at from level) }) ∷ []
+records_after setup who (Plan call kind route at from level rvsm) flights =
+    flights ++ (record { call = call; path = Planned (course_of setup kind route at from level rvsm) }) ∷ []
 records_after setup who (External call straight) flights = flights ++ (record { call = call; path = Outer straight }) ∷ []
 records_after setup who (Drop call) flights = filter (λ flight. not (bytes_eq flight.call call)) flights
 records_after setup who (commands.Report call report) flights = map (changed call (reported_path setup report)) flights

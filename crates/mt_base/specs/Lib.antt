@@ -1,7 +1,9 @@
 pub mod Advice
+pub mod Area
 pub mod Bounds
 pub mod Checks
 pub mod Cleared
+pub mod Complete
 pub mod Conflict
 pub mod History
 pub mod Instant
@@ -10,10 +12,12 @@ pub mod Name
 pub mod Others
 pub mod Padded
 pub mod Picture
+pub mod Pierced
 pub mod Predictor
 pub mod Renewed
 pub mod Rules
 pub mod Settled
+pub mod Span
 pub mod StrikeOut
 pub mod Tables
 pub mod Tally

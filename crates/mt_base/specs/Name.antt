@@ -1,4 +1,4 @@
-use Rattle.std.specs.Prelude.{ℕ, Bool, List, length, Option, Some, None, nat_le, ◌&&◌, ◌||◌, if◌then◌else◌}
+use Rattle.std.specs.Prelude.{◌≡◌, ℕ, Bool, true, List, length, Option, Some, None, nat_le, ◌&&◌, ◌||◌, if◌then◌else◌}
 use Rattle.std.specs.List.{list_all}
 
 -- a capital letter or a digit
@@ -12,3 +12,13 @@ is_name low high text = nat_le low (length text) && nat_le (length text) high &&
 -- the name that a text is, or none
 abbrev pub name_of : ℕ → ℕ → List ℕ → Option (List ℕ)
 name_of low high text = if is_name low high text then Some text else None
+
+-- the callsign of a flight, the name of a fix and the name of a type
+abbrev pub IsCallsign : List ℕ → Type 0
+IsCallsign text = is_name 1 7 text ≡ true
+
+abbrev pub IsFixName : List ℕ → Type 0
+IsFixName text = is_name 2 5 text ≡ true
+
+abbrev pub IsTypeName : List ℕ → Type 0
+IsTypeName text = is_name 2 4 text ≡ true

@@ -47,11 +47,11 @@ pub record NamedTrajectory : Type 0 where
 
 -- the trajectory that a flight flies, and the one of a tentative clearance
 abbrev pub trajectory_of : Setup → Path → Trajectory
-trajectory_of setup (Planned course) = flown setup course.kind course.route course.base course.level
+trajectory_of setup (Planned course) = flown setup course.kind course.route course.base course.level course.rvsm
 trajectory_of setup (Outer stretch) = straight stretch
 
 abbrev pub trajectory_marked : Setup → Course → Mark → Trajectory
-trajectory_marked setup course mark = flown setup course.kind course.route mark.base mark.level
+trajectory_marked setup course mark = flown setup course.kind course.route mark.base mark.level course.rvsm
 
 -- the tentative trajectory of a flight that has a tentative clearance
 abbrev pub tentative_of : Setup → List ℕ → Path → List NamedTrajectory

@@ -128,9 +128,10 @@ place_of b = record { x = b.x; y = b.y; z = b.z; r = b.r; w = b.w }
 abbrev pub manner_of : Setup → List ℕ → ℕ → Manner
 manner_of setup kind level = record { rules = setup.rules; bands = unwrap_or (bands_of setup.tables kind) []; level = level }
 
--- The trajectory of a type along a route, from a base and cleared to a level.
-abbrev pub flown : Setup → List ℕ → List (List ℕ) → Base → ℕ → Trajectory
-flown setup kind route base level = record {
+-- The trajectory of a type along a route, from a base and cleared to a level, of an aircraft with that approval.
+abbrev pub flown : Setup → List ℕ → List (List ℕ) → Base → ℕ → Bool → Trajectory
+flown setup kind route base level rvsm = record {
   start = base.at;
   rows = predicted (manner_of setup kind level) base.next (drop base.next (points_of setup.tables route)) (place_of base);
+  rvsm = rvsm;
 }

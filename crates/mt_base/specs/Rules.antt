@@ -1,7 +1,7 @@
 use Rattle.std.specs.Prelude.{ℤ, pos, ◌&&◌, int_le, Bool, List, [], ◌∷◌}
 use Rattle.mt_base.specs.declared.rules.Rules.{Rules}
 use Rattle.mt_base.specs.declared.rules.RuleName.{RuleName}
-use Rattle.mt_base.specs.declared.rules.RuleName.TheVariants.{Sh, Sv, R0, Gh, Rmax, W0, Gv, Wmax, Tc, Ta, Tv, Flights, History}
+use Rattle.mt_base.specs.declared.rules.RuleName.TheVariants.{Sh, Sv, R0, Gh, Rmax, W0, Gv, Wmax, Tc, Ta, Tv, Flights, History, Sv2}
 
 -- the rules of a picture for which none was set
 abbrev pub usual_rules : Rules
@@ -19,6 +19,7 @@ usual_rules = record {
   tv = pos 18000;
   flights = pos 1024;
   history = pos 4194304;
+  sv2 = pos 120000;
 }
 
 abbrev pub is_within : ℤ → ℤ → ℤ → Bool
@@ -39,4 +40,5 @@ rule_checks rules =
     (Ta, is_within (pos 0) (pos 360000) rules.ta) ∷
     (Tv, is_within (pos 0) (pos 600000) rules.tv) ∷
     (Flights, is_within (pos 1) (pos 1024) rules.flights) ∷
-    (History, is_within (pos 1) (pos 4194304) rules.history) ∷ []
+    (History, is_within (pos 1) (pos 4194304) rules.history) ∷
+    (Sv2, is_within rules.sv (pos 600000) rules.sv2) ∷ []

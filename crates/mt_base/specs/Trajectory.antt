@@ -1,11 +1,12 @@
-use Rattle.std.specs.Prelude.{ℕ, zero, suc, ◌-◌, ◌+ℤ◌, List, [], ◌∷◌, Option, None, slice_get, nat_lt, if◌then◌else◌}
+use Rattle.std.specs.Prelude.{ℕ, zero, suc, ◌-◌, ◌+ℤ◌, Bool, List, [], ◌∷◌, Option, None, slice_get, nat_lt, if◌then◌else◌}
 use Rattle.mt_base.specs.declared.row.Row.{Row}
 use Rattle.mt_base.specs.declared.flight.Straight.{Straight}
 
--- A trajectory: its first second, and a row for each second from there.
+-- A trajectory: its first second, a row for each second from there, and whether the aircraft is approved for RVSM.
 pub record Trajectory : Type 0 where
   pub start : ℕ
   pub rows : List Row
+  pub rvsm : Bool
 
 -- the row of second k, where the trajectory covers it
 abbrev pub row_at : Trajectory → ℕ → Option Row
@@ -22,4 +23,4 @@ straight_rows a (suc n) = a ∷ straight_rows (next_row a) n
 
 -- the trajectory of a straight stretch
 abbrev pub straight : Straight → Trajectory
-straight s = record { start = s.from; rows = straight_rows s.first (s.to - s.from) }
+straight s = record { start = s.from; rows = straight_rows s.first (s.to - s.from); rvsm = s.rvsm }

@@ -50,7 +50,7 @@ what_if_checks setup now flight call clearance eff =
 
 -- the trajectory that a clearance leaves
 abbrev pub aimed : Setup → Course → Aim → Trajectory
-aimed setup course aim = flown setup course.kind course.route aim.base aim.level
+aimed setup course aim = flown setup course.kind course.route aim.base aim.level course.rvsm
 
 abbrev pub trajectory_cleared : Setup → Course → Clearance → ℕ → Trajectory
 trajectory_cleared setup course clearance eff = aimed setup course (aim_of course (trajectory_of setup (Planned course)) clearance eff)

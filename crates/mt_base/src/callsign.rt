@@ -1,5 +1,5 @@
-ghost use Rattle.std.specs.Prelude.{◌≡◌, true};
-ghost use Rattle.mt_base.specs.Name.{is_name, name_of};
+ghost use Rattle.std.specs.Prelude.{◌≡◌};
+ghost use Rattle.mt_base.specs.Name.{IsCallsign, name_of};
 
 use crate::list::Listed;
 use crate::name::Name;
@@ -34,7 +34,7 @@ impl Callsign {
     /// Its letters.
     pub fn bytes(&self) -> &[u8]
         ensures text { result.now ≡ self.now }
-        ensures named { is_name 1 7 self.now ≡ true }
+        ensures named { IsCallsign self.now }
     {
         self.name.bytes()
     }

@@ -31,6 +31,8 @@ pub enum Command {
         from: u32,
         /// The flight level that it is cleared to.
         level: u32,
+        /// Whether the aircraft is approved for RVSM.
+        rvsm: bool,
     },
     /// File an external flight.
     External {
@@ -163,6 +165,7 @@ impl Command {
                 at,
                 from,
                 level,
+                rvsm,
             } => Ok(Command::Plan {
                 call: *call,
                 kind: *kind,
@@ -170,6 +173,7 @@ impl Command {
                 at: *at,
                 from: *from,
                 level: *level,
+                rvsm: *rvsm,
             }),
             &Command::External { call, straight } => Ok(Command::External { call, straight }),
             Command::Drop { call } => Ok(Command::Drop { call: *call }),

@@ -16,6 +16,8 @@ pub struct Straight {
     pub to: Second,
     /// The values and gains of the first second.
     pub first: Row,
+    /// Whether the aircraft is approved for RVSM.
+    pub rvsm: bool,
 }
 
 /// Where a planned trajectory begins; units as in [`Row`].
@@ -78,6 +80,8 @@ pub struct Course {
     pub due: bool,
     /// Its tentative clearance.
     pub mark: Option<Mark>,
+    /// Whether the aircraft is approved for RVSM.
+    pub rvsm: bool,
 }
 
 impl Course {
@@ -93,6 +97,7 @@ impl Course {
             last: self.last,
             due: self.due,
             mark: self.mark,
+            rvsm: self.rvsm,
         })
     }
 }

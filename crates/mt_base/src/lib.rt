@@ -3,6 +3,7 @@
 //! Units are whole: 1/3600 of a nautical mile horizontally, 1/60 of a foot vertically, and seconds.
 #![tactic(auto)]
 
+mod area;
 mod band;
 mod callsign;
 mod checks;
@@ -16,6 +17,7 @@ mod hit;
 mod laws;
 mod list;
 mod name;
+mod named;
 mod place;
 mod role;
 mod route;
@@ -27,6 +29,7 @@ mod type_name;
 mod verdict;
 mod words;
 
+pub use area::{Area, Corners, Pierced, Pierces};
 pub use band::{Band, Bands};
 pub use callsign::{Calls, Callsign};
 pub use checks::must;

@@ -33,6 +33,8 @@ pub enum RuleName {
     Flights,
     /// The greatest number of entries.
     History,
+    /// The greater vertical minimum.
+    Sv2,
 }
 
 fn is_within(low: i64, high: i64, rule: i64) -> bool
@@ -53,6 +55,13 @@ fn up_to(name: RuleName, rule: &i64, most: &i64) -> Result<(), RuleName>
     ensures { result ≡ check (name, is_within (pos 0) most.now rule.now) }
 {
     must(is_within(0, *most, *rule), name)
+}
+
+// Whether a rule is at least another and at most a constant.
+fn from_rule(name: RuleName, rule: &i64, least: &i64, most: i64) -> Result<(), RuleName>
+    ensures { result ≡ check (name, is_within least.now most rule.now) }
+{
+    must(is_within(*least, most, *rule), name)
 }
 
 /// The parameters of a picture. They are set before it begins and then stay.
@@ -84,6 +93,8 @@ pub struct Rules {
     pub flights: i64,
     /// The greatest number of entries of the history.
     pub history: i64,
+    /// Vertical minimum above flight level 410, and above 290 without approval, in 1/60 of a foot.
+    pub sv2: i64,
 }
 
 impl Rules {
@@ -91,7 +102,8 @@ impl Rules {
     ghost use Rattle.mt_base.specs.Checks.{judged};
     ghost use Rattle.mt_base.specs.Rules.{rule_checks, usual_rules};
 
-    /// The rules of a picture for which none was set: 5 nautical miles, 1,000 feet, and margins that grow with time.
+    /// The rules of a picture for which none was set: 5 nautical miles, 1,000 feet, 2,000 feet
+    /// above flight level 410 and above 290 without approval, and margins that grow with time.
     pub fn usual() -> Rules
         ensures value { result ≡ usual_rules }
         ensures bounded { AreWithinBounds result }
@@ -110,6 +122,7 @@ impl Rules {
             tv: 18_000,
             flights: 1_024,
             history: 4_194_304,
+            sv2: 120_000,
         }
     }
 
@@ -137,6 +150,7 @@ impl Rules {
         within(RuleName::Ta, &self.ta, 0, 360_000)?;
         within(RuleName::Tv, &self.tv, 0, 600_000)?;
         within(RuleName::Flights, &self.flights, 1, 1_024)?;
-        within(RuleName::History, &self.history, 1, 4_194_304)
+        within(RuleName::History, &self.history, 1, 4_194_304)?;
+        from_rule(RuleName::Sv2, &self.sv2, &self.sv, 600_000)
     }
 }

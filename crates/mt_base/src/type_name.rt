@@ -1,12 +1,15 @@
-ghost use Rattle.std.specs.Prelude.{◌≡◌, true, nat_eq};
+ghost use Rattle.std.specs.Prelude.{◌≡◌, nat_eq, Some};
+ghost use Rattle.std.specs.Ordering.{nat_cmp};
+ghost use Rattle.std.proofs.Common.{refl};
 ghost use Rattle.std.specs.Cmp;
-ghost use Rattle.std.specs.Cmp.Lexicographic.{pointwise, nat_list_eq_equiv};
-ghost use Rattle.mt_base.specs.Name.{is_name, name_of};
+ghost use Rattle.std.specs.Cmp.Lexicographic.{pointwise, slice_cmp, nat_list_eq_equiv, nat_list_cmp_total, texts_po, texts_ties};
+ghost use Rattle.mt_base.specs.Name.{IsTypeName, name_of};
 
 use crate::name::Name;
+use std::cmp::Ordering;
 use std::marker::Model;
 
-/// The name of a type of aircraft: 2 to 4 capital letters and digits, seen as their list.
+/// The name of a type of aircraft: 2 to 4 capital letters and digits, seen as their list and ordered by bytes.
 #[derive(Clone, Copy, Hash)]
 pub struct TypeName {
     name: Name,
@@ -14,10 +17,13 @@ pub struct TypeName {
 
 impl Model for TypeName {
     ghost use Rattle.std.specs.Prelude.{ℕ, List};
+    ghost use Rattle.mt_base.specs.Name.{IsTypeName};
 
     ghost Value = { List ℕ };
 
     ghost view = { λ t. t.name };
+
+    ghost invariant = { λ t. IsTypeName t.name };
 
     ghost inverse = { λ text. record { name = text } };
 }
@@ -35,7 +41,7 @@ impl TypeName {
     /// Its letters.
     pub fn bytes(&self) -> &[u8]
         ensures text { result.now ≡ self.now }
-        ensures named { is_name 1 7 self.now ≡ true }
+        ensures named { IsTypeName self.now }
     {
         self.name.bytes()
     }
@@ -53,4 +59,28 @@ impl PartialEq for TypeName {
 
 impl Eq for TypeName {
     ghost laws = { nat_list_eq_equiv };
+}
+
+impl PartialOrd for TypeName {
+    ghost partial_cmp = { λ x y. Some (slice_cmp nat_cmp x y) };
+
+    ghost laws = { texts_po };
+
+    fn partial_cmp(&self, other: &Self) -> Option<Ordering> {
+        Some(self.cmp(other))
+    }
+}
+
+impl Ord for TypeName {
+    ghost cmp = { slice_cmp nat_cmp };
+
+    ghost total = { nat_list_cmp_total };
+
+    ghost matches_partial_cmp = { λ x y. refl };
+
+    ghost matches_eq = { texts_ties };
+
+    fn cmp(&self, other: &Self) -> Ordering {
+        self.name.cmp(&other.name)
+    }
 }

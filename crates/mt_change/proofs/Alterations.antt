@@ -38,7 +38,7 @@ PassesOn setup look who command = AllByRecursion (λ c. c.1 ≡ true) (checks se
 -- and where its checks are passed the flight that it changes is there and planned
 pub planned : (setup : Setup) (look : Look) (who : ℕ) (command : Command) → Alters command → PassesOn setup look who command
     → is_some (course_in look.flight) ≡ true
-planned setup look who (Plan own kind route at from level) alters passed = absurd alters
+planned setup look who (Plan own kind route at from level rvsm) alters passed = absurd alters
 planned setup look who (External own straight) alters passed = absurd alters
 planned setup look who (Drop own) alters passed = absurd alters
 planned setup look who (Tick now) alters passed = absurd alters
@@ -91,7 +91,7 @@ checks_there list is all = subst (λ (a : Option Course). AllByRecursion (λ (c 
 pub can_alter : (setup : Setup) (look : Look) (who : ℕ) (command : Command) (flight : Record) (course : Course) → Alters command
     → PassesOn setup look who command → command ≡ filled look.now command → look.flight ≡ Some flight → flight.path ≡ Planned course
     → CanAlter setup look.now course command
-can_alter setup look who (Plan own kind route at from level) flight course alters passed fill found plan = absurd alters
+can_alter setup look who (Plan own kind route at from level rvsm) flight course alters passed fill found plan = absurd alters
 can_alter setup look who (External own straight) flight course alters passed fill found plan = absurd alters
 can_alter setup look who (Drop own) flight course alters passed fill found plan = absurd alters
 can_alter setup look who (Tick now) flight course alters passed fill found plan = absurd alters
@@ -121,7 +121,7 @@ can_alter setup look who (Tentative own clearance eff) flight course alters pass
 -- the flights that it leaves are those of which that one has another path
 pub records_are : (setup : Setup) (who : ℕ) (command : Command) (call : List ℕ) (flights : List Record) → Alters command → call_of command ≡ Some call
     → records_after setup who command flights ≡ map (changed call (path_after setup who command)) flights
-records_are setup who (Plan own kind route at from level) call flights alters is = absurd alters
+records_are setup who (Plan own kind route at from level rvsm) call flights alters is = absurd alters
 records_are setup who (External own straight) call flights alters is = absurd alters
 records_are setup who (Drop own) call flights alters is = absurd alters
 records_are setup who (Tick now) call flights alters is = absurd alters

@@ -34,11 +34,11 @@ few_names setup course sound =
     (names_of_route setup.tables course.route (all_passed (route_checks setup.tables course.route) (tt {0}) (rw sound.route refl))).1
 
 -- the course of a plan that passed its checks is sound
-pub sound_course : (setup : Setup) (kind : List ℕ) (route : List (List ℕ)) (at from level : ℕ) → AreWithinBounds setup.rules
+pub sound_course : (setup : Setup) (kind : List ℕ) (route : List (List ℕ)) (at from level : ℕ) (rvsm : Bool) → AreWithinBounds setup.rules
     → at ≤ 10000000 → from ≤ 600 → level ≤ 600 → IsInPlane (first_of (points_of setup.tables route)).x (first_of (points_of setup.tables route)).y
     → is_some (bands_of setup.tables kind) ≡ true → AllByRecursion (λ c. c.1 ≡ true) (route_checks setup.tables route)
-    → IsSoundCourse setup (course_of setup kind route at from level)
-sound_course setup kind route at from level rules at_early from_low level_low plane known tests = record {
+    → IsSoundCourse setup (course_of setup kind route at from level rvsm)
+sound_course setup kind route at from level rvsm rules at_early from_low level_low plane known tests = record {
   kind = known;
   route = ok_is (judged (route_checks setup.tables route) (tt {0})) (all_pass (route_checks setup.tables route) (tt {0}) tests);
   level = level_low;

@@ -60,7 +60,7 @@ pub record IsAlterationBy (setup : Setup) (who : ℕ) (command : Command) (cours
 
 -- a command that changes a planned flight
 abbrev pub Alters : Command → Type 0
-Alters (Plan call kind route at from level) = ⊥
+Alters (Plan call kind route at from level rvsm) = ⊥
 Alters (External call straight) = ⊥
 Alters (Drop call) = ⊥
 Alters (Tick next) = ⊥
@@ -73,7 +73,7 @@ IsFreeToFly setup now course clearance eff =
 
 -- such a command, of which the checks that this needs are passed
 abbrev pub CanAlter : Setup → ℕ → Course → Command → Type 0
-CanAlter setup now course (Plan call kind route at from level) = ⊥
+CanAlter setup now course (Plan call kind route at from level rvsm) = ⊥
 CanAlter setup now course (External call straight) = ⊥
 CanAlter setup now course (Drop call) = ⊥
 CanAlter setup now course (Tick next) = ⊥

@@ -40,7 +40,7 @@ fn base_of(rules: &Rules, fix: Point, at: Second, from: u32) -> Base
 }
 
 /// The course of a plan: it begins at the second `at` over the first fix of its route, at level `from`, which is at most 600, and is cleared
-/// to `level`. That it begins in the plane is said here too.
+/// to `level`; `rvsm` is the approval. That it begins in the plane is said here too.
 pub fn planned_course(
     alloc: Global,
     tables: &Tables,
@@ -50,9 +50,10 @@ pub fn planned_course(
     at: Second,
     from: u32,
     level: u32,
+    rvsm: bool,
 ) -> Result<Course, Memory>
     requires { from ≤ 600 }
-    ensures course { IfOk result (λ course. course ≡ course_of (setup_with rules.now tables.now) kind route.now at from level) }
+    ensures course { IfOk result (λ course. course ≡ course_of (setup_with rules.now tables.now) kind route.now at from level rvsm) }
     ensures plane { IsInPlane (first_of (points_of tables.now route.now)).x (first_of (points_of tables.now route.now)).y }
 {
     let fix = first_point(tables, route);
@@ -61,6 +62,7 @@ pub fn planned_course(
         route: route.copy(alloc)?,
         base: base_of(rules, fix, at, from),
         level,
+        rvsm,
         last: None,
         due: false,
         mark: None,

@@ -1,5 +1,5 @@
 -- Where two rows lose separation, the extents of each value, made wider, meet.
-use Rattle.std.proofs.Common.{◌≡◌, ⊎_elim, ℤ, pos, negsuc, ◌+ℤ◌, ◌-ℤ◌, ◌*ℤ◌, ◌≤ℤ◌, ◌<ℤ◌, arith, int_div}
+use Rattle.std.proofs.Common.{◌≡◌, Bool, ⊎_elim, ℤ, pos, negsuc, ◌+ℤ◌, ◌-ℤ◌, ◌*ℤ◌, ◌≤ℤ◌, ◌<ℤ◌, arith, int_div}
 use Rattle.std.proofs.lemmas.Int.{ints}
 use Rattle.mt_ring.proofs.Ring.{lin, spread}
 use Rattle.mt_ring.proofs.Signs.{below_cancel, cases_lt, mul_nonneg, square_nonneg}
@@ -122,9 +122,9 @@ pub record BoxesMeet (rules : Rules) (a b : Area) : Type 0 where
   pub x : Meet (wider a.x (a.margin +ℤ half rules)) (wider b.x (b.margin +ℤ half rules))
   pub y : Meet (wider a.y (a.margin +ℤ half rules)) (wider b.y (b.margin +ℤ half rules))
 
-pub boxes_meet : (rules : Rules) (a b : Area) (left right : Row) → AreWithinBounds rules → IsBoundedRow left → IsBoundedRow right → Holds a left → Holds b right
-    → LosesIn rules left right → BoxesMeet rules a b
-boxes_meet rules a b left right rules_kept left_kept right_kept in_a in_b some =
+pub boxes_meet : (rules : Rules) (pa pb : Bool) (a b : Area) (left right : Row) → AreWithinBounds rules → IsBoundedRow left → IsBoundedRow right → Holds a left → Holds b right
+    → LosesIn rules pa pb left right → BoxesMeet rules a b
+boxes_meet rules pa pb a b left right rules_kept left_kept right_kept in_a in_b some =
     let s = rules_kept.sh.least in
     let r = left_kept.r.value.least in
     let t = right_kept.r.value.least in

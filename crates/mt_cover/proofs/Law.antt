@@ -111,7 +111,7 @@ pub misses_none : MissesNone
 misses_none rules a b k rules_kept a_kept b_kept loss =
     let left = covers rules a k loss.left loss.left_is in
     let right = covers rules b k loss.right loss.right_is in
-    let meet = boxes_meet rules left.area right.area loss.left loss.right rules_kept (IsBoundedRow-row_at a k loss.left a_kept loss.left_is)
+    let meet = boxes_meet rules _ _ left.area right.area loss.left loss.right rules_kept (IsBoundedRow-row_at a k loss.left a_kept loss.left_is)
     (IsBoundedRow-row_at b k loss.right b_kept loss.right_is) left.holds right.holds loss.loss in
     let by_left = left.area.margin +ℤ half rules in
     let by_right = right.area.margin +ℤ half rules in

@@ -1,7 +1,7 @@
 -- What is below 0 at a fraction is below 0 near it. So a half-open stretch holds an instant at which some quadratics and lines
 -- are all below 0 exactly where it holds a fraction strictly inside at which they are (`half_open`).
 -- Conditions on a fraction n/d are functions P of n and d.
-use Rattle.std.proofs.Common.{◌≡◌, ℕ, ◌+◌, ℤ, pos, negsuc, ◌+ℤ◌, ◌-ℤ◌, ◌*ℤ◌, neg_ℤ, ◌≤ℤ◌, ◌<ℤ◌, unsigned_abs, ◌↔◌, arith}
+use Rattle.std.proofs.Common.{◌≡◌, ◌⊎◌, inl, inr, ⊎_elim, ℕ, ◌+◌, ℤ, pos, negsuc, ◌+ℤ◌, ◌-ℤ◌, ◌*ℤ◌, neg_ℤ, ◌≤ℤ◌, ◌<ℤ◌, unsigned_abs, ◌↔◌, arith}
 use Rattle.std.proofs.lemmas.Int.{ints}
 use Rattle.mt_ring.proofs.Ring.{lin, spread}
 use Rattle.mt_ring.proofs.Signs.{mul_nonneg, mul_pos, square_nonneg, weaken}
@@ -79,7 +79,7 @@ line_is_open b c = record {
   };
 }
 
--- two open conditions together, and another form of an open condition
+-- two open conditions together, one of two, and another form of an open condition
 pub both_open : (P Q : ℤ → ℤ → Type 0) → IsOpen P → IsOpen Q → IsOpen (λ n d. P n d × Q n d)
 both_open P Q p q = record {
   near = λ m e x y h.
@@ -89,6 +89,14 @@ both_open P Q p q = record {
         from = f.from + g.from;
         holds = λ k far. (f.holds k (omega (arith, lin)), g.holds k (omega (arith, lin)));
       };
+}
+
+pub either_open : (P Q : ℤ → ℤ → Type 0) → IsOpen P → IsOpen Q → IsOpen (λ n d. P n d ⊎ Q n d)
+either_open P Q p q = record {
+  near = λ m e x y h. ⊎_elim
+      (λ left. let f = p.near m e x y left in record { from = f.from; holds = λ k far. inl (f.holds k far) })
+      (λ right. let f = q.near m e x y right in record { from = f.from; holds = λ k far. inr (f.holds k far) })
+      h;
 }
 
 pub same_open : (P Q : ℤ → ℤ → Type 0) → ((n d : ℤ) → P n d ↔ Q n d) → IsOpen P → IsOpen Q

@@ -1,12 +1,12 @@
 -- A conflict over all seconds, and the one in a window; and that a loss doesn't tell which of the two comes first.
-use Rattle.std.proofs.Common.{◌≡◌, ℕ, ◌<◌, ◌≤◌, ℤ, ◌+ℤ◌, ◌-ℤ◌, ◌*ℤ◌, ◌<ℤ◌, neg_ℤ, false, arith}
+use Rattle.std.proofs.Common.{◌≡◌, ◌&&◌, ◌⊎◌, inl, inr, ⊎_elim, refl, Bool, true, ℕ, ◌<◌, ◌≤◌, ℤ, ◌+ℤ◌, ◌-ℤ◌, ◌*ℤ◌, ◌<ℤ◌, neg_ℤ, false, arith}
 use Rattle.std.proofs.lemmas.Bool.Decides.{nat_tests}
 use Rattle.mt_ring.proofs.Ring.{lin, spread}
 use Rattle.mt_base.specs.declared.row.Row.{Row}
 use Rattle.mt_base.specs.declared.rules.Rules.{Rules}
 use Rattle.mt_base.specs.Conflict.{IsLossSecond, IsSpanOfLoss}
 use Rattle.mt_base.specs.Instant.{value_at}
-use Rattle.mt_base.specs.Loss.{LosesAt}
+use Rattle.mt_base.specs.Loss.{IsNearAt, LosesAt}
 use Rattle.mt_base.specs.Picture.{window_end}
 use Rattle.mt_base.specs.Trajectory.{Trajectory}
 use Rattle.mt_edges.specs.declared.edge.Edge.{Edge}
@@ -24,12 +24,29 @@ above p q w v z h = omega (arith, lin)
 below : (p q w v z : ℤ) → (q -ℤ p) <ℤ (w +ℤ v +ℤ z) → neg_ℤ (p -ℤ q) <ℤ (w +ℤ z +ℤ v)
 below p q w v z h = omega (arith, lin)
 
-pub LosesAt-sym : (rules : Rules) (a b : Row) (n d : ℤ) → LosesAt rules a b n d → LosesAt rules b a n d
-LosesAt-sym rules a b n d loss = record {
+IsNearAt-sym : (least : ℤ) (a b : Row) (n d : ℤ) → IsNearAt least a b n d → IsNearAt least b a n d
+IsNearAt-sym least a b n d near = record {
+  above = below (value_at a.z a.vz n d) (value_at b.z b.vz n d) (least *ℤ d) (value_at a.w a.gw n d) (value_at b.w b.gw n d) near.below;
+  below = above (value_at a.z a.vz n d) (value_at b.z b.vz n d) (least *ℤ d) (value_at a.w a.gw n d) (value_at b.w b.gw n d) near.above;
+}
+
+swapped : {P Q : Type 0} → P ⊎ Q → Q ⊎ P
+swapped some = ⊎_elim inr inl some
+
+not_both : (pa pb : Bool) → (pa && pb) ≡ false → (pb && pa) ≡ false
+not_both true true none = none
+not_both true false none = refl
+not_both false true none = refl
+not_both false false none = refl
+
+pub LosesAt-sym : (rules : Rules) (pa pb : Bool) (a b : Row) (n d : ℤ) → LosesAt rules pa pb a b n d → LosesAt rules pb pa b a n d
+LosesAt-sym rules pa pb a b n d loss = record {
   horizontal = across (value_at a.x a.vx n d) (value_at b.x b.vx n d) (value_at a.y a.vy n d) (value_at b.y b.vy n d)
       (rules.sh *ℤ d) (value_at a.r a.gr n d) (value_at b.r b.gr n d) loss.horizontal;
-  above = below (value_at a.z a.vz n d) (value_at b.z b.vz n d) (rules.sv *ℤ d) (value_at a.w a.gw n d) (value_at b.w b.gw n d) loss.below;
-  below = above (value_at a.z a.vz n d) (value_at b.z b.vz n d) (rules.sv *ℤ d) (value_at a.w a.gw n d) (value_at b.w b.gw n d) loss.above;
+  vertical = ⊎_elim (λ near. inl (IsNearAt-sym rules.sv a b n d near))
+      (λ high. ⊎_elim (λ most. inr (inl (IsNearAt-sym rules.sv2 a b n d most.0, swapped most.1)))
+      (λ some. inr (inr (IsNearAt-sym rules.sv2 a b n d some.0, not_both pa pb some.1, swapped some.2))) high)
+      loss.vertical;
 }
 
 pub IsLossSecond-sym : (rules : Rules) (a b : Trajectory) (k : ℕ) → IsLossSecond rules a b k → IsLossSecond rules b a k
@@ -38,7 +55,7 @@ IsLossSecond-sym rules a b k h = record {
   right = h.left;
   left_is = h.right_is;
   right_is = h.left_is;
-  loss = record { n = h.loss.n; d = h.loss.d; begun = h.loss.begun; within = h.loss.within; loss = LosesAt-sym rules h.left h.right h.loss.n h.loss.d h.loss.loss };
+  loss = record { n = h.loss.n; d = h.loss.d; begun = h.loss.begun; within = h.loss.within; loss = LosesAt-sym rules a.rvsm b.rvsm h.left h.right h.loss.n h.loss.d h.loss.loss };
 }
 
 pub IsSpanOfLoss-sym : (rules : Rules) (a b : Trajectory) (from to first last : ℕ) → IsSpanOfLoss rules a b from to first last

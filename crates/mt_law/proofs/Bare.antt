@@ -133,8 +133,8 @@ dropped_swap call own (r ∷ rs) = step (bytes_eq r.call own) (dropped_swap call
 -- the records that an entry leaves
 records_bare : (setup : Setup) (call : List ℕ) (who : ℕ) (c : Command) (rs : List Record) → handled_by c ≢ Some call
     → records_after setup who c (map (changed call bare_path) rs) ≡ map (changed call bare_path) (records_after setup who c rs)
-records_bare setup call who (Plan own kind route at from level) rs apart =
-    filed_swap call (record { call = own; path = Planned (course_of setup kind route at from level) }) rs refl
+records_bare setup call who (Plan own kind route at from level rvsm) rs apart =
+    filed_swap call (record { call = own; path = Planned (course_of setup kind route at from level rvsm) }) rs refl
 records_bare setup call who (External own straight) rs apart = filed_swap call (record { call = own; path = Outer straight }) rs refl
 records_bare setup call who (Drop own) rs apart = dropped_swap call own rs
 records_bare setup call who (Tick now) rs apart = refl

@@ -32,7 +32,7 @@ module _ (setup : Setup) (who now held m n : ℕ) (flight : Option Record) (fewe
 
   pub pass_fewer : (c : Command) → Pass (checks setup (look_of now held n flight) who c) → Pass (checks setup (look_of now held m flight) who c)
   unfolding last_of
-  pass_fewer (Plan call kind route at from level) h = (
+  pass_fewer (Plan call kind route at from level rvsm) h = (
     h.0,
     (
       h.1.0,

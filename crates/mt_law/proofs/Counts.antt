@@ -92,9 +92,9 @@ changed_back call f g (r ∷ rs) most back = step (bytes_eq r.call call) refl mo
 -- each entry leaves at most one flight of a callsign
 pub count_after : (setup : Setup) (call : List ℕ) (s : State) (who : ℕ) (c : Command) (e : Entry) → judge setup s who c ≡ Ok e
     → count_of call s.records ≤ 1 → count_of call (records_after setup who c s.records) ≤ 1
-count_after setup call s who (Plan own kind route at from level) e is most =
-    count_filed call s.records (record { call = own; path = Planned (course_of setup kind route at from level) }) most
-    (none_is (is_some (flight_of s.records own)) (passed_by setup s who (Plan own kind route at from level) e is).0)
+count_after setup call s who (Plan own kind route at from level rvsm) e is most =
+    count_filed call s.records (record { call = own; path = Planned (course_of setup kind route at from level rvsm) }) most
+    (none_is (is_some (flight_of s.records own)) (passed_by setup s who (Plan own kind route at from level rvsm) e is).0)
 count_after setup call s who (External own straight) e is most =
     count_filed call s.records (record { call = own; path = Outer straight }) most
     (none_is (is_some (flight_of s.records own)) (passed_by setup s who (External own straight) e is).0)

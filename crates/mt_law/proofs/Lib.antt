@@ -8,6 +8,7 @@ pub mod Hits
 pub mod Left
 pub mod Lowered
 pub mod Marks
+pub mod OneMinimum
 pub mod Passing
 pub mod Seam
 pub mod Since

@@ -68,8 +68,8 @@ other_keeps call own f rs apart = ap mark_in (found_changed call own f rs ∙ fo
 -- no command but those that end or handle it touches a tentative clearance
 pub mark_kept : (setup : Setup) (call : List ℕ) (who : ℕ) (c : Command) (rs : List Record) → ended_by c ≢ Some call → handled_by c ≢ Some call
     → mark_in (flight_of (records_after setup who c rs) call) ≡ mark_in (flight_of rs call)
-mark_kept setup call who (Plan own kind route at from level) rs going_on apart =
-    mark_filed call rs (record { call = own; path = Planned (course_of setup kind route at from level) }) refl
+mark_kept setup call who (Plan own kind route at from level rvsm) rs going_on apart =
+    mark_filed call rs (record { call = own; path = Planned (course_of setup kind route at from level rvsm) }) refl
 mark_kept setup call who (External own straight) rs going_on apart = mark_filed call rs (record { call = own; path = Outer straight }) refl
 mark_kept setup call who (Drop own) rs going_on apart = ap mark_in (found_kept call own rs (λ e. going_on (ap Some e)))
 mark_kept setup call who (Tick now) rs going_on apart = refl

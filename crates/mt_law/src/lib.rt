@@ -4,22 +4,27 @@
 //! - Withdrawing restores (`strike_out_law`): a tentative clearance that was withdrawn has left nothing behind but two entries.
 //! - Each withdrawal is that of a tentative clearance that stands before it (`withdrawal_law`), so the first law is never empty.
 //! - No decision depends on the tentative clearance of a flight but those on that clearance itself (`decision_law`).
+//! - Where the two vertical minima are one, approval and height decide nothing (`minimum_law`).
 //! - Each front of a history that can be replayed can be replayed, and each front of a legal one is legal (`replay_law`, by `history_laws`
 //!   of `mt_base`).
 #![tactic(auto)]
 
-ghost use Rattle.std.specs.Prelude.{◌≡◌, ◌≢◌, ◌≤◌, ◌↔◌, ◌++◌, ◌∷◌, ℕ, Bool, List, length, Option, Result, Some};
+ghost use Rattle.std.specs.Prelude.{◌≡◌, ◌≢◌, ◌≤◌, ◌↔◌, ◌++◌, ◌∷◌, ℕ, Bool, List, length, Option, Result, Some, ℤ};
 ghost use Rattle.mt_base.specs.declared.clearance.Clearance.{Clearance};
 ghost use Rattle.mt_base.specs.declared.command.Command.{Command};
 ghost use Rattle.mt_base.specs.declared.command.Entry.{Entry};
 ghost use Rattle.mt_base.specs.declared.command.Refusal.{Refusal};
 ghost use Rattle.mt_base.specs.declared.conflict.Conflict.{Conflict};
 ghost use Rattle.mt_base.specs.declared.hit.Hit.{Hit};
+ghost use Rattle.mt_base.specs.declared.row.Row.{Row};
+ghost use Rattle.mt_base.specs.declared.rules.Rules.{Rules};
 ghost use Rattle.mt_base.specs.History.{IsDecided, IsLegal, IsReplayable, state_of};
+ghost use Rattle.mt_base.specs.Loss.{LosesAt};
 ghost use Rattle.mt_base.specs.Picture.{IsPublished, State};
 ghost use Rattle.mt_base.specs.StrikeOut.{AreAlike, AreConflictsFlown, AreSame, Withdrawn, all_flown, ended_at, handled_by, history_of, state_at, strike_out, struck_state_at, withdrawal, without};
 ghost use Rattle.mt_base.specs.Tables.{Setup};
 ghost use Rattle.mt_base.specs.WhatIf.{IsWhatIf};
+ghost use Rattle.mt_law.specs.OneMinimum.{LosesByOneAt};
 
 use mt_base::history_laws;
 
@@ -70,3 +75,9 @@ pub fn replay_law()
 {
     history_laws();
 }
+
+/// Where `sv2` equals `sv`, two rows lose separation at an instant exactly where they do by `sv` alone, whatever their approvals.
+pub fn minimum_law()
+    ensures { (rules : Rules) (pa pb : Bool) (a b : Row) (n d : ℤ) → rules.sv2 ≡ rules.sv
+        → LosesAt rules pa pb a b n d ↔ LosesByOneAt rules a b n d }
+{}

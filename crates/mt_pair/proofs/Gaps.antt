@@ -1,16 +1,17 @@
 -- What the code makes of numbers that passed through their bits: the offset, its gains, the quadratic and the line.
-use Rattle.std.proofs.Common.{◌≡◌, ℕ, ◌+◌, ◌<◌, ◌^◌, ℤ, pos, ◌+ℤ◌, ◌-ℤ◌, ◌*ℤ◌, FitsSigned, unsigned_abs, to_z, of_z, w64, arith, lit<, refl}
-use Rattle.std.proofs.lemmas.Int.{to_z-of_z}
+use Rattle.std.proofs.Common.{◌≡◌, Bool, true, false, ℕ, ◌+◌, ◌<◌, ◌^◌, ℤ, pos, ◌+ℤ◌, ◌-ℤ◌, ◌*ℤ◌, FitsSigned, unsigned_abs, to_z, of_z, w64, arith, lit<, refl}
+use Rattle.std.proofs.lemmas.Int.{ints, to_z-of_z}
 use mir.Syntax.{w128}
-use Rattle.mt_ring.proofs.Sizes.{Abs, abs_lit, abs_mul, abs_to, fits_128}
-use Rattle.mt_base.specs.Bounds.{AreWithinBounds, IsBoundedRow}
+use Rattle.mt_ring.proofs.Sizes.{Abs, abs_lit, abs_sub, abs_mul, abs_to, fits_128}
+use Rattle.mt_base.specs.Bounds.{AreWithinBounds, IsBoundedRow, IsWithin}
 use Rattle.mt_base.specs.declared.row.Row.{Row}
 use Rattle.mt_base.specs.declared.rules.Rules.{Rules}
 use Rattle.mt_frac.specs.Signs.{IsBoundedQuad, IsBoundedLine}
 use Rattle.mt_pair.specs.declared.horizontal.Offset.{Offset}
-use Rattle.mt_pair.specs.Gap.{IsOffsetWithin, excess_of, gain_of, offset_of, product, square_of}
-use Rattle.mt_pair.proofs.Casts.{Reads, minus, minus_fits, number, plus, plus_fits, widened}
-use Rattle.mt_pair.proofs.Sizes.{row_sizes, sh_size, sv_size, product_size}
+use Rattle.mt_pair.specs.Gap.{IsOffsetWithin, above_of, excess_of, gain_of, offset_of, product, square_of}
+use Rattle.mt_pair.specs.High.{level_of}
+use Rattle.mt_pair.proofs.Casts.{Reads, abs_neg, minus, minus_fits, negated, number, plus, plus_fits, widened}
+use Rattle.mt_pair.proofs.Sizes.{least_size, product_size, row_sizes, sh_size}
 
 -- numbers by their bits, and sums and differences of them by theirs
 abbrev pub in_64 : ℤ → ℤ
@@ -99,59 +100,78 @@ square_bounded offset gain offset_kept gain_kept = record {
 }
 
 -- the line of the heights: the differences on the way to its two coefficients
-pub record ExcessReads (rules : Rules) (a b : Row) : Type 0 where
+pub record ExcessReads (least : ℤ) (a b : Row) : Type 0 where
   pub b_one : Reads 20000 (less (in_64 b.vz) (in_64 a.vz)) (b.vz -ℤ a.vz)
   pub b_two : Reads 30000 (less (less (in_64 b.vz) (in_64 a.vz)) (in_64 a.gw)) (b.vz -ℤ a.vz -ℤ a.gw)
   pub b_three : Reads 40000 (less (less (less (in_64 b.vz) (in_64 a.vz)) (in_64 a.gw)) (in_64 b.gw)) (b.vz -ℤ a.vz -ℤ a.gw -ℤ b.gw)
   pub c_one : Reads 7200000 (less (in_64 b.z) (in_64 a.z)) (b.z -ℤ a.z)
-  pub c_two : Reads 7800000 (less (less (in_64 b.z) (in_64 a.z)) (in_64 rules.sv)) (b.z -ℤ a.z -ℤ rules.sv)
-  pub c_three : Reads 8400000 (less (less (less (in_64 b.z) (in_64 a.z)) (in_64 rules.sv)) (in_64 a.w)) (b.z -ℤ a.z -ℤ rules.sv -ℤ a.w)
-  pub c_four : Reads 9000000 (less (less (less (less (in_64 b.z) (in_64 a.z)) (in_64 rules.sv)) (in_64 a.w)) (in_64 b.w))
-      (b.z -ℤ a.z -ℤ rules.sv -ℤ a.w -ℤ b.w)
+  pub c_two : Reads 7800000 (less (less (in_64 b.z) (in_64 a.z)) (in_64 least)) (b.z -ℤ a.z -ℤ least)
+  pub c_three : Reads 8400000 (less (less (less (in_64 b.z) (in_64 a.z)) (in_64 least)) (in_64 a.w)) (b.z -ℤ a.z -ℤ least -ℤ a.w)
+  pub c_four : Reads 9000000 (less (less (less (less (in_64 b.z) (in_64 a.z)) (in_64 least)) (in_64 a.w)) (in_64 b.w))
+      (b.z -ℤ a.z -ℤ least -ℤ a.w -ℤ b.w)
 
-pub excess_reads : (rules : Rules) (a b : Row) → AreWithinBounds rules → IsBoundedRow a → IsBoundedRow b → ExcessReads rules a b
-excess_reads rules a b rules_kept a_kept b_kept =
+pub excess_reads : (least : ℤ) (a b : Row) → IsWithin (pos 1) (pos 600000) least → IsBoundedRow a → IsBoundedRow b → ExcessReads least a b
+excess_reads least a b least_kept a_kept b_kept =
     let h = row_sizes a a_kept in
     let k = row_sizes b b_kept in
     let b_one = minus (number k.vz (lit< tt)) (number h.vz (lit< tt)) (lit< tt) in
     let b_two = minus b_one (number h.gw (lit< tt)) (lit< tt) in
     let b_three = minus b_two (number k.gw (lit< tt)) (lit< tt) in
     let c_one = minus (number k.z (lit< tt)) (number h.z (lit< tt)) (lit< tt) in
-    let c_two = minus c_one (number (sv_size rules rules_kept) (lit< tt)) (lit< tt) in
+    let c_two = minus c_one (number (least_size least least_kept) (lit< tt)) (lit< tt) in
     let c_three = minus c_two (number h.w (lit< tt)) (lit< tt) in
     let c_four = minus c_three (number k.w (lit< tt)) (lit< tt) in
     record { b_one = b_one; b_two = b_two; b_three = b_three; c_one = c_one; c_two = c_two; c_three = c_three; c_four = c_four }
 
 -- and that these fit
-pub record ExcessFits (rules : Rules) (a b : Row) : Type 0 where
+pub record ExcessFits (least : ℤ) (a b : Row) : Type 0 where
   pub b_one : FitsSigned w64 (in_64 b.vz -ℤ in_64 a.vz)
   pub b_two : FitsSigned w64 (less (in_64 b.vz) (in_64 a.vz) -ℤ in_64 a.gw)
   pub b_three : FitsSigned w64 (less (less (in_64 b.vz) (in_64 a.vz)) (in_64 a.gw) -ℤ in_64 b.gw)
-  pub c_two : FitsSigned w64 (less (in_64 b.z) (in_64 a.z) -ℤ in_64 rules.sv)
-  pub c_three : FitsSigned w64 (less (less (in_64 b.z) (in_64 a.z)) (in_64 rules.sv) -ℤ in_64 a.w)
-  pub c_four : FitsSigned w64 (less (less (less (in_64 b.z) (in_64 a.z)) (in_64 rules.sv)) (in_64 a.w) -ℤ in_64 b.w)
+  pub c_two : FitsSigned w64 (less (in_64 b.z) (in_64 a.z) -ℤ in_64 least)
+  pub c_three : FitsSigned w64 (less (less (in_64 b.z) (in_64 a.z)) (in_64 least) -ℤ in_64 a.w)
+  pub c_four : FitsSigned w64 (less (less (less (in_64 b.z) (in_64 a.z)) (in_64 least)) (in_64 a.w) -ℤ in_64 b.w)
 
-pub excess_fits : (rules : Rules) (a b : Row) → AreWithinBounds rules → IsBoundedRow a → IsBoundedRow b → ExcessFits rules a b
-excess_fits rules a b rules_kept a_kept b_kept =
+pub excess_fits : (least : ℤ) (a b : Row) → IsWithin (pos 1) (pos 600000) least → IsBoundedRow a → IsBoundedRow b → ExcessFits least a b
+excess_fits least a b least_kept a_kept b_kept =
     let h = row_sizes a a_kept in
     let k = row_sizes b b_kept in
-    let s = excess_reads rules a b rules_kept a_kept b_kept in
+    let s = excess_reads least a b least_kept a_kept b_kept in
     record {
       b_one = minus_fits (number k.vz (lit< tt)) (number h.vz (lit< tt)) (lit< tt);
       b_two = minus_fits s.b_one (number h.gw (lit< tt)) (lit< tt);
       b_three = minus_fits s.b_two (number k.gw (lit< tt)) (lit< tt);
-      c_two = minus_fits s.c_one (number (sv_size rules rules_kept) (lit< tt)) (lit< tt);
+      c_two = minus_fits s.c_one (number (least_size least least_kept) (lit< tt)) (lit< tt);
       c_three = minus_fits s.c_two (number h.w (lit< tt)) (lit< tt);
       c_four = minus_fits s.c_three (number k.w (lit< tt)) (lit< tt);
     }
 
-pub excess_is : (rules : Rules) (a b : Row) → ExcessReads rules a b → (v w : ℤ) → v ≡ less (less (less (in_64 b.vz) (in_64 a.vz)) (in_64 a.gw)) (in_64 b.gw)
-    → w ≡ less (less (less (less (in_64 b.z) (in_64 a.z)) (in_64 rules.sv)) (in_64 a.w)) (in_64 b.w)
-    → record { b = in_128 v; c = in_128 w } ≡ excess_of rules a b
-excess_is rules a b s v w v_is w_is = λ i. record { b = widened v s.b_three v_is (lit< tt) i; c = widened w s.c_four w_is (lit< tt) i }
+pub excess_is : (least : ℤ) (a b : Row) → ExcessReads least a b → (v w : ℤ) → v ≡ less (less (less (in_64 b.vz) (in_64 a.vz)) (in_64 a.gw)) (in_64 b.gw)
+    → w ≡ less (less (less (less (in_64 b.z) (in_64 a.z)) (in_64 least)) (in_64 a.w)) (in_64 b.w)
+    → record { b = in_128 v; c = in_128 w } ≡ excess_of least a b
+excess_is least a b s v w v_is w_is = λ i. record { b = widened v s.b_three v_is (lit< tt) i; c = widened w s.c_four w_is (lit< tt) i }
 
-pub excess_bounded : (rules : Rules) (a b : Row) → ExcessReads rules a b → IsBoundedLine (excess_of rules a b)
-excess_bounded rules a b s = record {
+pub excess_bounded : (least : ℤ) (a b : Row) → ExcessReads least a b → IsBoundedLine (excess_of least a b)
+excess_bounded least a b s = record {
   b_bounded = below_bound _ s.b_three.size (lit< tt);
   c_bounded = below_bound _ s.c_four.size (lit< tt);
 }
+
+-- the line of a level
+pub above_is : (level : ℤ) (a : Row) → Abs 3600000 level → IsBoundedRow a → (v w : ℤ) → v ≡ in_64 (pos 0 -ℤ in_64 a.vz) → w ≡ less (in_64 level) (in_64 a.z)
+    → record { b = in_128 v; c = in_128 w } ≡ above_of level a
+above_is level a size kept v w v_is w_is =
+    let h = row_sizes a kept in
+    λ i. record {
+      b = widened v (negated (number h.vz (lit< tt)) (lit< tt)) v_is (lit< tt) i;
+      c = difference w size h.z w_is (lit< tt) (lit< tt) (lit< tt) i;
+    }
+
+pub above_bounded : (level : ℤ) (a : Row) → Abs 3600000 level → IsBoundedRow a → IsBoundedLine (above_of level a)
+above_bounded level a size kept =
+    let h = row_sizes a kept in
+    record { b_bounded = below_bound _ (abs_neg h.vz) (lit< tt); c_bounded = below_bound _ (abs_sub size h.z) (lit< tt) }
+
+pub level_size : (both : Bool) → Abs 3600000 (level_of both)
+level_size true = record { low = omega (arith, ints); high = omega (arith, ints) }
+level_size false = record { low = omega (arith, ints); high = omega (arith, ints) }

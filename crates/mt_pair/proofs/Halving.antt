@@ -1,9 +1,7 @@
 -- Halving: how often, and what is known of the seconds that are left.
-use Rattle.std.proofs.Common.{ℕ, zero, suc, ◌+◌, ◌*◌, ◌^◌, ◌<◌, ◌≤◌, subst, arith, le_refl, ⊎_elim}
+use Rattle.std.proofs.Common.{ℕ, ℤ, zero, suc, ◌+◌, ◌*◌, ◌^◌, ◌<◌, ◌≤◌, subst, arith, le_refl, ⊎_elim}
 use Rattle.std.proofs.lemmas.Bool.{cases_lt}
-use Rattle.mt_frac.specs.declared.linear.Line.{Line}
-use Rattle.mt_frac.specs.declared.quadratic.Quad.{Quad}
-use Rattle.mt_pair.specs.Below.{AreBelowIn, AreBelowOver}
+use Rattle.mt_pair.specs.Below.{HoldsIn, HoldsOver}
 use Rattle.mt_pair.specs.Span.{IsGreatest, IsLeast, IsSpanOf}
 
 -- so much is left that the halvings to come end within so many steps in all
@@ -24,27 +22,27 @@ halved_rounds size half count more most (suc rounds) some about once fits left =
 pub halved : (size half count more most : ℕ) → 1 < size → 2 * half ≤ size + 1 → more ≤ count + 1 → IsHalvedTo size count most → IsHalvedTo half more most
 halved size half count more most some about once left = halved_rounds size half count more most left.rounds some about once left.fits left.left
 
--- of the seconds with all three below 0, those from a middle on are left where none is before it; and the other way round
-pub left_behind : (gap : Quad) (over under : Line) (low middle high : ℕ) → ¬ AreBelowOver gap over under low middle → AreBelowOver gap over under low high
-    → AreBelowOver gap over under middle high
-left_behind gap over under low middle high none some = ⊎_elim
-    (λ less. absurd (none (record { k = some.k; begun = some.begun; ahead = less; are = some.are })))
-    (λ enough. record { k = some.k; begun = enough; ahead = some.ahead; are = some.are })
+-- of the seconds in which P holds, those from a middle on are left where none is before it; and the other way round
+pub left_behind : (P : ℤ → ℤ → Type 0) (low middle high : ℕ) → ¬ HoldsOver P low middle → HoldsOver P low high
+    → HoldsOver P middle high
+left_behind P low middle high none some = ⊎_elim
+    (λ less. absurd (none (record { k = some.k; begun = some.begun; ahead = less; holds = some.holds })))
+    (λ enough. record { k = some.k; begun = enough; ahead = some.ahead; holds = some.holds })
     (cases_lt some.k middle)
 
-pub left_before : (gap : Quad) (over under : Line) (low middle high : ℕ) → ¬ AreBelowOver gap over under middle high → AreBelowOver gap over under low high
-    → AreBelowOver gap over under low middle
-left_before gap over under low middle high none some = ⊎_elim
-    (λ less. record { k = some.k; begun = some.begun; ahead = less; are = some.are })
-    (λ enough. absurd (none (record { k = some.k; begun = enough; ahead = some.ahead; are = some.are })))
+pub left_before : (P : ℤ → ℤ → Type 0) (low middle high : ℕ) → ¬ HoldsOver P middle high → HoldsOver P low high
+    → HoldsOver P low middle
+left_before P low middle high none some = ⊎_elim
+    (λ less. record { k = some.k; begun = some.begun; ahead = less; holds = some.holds })
+    (λ enough. absurd (none (record { k = some.k; begun = enough; ahead = some.ahead; holds = some.holds })))
     (cases_lt some.k middle)
 
 -- one second is left
-pub only_one : (gap : Quad) (over under : Line) (low high : ℕ) → high ≤ low + 1 → AreBelowOver gap over under low high → AreBelowIn gap over under low
-only_one gap over under low high one some = subst (AreBelowIn gap over under) (let b = some.begun in let a = some.ahead in omega arith) some.are
+pub only_one : (P : ℤ → ℤ → Type 0) (low high : ℕ) → high ≤ low + 1 → HoldsOver P low high → HoldsIn P low
+only_one P low high one some = subst (HoldsIn P) (let b = some.begun in let a = some.ahead in omega arith) some.holds
 
-pub none_over : (gap : Quad) (over under : Line) (low high k : ℕ) → ¬ AreBelowOver gap over under low high → low ≤ k → k < high → ¬ AreBelowIn gap over under k
-none_over gap over under low high k none begun ahead at = none (record { k = k; begun = begun; ahead = ahead; are = at })
+pub none_over : (P : ℤ → ℤ → Type 0) (low high k : ℕ) → ¬ HoldsOver P low high → low ≤ k → k < high → ¬ HoldsIn P k
+none_over P low high k none begun ahead at = none (record { k = k; begun = begun; ahead = ahead; holds = at })
 
 -- the least and the greatest are the span
 pub IsSpan-of : (P : ℕ → Type 0) (low high first last : ℕ) → IsLeast P low high first → IsGreatest P first high last → IsSpanOf P low high first last
@@ -59,5 +57,5 @@ IsSpan-of P low high first last least greatest = record {
 }
 
 -- from the first on there is one
-pub some_from : (gap : Quad) (over under : Line) (low high first : ℕ) → IsLeast (AreBelowIn gap over under) low high first → AreBelowOver gap over under first high
-some_from gap over under low high first least = record { k = first; begun = le_refl first; ahead = least.ahead; are = least.is }
+pub some_from : (P : ℤ → ℤ → Type 0) (low high first : ℕ) → IsLeast (HoldsIn P) low high first → HoldsOver P first high
+some_from P low high first least = record { k = first; begun = le_refl first; ahead = least.ahead; holds = least.is }

@@ -1,15 +1,15 @@
 -- How great the numbers of rows, offsets and products are.
 use Rattle.std.proofs.Common.{ℕ, ◌*◌, ◌+◌, ◌≤◌, ℤ, pos, neg_ℤ, ◌+ℤ◌, ◌-ℤ◌, ◌*ℤ◌, ◌≤ℤ◌, FitsSigned, arith, lit<}
 use Rattle.std.proofs.lemmas.Int.{ints}
-use mir.Syntax.{w128}
-use Rattle.mt_ring.proofs.Sizes.{Abs, abs_add, abs_sub, abs_mul, abs_weaken, fits_128}
+use mir.Syntax.{w64, w128}
+use Rattle.mt_ring.proofs.Sizes.{Abs, abs_add, abs_sub, abs_mul, abs_weaken, fits_64, fits_128}
 use Rattle.mt_base.specs.Bounds.{AreWithinBounds, IsBoundedRow, IsWithin}
 use Rattle.mt_base.specs.declared.row.Row.{Row}
 use Rattle.mt_base.specs.declared.rules.Rules.{Rules}
 use Rattle.mt_pair.specs.declared.horizontal.Offset.{Offset}
 use Rattle.mt_pair.specs.Gap.{IsOffsetWithin, gain_of, offset_of, product}
 
--- the numbers of a bounded row, and the two minima
+-- the numbers of a bounded row, and the minima
 pub record RowSizes (row : Row) : Type 0 where
   pub x : Abs 3686400 row.x
   pub y : Abs 3686400 row.y
@@ -42,8 +42,12 @@ row_sizes row kept = record {
 pub sh_size : (rules : Rules) → AreWithinBounds rules → Abs 72000 rules.sh
 sh_size rules kept = within _ kept.sh (omega (arith, ints)) (omega (arith, ints))
 
-pub sv_size : (rules : Rules) → AreWithinBounds rules → Abs 600000 rules.sv
-sv_size rules kept = within _ kept.sv (omega (arith, ints)) (omega (arith, ints))
+pub least_size : (least : ℤ) → IsWithin (pos 1) (pos 600000) least → Abs 600000 least
+least_size least kept = within _ kept (omega (arith, ints)) (omega (arith, ints))
+
+-- the greater minimum is not below the lesser
+pub sv2_kept : (rules : Rules) → AreWithinBounds rules → IsWithin (pos 1) (pos 600000) rules.sv2
+sv2_kept rules kept = record { least = omega (arith, ints, kept.sv.least, kept.sv2.least); most = kept.sv2.most }
 
 -- to and from the bounds of an offset
 pub record OffsetSizes (most : ℕ) (o : Offset) : Type 0 where
@@ -94,11 +98,17 @@ pub record ProductFits (p q : Offset) : Type 0 where
   pub fits_qx : FitsSigned w128 q.x
   pub fits_qy : FitsSigned w128 q.y
   pub fits_qw : FitsSigned w128 q.width
-  pub fits_x : FitsSigned w128 (p.x *ℤ q.x)
-  pub fits_y : FitsSigned w128 (p.y *ℤ q.y)
-  pub fits_width : FitsSigned w128 (p.width *ℤ q.width)
-  pub fits_two : FitsSigned w128 (p.x *ℤ q.x +ℤ p.y *ℤ q.y)
-  pub fits_all : FitsSigned w128 (p.x *ℤ q.x +ℤ p.y *ℤ q.y -ℤ p.width *ℤ q.width)
+  pub small_px : FitsSigned w64 p.x
+  pub small_py : FitsSigned w64 p.y
+  pub small_pw : FitsSigned w64 p.width
+  pub small_qx : FitsSigned w64 q.x
+  pub small_qy : FitsSigned w64 q.y
+  pub small_qw : FitsSigned w64 q.width
+  pub fits_x : FitsSigned w64 (p.x *ℤ q.x)
+  pub fits_y : FitsSigned w64 (p.y *ℤ q.y)
+  pub fits_width : FitsSigned w64 (p.width *ℤ q.width)
+  pub fits_two : FitsSigned w64 (p.x *ℤ q.x +ℤ p.y *ℤ q.y)
+  pub fits_all : FitsSigned w64 (p.x *ℤ q.x +ℤ p.y *ℤ q.y -ℤ p.width *ℤ q.width)
 
 pub product_fits : (p q : Offset) → IsOffsetWithin 7372800 p → IsOffsetWithin 7372800 q → ProductFits p q
 product_fits p q p_kept q_kept =
@@ -111,11 +121,17 @@ product_fits p q p_kept q_kept =
       fits_qx = fits_128 k.x (lit< tt);
       fits_qy = fits_128 k.y (lit< tt);
       fits_qw = fits_128 k.w (lit< tt);
-      fits_x = fits_128 (abs_mul h.x k.x) (lit< tt);
-      fits_y = fits_128 (abs_mul h.y k.y) (lit< tt);
-      fits_width = fits_128 (abs_mul h.w k.w) (lit< tt);
-      fits_two = fits_128 (abs_add (abs_mul h.x k.x) (abs_mul h.y k.y)) (lit< tt);
-      fits_all = fits_128 (abs_sub (abs_add (abs_mul h.x k.x) (abs_mul h.y k.y)) (abs_mul h.w k.w)) (lit< tt);
+      small_px = fits_64 h.x (lit< tt);
+      small_py = fits_64 h.y (lit< tt);
+      small_pw = fits_64 h.w (lit< tt);
+      small_qx = fits_64 k.x (lit< tt);
+      small_qy = fits_64 k.y (lit< tt);
+      small_qw = fits_64 k.w (lit< tt);
+      fits_x = fits_64 (abs_mul h.x k.x) (lit< tt);
+      fits_y = fits_64 (abs_mul h.y k.y) (lit< tt);
+      fits_width = fits_64 (abs_mul h.w k.w) (lit< tt);
+      fits_two = fits_64 (abs_add (abs_mul h.x k.x) (abs_mul h.y k.y)) (lit< tt);
+      fits_all = fits_64 (abs_sub (abs_add (abs_mul h.x k.x) (abs_mul h.y k.y)) (abs_mul h.w k.w)) (lit< tt);
     }
 
 -- how great a product is

@@ -1,5 +1,5 @@
 -- The span of the loss seconds of a range, one part of it after another.
-use Rattle.std.proofs.Common.{◌≡◌, ℕ, ◌+◌, ◌-◌, ◌<◌, ◌≤◌, Option, Some, None, length, sym, ap, subst, ◌∙◌, ◌↔◌, arith, refl, ⊎_elim}
+use Rattle.std.proofs.Common.{◌≡◌, Bool, ℕ, ◌+◌, ◌-◌, ◌<◌, ◌≤◌, Option, Some, None, length, sym, ap, subst, ◌∙◌, ◌↔◌, arith, refl, ⊎_elim}
 use Rattle.std.proofs.lemmas.Bool.{cases_lt, le-ltb, lt-ltb}
 use Rattle.std.proofs.lemmas.Option.{slice_get_within}
 use Rattle.mt_base.specs.declared.row.Row.{Row}
@@ -9,15 +9,18 @@ use Rattle.mt_base.specs.Loss.{LosesIn}
 use Rattle.mt_base.specs.Trajectory.{Trajectory, row_at}
 use Rattle.mt_track.specs.Rows.{row_after}
 use Rattle.mt_track.proofs.Straight.{row_after-add}
+use Rattle.mt_pair.specs.declared.approach.Approach.{Approach}
+use Rattle.mt_pair.specs.Below.{HoldsIn}
+use Rattle.mt_pair.specs.Cases.{IsLoss}
 use Rattle.mt_pair.specs.Span.{IsSpan, joined}
 
 -- a second where both rows are known
-pub loss_second : (rules : Rules) (a b : Trajectory) (k : ℕ) (x y : Row) → row_at a k ≡ Some x → row_at b k ≡ Some y → IsLossSecond rules a b k ↔ LosesIn rules x y
+pub loss_second : (rules : Rules) (a b : Trajectory) (k : ℕ) (x y : Row) → row_at a k ≡ Some x → row_at b k ≡ Some y → IsLossSecond rules a b k ↔ LosesIn rules a.rvsm b.rvsm x y
 loss_second rules a b k x y at_a at_b = (
   (λ loss.
       let left : loss.left ≡ x = (let e : Some loss.left ≡ Some x = sym loss.left_is ∙ at_a in cc) in
       let right : loss.right ≡ y = (let e : Some loss.right ≡ Some y = sym loss.right_is ∙ at_b in cc) in
-      subst (λ (z : Row). LosesIn rules x z) right (subst (λ (z : Row). LosesIn rules z loss.right) left loss.loss)),
+      subst (λ (z : Row). LosesIn rules a.rvsm b.rvsm x z) right (subst (λ (z : Row). LosesIn rules a.rvsm b.rvsm z loss.right) left loss.loss)),
   (λ loss. record { left = x; right = y; left_is = at_a; right_is = at_b; loss = loss }),
 )
 
@@ -89,9 +92,9 @@ IsSpan-conflict rules a b from to (Some span) is =
     record { inside = is.inside; first_is = is.first_is; last_is = is.last_is; none_outside = is.none_outside }
 
 -- the rows of a second, counted from a later row of each
-pub loses_after : (rules : Rules) (a b : Row) (s t from k : ℕ) → s ≤ from → t ≤ from → from ≤ k
-    → LosesIn rules (row_after (row_after a (from - s)) (k - from)) (row_after (row_after b (from - t)) (k - from)) ↔ LosesIn rules (row_after a (k - s)) (row_after b (k - t))
-loses_after rules a b s t from k s_begun t_begun begun =
+pub loses_after : (rules : Rules) (pa pb : Bool) (a b : Row) (s t from k : ℕ) → s ≤ from → t ≤ from → from ≤ k
+    → LosesIn rules pa pb (row_after (row_after a (from - s)) (k - from)) (row_after (row_after b (from - t)) (k - from)) ↔ LosesIn rules pa pb (row_after a (k - s)) (row_after b (k - t))
+loses_after rules pa pb a b s t from k s_begun t_begun begun =
     let left : row_after (row_after a (from - s)) (k - from) ≡ row_after a (k - s) = row_after-add a (from - s) (k - from) ∙ ap (row_after a) (omega arith) in
     let right : row_after (row_after b (from - t)) (k - from) ≡ row_after b (k - t) = row_after-add b (from - t) (k - from) ∙ ap (row_after b) (omega arith) in
     rw (left, right) ((λ h. h), (λ h. h))
@@ -130,3 +133,13 @@ IsConflict-cut rules a b from to begin end (Some span) later sooner covered cut 
       let h = covered k low high (both_cover rules a b k loss) in
       cut.none_outside k h.0 h.1 loss;
 }
+
+-- the span of the loss seconds of two rows that keep their gains, counted from the first of these seconds, is that of the seconds themselves
+pub IsSpan-loss : (rules : Rules) (pa pb : Bool) (a b : Row) (from to : ℕ) (x : Approach) (span : Option (ℕ × ℕ)) → from < to
+    → ((k : ℕ) → k < to - from → HoldsIn (IsLoss x) k ↔ LosesIn rules pa pb (row_after a k) (row_after b k))
+    → IsSpan (HoldsIn (IsLoss x)) 0 (to - from) span
+    → IsSpan (λ k. LosesIn rules pa pb (row_after a (k - from)) (row_after b (k - from))) from to (shifted from span)
+IsSpan-loss rules pa pb a b from to x span some same is =
+    IsSpan-later (λ k. LosesIn rules pa pb (row_after a k) (row_after b k)) (λ k. LosesIn rules pa pb (row_after a (k - from)) (row_after b (k - from)))
+    from (to - from) to span (omega arith) (λ k begun. ((λ h. h), (λ h. h)))
+    (IsSpan-same (HoldsIn (IsLoss x)) (λ k. LosesIn rules pa pb (row_after a k) (row_after b k)) 0 (to - from) span (λ k begun ahead. same k ahead) is)

@@ -98,18 +98,18 @@ reads_cover t ss i from to kept are covers =
       few = omega (arith, below, few, kept.short);
       short = omega (arith, ahead, lies.to, last, kept.short, first, lies.from, begun);
       holds = λ k later sooner.
-          subst (λ (rows : List Row). Holds (record { start = t.start; rows = rows }) k (slice_index_or ss i blank)) are.rows
-          (found t.start (t.start + length t.rows) ss i (suc i) k (slice_index_or ss i blank) all (omega arith) (omega arith) (omega arith)
+          subst (λ (rows : List Row). Holds (record t { rows = rows }) k (slice_index_or ss i blank)) are.rows
+          (found t.start (t.start + length t.rows) t.rvsm ss i (suc i) k (slice_index_or ss i blank) all (omega arith) (omega arith) (omega arith)
           (omega (arith, first, lies.from, begun)) (omega (arith, lies.from, begun)) (omega (arith, lies.to, ahead)) read);
     }
 
 -- what two segments say of the seconds that both hold
 pub overlap_is : (rules : Rules) (a b : Trajectory) (from to : ℕ) (s t : Segment) (span : Option (ℕ × ℕ))
     → ((k : ℕ) → from ≤ k → k < to → Holds a k s) → ((k : ℕ) → from ≤ k → k < to → Holds b k t)
-    → IsSpan (λ k. LosesIn rules (row_after s.first (k - s.from)) (row_after t.first (k - t.from))) from to span → IsConflict rules a b from to span
+    → IsSpan (λ k. LosesIn rules a.rvsm b.rvsm (row_after s.first (k - s.from)) (row_after t.first (k - t.from))) from to span → IsConflict rules a b from to span
 overlap_is rules a b from to s t span left right is =
     IsConflict-is rules a b from to span
-    (IsSpan-same (λ k. LosesIn rules (row_after s.first (k - s.from)) (row_after t.first (k - t.from))) (IsLossSecond rules a b) from to span
+    (IsSpan-same (λ k. LosesIn rules a.rvsm b.rvsm (row_after s.first (k - s.from)) (row_after t.first (k - t.from))) (IsLossSecond rules a b) from to span
     (λ k begun ahead.
     let same = loss_second rules a b k _ _ (left k begun ahead).row (right k begun ahead).row in
     (same.1, same.0))

@@ -33,6 +33,10 @@ square_of offset gain = record { a = product gain gain; b = pos 2 *ℤ product o
 abbrev pub gap_of : Rules → Row → Row → Quad
 gap_of rules a b = square_of (offset_of rules a b) (gain_of a b)
 
--- the height of b above a less the vertical minimum with both margins, over time
-abbrev pub excess_of : Rules → Row → Row → Line
-excess_of rules a b = record { b = b.vz -ℤ a.vz -ℤ a.gw -ℤ b.gw; c = b.z -ℤ a.z -ℤ rules.sv -ℤ a.w -ℤ b.w }
+-- the height of b above a less a vertical minimum with both margins, over time
+abbrev pub excess_of : ℤ → Row → Row → Line
+excess_of least a b = record { b = b.vz -ℤ a.vz -ℤ a.gw -ℤ b.gw; c = b.z -ℤ a.z -ℤ least -ℤ a.w -ℤ b.w }
+
+-- a level less the height of a, over time
+abbrev pub above_of : ℤ → Row → Line
+above_of level a = record { b = neg_ℤ a.vz; c = level -ℤ a.z }

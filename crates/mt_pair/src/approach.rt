@@ -1,96 +1,189 @@
-ghost use Rattle.std.specs.Prelude.{◌≡◌, ◌↔◌, ◌+◌, ◌<◌, ◌≤◌, pos, IsTrue};
-ghost use Rattle.mt_base.specs.Bounds.{AreWithinBounds, IsBoundedRow};
-ghost use Rattle.mt_base.specs.Tally.{raised};
-ghost use Rattle.mt_frac.specs.FractionOrder.{IsBefore};
 ghost use Rattle.mt_frac.specs.Signs.{IsBoundedLine, IsBoundedQuad};
-ghost use Rattle.mt_pair.specs.Below.{AreBelowIn, AreBelowInside, AreBelowOver};
-ghost use Rattle.mt_pair.specs.Gap.{excess_of, gap_of};
-ghost use Rattle.mt_pair.specs.Span.{IsGreatest, IsLeast, IsSpan};
 
 use crate::horizontal::gap;
-use crate::vertical::excess;
+use crate::question::{are_below_inside, are_below_with, whole};
+use crate::turning::{are_quiet, begins_before, lasts_until};
+use crate::vertical::{above, are_low, excess};
 use mt_base::{Row, Rules, Second, Steps};
 use mt_frac::{Frac, Line, Quad};
 
-/// Whether at one fraction strictly between the two all three are below 0. Each line cuts off what is not below 0 of it.
-fn are_below_inside(gap: Quad, over: Line, under: Line, lo: Frac, hi: Frac) -> bool
-    requires gap_bounded { IsBoundedQuad gap }
-    requires over_bounded { IsBoundedLine over }
-    requires under_bounded { IsBoundedLine under }
-    requires ordered { IsBefore lo hi }
-    ensures { IsTrue result ↔ AreBelowInside gap over under lo hi }
-{
-    let Some((low, high)) = over.below_in(lo, hi) else {
-        return false;
-    };
-    let Some((lower, higher)) = under.below_in(low, high) else {
-        return false;
-    };
-    gap.below_zero_in(lower, higher)
+/// The lines of the greater vertical minimum: the two that are below 0 where two trajectories are nearer than that, and for each of the two
+/// one that is below 0 where it is above the level from which that minimum holds.
+#[derive(Clone, Copy)]
+pub(crate) struct High {
+    over: Line,
+    under: Line,
+    left: Line,
+    right: Line,
+    ghost over_bounded: { IsBoundedLine over },
+    ghost under_bounded: { IsBoundedLine under },
+    ghost left_bounded: { IsBoundedLine left },
+    ghost right_bounded: { IsBoundedLine right },
 }
 
-/// A second as a fraction.
-fn whole(k: Second) -> Frac
-    ensures num { result.num ≡ pos k }
-    ensures den { result.den ≡ pos 1 }
-{
-    Frac {
-        num: i128::from(k),
-        den: 1,
+impl High {
+    ghost use Rattle.std.specs.Prelude.{◌↔◌, ◌<◌, IsTrue};
+    ghost use Rattle.mt_base.specs.Bounds.{AreWithinBounds, IsBoundedRow};
+    ghost use Rattle.mt_frac.specs.FractionOrder.{IsBefore};
+    ghost use Rattle.mt_pair.specs.Below.{HoldsBetween};
+    ghost use Rattle.mt_pair.specs.Cases.{IsHighAt, IsHighOf};
+    ghost use Rattle.mt_pair.specs.High.{level_of};
+
+    /// Those of two rows of one second for so many seconds, by whether both are approved; `None` where neither is high in any of them.
+    fn of(rules: &Rules, approved: bool, a: &Row, b: &Row, seconds: Second) -> Option<High>
+        requires rules_kept { AreWithinBounds rules.now }
+        requires a_kept { IsBoundedRow a.now }
+        requires b_kept { IsBoundedRow b.now }
+        ensures { IsHighOf rules.now (level_of approved) a.now b.now seconds result }
+    {
+        if are_low(approved, a, b, seconds) {
+            return None;
+        }
+        Some(High {
+            over: excess(&rules.sv2, a, b),
+            under: excess(&rules.sv2, b, a),
+            left: above(approved, a),
+            right: above(approved, b),
+        })
+    }
+
+    /// Whether at one fraction strictly between the two there is a loss by the greater minimum.
+    fn loses_inside(&self, gap: Quad, lo: Frac, hi: Frac) -> bool
+        requires gap_bounded { IsBoundedQuad gap }
+        requires ordered { IsBefore lo hi }
+        ensures { IsTrue result ↔ HoldsBetween (IsHighAt gap self.now) lo hi }
+    {
+        if are_below_with(gap, self.over, self.under, self.left, lo, hi) {
+            return true;
+        }
+        are_below_with(gap, self.over, self.under, self.right, lo, hi)
     }
 }
 
 /// How two trajectories come near one another while neither changes its gains: the quadratic that is below 0 where they are too near
-/// horizontally, and the two lines that are below 0 where they are too near vertically. Time is counted in seconds from some row of each.
+/// horizontally, the two lines that are below 0 where they are nearer vertically than the lesser minimum, and those of the greater one, where
+/// one of the two is high. Time is counted in seconds from some row of each.
 #[derive(Clone, Copy)]
 pub(crate) struct Approach {
     gap: Quad,
     over: Line,
     under: Line,
+    high: Option<High>,
     ghost gap_bounded: { IsBoundedQuad gap },
     ghost over_bounded: { IsBoundedLine over },
     ghost under_bounded: { IsBoundedLine under },
 }
 
 impl Approach {
-    /// That of two rows of one second.
-    pub(crate) fn of(rules: &Rules, a: &Row, b: &Row) -> Approach
+    ghost use Rattle.std.specs.Prelude.{◌≡◌, ◌↔◌, true, None, ◌+◌, ◌<◌, ◌≤◌, pos, ◌≤ℤ◌, IsTrue};
+    ghost use Rattle.mt_base.specs.Bounds.{AreWithinBounds, IsBoundedRow};
+    ghost use Rattle.mt_base.specs.Tally.{raised};
+    ghost use Rattle.mt_frac.specs.FractionOrder.{IsBefore};
+    ghost use Rattle.mt_pair.specs.Below.{HoldsIn, HoldsBetween, HoldsOver};
+    ghost use Rattle.mt_pair.specs.Cases.{IsHighOf, IsLoss};
+    ghost use Rattle.mt_pair.specs.Gap.{excess_of, gap_of};
+    ghost use Rattle.mt_pair.specs.High.{level_of};
+    ghost use Rattle.mt_pair.specs.Span.{IsGreatest, IsLeast, IsSpan};
+
+    /// That of two rows of one second, for so many seconds, by whether both are approved.
+    pub(crate) fn of(rules: &Rules, approved: bool, a: &Row, b: &Row, seconds: Second) -> Approach
         requires rules_kept { AreWithinBounds rules.now }
         requires a_kept { IsBoundedRow a.now }
         requires b_kept { IsBoundedRow b.now }
         ensures gap { result.gap ≡ gap_of rules.now a.now b.now }
-        ensures over { result.over ≡ excess_of rules.now a.now b.now }
-        ensures under { result.under ≡ excess_of rules.now b.now a.now }
+        ensures over { result.over ≡ excess_of rules.now.sv a.now b.now }
+        ensures under { result.under ≡ excess_of rules.now.sv b.now a.now }
+        ensures high { IsHighOf rules.now (level_of approved) a.now b.now seconds result.high }
     {
         Approach {
             gap: gap(rules, a, b),
-            over: excess(rules, a, b),
-            under: excess(rules, b, a),
+            over: excess(&rules.sv, a, b),
+            under: excess(&rules.sv, b, a),
+            high: High::of(rules, approved, a, b, seconds),
         }
+    }
+
+    /// Whether at one fraction strictly between the two there is a loss.
+    fn loses_inside(&self, lo: Frac, hi: Frac) -> bool
+        requires ordered { IsBefore lo hi }
+        ensures { IsTrue result ↔ HoldsBetween (IsLoss self.now) lo hi }
+    {
+        if are_below_inside(self.gap, self.over, self.under, lo, hi) {
+            return true;
+        }
+        let Some(high) = &self.high else {
+            return false;
+        };
+        high.loses_inside(self.gap, lo, hi)
     }
 
     /// Whether some instant of the seconds from `low` up to `high` has a loss. This is one step.
     fn loses_over(&self, low: Second, high: Second, steps: &mut Steps) -> bool
         requires ordered { low < high }
-        ensures is { IsTrue result ↔ AreBelowOver self.now.gap self.now.over self.now.under low high }
+        ensures is { IsTrue result ↔ HoldsOver (IsLoss self.now) low high }
         ensures counted { steps.new ≡ raised steps.old }
     {
         steps.raise();
-        are_below_inside(self.gap, self.over, self.under, whole(low), whole(high))
+        self.loses_inside(whole(low), whole(high))
+    }
+
+    /// Whether the values at whole seconds decide: the quadratic doesn't open downwards, and no one is high. Where it says no, nothing is said.
+    fn goes_by_values(&self) -> bool
+        ensures { result ≡ true → (pos 0 ≤ℤ self.now.gap.a) × (self.now.high ≡ None) }
+    {
+        if self.gap.a < 0 {
+            return false;
+        }
+        let Some(_) = &self.high else {
+            return true;
+        };
+        false
+    }
+
+    /// Whether some instant from second `low` on and before second `middle` has a loss, where some instant of those up to `high` has one.
+    /// This is one step.
+    fn loses_before(&self, low: Second, middle: Second, high: Second, steps: &mut Steps) -> bool
+        requires begun { low < middle }
+        requires short { middle ≤ 16384 }
+        requires some { HoldsOver (IsLoss self.now) low high }
+        ensures is { IsTrue result ↔ HoldsOver (IsLoss self.now) low middle }
+        ensures counted { steps.new ≡ raised steps.old }
+    {
+        if !self.goes_by_values() {
+            return self.loses_over(low, middle, steps);
+        }
+        steps.raise();
+        begins_before(self.gap, self.over, self.under, middle)
+    }
+
+    /// Whether some instant from second `middle` on and before second `high` has a loss, where some instant of those from `low` on has one.
+    /// This is one step.
+    fn loses_from(&self, low: Second, middle: Second, high: Second, steps: &mut Steps) -> bool
+        requires ahead { middle < high }
+        requires short { middle ≤ 16384 }
+        requires some { HoldsOver (IsLoss self.now) low high }
+        ensures is { IsTrue result ↔ HoldsOver (IsLoss self.now) middle high }
+        ensures counted { steps.new ≡ raised steps.old }
+    {
+        if !self.goes_by_values() {
+            return self.loses_over(middle, high, steps);
+        }
+        steps.raise();
+        lasts_until(self.gap, self.over, self.under, middle)
     }
 
     /// The first second with a loss from `low` up to `high`, by halving.
     fn first_over(&self, low: Second, high: Second, steps: &mut Steps) -> Second
-        requires some { AreBelowOver self.now.gap self.now.over self.now.under low high }
-        requires short { high ≤ low + 16384 }
-        ensures is { IsLeast (AreBelowIn self.now.gap self.now.over self.now.under) low high result }
+        requires some { HoldsOver (IsLoss self.now) low high }
+        requires short { high ≤ 16384 }
+        ensures is { IsLeast (HoldsIn (IsLoss self.now)) low high result }
         ensures counted { steps.new ≤ steps.old + 14 }
     {
         let mut begin = low;
         let mut end = high;
         while end - begin > 1 {
             let middle = begin + (end - begin) / 2;
-            if self.loses_over(begin, middle, steps) {
+            if self.loses_before(begin, middle, end, steps) {
                 end = middle;
             } else {
                 begin = middle;
@@ -101,16 +194,16 @@ impl Approach {
 
     /// The last second with a loss from `low` up to `high`, by halving.
     fn last_over(&self, low: Second, high: Second, steps: &mut Steps) -> Second
-        requires some { AreBelowOver self.now.gap self.now.over self.now.under low high }
-        requires short { high ≤ low + 16384 }
-        ensures is { IsGreatest (AreBelowIn self.now.gap self.now.over self.now.under) low high result }
+        requires some { HoldsOver (IsLoss self.now) low high }
+        requires short { high ≤ 16384 }
+        ensures is { IsGreatest (HoldsIn (IsLoss self.now)) low high result }
         ensures counted { steps.new ≤ steps.old + 14 }
     {
         let mut begin = low;
         let mut end = high;
         while end - begin > 1 {
             let middle = begin + (end - begin) / 2;
-            if self.loses_over(middle, end, steps) {
+            if self.loses_from(begin, middle, end, steps) {
                 begin = middle;
             } else {
                 end = middle;
@@ -119,13 +212,34 @@ impl Approach {
         begin
     }
 
+    /// Whether the values at both ends tell that no instant before second `seconds` has a loss. Where it says no, nothing is said.
+    fn is_quiet(&self, seconds: Second) -> bool
+        requires some { 0 < seconds }
+        requires short { seconds ≤ 16384 }
+        ensures { result ≡ true → ¬ HoldsOver (IsLoss self.now) 0 seconds }
+    {
+        if self.gap.a < 0 {
+            return false;
+        }
+        if !are_quiet(self.gap, self.over, self.under, seconds) {
+            return false;
+        }
+        let Some(high) = &self.high else {
+            return true;
+        };
+        are_quiet(self.gap, high.over, high.under, seconds)
+    }
+
     /// The first and the last second with a loss before the `seconds`-th; `None` exactly where none has. At most 32 steps.
     pub(crate) fn span_before(&self, seconds: Second, steps: &mut Steps) -> Option<(Second, Second)>
         requires some { 0 < seconds }
         requires short { seconds ≤ 16384 }
-        ensures span { IsSpan (AreBelowIn self.now.gap self.now.over self.now.under) 0 seconds result }
+        ensures span { IsSpan (HoldsIn (IsLoss self.now)) 0 seconds result }
         ensures counted { steps.new ≤ steps.old + 32 }
     {
+        if self.is_quiet(seconds) {
+            return None;
+        }
         if !self.loses_over(0, seconds, steps) {
             return None;
         }

@@ -50,7 +50,9 @@ fn product(p: Offset, q: Offset) -> i128
     requires q_kept { IsOffsetWithin 7372800 q }
     ensures { result ≡ product p q }
 {
-    p.x * q.x + p.y * q.y - p.width * q.width
+    let square = p.x as i64 * q.x as i64 + p.y as i64 * q.y as i64
+        - p.width as i64 * q.width as i64;
+    i128::from(square)
 }
 
 /// The offset times itself, as a quadratic in the seconds since the start of the rows' second.

@@ -8,10 +8,14 @@
 #![tactic(auto)]
 
 mod approach;
+mod heights;
 mod horizontal;
 mod overlap;
+mod question;
 mod span;
+mod turning;
 mod vertical;
 
+pub use heights::keep_apart;
 pub use overlap::stretch;
 pub use span::lose;

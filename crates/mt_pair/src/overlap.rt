@@ -7,13 +7,16 @@ ghost use Rattle.mt_track.specs.Rows.{row_after};
 ghost use Rattle.mt_pair.specs.Span.{IsSpan};
 
 use crate::approach::Approach;
+use crate::vertical::{are_far, are_low, both};
 use mt_base::{Row, Rules, Second, Steps};
 use mt_track::{Segment, Strand, later};
 
-/// The first and the last second from `from` up to `to` in which two trajectories lose separation that have these rows at `from` and keep
-/// their gains. At most 32 steps.
+/// The first and the last second from `from` up to `to` in which two trajectories with these approvals lose separation that have these rows
+/// at `from` and keep their gains. At most 32 steps.
 fn span_from(
     rules: &Rules,
+    a_rvsm: bool,
+    b_rvsm: bool,
     a: &Row,
     b: &Row,
     from: Second,
@@ -25,10 +28,14 @@ fn span_from(
     requires b_kept { IsBoundedRow b.now }
     requires some { from < to }
     requires short { to ≤ from + 14400 }
-    ensures span { IsSpan (λ k. LosesIn rules.now (row_after a.now (k - from)) (row_after b.now (k - from))) from to result }
+    ensures span { IsSpan (λ k. LosesIn rules.now a_rvsm b_rvsm (row_after a.now (k - from)) (row_after b.now (k - from))) from to result }
     ensures counted { steps.new ≤ steps.old + 32 }
 {
-    let approach = Approach::of(rules, a, b);
+    let approved = both(a_rvsm, b_rvsm);
+    if are_far(rules, a, b, to - from) && are_low(approved, a, b, to - from) {
+        return None;
+    }
+    let approach = Approach::of(rules, approved, a, b, to - from);
     let Some((first, last)) = approach.span_before(to - from, steps) else {
         return None;
     };
@@ -38,6 +45,8 @@ fn span_from(
 /// The same for two segments that cover these seconds.
 fn overlap(
     rules: &Rules,
+    s_rvsm: bool,
+    t_rvsm: bool,
     s: &Segment,
     t: &Segment,
     from: Second,
@@ -53,12 +62,12 @@ fn overlap(
     requires t_bounded { IsBoundedRow (row_after t.now.first (from - t.now.from)) }
     requires some { from < to }
     requires short { to ≤ from + 14400 }
-    ensures span { IsSpan (λ k. LosesIn rules.now (row_after s.now.first (k - s.now.from)) (row_after t.now.first (k - t.now.from))) from to result }
+    ensures span { IsSpan (λ k. LosesIn rules.now s_rvsm t_rvsm (row_after s.now.first (k - s.now.from)) (row_after t.now.first (k - t.now.from))) from to result }
     ensures counted { steps.new ≤ steps.old + 32 }
 {
     let a = later(&s.first, from - s.from);
     let b = later(&t.first, from - t.from);
-    span_from(rules, &a, &b, from, to, steps)
+    span_from(rules, s_rvsm, t_rvsm, &a, &b, from, to, steps)
 }
 
 /// The conflict of two strands in seconds that one segment of each covers: the first and the last second in which they lose separation;
@@ -85,5 +94,14 @@ pub fn stretch(
 {
     let left = a.segments();
     let right = b.segments();
-    overlap(rules, &left[i], &right[j], from, to, steps)
+    overlap(
+        rules,
+        a.rvsm(),
+        b.rvsm(),
+        &left[i],
+        &right[j],
+        from,
+        to,
+        steps,
+    )
 }

@@ -32,6 +32,7 @@ margin_within m leg n a row is bounded =
 -- With so many seconds of a leg left, some rows stand behind the old ones, and with those that are left they are all of the leg.
 pub record IsUnderWay (m : Manner) (leg : Leg) (old : Trajectory) (from : Place) (cut : ℕ) (t : Trajectory) (left : ℕ) (a : Place) : Type 0 where
   pub start : t.start ≡ old.start
+  pub rvsm : t.rvsm ≡ old.rvsm
   pub at : EndAt t.rows a
   pub ahead : cut ≤ left
   pub within : left ≤ leg.seconds
@@ -83,6 +84,7 @@ pub stretch_flown : {m : Manner} {leg : Leg} {old : Trajectory} {from : Place} {
     → b ≡ place_at row n → IsUnderWay m leg old from cut new (left - n) b
 stretch_flown {m} {leg} {old} {from} {cut} {left} {t} {new} {a} {b} {row} {n} begin way next is place = rw place (record {
   start = ap (λ (t : Trajectory). t.start) is ∙ way.start;
+  rvsm = ap (λ (t : Trajectory). t.rvsm) is ∙ way.rvsm;
   at = subst (λ (rows : List Row). EndAt rows (place_at row n)) (sym rows_are) (EndAt-stretch t.rows row n next.some);
   ahead = omega (arith, next.few, way.ahead);
   within = omega (arith, way.within);

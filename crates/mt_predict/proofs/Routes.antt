@@ -1,5 +1,5 @@
 -- A route while it is flown: what stands after each leg, and at the end.
-use Rattle.std.proofs.Common.{◌≡◌, ℕ, suc, ◌+◌, ◌<◌, ◌≤◌, List, [], ◌∷◌, ◌++◌, length, get_or, take, drop, sym, ap, ◌∙◌, subst, arith, refl, append_assoc}
+use Rattle.std.proofs.Common.{Bool, ◌≡◌, ℕ, suc, ◌+◌, ◌<◌, ◌≤◌, List, [], ◌∷◌, ◌++◌, length, get_or, take, drop, sym, ap, ◌∙◌, subst, arith, refl, append_assoc}
 use Rattle.std.proofs.Math.Seq.{drop-cons}
 use Rattle.std.proofs.lemmas.List.{append-nil, drop_all, length-take, take-append-le, take_all}
 use Rattle.mt_base.specs.declared.place.Leg.{Leg}
@@ -21,8 +21,9 @@ front_of_more : (most : ℕ) (rows rest : List Row) → length (take most rows) 
 front_of_more most rows rest full = sym (take-append-le most rows rest (omega (arith, full, length-take most rows)))
 
 -- Before the leg to a fix some rows stand, and with those that are ahead they are all of the route.
-pub record IsOnCourse (m : Manner) (fixes : List Point) (next at : ℕ) (from : Place) (number : ℕ) (t : Trajectory) (a : Place) : Type 0 where
+pub record IsOnCourse (m : Manner) (fixes : List Point) (next at : ℕ) (rvsm : Bool) (from : Place) (number : ℕ) (t : Trajectory) (a : Place) : Type 0 where
   pub start : t.start ≡ at
+  pub approved : t.rvsm ≡ rvsm
   pub room : length t.rows < 14400
   pub end : EndAt t.rows a
   pub held : IsHeld m.rules a
@@ -32,26 +33,27 @@ pub record IsOnCourse (m : Manner) (fixes : List Point) (next at : ℕ) (from : 
 -- a leg that was flown, as far as there was room
 pub record IsLegFlown (m : Manner) (leg : Leg) (t new : Trajectory) (a b : Place) : Type 0 where
   pub start : new.start ≡ t.start
+  pub rvsm : new.rvsm ≡ t.rvsm
   pub rows : new.rows ≡ take 14400 (t.rows ++ rows_on m leg leg.seconds a)
   pub at : EndAt new.rows b
   pub place : length new.rows < 14400 → b ≡ end_after a (rows_on m leg leg.seconds a)
 
 -- the rows ahead, parted behind the next leg
-ahead : {m : Manner} {fixes : List Point} {next at : ℕ} {from : Place} {number : ℕ} {t : Trajectory} {a : Place} (d : Point)
-    → IsOnCourse m fixes next at from number t a → number < length fixes → (fix : Point) → fix ≡ get_or fixes number d
+ahead : {m : Manner} {fixes : List Point} {next at : ℕ} {rvsm : Bool} {from : Place} {number : ℕ} {t : Trajectory} {a : Place} (d : Point)
+    → IsOnCourse m fixes next at rvsm from number t a → number < length fixes → (fix : Point) → fix ≡ get_or fixes number d
     → (t.rows ++ rows_to m number fix a) ++ rows_along m (suc number) (drop (suc number) fixes) (end_after a (rows_to m number fix a))
     ≡ rows_along m next (drop next fixes) from
-ahead {m} {fixes} {next} {at} {from} {number} {t} {a} d course below fix is =
+ahead {m} {fixes} {next} {at} {rvsm} {from} {number} {t} {a} d course below fix is =
     let first : drop number fixes ≡ fix ∷ drop (suc number) fixes = rw is (drop-cons fixes number d below) in
     append_assoc t.rows (rows_to m number fix a) (rows_along m (suc number) (drop (suc number) fixes) (end_after a (rows_to m number fix a)))
     ∙ ap (λ (fs : List Point). t.rows ++ rows_along m number fs a) (sym first)
     ∙ course.rows
 
-pub next_leg : {m : Manner} {fixes : List Point} {next at : ℕ} {from : Place} {number : ℕ} {t new : Trajectory} {a b : Place} (d : Point) (leg : Leg)
-    → IsOnCourse m fixes next at from number t a → number < length fixes → leg ≡ leg_to m.bands number (get_or fixes number d) a
+pub next_leg : {m : Manner} {fixes : List Point} {next at : ℕ} {rvsm : Bool} {from : Place} {number : ℕ} {t new : Trajectory} {a b : Place} (d : Point) (leg : Leg)
+    → IsOnCourse m fixes next at rvsm from number t a → number < length fixes → leg ≡ leg_to m.bands number (get_or fixes number d) a
     → IsBoundedManner m → IsInPlane (get_or fixes number d).x (get_or fixes number d).y
-    → IsLegFlown m leg t new a b → length new.rows < 14400 → IsOnCourse m fixes next at from (number + 1) new b
-next_leg {m} {fixes} {next} {at} {from} {number} {t} {new} {a} {b} d leg course below leg_is kept fix_kept flown room =
+    → IsLegFlown m leg t new a b → length new.rows < 14400 → IsOnCourse m fixes next at rvsm from (number + 1) new b
+next_leg {m} {fixes} {next} {at} {rvsm} {from} {number} {t} {new} {a} {b} d leg course below leg_is kept fix_kept flown room =
     let fix = get_or fixes number d in
     let rows : new.rows ≡ take 14400 (t.rows ++ rows_to m number fix a) = rw leg_is at flown.rows in
     let all : new.rows ≡ t.rows ++ rows_to m number fix a =
@@ -60,6 +62,7 @@ next_leg {m} {fixes} {next} {at} {from} {number} {t} {new} {a} {b} d leg course 
     let e : number + 1 ≡ suc number = omega arith in
     record {
       start = flown.start ∙ course.start;
+      approved = flown.rvsm ∙ course.approved;
       room = room;
       end = flown.at;
       held = rw place (end_kept m number fix a kept fix_kept course.held);
@@ -67,10 +70,10 @@ next_leg {m} {fixes} {next} {at} {from} {number} {t} {new} {a} {b} d leg course 
       rows = rw (all, place, e) (ahead d course below fix refl);
     }
 
-pub full : {m : Manner} {fixes : List Point} {next at : ℕ} {from : Place} {number : ℕ} {t new : Trajectory} {a b : Place} (d : Point) (leg : Leg)
-    → IsOnCourse m fixes next at from number t a → number < length fixes → leg ≡ leg_to m.bands number (get_or fixes number d) a
+pub full : {m : Manner} {fixes : List Point} {next at : ℕ} {rvsm : Bool} {from : Place} {number : ℕ} {t new : Trajectory} {a b : Place} (d : Point) (leg : Leg)
+    → IsOnCourse m fixes next at rvsm from number t a → number < length fixes → leg ≡ leg_to m.bands number (get_or fixes number d) a
     → IsLegFlown m leg t new a b → length new.rows ≡ 14400 → new.rows ≡ predicted m next (drop next fixes) from
-full {m} {fixes} {next} {at} {from} {number} {t} {new} {a} {b} d leg course below leg_is flown whole =
+full {m} {fixes} {next} {at} {rvsm} {from} {number} {t} {new} {a} {b} d leg course below leg_is flown whole =
     let fix = get_or fixes number d in
     let rows : new.rows ≡ take 14400 (t.rows ++ rows_to m number fix a) = rw leg_is at flown.rows in
     rows
@@ -78,9 +81,9 @@ full {m} {fixes} {next} {at} {from} {number} {t} {new} {a} {b} d leg course belo
     (sym (ap length rows) ∙ whole)
     ∙ ap (take 14400) (ahead d course below fix refl)
 
-pub over_last : {m : Manner} {fixes : List Point} {next at : ℕ} {from : Place} {number : ℕ} {t : Trajectory} {a : Place}
-    → IsOnCourse m fixes next at from number t a → length fixes ≤ number → t.rows ≡ predicted m next (drop next fixes) from
-over_last {m} {fixes} {next} {at} {from} {number} {t} {a} course past =
+pub over_last : {m : Manner} {fixes : List Point} {next at : ℕ} {rvsm : Bool} {from : Place} {number : ℕ} {t : Trajectory} {a : Place}
+    → IsOnCourse m fixes next at rvsm from number t a → length fixes ≤ number → t.rows ≡ predicted m next (drop next fixes) from
+over_last {m} {fixes} {next} {at} {rvsm} {from} {number} {t} {a} course past =
     let none : drop number fixes ≡ [] = drop_all number fixes past in
     let rows : t.rows ≡ rows_along m next (drop next fixes) from = sym (append-nil t.rows) ∙ (rw none at course.rows) in
     sym (take_all 14400 t.rows (omega (arith, course.room))) ∙ ap (take 14400) rows

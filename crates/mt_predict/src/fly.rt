@@ -29,6 +29,7 @@ fn fly_leg(
     requires early { strand.old.start ≤ 10000000 }
     requires at { EndAt strand.old.rows from }
     ensures start { strand.new.start ≡ strand.old.start }
+    ensures rvsm { strand.new.rvsm ≡ strand.old.rvsm }
     ensures rows { IfOk result (λ end. strand.new.rows ≡ take 14400 (strand.old.rows ++ rows_on (manner rules.now bands.now level) leg.now leg.now.seconds from)) }
     ensures at { IfOk result (λ end. EndAt strand.new.rows end) }
     ensures place { IfOk result (λ end. length strand.new.rows < 14400 → end ≡ end_after from (rows_on (manner rules.now bands.now level) leg.now leg.now.seconds from)) }
@@ -63,6 +64,7 @@ pub fn fly_route(
     next: u32,
     at: Second,
     from: Place,
+    rvsm: bool,
 ) -> Result<Strand, Memory>
     requires manner_kept { IsBoundedManner (manner rules.now bands.now level) }
     requires fixes_kept { All (λ p. IsInPlane p.x p.y) fixes.now }
@@ -71,9 +73,10 @@ pub fn fly_route(
     requires early { at ≤ 10000000 }
     requires held { IsHeld rules.now from }
     ensures start { IfOk result (λ strand. strand.start ≡ at) }
+    ensures rvsm { IfOk result (λ strand. strand.rvsm ≡ rvsm) }
     ensures rows { IfOk result (λ strand. strand.rows ≡ predicted (manner rules.now bands.now level) next (drop next fixes.now) from) }
 {
-    let mut strand = Strand::empty(alloc, at);
+    let mut strand = Strand::empty(alloc, at, rvsm);
     let mut place = from;
     let mut number = next;
     while (number as usize) < fixes.len() {

@@ -1,4 +1,4 @@
-ghost use Rattle.std.specs.Prelude.{◌≡◌, ℕ, List, pos, int_lt, is_some, option_copied, not, Some, Err, IfOk, IfErr, [], ◌∷◌};
+ghost use Rattle.std.specs.Prelude.{◌≡◌, ℕ, Bool, List, pos, int_lt, is_some, option_copied, not, Some, Err, IfOk, IfErr, [], ◌∷◌};
 ghost use Rattle.std.specs.Option.{option_map_or};
 ghost use Rattle.mt_base.specs.Checks.{judged};
 ghost use Rattle.mt_base.specs.Cleared.{aim_checks, is_below_ceiling};
@@ -94,8 +94,8 @@ fn check_plan(
     route: &Route,
     levels: (u32, u32),
 ) -> Result<(), Refusal>
-    ensures { (who : ℕ) (call : List ℕ) (at : ℕ) → result
-        ≡ judged (checks (setup_with rules.now tables.now) (look_of looked.entry.now) who (Command.Plan call kind route.now at levels.0 levels.1)) (tt {0}) }
+    ensures { (who : ℕ) (call : List ℕ) (at : ℕ) (rvsm : Bool) → result
+        ≡ judged (checks (setup_with rules.now tables.now) (look_of looked.entry.now) who (Command.Plan call kind route.now at levels.0 levels.1 rvsm)) (tt {0}) }
 {
     must(!is_held(looked), Refusal::HeldCall)?;
     must(is_known(tables, kind), Refusal::UnknownType(kind))?;

@@ -50,7 +50,7 @@ fn fly(
     requires sound { IsSoundCourse (setup_with rules.now tables.now) course.now }
     requires base { IsRightBase rules.now (length course.now.route) base.now }
     requires level { level ≤ 600 }
-    ensures { IfOk result (λ strand. strand ≡ flown (setup_with rules.now tables.now) course.now.kind course.now.route base.now level) }
+    ensures { IfOk result (λ strand. strand ≡ flown (setup_with rules.now tables.now) course.now.kind course.now.route base.now level course.now.rvsm) }
 {
     let points = points_of(alloc, tables, &course.route)?;
     let Some(bands) = tables.bands(course.kind) else {
@@ -58,7 +58,15 @@ fn fly(
     };
     let from = place_of(base);
     fly_route(
-        alloc, rules, bands, level, &points, base.next, base.at, from,
+        alloc,
+        rules,
+        bands,
+        level,
+        &points,
+        base.next,
+        base.at,
+        from,
+        course.rvsm,
     )
 }
 

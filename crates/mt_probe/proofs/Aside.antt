@@ -60,7 +60,7 @@ module _ {A : Type 0} (y : A) (r : Refusal) (setup : Setup) (s : State) (who : �
   last_checks a b = passing y r ((Full, int_lt (pos 0) setup.rules.flights) ∷ Roomy) ((Full, a) ∷ (HistoryFull, b) ∷ []) (flight_room, (entry_room, tt))
 
   carried : (c : Command) → MakesStrand c → Carries y r (checks setup (roomy s c) who c) (checks setup (look_at s c) who c)
-  carried (Plan call kind route at from level) makes =
+  carried (Plan call kind route at from level rvsm) makes =
       one y r _ _ _ (one y r _ _ _ (some y r (route_checks setup.tables route) _ _
       (one y r _ _ _ (one y r _ _ _ (last_checks _ _)))))
   carried (External call straight) makes = one y r _ _ _ (last_checks _ _)

@@ -23,7 +23,18 @@ use Rattle.mt_probe.proofs.Placed.{filled_inside, record_placed, record_there}
 
 module _ (rules : Rules) (now : ℕ) (t : Trajectory) where
   pub none_more : (finds : List Found) → FindsMore rules now t [] finds finds
-  none_more finds = record { kept = λ found held. held; exact = λ found held. inl held; listed = λ other held. absurd (Contains-none other held) }
+  none_more finds = record { kept = λ found held. held; exact = λ found held. inl held; listed = λ other held k ahead loss. absurd (Contains-none other held) }
+
+  -- one that has no loss second adds nothing
+  pub quiet_more : (other : NamedTrajectory) (finds : List Found) → ((k : ℕ) → k < all_end → ¬ IsLossSecond rules t other.path k)
+      → FindsMore rules now t (other ∷ []) finds finds
+  quiet_more other finds quiet = record {
+    kept = λ found held. held;
+    exact = λ found held. inl held;
+    listed = λ one held k ahead loss. ⊎_elim
+        (λ same. absurd (quiet k ahead (subst (λ (o : NamedTrajectory). IsLossSecond rules t o.path k) (sym same) loss)))
+        (λ none. absurd (Contains-none one none)) (Contains-cases other [] one held);
+  }
 
   pub one_more : (other : NamedTrajectory) (found : Found) (old new : List Found) → IsFound rules now t other found → new ≡ old ++ found ∷ []
       → FindsMore rules now t (other ∷ []) old new
@@ -32,7 +43,7 @@ module _ (rules : Rules) (now : ℕ) (t : Trajectory) where
     exact = λ one held. ⊎_elim inl
         (λ same. inr (record { other = other; among = (0, omega arith, refl); is = subst (IsFound rules now t other) same is }))
         (Contains-push_cases old found one held);
-    listed = λ one held. ⊎_elim
+    listed = λ one held k ahead loss. ⊎_elim
         (λ same. record { found = found; held = Contains-push old found; is = subst (λ (o : NamedTrajectory). IsFound rules now t o found) same is })
         (λ none. absurd (Contains-none one none)) (Contains-cases other [] one held);
   })
@@ -51,9 +62,9 @@ module _ (rules : Rules) (now : ℕ) (t : Trajectory) where
         (first.exact found before))
         (λ one. inr (record { other = one.other; among = Contains-append_right xs ys one.other one.among; is = one.is }))
         (second.exact found held);
-    listed = λ other held. ⊎_elim
-        (λ left. still_listed mid new other second.kept (first.listed other left))
-        (λ right. second.listed other right) (Contains-append_cases xs ys other held);
+    listed = λ other held k ahead loss. ⊎_elim
+        (λ left. still_listed mid new other second.kept (first.listed other left k ahead loss))
+        (λ right. second.listed other right k ahead loss) (Contains-append_cases xs ys other held);
   }
 
 -- the callsign of what is kept of a flight

@@ -93,18 +93,18 @@ left_external setup s who call straight passed bounded = record {
   makes = refl;
 }
 
-pub left_plan : (setup : Setup) (s : State) (who : ℕ) (call kind : List ℕ) (route : List (List ℕ)) (at from level : ℕ) → AreWithinBounds setup.rules
-    → judged_aside setup s who (Plan call kind route at from level) ≡ Ok (tt {0}) → at ≤ 10000000 → from ≤ 600 → level ≤ 600
+pub left_plan : (setup : Setup) (s : State) (who : ℕ) (call kind : List ℕ) (route : List (List ℕ)) (at from level : ℕ) (rvsm : Bool) → AreWithinBounds setup.rules
+    → judged_aside setup s who (Plan call kind route at from level rvsm) ≡ Ok (tt {0}) → at ≤ 10000000 → from ≤ 600 → level ≤ 600
     → IsInPlane (first_of (points_of setup.tables route)).x (first_of (points_of setup.tables route)).y
-    → IsLeft setup s who (Plan call kind route at from level) (record { call = call; path = Planned (course_of setup kind route at from level) })
-left_plan setup s who call kind route at from level rules passed at_early from_low level_low plane =
-    let tests = passes setup s who (Plan call kind route at from level) passed in
+    → IsLeft setup s who (Plan call kind route at from level rvsm) (record { call = call; path = Planned (course_of setup kind route at from level rvsm) })
+left_plan setup s who call kind route at from level rvsm rules passed at_early from_low level_low plane =
+    let tests = passes setup s who (Plan call kind route at from level rvsm) passed in
     let split = halves (λ c. c.1 ≡ true) (route_checks setup.tables route) _ tests.1.1 in
     record {
       passed = passed;
-      card_is = filed_is call (Planned (course_of setup kind route at from level)) s.records (is_none (flight_of s.records call) tests.0);
+      card_is = filed_is call (Planned (course_of setup kind route at from level rvsm)) s.records (is_none (flight_of s.records call) tests.0);
       call_is = refl;
-      sound = sound_course setup kind route at from level rules at_early from_low level_low plane tests.1.0 split.0;
+      sound = sound_course setup kind route at from level rvsm rules at_early from_low level_low plane tests.1.0 split.0;
       makes = refl;
     }
 
@@ -159,9 +159,9 @@ few_quiet shot who command count = none_more shot (left_made shot.setup (state_o
 
 -- a command that makes a trajectory and files nothing alters a flight
 pub alters_by : (command : Command) → MakesStrand command
-    → ((call kind : List ℕ) (route : List (List ℕ)) (at from level : ℕ) → command ≡ Plan call kind route at from level → ⊥)
+    → ((call kind : List ℕ) (route : List (List ℕ)) (at from level : ℕ) (rvsm : Bool) → command ≡ Plan call kind route at from level rvsm → ⊥)
     → ((call : List ℕ) (straight : Straight) → command ≡ External call straight → ⊥) → Alters command
-alters_by (Plan call kind route at from level) makes no_plan no_external = absurd (no_plan call kind route at from level refl)
+alters_by (Plan call kind route at from level rvsm) makes no_plan no_external = absurd (no_plan call kind route at from level rvsm refl)
 alters_by (External call straight) makes no_plan no_external = absurd (no_external call straight refl)
 alters_by (Drop call) makes no_plan no_external = absurd makes
 alters_by (commands.Report call report) makes no_plan no_external = absurd makes

@@ -150,7 +150,7 @@ found_near shot call t items finds sound laid near found = record {
       let it = kept_at shot other sound of.there in
       let named = named_by shot.setup.rules shot.slots call it.place it.flight it.at (λ same. of.apart (it.call_is ∙ same)) other it.kept in
       let item = near_by_loss shot t other.path named.item k sound.rules laid (sound.laid it.place it.flight other it.at it.kept) loss named.stays in
-      found.listed other (Contains-flat_map (other_at call shot.slots) items named.item other ((near.same named.item).1 item) named.among);
+      found.listed other (Contains-flat_map (other_at call shot.slots) items named.item other ((near.same named.item).1 item) named.among) k early loss;
 }
 
 -- the items near a cover are one list

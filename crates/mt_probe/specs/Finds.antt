@@ -64,8 +64,9 @@ abbrev pub IsFoundOrQuiet : Rules → ℕ → Trajectory → NamedTrajectory →
 IsFoundOrQuiet rules now t other (Some found) = IsFound rules now t other found
 IsFoundOrQuiet rules now t other None = IsConflict rules t other.path 0 all_end None × IsConflict rules t other.path now (window_end now) None
 
--- Some finds have more than some others: exactly what is found with these trajectories.
+-- Some finds have more than some others: what is found with some of these trajectories, and with each that has a loss second.
 pub record FindsMore (rules : Rules) (now : ℕ) (t : Trajectory) (others : List NamedTrajectory) (old new : List Found) : Type 0 where
   pub kept : (found : Found) → Contains old found → Contains new found
   pub exact : (found : Found) → Contains new found → Contains old found ⊎ IsFoundAmong rules now t others found
-  pub listed : (other : NamedTrajectory) → Contains others other → IsListed rules now t new other
+  pub listed : (other : NamedTrajectory) → Contains others other → (k : ℕ) → k < all_end → IsLossSecond rules t other.path k
+      → IsListed rules now t new other

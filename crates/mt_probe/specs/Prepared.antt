@@ -37,7 +37,7 @@ flight_left setup s who command =
 
 -- the commands that make a trajectory, and its kind: a tentative clearance makes a tentative one
 abbrev pub MakesStrand : Command → Type 0
-MakesStrand (Plan call kind route at from level) = ⊤
+MakesStrand (Plan call kind route at from level rvsm) = ⊤
 MakesStrand (External call straight) = ⊤
 MakesStrand (Renew call) = ⊤
 MakesStrand (Clear call clearance eff) = ⊤

@@ -12,7 +12,7 @@ use crate::narrow::narrowed;
 use crate::snapshot::Snapshot;
 use mt_base::{Callsign, Kind, Listed, Memory, Rules, Second, Tally};
 use mt_cover::cover;
-use mt_pair::lose;
+use mt_pair::{keep_apart, lose};
 use mt_track::Strand;
 use std::alloc::Global;
 
@@ -119,9 +119,15 @@ fn find_item(
         return Ok(());
     };
     let rules = snapshot.rules();
+    if keep_apart(strand, other, rules) {
+        return Ok(());
+    }
     let now = snapshot.now();
     let found = find_one(rules, now, card.call, kind, strand, other, tests);
-    finds.push(found)
+    match found.whole {
+        Some(_) => finds.push(found),
+        None => Ok(()),
+    }
 }
 
 /// What is found with a new trajectory of a flight, of which no other is tested: only what is near it is, with at most two tests each.

@@ -117,6 +117,7 @@ pub fn left_of(
             at,
             from,
             level,
+            rvsm,
         } => {
             let course = planned_course(
                 alloc,
@@ -127,6 +128,7 @@ pub fn left_of(
                 *at,
                 *from,
                 *level,
+                *rvsm,
             )?;
             Ok(Ok(Record {
                 call: *call,

@@ -1,5 +1,5 @@
 -- Rows that go on from the last segment, put into it.
-use Rattle.std.proofs.Common.{◌≡◌, ℕ, zero, suc, ◌+◌, ◌-◌, ◌<◌, ℤ, pos, ◌+ℤ◌, ◌*ℤ◌, List, [], ◌∷◌, ◌++◌, length, get_or, set, sym, ap, ◌∙◌, subst, arith, refl, append_assoc}
+use Rattle.std.proofs.Common.{◌≡◌, Bool, ℕ, zero, suc, ◌+◌, ◌-◌, ◌<◌, ℤ, pos, ◌+ℤ◌, ◌*ℤ◌, List, [], ◌∷◌, ◌++◌, length, get_or, set, sym, ap, ◌∙◌, subst, arith, refl, append_assoc}
 use Rattle.std.proofs.lemmas.Int.{ints}
 use Rattle.std.proofs.lemmas.List.{append-nil}
 use Rattle.mt_base.specs.declared.row.Row.{Row}
@@ -87,19 +87,20 @@ all_rows-lengthened start end (u ∷ v ∷ vs) (suc i) t s lie last is begins so
     rw (all_rows-lengthened u.to end (v ∷ vs) i t s lie.2 (omega arith) is begins some same) (sym (append_assoc (rows_of u) (all_rows (v ∷ vs)) (rows_of s)))
 
 -- a segment that follows begins at the end
-pub end_of_strand : (start end : ℕ) (ss : List Segment) (s : Segment) → IsLaid start end ss → Follows (record { start = start; rows = all_rows ss }) s → s.from ≡ end
-end_of_strand start end ss s laid follows = follows.adjoins ∙ length-all_rows start end ss laid.adjoin
+pub end_of_strand : (start end : ℕ) (rvsm : Bool) (ss : List Segment) (s : Segment) → IsLaid start end ss
+    → Follows (record { start = start; rows = all_rows ss; rvsm = rvsm }) s → s.from ≡ end
+end_of_strand start end rvsm ss s laid follows = follows.adjoins ∙ length-all_rows start end ss laid.adjoin
 
-pub IsLaid-lengthened : (start end : ℕ) (ss : List Segment) (i : ℕ) (t s : Segment) → IsLaid start end ss → i + 1 ≡ length ss → t ≡ get_or ss i t
-    → Follows (record { start = start; rows = all_rows ss }) s → s.first ≡ row_after t.first (t.to - t.from)
+pub IsLaid-lengthened : (start end : ℕ) (rvsm : Bool) (ss : List Segment) (i : ℕ) (t s : Segment) → IsLaid start end ss → i + 1 ≡ length ss → t ≡ get_or ss i t
+    → Follows (record { start = start; rows = all_rows ss; rvsm = rvsm }) s → s.first ≡ row_after t.first (t.to - t.from)
     → IsLaid start s.to (set ss i (record t { to = s.to }))
-IsLaid-lengthened start end ss i t s laid last is follows same =
-    let begins = end_of_strand start end ss s laid follows in
+IsLaid-lengthened start end rvsm ss i t s laid last is follows same =
+    let begins = end_of_strand start end rvsm ss s laid follows in
     let rows = all_rows-lengthened start end ss i t s laid.adjoin last is begins follows.some same in
     record {
       apart = AreApart-lengthened ss i t s.to laid.apart last is;
       adjoin = Adjoin-lengthened start end ss i t s laid.adjoin last is begins follows.some;
-      kept = rw rows (IsStrand-extended (record { start = start; rows = all_rows ss }) s laid.kept follows);
+      kept = rw rows (IsStrand-extended (record { start = start; rows = all_rows ss; rvsm = rvsm }) s laid.kept follows);
     }
 
 -- a place of a list holds one element

@@ -1,5 +1,5 @@
 -- What strands keep, after a push and at the segment that is found.
-use Rattle.std.proofs.Common.{◌≡◌, ℕ, suc, ◌+◌, ◌-◌, ◌<◌, ◌≤◌, ⊎_elim, List, [], ◌∷◌, ◌++◌, length, get_or, Some, None, All, ap, ◌∙◌, arith, refl, length-append}
+use Rattle.std.proofs.Common.{◌≡◌, Bool, ℕ, suc, ◌+◌, ◌-◌, ◌<◌, ◌≤◌, ⊎_elim, List, [], ◌∷◌, ◌++◌, length, get_or, Some, None, All, ap, ◌∙◌, arith, refl, length-append}
 use Rattle.std.proofs.lemmas.List.{append-nil}
 use Rattle.std.proofs.lemmas.List.Concat.{flat_map-append}
 use Rattle.std.proofs.lemmas.List.Elements.{All-append}
@@ -70,12 +70,13 @@ pub all_rows-push : (ss : List Segment) (s : Segment) → all_rows (ss ++ s ∷ 
 all_rows-push ss s = flat_map-append rows_of ss (s ∷ []) ∙ ap (λ (rows : List Row). all_rows ss ++ rows) (append-nil (rows_of s))
 
 -- one segment more is laid
-pub IsLaid-push : (start end : ℕ) (ss : List Segment) (s : Segment) → IsLaid start end ss → Follows (record { start = start; rows = all_rows ss }) s
+pub IsLaid-push : (start end : ℕ) (rvsm : Bool) (ss : List Segment) (s : Segment) → IsLaid start end ss
+    → Follows (record { start = start; rows = all_rows ss; rvsm = rvsm }) s
     → AreApart (ss ++ s ∷ []) → IsLaid start s.to (ss ++ s ∷ [])
-IsLaid-push start end ss s laid follows apart = record {
+IsLaid-push start end rvsm ss s laid follows apart = record {
   apart = apart;
   adjoin = Adjoin-push start end ss s laid.adjoin (follows.adjoins ∙ length-all_rows start end ss laid.adjoin) follows.some;
-  kept = rw (all_rows-push ss s) (IsStrand-extended (record { start = start; rows = all_rows ss }) s laid.kept follows);
+  kept = rw (all_rows-push ss s) (IsStrand-extended (record { start = start; rows = all_rows ss; rvsm = rvsm }) s laid.kept follows);
 }
 
 -- bounds at the first row and at a later one are bounds over the seconds between
@@ -89,9 +90,9 @@ IsBoundedOver-ends a n first last = record {
 }
 
 -- the segment that is left by halving holds second k
-pub found : (start end : ℕ) (ss : List Segment) (low high k : ℕ) (s : Segment) → IsLaid start end ss → low < high → high ≤ length ss → high - low ≤ 1
-    → start ≤ k → edge start ss low ≤ k → k < edge start ss high → s ≡ get_or ss low s → Holds (record { start = start; rows = all_rows ss }) k s
-found start end ss low high k s laid some within one covered begun ahead is = record {
+pub found : (start end : ℕ) (rvsm : Bool) (ss : List Segment) (low high k : ℕ) (s : Segment) → IsLaid start end ss → low < high → high ≤ length ss → high - low ≤ 1
+    → start ≤ k → edge start ss low ≤ k → k < edge start ss high → s ≡ get_or ss low s → Holds (record { start = start; rows = all_rows ss; rvsm = rvsm }) k s
+found start end rvsm ss low high k s laid some within one covered begun ahead is = record {
   begun = omega (arith, lies.from);
   kept = IsBoundedOver-ends s.first (k - s.from) first_bounded row_bounded;
   row = rw (le-ltb k start covered) at_k;

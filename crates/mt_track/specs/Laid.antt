@@ -25,12 +25,17 @@ edge from ss zero = from
 edge from [] (suc i) = from
 edge from (s ∷ ss) (suc i) = edge s.to ss i
 
--- What every strand keeps: each row within bounds, and continued by the next; at most 14,400 rows; an end by second 10,014,400.
-pub record IsStrand (t : Trajectory) : Type 0 where
-  pub bounded : All IsBoundedRow t.rows
-  pub continuous : AllAdjacentBelow Continues t.rows (length t.rows)
-  pub short : length t.rows ≤ 14400
-  pub early : t.start + length t.rows ≤ 10014400
+-- What the rows of every strand keep that begins there: each row within bounds, and continued by the next; at most 14,400 rows; an end by
+-- second 10,014,400.
+pub record AreStrandRows (start : ℕ) (rows : List Row) : Type 0 where
+  pub bounded : All IsBoundedRow rows
+  pub continuous : AllAdjacentBelow Continues rows (length rows)
+  pub short : length rows ≤ 14400
+  pub early : start + length rows ≤ 10014400
+
+-- what every strand keeps
+abbrev pub IsStrand : Trajectory → Type 0
+IsStrand t = AreStrandRows t.start t.rows
 
 -- Of two neighbouring segments the second does not go on from the first: the gains or the leg are others, or w does not continue.
 abbrev pub AreApart : List Segment → Type 0
@@ -58,7 +63,7 @@ pub record Covers (t : Trajectory) (i from to : ℕ) : Type 0 where
 pub record IsLaid (start end : ℕ) (segments : List Segment) : Type 0 where
   pub adjoin : Adjoin start segments end
   pub apart : AreApart segments
-  pub kept : IsStrand (record { start = start; rows = all_rows segments })
+  pub kept : AreStrandRows start (all_rows segments)
 
 -- A segment can follow a strand: it begins where the strand ends, its first row continues the last one, and it keeps what every strand keeps.
 pub record Follows (t : Trajectory) (s : Segment) : Type 0 where
@@ -71,7 +76,7 @@ pub record Follows (t : Trajectory) (s : Segment) : Type 0 where
 
 -- with the rows of a segment behind its own
 abbrev pub extended : Trajectory → Segment → Trajectory
-extended t s = record { start = t.start; rows = t.rows ++ rows_of s }
+extended t s = record t { rows = t.rows ++ rows_of s }
 
 -- A segment holds second k of a trajectory: the row of k is that many seconds after the segment's first row, and within bounds until then.
 pub record Holds (t : Trajectory) (k : ℕ) (s : Segment) : Type 0 where

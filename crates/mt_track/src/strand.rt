@@ -2,13 +2,16 @@ ghost use Rattle.std.specs.Prelude.{◌≡◌, ◌+◌, ◌<◌, ◌≤◌, [], 
 ghost use Rattle.mt_base.specs.Bounds.{IsBoundedRow, IsBoundedStretch};
 ghost use Rattle.mt_base.specs.Trajectory.{row_at, straight};
 ghost use Rattle.mt_track.specs.Laid.{AreSegmentsOf, IsStrand, Follows, Holds, extended};
+ghost use Rattle.mt_track.specs.Layer.{AreInLayer, IsLayerKept};
 
+use crate::layer::{Layer, no_height, with_segment};
 use crate::segment::{Segment, goes_on, later};
 use mt_base::{Memory, Row, Second, Straight};
 use std::alloc::Global;
 use std::marker::Model;
 
-/// A trajectory as segments of constant gains that lie end to end, seen as its first second and its rows.
+/// A trajectory as segments of constant gains that lie end to end, seen as its first second, its rows, and whether the aircraft is approved
+/// for RVSM.
 ///
 /// No segment goes on from the one before it: the gains or the leg are others, or the vertical margin begins anew. So the rows alone say
 /// which segments there are.
@@ -20,29 +23,34 @@ pub struct Strand {
     start: Second,
     end: Second,
     segments: Vec<Segment>,
+    rvsm: bool,
+    layer: Layer,
 }
 
 impl Model for Strand {
     ghost use Rattle.mt_base.specs.Trajectory.{Trajectory};
     ghost use Rattle.mt_track.specs.Laid.{IsLaid, all_rows};
+    ghost use Rattle.mt_track.specs.Layer.{AreInLayer, IsLayerKept};
 
     ghost Value = { Trajectory };
 
-    ghost view = { λ s. record { start = s.start; rows = all_rows s.segments.items } };
+    ghost view = { λ s. record { start = s.start; rows = all_rows s.segments.items; rvsm = s.rvsm } };
 
-    ghost invariant = { λ s. IsLaid s.start s.end s.segments.items };
+    ghost invariant = { λ s. IsLaid s.start s.end s.segments.items × AreInLayer s.layer (all_rows s.segments.items) × IsLayerKept s.layer };
 }
 
 impl Strand {
     /// A strand that begins at that second and has no row yet. It takes no memory; what is pushed later comes from `alloc`.
-    pub fn empty(alloc: Global, at: Second) -> Strand
+    pub fn empty(alloc: Global, at: Second, rvsm: bool) -> Strand
         requires { at ≤ 10014400 }
-        ensures { result ≡ record { start = at; rows = [] } }
+        ensures { result ≡ record { start = at; rows = []; rvsm = rvsm } }
     {
         Strand {
             start: at,
             end: at,
             segments: Vec::new(alloc),
+            rvsm,
+            layer: no_height(),
         }
     }
 
@@ -53,6 +61,7 @@ impl Strand {
         ensures ok { OnOk result (self.new ≡ extended self.old segment) }
         ensures err { OnErr result (self.new ≡ self.old) }
     {
+        let layer = with_segment(self.layer, &segment);
         let count = self.segments.len();
         if count > 0 && goes_on(&self.segments[count - 1], &segment.first) {
             self.segments[count - 1].to = segment.to;
@@ -60,6 +69,7 @@ impl Strand {
             self.segments.push(segment)?;
         }
         self.end = segment.to;
+        self.layer = layer;
         Ok(())
     }
 
@@ -68,7 +78,7 @@ impl Strand {
         requires { IsBoundedStretch stretch.now }
         ensures { IfOk result (λ strand. strand ≡ straight stretch.now) }
     {
-        let mut strand = Strand::empty(alloc, stretch.from);
+        let mut strand = Strand::empty(alloc, stretch.from, stretch.rvsm);
         strand.push(Segment {
             from: stretch.from,
             to: stretch.to,
@@ -115,6 +125,13 @@ impl Strand {
         self.start
     }
 
+    /// Whether the aircraft is approved for RVSM.
+    pub fn rvsm(&self) -> bool
+        ensures { result ≡ self.now.rvsm }
+    {
+        self.rvsm
+    }
+
     /// The second after its last one; `start()` where it has no row. What every strand keeps is said here too.
     pub fn end(&self) -> Second
         ensures end { result ≡ self.now.start + length self.now.rows }
@@ -131,6 +148,14 @@ impl Strand {
         &self.segments
     }
 
+    /// The heights that it takes at any instant of its seconds, its vertical margin below and above.
+    pub fn layer(&self) -> Layer
+        ensures holds { AreInLayer result self.now.rows }
+        ensures kept { IsLayerKept result }
+    {
+        self.layer
+    }
+
     /// The same strand once more.
     pub fn copy(&self) -> Result<Strand, Memory>
         ensures { IfOk result (λ strand. strand ≡ self.now) }
@@ -139,6 +164,8 @@ impl Strand {
             start: self.start,
             end: self.end,
             segments: self.segments.clone()?,
+            rvsm: self.rvsm,
+            layer: self.layer,
         })
     }
 }

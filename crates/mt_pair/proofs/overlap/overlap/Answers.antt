@@ -11,7 +11,7 @@ returns-clause-span c =
     let t = c.args.t.now in
     let span = rw (c.later-a.ensures, c.later-b.ensures) at c.span_from.ensures.span in
     IsSpan-same
-    (λ k. LosesIn rules (row_after (row_after s.first (c.args.from - s.from)) (k - c.args.from)) (row_after (row_after t.first (c.args.from - t.from)) (k - c.args.from)))
-    (λ k. LosesIn rules (row_after s.first (k - s.from)) (row_after t.first (k - t.from)))
+    (λ k. LosesIn rules c.args.s_rvsm c.args.t_rvsm (row_after (row_after s.first (c.args.from - s.from)) (k - c.args.from)) (row_after (row_after t.first (c.args.from - t.from)) (k - c.args.from)))
+    (λ k. LosesIn rules c.args.s_rvsm c.args.t_rvsm (row_after s.first (k - s.from)) (row_after t.first (k - t.from)))
     c.args.from c.args.to c.span_from.result
-    (λ k begun ahead. loses_after rules s.first t.first s.from t.from c.args.from k c.requires.s_begun c.requires.t_begun begun) span
+    (λ k begun ahead. loses_after rules c.args.s_rvsm c.args.t_rvsm s.first t.first s.from t.from c.args.from k c.requires.s_begun c.requires.t_begun begun) span

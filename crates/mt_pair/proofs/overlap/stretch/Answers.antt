@@ -61,4 +61,4 @@ pub returns-clause-conflict : goal.returns-clause-conflict
 returns-clause-conflict c =
     let left = reads_cover c.args.a.now c.segments-left.result.now c.args.i c.args.from c.args.to c.segments-left.ensures.kept c.segments-left.ensures.are c.requires.a_covers in
     let right = reads_cover c.args.b.now c.segments-right.result.now c.args.j c.args.from c.args.to c.segments-right.ensures.kept c.segments-right.ensures.are c.requires.b_covers in
-    overlap_is c.args.rules.now c.args.a.now c.args.b.now c.args.from c.args.to _ _ c.overlap.result left.holds right.holds c.overlap.ensures.span
+    overlap_is c.args.rules.now c.args.a.now c.args.b.now c.args.from c.args.to _ _ c.overlap.result left.holds right.holds (rw (c.rvsm.ensures, c.rvsm-2.ensures) at c.overlap.ensures.span)

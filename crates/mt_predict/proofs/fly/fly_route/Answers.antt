@@ -27,6 +27,7 @@ loop-number-preserved c =
     let flown : IsLegFlown (manner c.args.rules.now c.args.bands.now c.args.level) c.leg_to-leg.result c.loop-number.strand c.fly_leg.new.strand c.loop-number.place c.in_ok-place.place =
     record {
       start = c.in_ok-place.ensures.start;
+      rvsm = c.in_ok-place.ensures.rvsm;
       rows = c.in_ok-place.ensures.rows;
       at = c.in_ok-place.ensures.at;
       place = c.in_ok-place.ensures.place;
@@ -41,6 +42,7 @@ returns-then-end-at-eq-MOST-clause-rows c =
     let flown : IsLegFlown (manner c.args.rules.now c.args.bands.now c.args.level) c.leg_to-leg.result c.loop-number.strand c.fly_leg.new.strand c.loop-number.place c.in_ok-place.place =
     record {
       start = c.in_ok-place.ensures.start;
+      rvsm = c.in_ok-place.ensures.rvsm;
       rows = c.in_ok-place.ensures.rows;
       at = c.in_ok-place.ensures.at;
       place = c.in_ok-place.ensures.place;

@@ -9,7 +9,7 @@ use Rattle.mt_predict.specs.Looking.{look_of}
 use Rattle.mt_predict.proofs.judging.judge.Goals as goal
 
 pub returns-in-Plan : goal.returns-in-Plan
-returns-in-Plan c = rw c.in-Plan.is (c.check_plan.ensures c.args.who c.in-Plan.call c.in-Plan.at)
+returns-in-Plan c = rw c.in-Plan.is (c.check_plan.ensures c.args.who c.in-Plan.call c.in-Plan.at c.in-Plan.rvsm)
 
 pub returns-in-External : goal.returns-in-External
 returns-in-External c = rw c.in-External.is c.check_external.ensures

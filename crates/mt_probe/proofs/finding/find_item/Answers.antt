@@ -1,13 +1,34 @@
-use Rattle.std.proofs.Common.{◌∙◌, List, subst, sym}
+use Rattle.std.proofs.Common.{◌≡◌, ◌∙◌, ◌≤◌, ◌<◌, ℕ, None, Option, List, length, ap, subst, sym, arith}
 use Rattle.std.proofs.lemmas.Result.{IfOk-weaker}
+use Rattle.mt_base.specs.Conflict.{IsConflict}
 use Rattle.mt_base.specs.Picture.{NamedTrajectory}
 use Rattle.mt_probe.specs.Finds.{FindsMore}
-use Rattle.mt_probe.proofs.Gathered.{one_more}
+use Rattle.mt_probe.specs.Narrow.{all_end}
+use Rattle.mt_probe.proofs.Gathered.{one_more, quiet_more}
 use Rattle.mt_probe.proofs.Nearby.{other_one}
 use Rattle.mt_probe.proofs.finding.find_item.Goals as goal
 
-pub returns-clause-found : goal.returns-clause-found
-returns-clause-found c =
+pub returns-then-keep_apart-clause-found : goal.returns-then-keep_apart-clause-found
+returns-then-keep_apart-clause-found c =
+    let shot = c.args.snapshot.now in
+    let apart = rw c.rules-rules.ensures.rules at (c.keep_apart.ensures c.if-keep_apart.true) in
+    subst (λ (others : List NamedTrajectory). FindsMore shot.setup.rules shot.now c.args.strand.now others c.args.finds.now c.args.finds.now)
+    (sym (other_one shot.slots c.args.call c.args.item c.kind_of-kind.result c.in-Some.card.now c.in-Some-path.other.now c.kind_of-kind.ensures
+    c.in-Some.ensures (sym c.eq.ensures ∙ c.if-eq.false) c.in-Some-path.ensures))
+    (quiet_more shot.setup.rules shot.now c.args.strand.now _ c.args.finds.now (λ k ahead. apart 0 all_end k (omega arith) ahead))
+
+pub returns-in-None-clause-found : goal.returns-in-None-clause-found
+returns-in-None-clause-found c =
+    let shot = c.args.snapshot.now in
+    let found = rw (c.rules-rules.ensures.rules, c.now-now.ensures.now) at c.find_one-found.ensures.found in
+    let quiet = subst (λ (whole : Option (ℕ × ℕ)). IsConflict shot.setup.rules c.args.strand.now c.in-Some-path.other.now 0 all_end whole) c.in-None.is found.whole in
+    subst (λ (others : List NamedTrajectory). FindsMore shot.setup.rules shot.now c.args.strand.now others c.args.finds.now c.args.finds.now)
+    (sym (other_one shot.slots c.args.call c.args.item c.kind_of-kind.result c.in-Some.card.now c.in-Some-path.other.now c.kind_of-kind.ensures
+    c.in-Some.ensures (sym c.eq.ensures ∙ c.if-eq.false) c.in-Some-path.ensures))
+    (quiet_more shot.setup.rules shot.now c.args.strand.now _ c.args.finds.now (λ k ahead. quiet k (omega arith) ahead))
+
+pub returns-in-Some-whole-clause-found : goal.returns-in-Some-whole-clause-found
+returns-in-Some-whole-clause-found c =
     let shot = c.args.snapshot.now in
     let found = rw (c.rules-rules.ensures.rules, c.now-now.ensures.now) at c.find_one-found.ensures.found in
     IfOk-weaker c.push.result _ _ (λ _ pushed.
@@ -15,3 +36,10 @@ returns-clause-found c =
     (sym (other_one shot.slots c.args.call c.args.item c.kind_of-kind.result c.in-Some.card.now c.in-Some-path.other.now c.kind_of-kind.ensures
     c.in-Some.ensures (sym c.eq.ensures ∙ c.if-eq.false) c.in-Some-path.ensures))
     (one_more shot.setup.rules shot.now c.args.strand.now _ c.find_one-found.result c.args.finds.now c.push.new.self found pushed)) c.push.ensures.ok
+
+pub returns-in-Some-whole-clause-counted : goal.returns-in-Some-whole-clause-counted
+returns-in-Some-whole-clause-counted c =
+    let shot = c.args.snapshot.now in
+    let one = ap length (other_one shot.slots c.args.call c.args.item c.kind_of-kind.result c.in-Some.card.now c.in-Some-path.other.now c.kind_of-kind.ensures
+    c.in-Some.ensures (sym c.eq.ensures ∙ c.if-eq.false) c.in-Some-path.ensures) in
+    omega (arith, one, c.find_one-found.ensures.counted)

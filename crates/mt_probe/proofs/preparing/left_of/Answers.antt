@@ -22,7 +22,7 @@ returns-in_ok-course-in-Plan c =
     let bounded = rw c.in-Plan.is at c.requires.bounded in
     let plane = rw c.tables-in-Plan.ensures at c.in_ok-course-in-Plan.ensures.plane in
     rw (c.in-Plan.is, c.in_ok-course-in-Plan.ensures.course, c.rules-in-Plan.ensures.rules, c.tables-in-Plan.ensures)
-    (left_plan shot.setup (state_of shot) c.args.who c.in-Plan.call c.in-Plan.kind c.in-Plan.route c.in-Plan.at c.in-Plan.from c.in-Plan.level
+    (left_plan shot.setup (state_of shot) c.args.who c.in-Plan.call c.in-Plan.kind c.in-Plan.route c.in-Plan.at c.in-Plan.from c.in-Plan.level c.in-Plan.rvsm
     c.version-version.ensures.kept.rules (sym passed) bounded.0 bounded.1 bounded.2 plane)
 
 pub returns-in-External : goal.returns-in-External

@@ -13,31 +13,31 @@ loop-end-init c = record {
   left = record { rounds = 14; fits = omega (arith, c.requires.short); left = omega arith };
 }
 
-pub loop-end-preserved-then-loses_over : goal.loop-end-preserved-then-loses_over
-loop-end-preserved-then-loses_over c = record {
+pub loop-end-preserved-then-loses_before : goal.loop-end-preserved-then-loses_before
+loop-end-preserved-then-loses_before c = record {
   from = c.loop-end.invariant.from;
   to = omega (arith, c.loop-end.invariant.to, c.loop-end-test.true);
-  some = c.loses_over.ensures.is.0 c.if-loses_over.true;
+  some = c.loses_before.ensures.is.0 c.if-loses_before.true;
   none = c.loop-end.invariant.none;
-  left = halved _ _ _ _ _ (omega (arith, c.loop-end-test.true)) (omega (arith, c.loop-end-test.true)) (omega (arith, c.loses_over.ensures.counted)) c.loop-end.invariant.left;
+  left = halved _ _ _ _ _ (omega (arith, c.loop-end-test.true)) (omega (arith, c.loop-end-test.true)) (omega (arith, c.loses_before.ensures.counted)) c.loop-end.invariant.left;
 }
 
 pub loop-end-preserved : goal.loop-end-preserved
 loop-end-preserved c =
-    let quiet = not_from_Decides _ c.loses_over.ensures.is c.if-loses_over.false in
+    let quiet = not_from_Decides _ c.loses_before.ensures.is c.if-loses_before.false in
     record {
       from = omega (arith, c.loop-end.invariant.from);
       to = c.loop-end.invariant.to;
-      some = left_behind _ _ _ _ _ _ quiet c.loop-end.invariant.some;
-      none = λ k low ahead. ⊎_elim (λ less. c.loop-end.invariant.none k low less) (λ more. none_over _ _ _ _ _ k quiet more ahead) (cases_lt k c.loop-end.begin);
-      left = halved _ _ _ _ _ (omega (arith, c.loop-end-test.true)) (omega (arith, c.loop-end-test.true)) (omega (arith, c.loses_over.ensures.counted)) c.loop-end.invariant.left;
+      some = left_behind _ _ _ _ quiet c.loop-end.invariant.some;
+      none = λ k low ahead. ⊎_elim (λ less. c.loop-end.invariant.none k low less) (λ more. none_over _ _ _ k quiet more ahead) (cases_lt k c.loop-end.begin);
+      left = halved _ _ _ _ _ (omega (arith, c.loop-end-test.true)) (omega (arith, c.loop-end-test.true)) (omega (arith, c.loses_before.ensures.counted)) c.loop-end.invariant.left;
     }
 
 pub returns-clause-is : goal.returns-clause-is
 returns-clause-is c = record {
   begun = c.loop-end.invariant.from;
   ahead = let h = c.loop-end.invariant.some in omega (arith, h.begun, h.ahead, c.loop-end.invariant.to);
-  is = only_one _ _ _ _ _ (omega (arith, c.loop-end-test.false)) c.loop-end.invariant.some;
+  is = only_one _ _ _ (omega (arith, c.loop-end-test.false)) c.loop-end.invariant.some;
   none_before = c.loop-end.invariant.none;
 }
 

@@ -1,5 +1,6 @@
 use Rattle.std.proofs.Common.{ℕ, ◌-◌, ◌+◌, ◌<◌, ◌≤◌}
-use Rattle.mt_pair.specs.Below.{AreBelowIn, AreBelowOver}
+use Rattle.mt_pair.specs.Below.{HoldsIn, HoldsOver}
+use Rattle.mt_pair.specs.Cases.{IsLoss}
 use Rattle.mt_pair.proofs.Halving.{IsHalvedTo}
 use Rattle.mt_pair.proofs.approach.Approach.first_over.Given as goal
 
@@ -7,8 +8,8 @@ abbrev pub invariant-loop-end : goal.invariant-loop-end
 invariant-loop-end l = record {
   from : l.low ≤ l.begin;
   to : l.end ≤ l.high;
-  some : AreBelowOver l.self.gap l.self.over l.self.under l.begin l.end;
-  none : (k : ℕ) → l.low ≤ k → k < l.begin → ¬ AreBelowIn l.self.gap l.self.over l.self.under k;
+  some : HoldsOver (IsLoss l.self) l.begin l.end;
+  none : (k : ℕ) → l.low ≤ k → k < l.begin → ¬ HoldsIn (IsLoss l.self) k;
   left : IsHalvedTo (l.end - l.begin) l.steps (l.fn.steps + 14);
 }
 

@@ -13,31 +13,31 @@ loop-end-init c = record {
   left = record { rounds = 14; fits = omega (arith, c.requires.short); left = omega arith };
 }
 
-pub loop-end-preserved-then-loses_over : goal.loop-end-preserved-then-loses_over
-loop-end-preserved-then-loses_over c = record {
+pub loop-end-preserved-then-loses_from : goal.loop-end-preserved-then-loses_from
+loop-end-preserved-then-loses_from c = record {
   from = omega (arith, c.loop-end.invariant.from);
   to = c.loop-end.invariant.to;
-  some = c.loses_over.ensures.is.0 c.if-loses_over.true;
+  some = c.loses_from.ensures.is.0 c.if-loses_from.true;
   none = c.loop-end.invariant.none;
-  left = halved _ _ _ _ _ (omega (arith, c.loop-end-test.true)) (omega (arith, c.loop-end-test.true)) (omega (arith, c.loses_over.ensures.counted)) c.loop-end.invariant.left;
+  left = halved _ _ _ _ _ (omega (arith, c.loop-end-test.true)) (omega (arith, c.loop-end-test.true)) (omega (arith, c.loses_from.ensures.counted)) c.loop-end.invariant.left;
 }
 
 pub loop-end-preserved : goal.loop-end-preserved
 loop-end-preserved c =
-    let quiet = not_from_Decides _ c.loses_over.ensures.is c.if-loses_over.false in
+    let quiet = not_from_Decides _ c.loses_from.ensures.is c.if-loses_from.false in
     record {
       from = c.loop-end.invariant.from;
       to = omega (arith, c.loop-end.invariant.to, c.loop-end-test.true);
-      some = left_before _ _ _ _ _ _ quiet c.loop-end.invariant.some;
-      none = λ k low ahead. ⊎_elim (λ less. none_over _ _ _ _ _ k quiet low less) (λ more. c.loop-end.invariant.none k more ahead) (cases_lt k c.loop-end.end);
-      left = halved _ _ _ _ _ (omega (arith, c.loop-end-test.true)) (omega (arith, c.loop-end-test.true)) (omega (arith, c.loses_over.ensures.counted)) c.loop-end.invariant.left;
+      some = left_before _ _ _ _ quiet c.loop-end.invariant.some;
+      none = λ k low ahead. ⊎_elim (λ less. none_over _ _ _ k quiet low less) (λ more. c.loop-end.invariant.none k more ahead) (cases_lt k c.loop-end.end);
+      left = halved _ _ _ _ _ (omega (arith, c.loop-end-test.true)) (omega (arith, c.loop-end-test.true)) (omega (arith, c.loses_from.ensures.counted)) c.loop-end.invariant.left;
     }
 
 pub returns-clause-is : goal.returns-clause-is
 returns-clause-is c = record {
   begun = c.loop-end.invariant.from;
   ahead = let h = c.loop-end.invariant.some in omega (arith, h.begun, h.ahead, c.loop-end.invariant.to);
-  is = only_one _ _ _ _ _ (omega (arith, c.loop-end-test.false)) c.loop-end.invariant.some;
+  is = only_one _ _ _ (omega (arith, c.loop-end-test.false)) c.loop-end.invariant.some;
   none_after = λ k after ahead. c.loop-end.invariant.none k (omega (arith, c.loop-end-test.false)) ahead;
 }
 

@@ -1,22 +1,12 @@
 -- Entries as a history keeps them.
-use Rattle.std.specs.Prelude.{◌≡◌, ℕ, ◌<◌, ◌^◌, true, List, All, is_some, ⊤}
+use Rattle.std.specs.Prelude.{◌≡◌, ◌<◌, ◌^◌, true, All, is_some, ⊤}
 use Rattle.mt_base.specs.declared.clearance.Clearance.{Clearance}
 use Rattle.mt_base.specs.declared.clearance.Clearance.TheVariants.{Level, Direct}
 use Rattle.mt_base.specs.declared.command.Command.{Command}
 use Rattle.mt_base.specs.declared.command.Command.TheVariants as command
 use Rattle.mt_base.specs.declared.command.Entry.{Entry}
 use Rattle.mt_base.specs.Bounds.{IsBoundedCommand}
-use Rattle.mt_base.specs.Name.{is_name}
-
--- the callsign of a flight, the name of a fix and the name of a type
-abbrev pub IsCallsign : List ℕ → Type 0
-IsCallsign text = is_name 1 7 text ≡ true
-
-abbrev pub IsFixName : List ℕ → Type 0
-IsFixName text = is_name 2 5 text ≡ true
-
-abbrev pub IsTypeName : List ℕ → Type 0
-IsTypeName text = is_name 2 4 text ≡ true
+use Rattle.mt_base.specs.Name.{IsCallsign, IsFixName, IsTypeName}
 
 -- a clearance to a level, or direct to what is the name of a fix
 abbrev pub IsNamedClearance : Clearance → Type 0
@@ -25,7 +15,7 @@ IsNamedClearance (Direct fix) = IsFixName fix
 
 -- the names in a command are names
 abbrev pub HasNames : Command → Type 0
-HasNames (command.Plan call kind route at from level) = IsCallsign call × IsTypeName kind × All IsFixName route
+HasNames (command.Plan call kind route at from level rvsm) = IsCallsign call × IsTypeName kind × All IsFixName route
 HasNames (command.External call straight) = IsCallsign call
 HasNames (command.Drop call) = IsCallsign call
 HasNames (command.Report call report) = IsCallsign call

@@ -1,0 +1,60 @@
+-- Where no one is high only the lesser minimum is asked for; and there is no loss where there is none by the one minimum nor by the other.
+use Rattle.std.proofs.Common.{◌≡◌, ◌↔◌, inl, ⊎_elim, Bool, ℕ, ℤ, Option, Some, None, IsTrue}
+use Rattle.mt_frac.specs.declared.quadratic.Quad.{Quad}
+use Rattle.mt_pair.specs.declared.approach.Approach.{Approach}
+use Rattle.mt_pair.specs.declared.approach.High.{High}
+use Rattle.mt_pair.specs.Below.{AreBelowAt, HoldsOver}
+use Rattle.mt_pair.specs.Cases.{IsHighLoss, IsLoss}
+
+-- what follows at each fraction follows in some seconds
+over_from : (P Q : ℤ → ℤ → Type 0) (low high : ℕ) → ((n d : ℤ) → P n d → Q n d) → HoldsOver P low high → HoldsOver Q low high
+over_from P Q low high follows some =
+    let at = some.holds in
+    record {
+      k = some.k;
+      begun = some.begun;
+      ahead = some.ahead;
+      holds = record { n = at.n; d = at.d; begun = at.begun; within = at.within; holds = follows _ _ at.holds };
+    }
+
+no_high : (gap : Quad) (high : Option High) (n d : ℤ) → high ≡ None → ¬ IsHighLoss gap high n d
+no_high gap None n d is loss = loss
+no_high gap (Some high) n d is loss = cc
+
+pub low_over : (x : Approach) (low high : ℕ) → x.high ≡ None → HoldsOver (IsLoss x) low high ↔ HoldsOver (AreBelowAt x.gap x.over x.under) low high
+low_over x low high none = (
+  (λ some. over_from (IsLoss x) (AreBelowAt x.gap x.over x.under) low high (λ n d loss. ⊎_elim (λ near. near) (λ far. absurd (no_high x.gap x.high n d none far)) loss) some),
+  (λ some. over_from (AreBelowAt x.gap x.over x.under) (IsLoss x) low high (λ n d near. inl near) some),
+)
+
+pub by_low : (x : Approach) (r : Bool) (low high : ℕ) → x.high ≡ None → IsTrue r ↔ HoldsOver (AreBelowAt x.gap x.over x.under) low high
+    → IsTrue r ↔ HoldsOver (IsLoss x) low high
+by_low x r low high none same =
+    let low_is = low_over x low high none in
+    ((λ t. low_is.1 (same.0 t)), (λ some. same.1 (low_is.0 some)))
+
+pub quiet_low : (x : Approach) (low high : ℕ) → x.high ≡ None → ¬ HoldsOver (AreBelowAt x.gap x.over x.under) low high → ¬ HoldsOver (IsLoss x) low high
+quiet_low x low high none quiet some = quiet ((low_over x low high none).0 some)
+
+-- a loss by the greater minimum is nearness by it
+near_high : (gap : Quad) (high : Option High) (one : High) (n d : ℤ) → high ≡ Some one → IsHighLoss gap high n d → AreBelowAt gap one.over one.under n d
+near_high gap high one n d is loss = ⊎_elim (λ left. left.0) (λ right. right.0) (rw is at loss)
+
+pub quiet_high : (x : Approach) (one : High) (low high : ℕ) → x.high ≡ Some one → ¬ HoldsOver (AreBelowAt x.gap x.over x.under) low high
+    → ¬ HoldsOver (AreBelowAt x.gap one.over one.under) low high → ¬ HoldsOver (IsLoss x) low high
+quiet_high x one low high is quiet far_quiet some =
+    let at = some.holds in
+    ⊎_elim
+    (λ near. quiet (record {
+      k = some.k;
+      begun = some.begun;
+      ahead = some.ahead;
+      holds = record { n = at.n; d = at.d; begun = at.begun; within = at.within; holds = near };
+    }))
+    (λ far. far_quiet (record {
+      k = some.k;
+      begun = some.begun;
+      ahead = some.ahead;
+      holds = record { n = at.n; d = at.d; begun = at.begun; within = at.within; holds = near_high x.gap x.high one _ _ is far };
+    }))
+    at.holds

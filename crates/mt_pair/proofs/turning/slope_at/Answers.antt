@@ -1,0 +1,12 @@
+use Rattle.std.proofs.Common.{pos, arith}
+use Rattle.std.proofs.lemmas.Int.{to_z-of_z}
+use Rattle.mt_pair.proofs.Wholes.{gap_fits, whole_slope}
+use Rattle.mt_pair.proofs.turning.slope_at.Goals as goal
+
+pub overflow_add-result : goal.overflow_add-result
+overflow_add-result c = let s = gap_fits c.args.gap c.args.k c.requires.bounded c.requires.short in grind (arith, to_z-of_z)
+
+pub returns : goal.returns
+returns c =
+    let s = gap_fits c.args.gap c.args.k c.requires.bounded c.requires.short in
+    rw (← whole_slope c.args.gap.a c.args.gap.b (pos c.args.k)) (grind (arith, to_z-of_z))

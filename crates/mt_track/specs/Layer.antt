@@ -1,0 +1,33 @@
+-- The heights that a trajectory takes at any instant, its vertical margin below and above.
+use Rattle.std.specs.Prelude.{pos, neg_ℤ, ◌+ℤ◌, ◌-ℤ◌, ◌≤ℤ◌, List, All}
+use Rattle.mt_base.specs.declared.row.Row.{Row}
+use Rattle.mt_base.specs.Bounds.{IsWithin}
+use Rattle.mt_base.specs.Trajectory.{next_row}
+use Rattle.mt_track.specs.declared.layer.Layer.{Layer}
+
+-- a layer holds the height of a row at the start of its second, with the vertical margin below and above
+pub record Holds (layer : Layer) (row : Row) : Type 0 where
+  pub low : layer.low ≤ℤ (row.z -ℤ row.w)
+  pub high : (row.z +ℤ row.w) ≤ℤ layer.high
+
+-- a row is in a layer during its whole second, at whose end it is the next row
+pub record IsInLayer (layer : Layer) (row : Row) : Type 0 where
+  pub start : Holds layer row
+  pub end : Holds layer (next_row row)
+
+abbrev pub AreInLayer : Layer → List Row → Type 0
+AreInLayer layer rows = All (IsInLayer layer) rows
+
+-- the second of two layers holds what the first one does
+pub record IsWider (layer wider : Layer) : Type 0 where
+  pub low : wider.low ≤ℤ layer.low
+  pub high : layer.high ≤ℤ wider.high
+
+-- numbers of a size that sums of them fit
+pub record IsLayerKept (layer : Layer) : Type 0 where
+  pub low : IsWithin (neg_ℤ (pos 600000)) (pos 4200000) layer.low
+  pub high : IsWithin (neg_ℤ (pos 600000)) (pos 4200000) layer.high
+
+pub record IsBoundedHeight (row : Row) : Type 0 where
+  pub z : IsWithin (pos 0) (pos 3600000) row.z
+  pub w : IsWithin (pos 0) (pos 600000) row.w
