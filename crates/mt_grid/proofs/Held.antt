@@ -82,7 +82,7 @@ shared_near grid mine theirs item k share held =
       there = record {
         by = placed item b.stay;
         of = subst (λ (n : ℕ). Contains (list_at grid n) (placed item b.stay)) same (held b.stay b.of);
-        item_of = record { is = refl; common = record { left = omega (arith, a.begun, b.within); right = omega (arith, a.within, b.begun) } };
+        item_of = record { is = refl; common = record { second = k; left = (a.begun, a.within); right = (b.begun, b.within) } };
       };
     }
 

@@ -1,5 +1,5 @@
 -- A grid: 4,096 lists, one for each cell, of items and the seconds for which they count to it.
-use Rattle.std.specs.Prelude.{◌≡◌, ◌↔◌, ◌⊎◌, ℕ, length, ◌<◌, List, [], ◌∷◌, ◌++◌, Option, None, Some, Contains, All, fold, filter, not, nat_eq, slice_index_or, slice_set}
+use Rattle.std.specs.Prelude.{◌≡◌, ◌↔◌, ◌⊎◌, ℕ, length, ◌<◌, ◌≤◌, List, [], ◌∷◌, ◌++◌, Option, None, Some, Contains, All, fold, filter, not, nat_eq, slice_index_or, slice_set}
 use Rattle.std.specs.List.Sorted.{IsStrictlyIncreasing}
 use Rattle.mt_cover.specs.declared.stays.Stay.{Stay}
 use Rattle.mt_cover.specs.Cells.{ShareAt}
@@ -41,8 +41,9 @@ without_stays item grid stays = fold (without_stay item) grid stays
 
 -- in some second both a stay and what is placed count to their cell
 pub record Overlap (stay : Stay) (p : Placed) : Type 0 where
-  pub left : stay.from < p.to
-  pub right : p.from < stay.to
+  pub second : ℕ
+  pub left : (stay.from ≤ second) × (second < stay.to)
+  pub right : (p.from ≤ second) × (second < p.to)
 
 -- an item is that of what is placed, which overlaps a stay
 pub record IsItemOf (p : Placed) (stay : Stay) (item : ℕ) : Type 0 where

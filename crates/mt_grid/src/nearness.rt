@@ -12,7 +12,7 @@ use mt_cover::Stay;
 fn overlap(stay: &Stay, placed: &Placed) -> bool
     ensures { IsTrue result ↔ Overlap stay.now placed.now }
 {
-    (stay.from < placed.to) & (placed.from < stay.to)
+    stay.from.max(placed.from) < stay.to.min(placed.to)
 }
 
 /// Marks the item of what is placed, where it has a second in common with a stay.

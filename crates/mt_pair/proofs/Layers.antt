@@ -1,18 +1,21 @@
--- Trajectories in layers that lie apart by the greater vertical minimum never lose separation.
-use Rattle.std.proofs.Common.{◌≡◌, Bool, ℕ, ◌-◌, ⊎_elim, Some, None, refl, ℤ, pos, ◌+ℤ◌, ◌-ℤ◌, ◌*ℤ◌, ◌≤ℤ◌, ◌<ℤ◌, arith}
+-- Trajectories in layers that lie apart by the vertical minimum of these never lose separation.
+use Rattle.std.proofs.Common.{◌≡◌, Bool, ℕ, ◌-◌, ◌⊎◌, ⊎_elim, Some, None, refl, ℤ, pos, ◌+ℤ◌, ◌-ℤ◌, ◌*ℤ◌, ◌≤ℤ◌, ◌<ℤ◌, arith}
 use Rattle.std.proofs.lemmas.Bool.{cases_lt, le-ltb, lt-ltb}
 use Rattle.std.proofs.lemmas.Option.{get_or_from_slice_get, slice_get_within}
-use Rattle.std.specs.Prelude.{slice_get}
+use Rattle.std.specs.Prelude.{◌&&◌, slice_get}
 use Rattle.mt_ring.proofs.Ring.{lin, spread}
 use Rattle.mt_ring.proofs.Signs.{mul_nonneg}
 use Rattle.mt_base.specs.declared.row.Row.{Row}
 use Rattle.mt_base.specs.declared.rules.Rules.{Rules}
 use Rattle.mt_base.specs.Instant.{value_at}
 use Rattle.mt_base.specs.Conflict.{IsLossSecond}
-use Rattle.mt_base.specs.Loss.{IsNearAt, LosesAt, LosesIn, height}
+use Rattle.mt_base.specs.Loss.{IsNearAt, LosesIn, height}
 use Rattle.mt_base.specs.Trajectory.{Trajectory, row_at}
 use Rattle.mt_track.specs.declared.layer.Layer.{Layer}
 use Rattle.mt_track.specs.Layer.{AreInLayer, IsInLayer}
+use Rattle.mt_pair.specs.Heights.{IsMinimumIn}
+use Rattle.mt_pair.specs.High.{LosesAbove, level_of}
+use Rattle.mt_pair.proofs.Instants.{loses_above}
 
 -- a value at an instant is at least what it is at both ends of the second, and at most
 not_below : (l z v n d : ℤ) → l ≤ℤ z → l ≤ℤ (z +ℤ v) → pos 0 ≤ℤ n → n <ℤ d → (l *ℤ d) ≤ℤ (z *ℤ d +ℤ v *ℤ n)
@@ -37,7 +40,7 @@ not_nearer low high s za wa va ga zb wb vb gb n d a a_end b b_end apart begun wi
     let r = mul_nonneg (low -ℤ high -ℤ s) d (omega (arith, lin, apart)) (omega (arith, lin)) in
     omega (arith, lin, simp spread at p, simp spread at q, simp spread at r)
 
--- the greater minimum is the greatest: where two rows lose separation they are nearer vertically than it
+-- what is nearer than the lesser minimum is nearer than the greater one
 higher : (s t d p q : ℤ) → s ≤ℤ t → pos 0 ≤ℤ d → (s *ℤ d +ℤ p +ℤ q) ≤ℤ (t *ℤ d +ℤ p +ℤ q)
 higher s t d p q more d+ = let r = mul_nonneg (t -ℤ s) d (omega (arith, lin)) d+ in omega (arith, lin, simp spread at r)
 
@@ -50,28 +53,46 @@ nearer rules a b n d greater d+ near =
     higher rules.sv rules.sv2 d (value_at a.w a.gw n d) (value_at b.w b.gw n d) greater d+ in
     record { above = below_more _ _ _ near.above more; below = below_more _ _ _ near.below more }
 
-near_most : (rules : Rules) (pa pb : Bool) (a b : Row) (n d : ℤ) → rules.sv ≤ℤ rules.sv2 → pos 0 ≤ℤ d → LosesAt rules pa pb a b n d → IsNearAt rules.sv2 a b n d
-near_most rules pa pb a b n d greater d+ loss =
-    ⊎_elim (nearer rules a b n d greater d+) (λ high. ⊎_elim (λ some. some.0) (λ some. some.0) high) loss.vertical
+-- a row in a layer that ends below a level isn't above that level
+not_over : (level : ℤ) (layer : Layer) (a : Row) (n d : ℤ) → layer.high ≤ℤ level → IsInLayer layer a → pos 0 ≤ℤ n → n <ℤ d
+    → ¬ ((level *ℤ d) <ℤ value_at a.z a.vz n d)
+not_over level layer a n d ends in_it begun within over =
+    let first : a.z ≤ℤ level = omega (arith, lin, ends, in_it.start.margin, in_it.start.high) in
+    let last : (a.z +ℤ a.vz) ≤ℤ level = omega (arith, lin, ends, in_it.end.margin, in_it.end.high) in
+    let most = not_above level a.z a.vz n d first last begun within in
+    absurd (omega (arith, lin, most, over))
 
--- the first of two rows lies below the second, or the second below the first
-below_apart : (rules : Rules) (pa pb : Bool) (low high : Layer) (a b : Row) → rules.sv ≤ℤ rules.sv2 → IsInLayer low a → IsInLayer high b
-    → rules.sv2 ≤ℤ (high.low -ℤ low.high) → ¬ LosesIn rules pa pb a b
-below_apart rules pa pb low high a b greater in_low in_high apart loss =
-    let h = not_nearer high.low low.high rules.sv2 a.z a.w a.vz a.gw b.z b.w b.vz b.gw loss.n loss.d in_low.start.high in_low.end.high in_high.start.low
-    in_high.end.low apart loss.begun loss.within in
-    let d+ : pos 0 ≤ℤ loss.d = let s = loss.begun in let e = loss.within in omega (arith, lin) in
-    let less = (near_most rules pa pb a b loss.n loss.d greater d+ loss.loss).below in
-    absurd (omega (arith, lin, h, less))
+-- two rows that lose separation are nearer vertically than the minimum of their layers
+near_least : (rules : Rules) (level : ℤ) (low high : Layer) (least : ℤ) (a b : Row) (n d : ℤ) → rules.sv ≤ℤ rules.sv2
+    → IsMinimumIn rules level low high least → IsInLayer low a → IsInLayer high b → pos 0 ≤ℤ n → n <ℤ d → LosesAbove rules level a b n d → IsNearAt least a b n d
+near_least rules level low high least a b n d greater minimum in_low in_high begun within loss = ⊎_elim
+    (λ most. let d+ : pos 0 ≤ℤ d = omega (arith, lin) in
+    rw most (⊎_elim (nearer rules a b n d greater d+) (λ some. some.0) loss.vertical))
+    (λ lesser. rw lesser.0 (⊎_elim (λ near. near)
+    (λ some. absurd (⊎_elim (not_over level low a n d lesser.1.first in_low begun within) (not_over level high b n d lesser.1.second in_high begun within) some.1))
+    loss.vertical))
+    minimum
 
-above_apart : (rules : Rules) (pa pb : Bool) (low high : Layer) (a b : Row) → rules.sv ≤ℤ rules.sv2 → IsInLayer high a → IsInLayer low b
-    → rules.sv2 ≤ℤ (high.low -ℤ low.high) → ¬ LosesIn rules pa pb a b
-above_apart rules pa pb low high a b greater in_high in_low apart loss =
-    let h = not_nearer high.low low.high rules.sv2 b.z b.w b.vz b.gw a.z a.w a.vz a.gw loss.n loss.d in_low.start.high in_low.end.high in_high.start.low
-    in_high.end.low apart loss.begun loss.within in
-    let d+ : pos 0 ≤ℤ loss.d = let s = loss.begun in let e = loss.within in omega (arith, lin) in
-    let less = (near_most rules pa pb a b loss.n loss.d greater d+ loss.loss).above in
-    absurd (omega (arith, lin, h, less))
+-- What keeps two rows of one second apart: their layers, in either order, by the minimum of these.
+pub record AreApart (rules : Rules) (pa pb : Bool) (one other : Layer) (least : ℤ) : Type 0 where
+  pub greater : rules.sv ≤ℤ rules.sv2
+  pub minimum : IsMinimumIn rules (level_of (pa && pb)) one other least
+  pub apart : (least ≤ℤ (other.low -ℤ one.high)) ⊎ (least ≤ℤ (one.low -ℤ other.high))
+
+rows_apart : (rules : Rules) (pa pb : Bool) (one other : Layer) (least : ℤ) (a b : Row) → AreApart rules pa pb one other least → IsInLayer one a
+    → IsInLayer other b → ¬ LosesIn rules pa pb a b
+rows_apart rules pa pb one other least a b w in_one in_other loss =
+    let d+ : pos 0 <ℤ loss.d = let s = loss.begun in let e = loss.within in omega (arith, lin) in
+    let near = near_least rules (level_of (pa && pb)) one other least a b loss.n loss.d w.greater w.minimum in_one in_other loss.begun loss.within
+    ((loses_above rules pa pb a b loss.n loss.d d+).0 loss.loss) in
+    ⊎_elim
+    (λ below. let h = not_nearer other.low one.high least a.z a.w a.vz a.gw b.z b.w b.vz b.gw loss.n loss.d in_one.start.high in_one.end.high
+    in_other.start.low in_other.end.low below loss.begun loss.within in
+    let less = near.below in absurd (omega (arith, lin, h, less)))
+    (λ above. let h = not_nearer one.low other.high least b.z b.w b.vz b.gw a.z a.w a.vz a.gw loss.n loss.d in_other.start.high in_other.end.high
+    in_one.start.low in_one.end.low above loss.begun loss.within in
+    let less = near.above in absurd (omega (arith, lin, h, less)))
+    w.apart
 
 -- the row of a second is in the layer of all rows
 in_layer : (layer : Layer) (t : Trajectory) (k : ℕ) (row : Row) → AreInLayer layer t.rows → row_at t k ≡ Some row → IsInLayer layer row
@@ -81,12 +102,8 @@ in_layer layer t k row all at = ⊎_elim
     rw (get_or_from_slice_get t.rows (k - t.start) row row found) at (all (k - t.start) row (slice_get_within t.rows (k - t.start) row found)))
     (cases_lt k t.start)
 
-pub never_below : (rules : Rules) → rules.sv ≤ℤ rules.sv2 → (low high : Layer) (a b : Trajectory) (k : ℕ) → AreInLayer low a.rows → AreInLayer high b.rows
-    → rules.sv2 ≤ℤ (high.low -ℤ low.high) → ¬ IsLossSecond rules a b k
-never_below rules greater low high a b k in_low in_high apart loss = below_apart rules a.rvsm b.rvsm low high loss.left loss.right greater (in_layer low a k loss.left in_low loss.left_is)
-    (in_layer high b k loss.right in_high loss.right_is) apart loss.loss
-
-pub never_above : (rules : Rules) → rules.sv ≤ℤ rules.sv2 → (low high : Layer) (a b : Trajectory) (k : ℕ) → AreInLayer high a.rows → AreInLayer low b.rows
-    → rules.sv2 ≤ℤ (high.low -ℤ low.high) → ¬ IsLossSecond rules a b k
-never_above rules greater low high a b k in_high in_low apart loss = above_apart rules a.rvsm b.rvsm low high loss.left loss.right greater (in_layer high a k loss.left in_high loss.left_is)
-    (in_layer low b k loss.right in_low loss.right_is) apart loss.loss
+-- trajectories in such layers have no loss second
+pub never_lose : (rules : Rules) (one other : Layer) (least : ℤ) (a b : Trajectory) (k : ℕ) → AreApart rules a.rvsm b.rvsm one other least
+    → AreInLayer one a.rows → AreInLayer other b.rows → ¬ IsLossSecond rules a b k
+never_lose rules one other least a b k apart in_one in_other loss = rows_apart rules a.rvsm b.rvsm one other least loss.left loss.right apart
+    (in_layer one a k loss.left in_one loss.left_is) (in_layer other b k loss.right in_other loss.right_is) loss.loss

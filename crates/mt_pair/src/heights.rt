@@ -1,20 +1,42 @@
 //! Trajectories whose heights keep them apart.
-ghost use Rattle.std.specs.Prelude.{◌≡◌, ℕ, true, None, pos, ◌≤ℤ◌, ◌-ℤ◌};
-ghost use Rattle.mt_base.specs.Bounds.{AreWithinBounds};
+ghost use Rattle.std.specs.Prelude.{◌≡◌, ◌↔◌, ◌&&◌, ℕ, true, None, ◌≤ℤ◌, ◌-ℤ◌, IsTrue};
+ghost use Rattle.mt_base.specs.Bounds.{AreWithinBounds, IsWithin};
 ghost use Rattle.mt_base.specs.Conflict.{IsConflict};
 ghost use Rattle.mt_track.specs.Layer.{IsLayerKept};
+ghost use Rattle.mt_pair.specs.Heights.{EndBelow, IsMinimumIn};
+ghost use Rattle.mt_pair.specs.High.{level_of};
 
+use crate::vertical::{both, level};
 use mt_base::Rules;
 use mt_track::{Layer, Strand};
 
-/// Whether one layer lies above another by at least the greater vertical minimum.
-fn is_above(rules: &Rules, low: &Layer, high: &Layer) -> bool
-    requires rules_kept { AreWithinBounds rules.now }
+/// Whether neither of two layers reaches above the level from which on the greater minimum holds.
+fn end_below(approved: bool, a: &Layer, b: &Layer) -> bool
+    ensures { IsTrue result ↔ EndBelow (level_of approved) a.now b.now }
+{
+    let top = level(approved);
+    a.high <= top && b.high <= top
+}
+
+/// The vertical minimum of two layers: the lesser one where neither reaches above that level, else the greater one.
+fn minimum<'a>(rules: &'a Rules, approved: bool, a: &Layer, b: &Layer) -> &'a i64
+    requires { AreWithinBounds rules.now }
+    ensures is { IsMinimumIn rules.now (level_of approved) a.now b.now result.now }
+{
+    if end_below(approved, a, b) {
+        &rules.sv
+    } else {
+        &rules.sv2
+    }
+}
+
+/// Whether one layer lies above another by at least that much.
+fn is_above(least: &i64, low: &Layer, high: &Layer) -> bool
     requires low_kept { IsLayerKept low.now }
     requires high_kept { IsLayerKept high.now }
-    ensures { result ≡ true → rules.now.sv2 ≤ℤ (high.now.low -ℤ low.now.high) }
+    ensures { result ≡ true → least.now ≤ℤ (high.now.low -ℤ low.now.high) }
 {
-    high.low - low.high >= rules.sv2
+    high.low - low.high >= *least
 }
 
 /// Whether two strands keep so far apart in height that they never lose separation. Where it says no, nothing is said. It is no test of the
@@ -23,7 +45,7 @@ pub fn keep_apart(a: &Strand, b: &Strand, rules: &Rules) -> bool
     requires { AreWithinBounds rules.now }
     ensures { result ≡ true → (from to : ℕ) → IsConflict rules.now a.now b.now from to None }
 {
-    let below = a.layer();
-    let above = b.layer();
-    is_above(rules, &below, &above) || is_above(rules, &above, &below)
+    let (below, above) = (a.layer(), b.layer());
+    let least = minimum(rules, both(a.rvsm(), b.rvsm()), &below, &above);
+    is_above(least, &below, &above) || is_above(least, &above, &below)
 }

@@ -2,9 +2,11 @@
 //! second.
 //!
 //! While neither trajectory changes its gains, all values are linear in time. So the square of the horizontal distance less that of the
-//! horizontal minimum is a quadratic in time, and the two vertical conditions are lines. Exact decisions over fractions say whether all
-//! three are below 0 at one instant of some seconds. The first and the last second of loss are found by halving: whether there is a
-//! loss before a second turns from no to yes once.
+//! horizontal minimum is a quadratic in time, and a vertical minimum gives two lines. There is loss where these three are below 0 at one
+//! instant by the lesser minimum; or by the greater one, while a third line says that the one or the other aircraft is above the level from
+//! which on that minimum holds. Exact decisions over fractions say whether there is such an instant in some seconds. The first and the last
+//! second of loss are found by halving: whether there is a loss before a second turns from no to yes once. Two trajectories whose layers of
+//! heights lie apart by their minimum are no such pair.
 #![tactic(auto)]
 
 mod approach;

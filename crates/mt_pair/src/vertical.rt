@@ -46,7 +46,7 @@ pub(crate) fn both(a_rvsm: bool, b_rvsm: bool) -> bool
 }
 
 /// The level above which the greater minimum holds: flight level 410 where both aircraft are approved, else 290.
-fn level(approved: bool) -> i64
+pub(crate) fn level(approved: bool) -> i64
     ensures { result ≡ level_of approved }
 {
     if approved { 2_460_000 } else { 1_740_000 }

@@ -31,6 +31,7 @@ more_after z w v g n = simp spread (omega (arith, lin))
 
 Holds-row_after : (layer : Layer) (a : Row) (k n : ℕ) → k ≤ n → Holds layer a → Holds layer (row_after a n) → Holds layer (row_after a k)
 Holds-row_after layer a k n below first last = record {
+  margin = not_below (pos 0) a.w a.gw k n below first.margin last.margin;
   low = rw (less_after a.z a.w a.vz a.gw (pos k)) (not_below layer.low (a.z -ℤ a.w) (a.vz -ℤ a.gw) k n below first.low
       (rw (less_after a.z a.w a.vz a.gw (pos n)) at last.low));
   high = rw (more_after a.z a.w a.vz a.gw (pos k)) (not_above layer.high (a.z +ℤ a.w) (a.vz +ℤ a.gw) k n below first.high
@@ -51,7 +52,7 @@ AreInLayer-straight layer a n first last k d below =
 
 -- what a layer holds a wider one does
 pub Holds-wider : (layer wider : Layer) (row : Row) → IsWider layer wider → Holds layer row → Holds wider row
-Holds-wider layer wider row more h = record { low = omega (arith, lin, more.low, h.low); high = omega (arith, lin, more.high, h.high) }
+Holds-wider layer wider row more h = record { margin = h.margin; low = omega (arith, lin, more.low, h.low); high = omega (arith, lin, more.high, h.high) }
 
 pub AreInLayer-wider : (layer wider : Layer) (rows : List Row) → IsWider layer wider → AreInLayer layer rows → AreInLayer wider rows
 AreInLayer-wider layer wider rows more all k d below = record {

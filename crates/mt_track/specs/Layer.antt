@@ -5,8 +5,9 @@ use Rattle.mt_base.specs.Bounds.{IsWithin}
 use Rattle.mt_base.specs.Trajectory.{next_row}
 use Rattle.mt_track.specs.declared.layer.Layer.{Layer}
 
--- a layer holds the height of a row at the start of its second, with the vertical margin below and above
+-- a layer holds the height of a row at the start of its second, with the vertical margin, which isn't below 0, below and above
 pub record Holds (layer : Layer) (row : Row) : Type 0 where
+  pub margin : pos 0 ≤ℤ row.w
   pub low : layer.low ≤ℤ (row.z -ℤ row.w)
   pub high : (row.z +ℤ row.w) ≤ℤ layer.high
 
