@@ -276,8 +276,9 @@ near_items shot grid cover items holds near = record {
         there = subst (λ (k : ℕ). Contains (stays_at shot.setup.rules shot.slots k) put.stay) is.there.item_of.is put.of;
         meet = record {
           cell = put.there;
-          left = omega (arith, ends, is.there.item_of.common.left);
-          right = omega (arith, begins, is.there.item_of.common.right);
+          second = is.there.item_of.common.second;
+          left = is.there.item_of.common.left;
+          right = (omega (arith, begins, is.there.item_of.common.right.0), omega (arith, ends, is.there.item_of.common.right.1));
         };
       }
 
@@ -288,6 +289,6 @@ near_items shot grid cover items holds near = record {
     there = record {
       by = placed item is.theirs;
       of = (holds.held is.mine.cell (placed item is.theirs)).1 (record { stay = is.theirs; of = is.there; there = is.meet.cell; is = refl });
-      item_of = record { is = refl; common = record { left = is.meet.left; right = is.meet.right } };
+      item_of = record { is = refl; common = record { second = is.meet.second; left = is.meet.left; right = is.meet.right } };
     };
   }

@@ -1,7 +1,10 @@
 -- What is found with some trajectories, and the trajectories that are kept of the flights of a snapshot.
-use Rattle.std.proofs.Common.{◌≡◌, ◌≢◌, ℕ, ◌+◌, ◌<◌, ◌≤◌, inl, inr, ⊎_elim, List, [], ◌∷◌, ◌++◌, Option, Some, None, Contains, length, get_or, take, nat_eq, option_map, Bool, true, false, refl, sym, ◌∙◌, ap, subst, arith}
+use Rattle.std.proofs.Common.{◌≡◌, ◌≢◌, ℕ, zero, suc, ◌+◌, ◌<◌, ◌≤◌, inl, inr, ⊎_elim, List, [], ◌∷◌, ◌++◌, Option, Some, None, Contains, length, get_or, take, nat_eq, option_map, Bool, true, false, refl, sym, ◌∙◌, ap, subst, arith}
 use Rattle.std.proofs.lemmas.List.{take_more}
-use Rattle.std.proofs.lemmas.List.Elements.{Contains-append_cases, Contains-append_left, Contains-append_right, Contains-push, Contains-push_cases}
+use Rattle.std.proofs.lemmas.List.Elements.{All-contains, All-nil, Contains-append_cases, Contains-append_left, Contains-append_right, Contains-push, Contains-push_cases}
+use Rattle.std.proofs.lemmas.List.Kept.{AllPairs-cons}
+use Rattle.std.specs.List.{All, AllPairs}
+use Rattle.std.specs.Prelude.{is_some}
 use Rattle.std.proofs.lemmas.Bool.Decides.{nat_tests}
 use Rattle.std.specs.Arc.{arc_value}
 use Rattle.mt_base.specs.declared.conflict.Kind.{Kind}
@@ -14,16 +17,30 @@ use Rattle.mt_base.specs.Tables.{Setup}
 use Rattle.mt_base.specs.Trajectory.{Trajectory}
 use Rattle.mt_probe.specs.declared.finding.Found.{Found}
 use Rattle.mt_probe.specs.declared.flight.Flight.{Flight}
-use Rattle.mt_probe.specs.Finds.{AreFinds, AreOneEach, FindsMore, HasName, IsFound, IsFoundOrQuiet, IsListed, IsNamedAmong, IsOfAnother}
+use Rattle.mt_probe.specs.Finds.{AreFinds, AreNamedApart, AreOfOthers, AreOneEach, FindsMore, HasName, IsFound, IsFoundOrQuiet, IsListed, IsNamedAmong, IsOfAnother}
 use Rattle.mt_probe.specs.Narrow.{all_end}
 use Rattle.mt_probe.specs.Shot.{Shot, flight_at, kept_of, made_named, records_in, state_of}
 use Rattle.mt_probe.specs.Standing.{IsSoundShot}
-use Rattle.mt_base.proofs.Members.{Contains-cases, Contains-flat_map, Contains-flat_map_cases, Contains-none}
+use Rattle.mt_base.proofs.Members.{All-from_held, Contains-cases, Contains-flat_map, Contains-flat_map_cases, Contains-none, distinct_append}
 use Rattle.mt_probe.proofs.Placed.{filled_inside, record_placed, record_there}
+
+-- what holds of any two members holds of any two of each part, and across
+distinct_parts : {X : Type 0} (R : X → X → Type 0) (xs ys : List X) → AllPairs R (xs ++ ys)
+    → AllPairs R xs × AllPairs R ys × ((x y : X) → Contains xs x → Contains ys y → R x y)
+distinct_parts R [] ys all = ((λ i j d before below. absurd (omega arith)), all, (λ x y held there. absurd (Contains-none x held)))
+distinct_parts R (x ∷ xs) ys all =
+    let heads : All (R x) (xs ++ ys) = λ k d below. all 0 (suc k) d (omega arith) (omega arith) in
+    let (front, back, across) = distinct_parts R xs ys (λ i j d before below. all (suc i) (suc j) d (omega arith) (omega arith)) in (
+      AllPairs-cons R x xs (All-from_held (R x) xs (λ y held. All-contains (R x) (xs ++ ys) y heads (Contains-append_left xs ys y held))) front,
+      back,
+      λ z y held there. ⊎_elim
+          (λ same. subst (λ w. R w y) same (All-contains (R x) (xs ++ ys) y heads (Contains-append_right xs ys y there)))
+          (λ later. across z y later there) (Contains-cases x xs z held),
+    )
 
 module _ (rules : Rules) (now : ℕ) (t : Trajectory) where
   pub none_more : (finds : List Found) → FindsMore rules now t [] finds finds
-  none_more finds = record { kept = λ found held. held; exact = λ found held. inl held; listed = λ other held k ahead loss. absurd (Contains-none other held) }
+  none_more finds = record { kept = λ found held. held; exact = λ found held. inl held; listed = λ other held k ahead loss. absurd (Contains-none other held); once = λ others apart before. before }
 
   -- one that has no loss second adds nothing
   pub quiet_more : (other : NamedTrajectory) (finds : List Found) → ((k : ℕ) → k < all_end → ¬ IsLossSecond rules t other.path k)
@@ -34,18 +51,26 @@ module _ (rules : Rules) (now : ℕ) (t : Trajectory) where
     listed = λ one held k ahead loss. ⊎_elim
         (λ same. absurd (quiet k ahead (subst (λ (o : NamedTrajectory). IsLossSecond rules t o.path k) (sym same) loss)))
         (λ none. absurd (Contains-none one none)) (Contains-cases other [] one held);
+    once = λ others apart before. before;
   }
 
-  pub one_more : (other : NamedTrajectory) (found : Found) (old new : List Found) → IsFound rules now t other found → new ≡ old ++ found ∷ []
-      → FindsMore rules now t (other ∷ []) old new
-  one_more other found old new is pushed = rw pushed (record {
+  pub one_more : (other : NamedTrajectory) (found : Found) (old new : List Found) → IsFound rules now t other found → is_some found.whole ≡ true
+      → new ≡ old ++ found ∷ [] → FindsMore rules now t (other ∷ []) old new
+  one_more other found old new is some pushed = rw pushed (record {
     kept = λ one held. Contains-append_left old (found ∷ []) one held;
     exact = λ one held. ⊎_elim inl
-        (λ same. inr (record { other = other; among = (0, omega arith, refl); is = subst (IsFound rules now t other) same is }))
+        (λ same. inr (record { other = other; among = (0, omega arith, refl); is = subst (IsFound rules now t other) same is; loss = subst (λ (f : Found). is_some f.whole ≡ true) same some }))
         (Contains-push_cases old found one held);
     listed = λ one held k ahead loss. ⊎_elim
         (λ same. record { found = found; held = Contains-push old found; is = subst (λ (o : NamedTrajectory). IsFound rules now t o found) same is })
         (λ none. absurd (Contains-none one none)) (Contains-cases other [] one held);
+    once = λ others apart before. distinct_append AreNamedApart old (found ∷ []) before (λ i j d first last. absurd (omega arith))
+        (λ one two held last same. ⊎_elim
+        (λ e. apart one other held (0, omega arith, refl) (
+          same.0 ∙ sym (ap (λ (f : Found). f.call) e) ∙ is.call_is,
+          same.1 ∙ sym (ap (λ (f : Found). f.kind) e) ∙ is.kind_is,
+        ))
+        (λ none. absurd (Contains-none two none)) (Contains-cases found [] two last));
   })
 
   still_listed : (finds more : List Found) (other : NamedTrajectory) → ((found : Found) → Contains finds found → Contains more found)
@@ -58,13 +83,21 @@ module _ (rules : Rules) (now : ℕ) (t : Trajectory) where
     kept = λ found held. second.kept found (first.kept found held);
     exact = λ found held. ⊎_elim
         (λ before. ⊎_elim inl
-        (λ one. inr (record { other = one.other; among = Contains-append_left xs ys one.other one.among; is = one.is }))
+        (λ one. inr (record { other = one.other; among = Contains-append_left xs ys one.other one.among; is = one.is; loss = one.loss }))
         (first.exact found before))
-        (λ one. inr (record { other = one.other; among = Contains-append_right xs ys one.other one.among; is = one.is }))
+        (λ one. inr (record { other = one.other; among = Contains-append_right xs ys one.other one.among; is = one.is; loss = one.loss }))
         (second.exact found held);
     listed = λ other held k ahead loss. ⊎_elim
         (λ left. still_listed mid new other second.kept (first.listed other left k ahead loss))
         (λ right. second.listed other right k ahead loss) (Contains-append_cases xs ys other held);
+    once = λ others apart before.
+        let parts = distinct_parts AreOfOthers xs ys others in
+        second.once parts.1
+        (λ found other held behind same. ⊎_elim
+        (λ was. apart found other was (Contains-append_right xs ys other behind) same)
+        (λ one. parts.2 one.other other one.among behind (sym one.is.call_is ∙ same.0, sym one.is.kind_is ∙ same.1))
+        (first.exact found held))
+        (first.once parts.0 (λ found other held front same. apart found other held (Contains-append_left xs ys other front) same) before);
   }
 
 -- the callsign of what is kept of a flight

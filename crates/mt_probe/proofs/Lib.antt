@@ -6,6 +6,7 @@ pub mod HitsFound
 pub mod Left
 pub mod Looking
 pub mod Nearby
+pub mod Once
 pub mod Order
 pub mod Placed
 pub mod Short

@@ -123,35 +123,11 @@ near_by_loss shot t other item k rules mine theirs loss stays =
       there = subst (λ (list : List Stay). Contains list share.right.stay) (sym stays) share.right.of;
       meet = record {
         cell = share.right.there ∙ sym share.left.there;
-        left = omega (arith, share.left.begun, share.right.within);
-        right = omega (arith, share.right.begun, share.left.within);
+        second = k;
+        left = (share.left.begun, share.left.within);
+        right = (share.right.begun, share.right.within);
       };
     }
-
--- all that is near
-pub found_near : (shot : Shot) (call : List ℕ) (t : Trajectory) (items : List ℕ) (finds : List Found) → IsSoundShot shot → IsStrand t
-    → AreNearItems shot (cover_of shot.setup.rules t) items
-    → FindsMore shot.setup.rules shot.now t (others_among call shot.slots items) [] finds → AreFinds shot.setup (state_of shot) call t finds
-found_near shot call t items finds sound laid near found = record {
-  exact = λ one held. ⊎_elim
-      (λ before. absurd (Contains-none one before))
-      (λ by. let named = Contains-flat_map_cases (other_at call shot.slots) items by.other by.among in
-      let it = other_is shot.slots call named.of by.other named.within in
-      record {
-        other = by.other;
-        of = record {
-          there = at_kept shot (named.of / 2) it.flight by.other sound it.at it.kept;
-          apart = λ same. it.apart (sym (kept_call it.flight by.other it.kept) ∙ same);
-        };
-        is = by.is;
-      })
-      (found.exact one held);
-  complete = λ other of k early loss.
-      let it = kept_at shot other sound of.there in
-      let named = named_by shot.setup.rules shot.slots call it.place it.flight it.at (λ same. of.apart (it.call_is ∙ same)) other it.kept in
-      let item = near_by_loss shot t other.path named.item k sound.rules laid (sound.laid it.place it.flight other it.at it.kept) loss named.stays in
-      found.listed other (Contains-flat_map (other_at call shot.slots) items named.item other ((near.same named.item).1 item) named.among) k early loss;
-}
 
 -- the items near a cover are one list
 pub near_once : (shot : Shot) (cover : List Stay) (some others : List ℕ) → AreNearItems shot cover some → AreNearItems shot cover others → some ≡ others

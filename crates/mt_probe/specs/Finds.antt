@@ -1,5 +1,5 @@
 -- What is found with a new trajectory.
-use Rattle.std.specs.Prelude.{◌≡◌, ◌≢◌, ◌<◌, ◌⊎◌, ℕ, List, Contains, Option, Some, None}
+use Rattle.std.specs.Prelude.{◌≡◌, ◌≢◌, ◌<◌, ◌⊎◌, ℕ, true, List, AllPairs, Contains, Option, Some, None, is_some}
 use Rattle.mt_base.specs.declared.conflict.Kind.{Kind}
 use Rattle.mt_base.specs.declared.rules.Rules.{Rules}
 use Rattle.mt_base.specs.Conflict.{IsConflict, IsLossSecond}
@@ -21,10 +21,20 @@ pub record IsOfAnother (setup : Setup) (s : State) (call : List ℕ) (other : Na
   pub there : Contains (trajectories setup s) other
   pub apart : other.call ≢ call
 
+-- a find with a loss: what is found with a trajectory of another flight, which has a loss second with the new one
 pub record IsFoundOfAnother (setup : Setup) (s : State) (call : List ℕ) (t : Trajectory) (found : Found) : Type 0 where
   pub other : NamedTrajectory
   pub of : IsOfAnother setup s call other
   pub is : IsFound setup.rules s.now t other found
+  pub loss : is_some found.whole ≡ true
+
+-- two finds are of different flights, or of different kinds
+abbrev pub AreNamedApart : Found → Found → Type 0
+AreNamedApart f g = ¬ ((f.call ≡ g.call) × (f.kind ≡ g.kind))
+
+-- and so are two trajectories
+abbrev pub AreOfOthers : NamedTrajectory → NamedTrajectory → Type 0
+AreOfOthers a b = ¬ ((a.call ≡ b.call) × (a.kind ≡ b.kind))
 
 -- one of some finds is what is found with another trajectory
 pub record IsListed (rules : Rules) (now : ℕ) (t : Trajectory) (finds : List Found) (other : NamedTrajectory) : Type 0 where
@@ -32,18 +42,20 @@ pub record IsListed (rules : Rules) (now : ℕ) (t : Trajectory) (finds : List F
   pub held : Contains finds found
   pub is : IsFound rules now t other found
 
--- it is what is found with one of these trajectories
+-- it is what is found with one of these trajectories, which has a loss second with the new one
 pub record IsFoundAmong (rules : Rules) (now : ℕ) (t : Trajectory) (others : List NamedTrajectory) (found : Found) : Type 0 where
   pub other : NamedTrajectory
   pub among : Contains others other
   pub is : IsFound rules now t other found
+  pub loss : is_some found.whole ≡ true
 
--- What is found with a new trajectory of a flight in a state: each find is exact, and each trajectory of another flight that has a loss second
--- with the new one is listed. Of a trajectory that has none, it is not said whether it is listed.
+-- What is found with a new trajectory of a flight in a state: each trajectory of another flight that has a loss second with the new one is
+-- listed, once, and no other; each find is exact.
 pub record AreFinds (setup : Setup) (s : State) (call : List ℕ) (t : Trajectory) (finds : List Found) : Type 0 where
   pub exact : (found : Found) → Contains finds found → IsFoundOfAnother setup s call t found
   pub complete : (other : NamedTrajectory) → IsOfAnother setup s call other → (k : ℕ) → k < all_end → IsLossSecond setup.rules t other.path k
       → IsListed setup.rules s.now t finds other
+  pub once : AllPairs AreNamedApart finds
 
 -- no two of these trajectories have one callsign and one kind
 abbrev pub AreOneEach : List NamedTrajectory → Type 0
@@ -64,9 +76,15 @@ abbrev pub IsFoundOrQuiet : Rules → ℕ → Trajectory → NamedTrajectory →
 IsFoundOrQuiet rules now t other (Some found) = IsFound rules now t other found
 IsFoundOrQuiet rules now t other None = IsConflict rules t other.path 0 all_end None × IsConflict rules t other.path now (window_end now) None
 
--- Some finds have more than some others: what is found with some of these trajectories, and with each that has a loss second.
+-- no find is of the flight and kind of one of these trajectories
+abbrev pub AreOfNone : List NamedTrajectory → List Found → Type 0
+AreOfNone others finds = (found : Found) (other : NamedTrajectory) → Contains finds found → Contains others other
+    → ¬ ((found.call ≡ other.call) × (found.kind ≡ other.kind))
+
+-- Some finds have more than some others: what is found with those of these trajectories that have a loss second, each once.
 pub record FindsMore (rules : Rules) (now : ℕ) (t : Trajectory) (others : List NamedTrajectory) (old new : List Found) : Type 0 where
   pub kept : (found : Found) → Contains old found → Contains new found
   pub exact : (found : Found) → Contains new found → Contains old found ⊎ IsFoundAmong rules now t others found
   pub listed : (other : NamedTrajectory) → Contains others other → (k : ℕ) → k < all_end → IsLossSecond rules t other.path k
       → IsListed rules now t new other
+  pub once : AllPairs AreOfOthers others → AreOfNone others old → AllPairs AreNamedApart old → AllPairs AreNamedApart new

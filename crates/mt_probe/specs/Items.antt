@@ -39,8 +39,9 @@ stays_at rules slots item = stays_by rules (kind_at item) (get_or slots (item / 
 -- Two stays meet: they are in one cell, and have a second in common.
 pub record Meet (a b : Stay) : Type 0 where
   pub cell : b.cell ≡ a.cell
-  pub left : a.from < b.to
-  pub right : b.from < a.to
+  pub second : ℕ
+  pub left : (a.from ≤ second) × (second < a.to)
+  pub right : (b.from ≤ second) × (second < b.to)
 
 -- An item is near a cover: a stay of the trajectory that it names meets one of the cover's.
 pub record IsNearItem (shot : Shot) (cover : List Stay) (item : ℕ) : Type 0 where

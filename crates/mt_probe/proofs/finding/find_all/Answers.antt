@@ -5,7 +5,8 @@ use Rattle.mt_cover.specs.Cells.{cover_of}
 use Rattle.mt_probe.specs.Finds.{FindsMore}
 use Rattle.mt_probe.specs.Items.{AreNearItems, other_at, others_among}
 use Rattle.mt_probe.proofs.Gathered.{both_more, none_more}
-use Rattle.mt_probe.proofs.Nearby.{fewer, found_near, near_once, one_item_more}
+use Rattle.mt_probe.proofs.Nearby.{fewer, near_once, one_item_more}
+use Rattle.mt_probe.proofs.Once.{found_near}
 use Rattle.mt_probe.proofs.finding.find_all.Goals as goal
 
 ok_alike : {X E : Type 0} (x y : X) (one other : Result X E) → one ≡ Ok x → other ≡ Ok y → one ≡ other → x ≡ y

@@ -35,7 +35,7 @@ returns-in-Some-whole-clause-found c =
     subst (λ (others : List NamedTrajectory). FindsMore shot.setup.rules shot.now c.args.strand.now others c.args.finds.now c.push.new.self)
     (sym (other_one shot.slots c.args.call c.args.item c.kind_of-kind.result c.in-Some.card.now c.in-Some-path.other.now c.kind_of-kind.ensures
     c.in-Some.ensures (sym c.eq.ensures ∙ c.if-eq.false) c.in-Some-path.ensures))
-    (one_more shot.setup.rules shot.now c.args.strand.now _ c.find_one-found.result c.args.finds.now c.push.new.self found pushed)) c.push.ensures.ok
+    (one_more shot.setup.rules shot.now c.args.strand.now _ c.find_one-found.result c.args.finds.now c.push.new.self found (rw c.in-Some-whole.is refl) pushed)) c.push.ensures.ok
 
 pub returns-in-Some-whole-clause-counted : goal.returns-in-Some-whole-clause-counted
 returns-in-Some-whole-clause-counted c =
