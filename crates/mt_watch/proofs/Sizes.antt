@@ -1,5 +1,5 @@
 -- How great the numbers of rows, reports, vectors and products are.
-use Rattle.std.proofs.Common.{◌≡◌, ◌+◌, ◌*◌, ◌≤◌, ◌≤ℤ◌, false, ℕ, ℤ, to_z, of_z, pos, neg_ℤ, ◌+ℤ◌, ◌-ℤ◌, ◌*ℤ◌, FitsSigned, arith, lit<}
+use Rattle.std.proofs.Common.{◌≡◌, ◌≤ℤ◌, false, ℕ, ℤ, to_z, of_z, pos, neg_ℤ, ◌+ℤ◌, ◌-ℤ◌, ◌*ℤ◌, FitsSigned, arith, lit<}
 use Rattle.std.proofs.lemmas.Int.{ints}
 use Rattle.std.specs.Prelude.{int_lt}
 use mir.Syntax.{w128}
