@@ -1,7 +1,7 @@
 -- A check that passes and one that refuses; and the same checks, whatever stands for the answer.
-use Rattle.std.proofs.Common.{◌≡◌, Bool, true, false, ℕ, List, [], ◌∷◌, ◌++◌, Option, Some, None, Result, Ok, Err, Bor, ◌∙◌, append_assoc, arith, refl, sym}
+use Rattle.std.proofs.Common.{◌≡◌, Bool, true, false, ℕ, List, [], ◌∷◌, ◌++◌, Option, Some, None, Result, Ok, Err, ◌∙◌, append_assoc, arith, refl, sym}
 use Rattle.std.proofs.lemmas.Bool.Decides.{nat_tests}
-use Rattle.std.specs.Option.{option_copied, option_map_or}
+use Rattle.std.specs.Option.{option_map_or}
 use Rattle.std.specs.Prelude.{⊤, is_some, nat_le}
 use Rattle.mt_base.specs.declared.command.Refusal.{Refusal}
 use Rattle.mt_base.specs.declared.command.Refusal.TheVariants.{Fixed, Future}
@@ -9,7 +9,6 @@ use Rattle.mt_base.specs.declared.flight.Course.{Course}
 use Rattle.mt_base.specs.declared.flight.Mark.{Mark}
 use Rattle.mt_base.specs.declared.flight.Record.{Record}
 use Rattle.mt_base.specs.Checks.{check, judged, next}
-use Rattle.mt_base.specs.Trajectory.{Trajectory}
 use Rattle.mt_base.specs.WhatIf.{course_in, mark_in}
 use Rattle.mt_base.proofs.CheckLemmas.{judged-answer, judged-append, next-ok}
 
@@ -34,10 +33,6 @@ refused_alike cs x e is = refusal_of_next (judged cs (tt {0})) x e (is ∙ judge
 
 pub passed_alike : {A F : Type 0} (cs : List (F × Bool)) (x y : A) → Ok y ≡ judged cs x → Ok (tt {0}) ≡ judged cs (tt {0})
 passed_alike cs x y is = pass_of_next (judged cs (tt {0})) x y (is ∙ judged-answer cs x)
-
--- a strand at hand is the one that is meant
-pub strand_is : (at_hand : Option (Bor Trajectory)) (strand : Bor Trajectory) (t : Trajectory) → option_copied at_hand ≡ Some t → at_hand ≡ Some strand → strand.now ≡ t
-strand_is at_hand strand t meant is = let p = rw is at meant in cc
 
 -- a flight that is planned, or has a tentative clearance, is there
 pub planned_is_there : (flight : Option Record) (course : Course) → course_in flight ≡ Some course → is_some flight ≡ true

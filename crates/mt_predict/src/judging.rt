@@ -3,10 +3,9 @@ ghost use Rattle.std.specs.Option.{option_map_or};
 ghost use Rattle.mt_base.specs.Checks.{judged};
 ghost use Rattle.mt_base.specs.Cleared.{aim_checks, is_below_ceiling};
 ghost use Rattle.mt_base.specs.History.{checks, has_history, has_room, is_later, route_checks};
-ghost use Rattle.mt_base.specs.Picture.{trajectory_of};
 ghost use Rattle.mt_base.specs.Tables.{bands_of, setup_with};
 ghost use Rattle.mt_base.specs.WhatIf.{course_in, mark_in};
-ghost use Rattle.mt_predict.specs.Looking.{HasStrand, HasStrandOfPlanned, look_of};
+ghost use Rattle.mt_predict.specs.Looking.{HasSomeStrand, HasSomeStrandOfPlanned, checks_along, look_of, strand_in};
 
 use crate::clearing::cleared;
 use mt_base::{
@@ -33,8 +32,8 @@ pub struct Looked<'a> {
 
 /// The first refusal of an actor's command, in the order in which its checks are made, or none. It takes no memory.
 ///
-/// Only a withdrawal looks at the actor `who`. For a clearance or a tentative clearance of a planned flight that is there it asks that its
-/// trajectory is at hand.
+/// Only a withdrawal looks at the actor `who`. For a clearance or a tentative clearance of a planned flight that is there it asks that a
+/// trajectory is at hand, and answers as if the flight flew that.
 pub fn judge(
     tables: &Tables,
     rules: &Rules,
@@ -42,8 +41,9 @@ pub fn judge(
     who: u32,
     command: &Command,
 ) -> Result<(), Refusal>
-    requires strand { HasStrand (setup_with rules.now tables.now) looked.now command.now }
-    ensures { result ≡ judged (checks (setup_with rules.now tables.now) (look_of looked.entry.now) who command.now) (tt {0}) }
+    requires strand { HasSomeStrand looked.now command.now }
+    ensures { result
+        ≡ judged (checks_along (setup_with rules.now tables.now) (strand_in looked.entry.now) (look_of looked.entry.now) who command.now) (tt {0}) }
 {
     match command {
         Command::Plan {
@@ -162,9 +162,10 @@ fn check_clearance(
     clearance: Clearance,
     eff: Second,
 ) -> Result<(), Refusal>
-    requires { HasStrandOfPlanned (setup_with rules.now tables.now) looked.now }
+    requires { HasSomeStrandOfPlanned looked.now }
     ensures { (who : ℕ) → result
-        ≡ judged (checks (setup_with rules.now tables.now) (look_of looked.entry.now) who (Command.Clear call clearance (Some eff))) (tt {0}) }
+        ≡ judged (checks_along (setup_with rules.now tables.now) (strand_in looked.entry.now) (look_of looked.entry.now) who
+        (Command.Clear call clearance (Some eff))) (tt {0}) }
 {
     check_aim(tables, rules, looked, call, clearance, eff)?;
     must(eff <= looked.now, Refusal::Future)?;
@@ -180,9 +181,10 @@ fn check_tentative(
     clearance: Clearance,
     eff: Second,
 ) -> Result<(), Refusal>
-    requires { HasStrandOfPlanned (setup_with rules.now tables.now) looked.now }
+    requires { HasSomeStrandOfPlanned looked.now }
     ensures { (who : ℕ) → result
-        ≡ judged (checks (setup_with rules.now tables.now) (look_of looked.entry.now) who (Command.Tentative call clearance (Some eff))) (tt {0}) }
+        ≡ judged (checks_along (setup_with rules.now tables.now) (strand_in looked.entry.now) (look_of looked.entry.now) who
+        (Command.Tentative call clearance (Some eff))) (tt {0}) }
 {
     check_aim(tables, rules, looked, call, clearance, eff)?;
     if let Some(mark) = mark_in(looked) {
@@ -225,11 +227,10 @@ fn check_aim(
     clearance: Clearance,
     eff: Second,
 ) -> Result<(), Refusal>
-    requires { HasStrandOfPlanned (setup_with rules.now tables.now) looked.now }
+    requires { HasSomeStrandOfPlanned looked.now }
     ensures { result ≡ judged ((Refusal.UnknownCall call, is_some (look_of looked.entry.now).flight)
         ∷ (Refusal.Fixed, is_some (course_in (look_of looked.entry.now).flight))
-        ∷ option_map_or (λ course. aim_checks tables.now course (trajectory_of (setup_with rules.now tables.now) (Path.Planned course)) clearance eff)
-        (course_in (look_of looked.entry.now).flight) []) (tt {0}) }
+        ∷ option_map_or (λ course. aim_checks tables.now course (strand_in looked.entry.now) clearance eff) (course_in (look_of looked.entry.now).flight) []) (tt {0}) }
 {
     let course = planned(looked, call)?;
     let Some(strand) = looked.strand else {

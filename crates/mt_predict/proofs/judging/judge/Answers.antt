@@ -3,9 +3,8 @@ use Rattle.std.specs.Prelude.{⊤}
 use Rattle.mt_base.specs.declared.command.Command.TheVariants.{Clear, Tentative}
 use Rattle.mt_base.specs.declared.command.Refusal.{Refusal}
 use Rattle.mt_base.specs.Checks.{judged}
-use Rattle.mt_base.specs.History.{checks}
 use Rattle.mt_base.specs.Tables.{setup_with}
-use Rattle.mt_predict.specs.Looking.{look_of}
+use Rattle.mt_predict.specs.Looking.{checks_along, look_of, strand_in}
 use Rattle.mt_predict.proofs.judging.judge.Goals as goal
 
 pub returns-in-Plan : goal.returns-in-Plan
@@ -28,7 +27,7 @@ returns-in-Renew c = rw c.in-Renew.is (c.check_renewal.ensures c.args.who c.args
 
 pub returns-in-Clear : goal.returns-in-Clear
 returns-in-Clear c =
-    let at_second : ℕ → Result ⊤ Refusal = λ eff. judged (checks (setup_with c.args.rules.now c.args.tables.now) (look_of c.args.looked.now) c.args.who
+    let at_second : ℕ → Result ⊤ Refusal = λ eff. judged (checks_along (setup_with c.args.rules.now c.args.tables.now) (strand_in c.args.looked.now) (look_of c.args.looked.now) c.args.who
     (Clear c.in-Clear.call c.in-Clear.clearance (Some eff))) (tt {0}) in
     rw c.in-Clear.is (c.check_clearance.ensures c.args.who ∙ ap at_second c.unwrap_or-eff.ensures)
 
@@ -37,7 +36,7 @@ returns-in-Accept c = rw c.in-Accept.is (c.check_clearance-in-Accept.ensures c.a
 
 pub returns-in-Tentative : goal.returns-in-Tentative
 returns-in-Tentative c =
-    let at_second : ℕ → Result ⊤ Refusal = λ eff. judged (checks (setup_with c.args.rules.now c.args.tables.now) (look_of c.args.looked.now) c.args.who
+    let at_second : ℕ → Result ⊤ Refusal = λ eff. judged (checks_along (setup_with c.args.rules.now c.args.tables.now) (strand_in c.args.looked.now) (look_of c.args.looked.now) c.args.who
     (Tentative c.in-Tentative.call c.in-Tentative.clearance (Some eff))) (tt {0}) in
     rw c.in-Tentative.is (c.check_tentative.ensures c.args.who ∙ ap at_second c.unwrap_or-eff-in-Tentative.ensures)
 
