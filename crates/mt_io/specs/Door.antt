@@ -34,12 +34,12 @@ gave_one count = record count { given = count.given + 1 }
 abbrev pub took_one : Count → Count
 took_one count = record count { back = count.back + 1 }
 
--- None, where as many links were given as there are sessions; or a link, the first of those still to give, where fewer were; or a
--- failure. But for the link nothing changes.
+-- None, where as many links were given as there are sessions; where fewer were, a link, the first of those still to give, or a failure. But
+-- for the link nothing changes.
 abbrev pub GivesLink : {L E : Type 0} → Count → Count → Option (List L) → Option (List L) → Result (Option L) E → Type 0
 GivesLink {L} old new still left result =
     MatchResult result
     (λ found. MatchOption found
     ((old.given ≡ old.sessions) × (new ≡ old) × (left ≡ still))
     (λ link. (old.given < old.sessions) × (new ≡ gave_one old) × Loses still left (link ∷ [])))
-    (λ _. (new ≡ old) × (left ≡ still))
+    (λ _. (old.given < old.sessions) × (new ≡ old) × (left ≡ still))

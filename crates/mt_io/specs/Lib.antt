@@ -5,4 +5,5 @@ pub mod Reading
 pub mod Gathering
 pub mod HasRead
 pub mod MemSink
+pub mod MemLink
 pub mod Writing

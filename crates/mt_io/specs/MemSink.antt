@@ -7,6 +7,10 @@ use Rattle.mt_io.specs.declared.mem_sink.MemSink.{MemSink}
 abbrev pub room_of : MemSink → ℕ
 room_of sink = sink.room
 
+-- it holds as many bytes as it can
+abbrev pub IsFull : MemSink → Type 0
+IsFull sink = vec_len sink.bytes ≡ sink.room
+
 -- Writes keep the room and what is held, and while there is room no fault is counted.
 pub record HasWritten (old new : MemSink) : Type 0 where
   pub same_room : new.room ≡ old.room

@@ -36,7 +36,8 @@ pub trait Door {
         ensures links { (still self.new ≡ still self.old) × (returned self.new ≡ returned self.old) }
         ensures cause { HasCause (faults self.old) (faults self.new) result };
 
-    /// The next link; none exactly where as many were given as there are sessions. `Failed` comes only where the count rose in this call.
+    /// The next link; none exactly where as many were given as there are sessions. `Failed` comes only where fewer were given and the count
+    /// rose in this call.
     fn next_link(&mut self) -> Result<Option<Self::Link>, Failed>
         ensures gives { GivesLink (count self.old) (count self.new) (still self.old) (still self.new) result }
         ensures back { returned self.new ≡ returned self.old }

@@ -1,7 +1,8 @@
 //! A door in memory.
-ghost use Rattle.std.specs.Prelude.{◌≡◌, ◌≤◌, ◌+◌, ◌-◌, [], IfOk, Some, length, vec_len, vec_capacity};
+ghost use Rattle.std.specs.Prelude.{◌≡◌, ◌<◌, ◌≤◌, ◌+◌, ◌-◌, [], ◌∷◌, IfOk, IfErr, Some, Ok, length, vec_len, vec_capacity};
 ghost use Rattle.std.specs.VecDeque.{deque_len};
-ghost use Rattle.mt_io.specs.Door.{listened};
+ghost use Rattle.mt_io.specs.Causes.{HasCause};
+ghost use Rattle.mt_io.specs.Door.{Gains, GivesLink, listened, took_one};
 
 use crate::door::Door;
 use crate::mem_link::MemLink;
@@ -11,7 +12,7 @@ use std::alloc::Global;
 use std::collections::VecDeque;
 
 /// Links in memory, in the order in which they are given, and room for all that come back. It listens at any port. Where it has no link
-/// left to give and some session is still to come, it fails.
+/// left to give and some session is still to come, it fails; its other calls count no fault.
 #[derive(Drop)]
 pub struct MemDoor {
     links: VecDeque<MemLink>,
@@ -70,7 +71,13 @@ impl Door for MemDoor {
         self.faults
     }
 
-    fn listen(&mut self, port: u16, sessions: u32) -> Result<(), Failed> {
+    /// It listens at any port.
+    fn listen(&mut self, port: u16, sessions: u32) -> Result<(), Failed>
+        ensures listens { result ≡ Ok tt }
+        ensures count { ⟦<MemDoor as Door>⟧.count self.new ≡ listened port sessions }
+        ensures links { (⟦<MemDoor as Door>⟧.still self.new ≡ ⟦<MemDoor as Door>⟧.still self.old) × (⟦<MemDoor as Door>⟧.returned self.new ≡ ⟦<MemDoor as Door>⟧.returned self.old) }
+        ensures quiet { ⟦<MemDoor as Door>⟧.faults self.new ≡ ⟦<MemDoor as Door>⟧.faults self.old }
+    {
         self.port = port;
         self.back = 0;
         self.given = 0;
@@ -78,7 +85,14 @@ impl Door for MemDoor {
         Ok(())
     }
 
-    fn next_link(&mut self) -> Result<Option<MemLink>, Failed> {
+    /// It fails only where it has no link left.
+    fn next_link(&mut self) -> Result<Option<MemLink>, Failed>
+        ensures gives { GivesLink (⟦<MemDoor as Door>⟧.count self.old) (⟦<MemDoor as Door>⟧.count self.new) (⟦<MemDoor as Door>⟧.still self.old) (⟦<MemDoor as Door>⟧.still self.new) result }
+        ensures back { ⟦<MemDoor as Door>⟧.returned self.new ≡ ⟦<MemDoor as Door>⟧.returned self.old }
+        ensures quiet { IfOk result (λ _. ⟦<MemDoor as Door>⟧.faults self.new ≡ ⟦<MemDoor as Door>⟧.faults self.old) }
+        ensures none_left { IfErr result (λ _. ⟦<MemDoor as Door>⟧.still self.old ≡ Some []) }
+        ensures cause { HasCause (⟦<MemDoor as Door>⟧.faults self.old) (⟦<MemDoor as Door>⟧.faults self.new) result }
+    {
         if self.given == self.sessions {
             return Ok(None);
         }
@@ -90,7 +104,13 @@ impl Door for MemDoor {
         Ok(Some(link))
     }
 
-    fn back(&mut self, link: MemLink) {
+    fn back(&mut self, link: MemLink)
+        requires { (⟦<MemDoor as Door>⟧.count self.old).back < (⟦<MemDoor as Door>⟧.count self.old).given }
+        ensures count { ⟦<MemDoor as Door>⟧.count self.new ≡ took_one (⟦<MemDoor as Door>⟧.count self.old) }
+        ensures still { ⟦<MemDoor as Door>⟧.still self.new ≡ ⟦<MemDoor as Door>⟧.still self.old }
+        ensures returned { Gains (⟦<MemDoor as Door>⟧.returned self.old) (⟦<MemDoor as Door>⟧.returned self.new) (link ∷ []) }
+        ensures quiet { ⟦<MemDoor as Door>⟧.faults self.new ≡ ⟦<MemDoor as Door>⟧.faults self.old }
+    {
         self.back += 1;
         self.backs.push_reserved(link);
     }

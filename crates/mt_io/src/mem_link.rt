@@ -1,5 +1,7 @@
 //! A link in memory.
-ghost use Rattle.std.specs.Prelude.{◌≡◌, [], IfOk, Some};
+ghost use Rattle.std.specs.Prelude.{◌≡◌, ◌<◌, ◌≤◌, [], length, IfOk, IfErr, Some};
+ghost use Rattle.std.specs.Io.KnownBytes.{WriteAppends};
+ghost use Rattle.mt_io.specs.Causes.{HasCause};
 
 use crate::duplex::Duplex;
 use crate::mem_sink::MemSink;
@@ -21,10 +23,13 @@ pub struct MemLink {
 }
 
 impl MemLink {
+    ghost use Rattle.mt_io.specs.MemLink.{room_of};
+
     /// A link that has these bytes left, holds nothing, has room for so many bytes and has counted no fault. It takes all its memory here.
     pub fn make(alloc: Global, bytes: Vec<u8>, room: u32) -> Result<MemLink, Memory>
         ensures left { IfOk result (λ link. ⟦<MemLink as Source>⟧.left link ≡ Some bytes.items) }
         ensures held { IfOk result (λ link. ⟦<MemLink as Sink>⟧.held link ≡ Some []) }
+        ensures room { IfOk result (λ link. room_of link ≡ room) }
         ensures sound { IfOk result (λ link. (⟦<MemLink as Source>⟧.faults link ≡ 0) × (⟦<MemLink as Sink>⟧.faults link ≡ 0)) }
     {
         Ok(MemLink {
@@ -82,6 +87,7 @@ impl Source for MemLink {
 }
 
 impl Sink for MemLink {
+    ghost use Rattle.mt_io.specs.MemLink.{IsFull};
     ghost use Rattle.mt_io.specs.MemSink.{HasWritten, written_none, written_on};
     ghost use Rattle.std.specs.Prelude.{refl};
     ghost use Rattle.std.proofs.Common.{◌∙◌};
@@ -96,7 +102,16 @@ impl Sink for MemLink {
         self.sink.write_faults()
     }
 
-    fn write_some(&mut self, piece: &[u8]) -> Result<usize, Failed> {
+    /// A write that fits counts no fault, though it fills the link; one fails only where it is full.
+    fn write_some(&mut self, piece: &[u8]) -> Result<usize, Failed>
+        requires { 0 < length piece.now }
+        ensures bound { IfOk result (λ count. (0 < count) × (count ≤ length piece.now)) }
+        ensures bytes { WriteAppends (⟦<MemLink as Sink>⟧.held self.old) (⟦<MemLink as Sink>⟧.held self.new) result piece.now }
+        ensures quiet { IfOk result (λ _. ⟦<MemLink as Sink>⟧.faults self.new ≡ ⟦<MemLink as Sink>⟧.faults self.old) }
+        ensures full { IfErr result (λ _. IsFull self.old) }
+        ensures cause { HasCause (⟦<MemLink as Sink>⟧.faults self.old) (⟦<MemLink as Sink>⟧.faults self.new) result }
+        ensures kept { ⟦<MemLink as Sink>⟧.writes_to self.old self.new }
+    {
         let count = self.sink.write_some(piece)?;
         self.replies
             .fetch_add(line_ends(&piece[..count]), Ordering::SeqCst);

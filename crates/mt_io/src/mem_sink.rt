@@ -1,5 +1,7 @@
 //! A sink in memory.
-ghost use Rattle.std.specs.Prelude.{◌≡◌, ◌≤◌, [], vec_len, vec_capacity, IfOk, Some};
+ghost use Rattle.std.specs.Prelude.{◌≡◌, ◌<◌, ◌≤◌, [], length, vec_len, vec_capacity, IfOk, IfErr, Some};
+ghost use Rattle.std.specs.Io.KnownBytes.{WriteAppends};
+ghost use Rattle.mt_io.specs.Causes.{HasCause};
 
 use crate::sink::Sink;
 use crate::source::Failed;
@@ -42,7 +44,7 @@ impl MemSink {
 }
 
 impl Sink for MemSink {
-    ghost use Rattle.mt_io.specs.MemSink.{HasWritten, written_none, written_on};
+    ghost use Rattle.mt_io.specs.MemSink.{HasWritten, IsFull, written_none, written_on};
 
     ghost held = { λ s. Some s.bytes.items };
 
@@ -54,7 +56,16 @@ impl Sink for MemSink {
         self.faults
     }
 
-    fn write_some(&mut self, piece: &[u8]) -> Result<usize, Failed> {
+    /// A write that fits counts no fault, though it fills the sink; one fails only where it is full.
+    fn write_some(&mut self, piece: &[u8]) -> Result<usize, Failed>
+        requires { 0 < length piece.now }
+        ensures bound { IfOk result (λ count. (0 < count) × (count ≤ length piece.now)) }
+        ensures bytes { WriteAppends (⟦<MemSink as Sink>⟧.held self.old) (⟦<MemSink as Sink>⟧.held self.new) result piece.now }
+        ensures quiet { IfOk result (λ _. ⟦<MemSink as Sink>⟧.faults self.new ≡ ⟦<MemSink as Sink>⟧.faults self.old) }
+        ensures full { IfErr result (λ _. IsFull self.old) }
+        ensures cause { HasCause (⟦<MemSink as Sink>⟧.faults self.old) (⟦<MemSink as Sink>⟧.faults self.new) result }
+        ensures kept { HasWritten self.old self.new }
+    {
         let count = piece.len().min(self.room - self.bytes.len());
         if count == 0 {
             self.faults = self.faults.saturating_add(1);
