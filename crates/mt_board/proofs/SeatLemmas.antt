@@ -15,7 +15,7 @@ use Rattle.mt_board.specs.declared.no.No.TheVariants.{Memory, Refused}
 use Rattle.mt_board.specs.Asking.{IsNotTold, IsRead}
 use Rattle.mt_board.specs.Changing.{HasEntered, IsChanged, IsDenied}
 use Rattle.mt_board.specs.Probing.{IsPast}
-use Rattle.mt_board.specs.Seat.{GoesOn, HasLooked, HasSeen, IsSameSeat, Seat}
+use Rattle.mt_board.specs.Seat.{GoesOn, HasLooked, HasSeen, IsSameSeat, Seat, entries_by}
 use Rattle.mt_board.specs.Settling.{AreRenewed}
 
 -- a history that goes on from one that goes on, and one that stays
@@ -33,14 +33,23 @@ same_itself s = record { number = refl; fixed = refl }
 
 -- looks
 pub looked_itself : (s : Seat) → HasLooked s s
-looked_itself s = record { same = same_itself s; begins = goes_on_itself s.seen; mine = refl }
+looked_itself s = record { same = same_itself s; begins = goes_on_itself s.seen; own = refl; mine = refl }
 
 pub looks_on : (s t u : Seat) → HasLooked s t → HasLooked t u → HasLooked s u
 looks_on s t u a b = record {
   same = same_on s t u a.same b.same;
   begins = goes_on s.seen t.seen u.seen a.begins b.begins;
+  own = b.own ∙ a.own;
   mine = b.mine ∙ a.mine;
 }
+
+-- where the seat's own entries were all that it had seen of its number, they are so after a look
+pub own_on : (s t : Seat) → HasLooked s t → entries_by s.number s.seen ≡ s.mine → entries_by t.number t.seen ≡ t.mine
+own_on s t looked tied = looked.own ∙ tied ∙ sym looked.mine
+
+-- and they are so after each answer
+pub own_seen : (s t : Seat) (version : ℕ) → HasSeen s t version → entries_by t.number t.seen ≡ t.mine
+own_seen s t version seen = seen.sound.mine
 
 pub sees_on : (s t u : Seat) (version : ℕ) → HasLooked s t → HasSeen t u version → HasSeen s u version
 sees_on s t u version a b = record { looked = looks_on s t u a b.looked; version_is = b.version_is; sound = b.sound }

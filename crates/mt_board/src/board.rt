@@ -18,8 +18,8 @@ use std::thread::Threads;
 
 /// Through a board one seat reads and changes the shared picture. Each call that is given a runtime may wait for other seats.
 ///
-/// Each answer but want of memory names a version, and the seat has seen the history of that version then, which is legal and begins with
-/// what it had seen. Want of memory changes nothing, but that the seat may have seen more.
+/// Each answer but want of memory names a version, and the seat has seen the history of that version then, which is legal, begins with
+/// what it had seen, and has no entry of its number but its own. Want of memory changes nothing, but that the seat may have seen more.
 pub trait Board {
     /// What a probe answers.
     type Probe: Probed + Drop + Send;
