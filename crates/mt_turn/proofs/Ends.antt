@@ -9,7 +9,7 @@ use Rattle.mt_turn.specs.declared.view.Phase.TheVariants.{Idle}
 use Rattle.mt_turn.specs.declared.view.Joined.{Joined}
 use Rattle.mt_turn.specs.declared.view.View.{View}
 use Rattle.mt_turn.specs.Views.{entries_of, up_to, first_view}
-use Rattle.mt_turn.specs.Lending.{IsJoined, AllJoined, Closes}
+use Rattle.mt_turn.specs.Lending.{HaveOwnNumbers, IsJoined, AllJoined, Closes}
 use Rattle.mt_turn.specs.Turning.{IsUnspent, HasTicket, IsServed, Knows, Taken, AtHome, IsOut, Turning}
 use Rattle.mt_turn.proofs.Facts.{goes_self, up_to_has}
 use Rattle.mt_turn.proofs.Lists.{inside, same_at}
@@ -43,7 +43,7 @@ module _ {E F S : Type 0} (history : S → List E) (number : E → ℕ) (fixed :
     each = λ i v e _. one_place (λ (j : ℕ) (z : View E F). Knows number (fixed x) [] 0 0 1 j z) (first_view (fixed x))
         record { own = refl; begins = goes_self []; mine = refl; mine_seen = refl; same = refl; at = tt; later = λ _. (refl, refl, refl) } i v e;
     apart = λ i j t v w ev ew hv hw. absurd (one_place (λ (_ : ℕ) (z : View E F). HasTicket z.phase t → ⊥) (first_view (fixed x)) (λ h. h) i v ev hv);
-    first = record { root = first_view (fixed x); place = refl; unspent = tt; gave_is = refl; all = refl; next_number = refl; taken = λ j h. absurd (none_contained j h) };
+    first = record { root = first_view (fixed x); place = refl; unspent = tt; gave_is = refl; all = refl; next_number = refl; taken = λ j h. absurd (none_contained j h); own_numbers = λ i j a b e _ _. absurd (some-ne-none a (sym e)) };
     entries = λ e h. absurd (none_contained e h);
   }
 
@@ -84,6 +84,7 @@ module _ {E F S : Type 0} (history : S → List E) (number : E → ℕ) (fixed :
       mine = subst (λ n. entries_of number n r.log ≡ v.mine) zeroth knows.mine;
       joined_begins = λ j h. (taken j h).begins;
       joined_mine = λ j h. (taken j h).mine;
+      own_numbers = subst (λ (z : View E F). HaveOwnNumbers z.joined) (sym root_is) r.first.own_numbers;
       no_others = λ e h. dite (ℕ_discrete (number e) 0) inl (λ pos. inr (gone (number e) (omega arith) (r.entries e h)));
     }
 

@@ -9,9 +9,10 @@ use Rattle.mt_turn.specs.declared.view.Phase.TheVariants.{Idle}
 use Rattle.mt_turn.specs.declared.view.Joined.{Joined}
 use Rattle.mt_turn.specs.declared.view.View.{View}
 use Rattle.mt_turn.specs.Views.{entries_of, longer, up_to, taker, spent, joined_as}
+use Rattle.mt_turn.specs.Lending.{HaveOwnNumbers}
 use Rattle.mt_turn.specs.Turning.{IsUnspent, HasTicket, IsServed, tickets, drawn, IsInPhase, Knows, Taken, AtHome, IsOut, Turning}
 use Rattle.mt_turn.proofs.Facts.{longer_goes, longer_same, only_there}
-use Rattle.mt_turn.proofs.Lists.{inside, same_at, out_set}
+use Rattle.mt_turn.proofs.Lists.{contained, inside, at_longer_place, same_at, out_set}
 
 module _ {E F S : Type 0} (history : S → List E) (number : E → ℕ) (fixed : S → F) (plain : F) where
   module _ (id other : ℕ) (v w : View E F) (idle : v.phase ≡ Idle) (zeroth : v.number ≡ 0) (idle' : w.phase ≡ Idle) (s : State (Option S) (View E F)) (r : Turning history number fixed plain s) (at : get_elem? s.views id ≡ some v)
@@ -100,6 +101,24 @@ module _ {E F S : Type 0} (history : S → List E) (number : E → ℕ) (fixed :
     all_taken j i = ⊎_elim (λ (h : Contains v.joined j). still_taken j (r.first.taken j (subst (λ (z : View E F). Contains z.joined j) root_is h)))
         (λ (h : Contains (joined_as w ∷ []) j). subst (λ (z : Joined E). Taken number r.log after z) (only_there (joined_as w) j h) new_taken) (Contains-append_cases v.joined (joined_as w ∷ []) j i)
 
+    was_own : HaveOwnNumbers v.joined
+    was_own = subst (λ (z : View E F). HaveOwnNumbers z.joined) (sym root_is) r.first.own_numbers
+
+    -- the seat that is joined now was none of those before, which are spent
+    new_number : (i : ℕ) (j : Joined E) → get_elem? v.joined i ≡ some j → j.number ≢ w.number
+    new_number i j e same = let t = r.first.taken j (subst (λ (z : View E F). Contains z.joined j) root_is (contained v.joined i j e)) in
+        let ns : IsUnspent t.gone.0.phase → ⊥ = λ h. subst IsUnspent t.gone.2 h in
+        not_at other w t.gone.0 at' un' j.number t.gone.1 ns (same ∙ knows'.own)
+
+    all_own : HaveOwnNumbers (v.joined ++ joined_as w ∷ [])
+    all_own i j a b ea eb same = ⊎_elim
+        (λ (p : get_elem? v.joined i ≡ some a). ⊎_elim (λ (q : get_elem? v.joined j ≡ some b). was_own i j a b p q same)
+        (λ (q : (j ≡ length v.joined) × (joined_as w ≡ b)). absurd (new_number i a p (same ∙ ap (λ (z : Joined E). z.number) (sym q.1)))) (at_longer_place v.joined (joined_as w) b j eb))
+        (λ (p : (i ≡ length v.joined) × (joined_as w ≡ a)). ⊎_elim
+        (λ (q : get_elem? v.joined j ≡ some b). absurd (new_number j b q (sym same ∙ ap (λ (z : Joined E). z.number) (sym p.1))))
+        (λ (q : (j ≡ length v.joined) × (joined_as w ≡ b)). p.0 ∙ sym q.0) (at_longer_place v.joined (joined_as w) b j eb))
+        (at_longer_place v.joined (joined_as w) a i ea)
+
     no_ticket : (t : ℕ) → HasTicket v.phase t → ⊥
     no_ticket t h = subst (λ p. HasTicket p t) idle h
 
@@ -147,6 +166,7 @@ module _ {E F S : Type 0} (history : S → List E) (number : E → ℕ) (fixed :
             all = ap (λ (z : View E F). length z.gave + 1) root_is ∙ (f.all ∙ sym kept_length);
             next_number = f.next_number ∙ (ap (λ (z : View E F). length s.views + drawn z.phase) (sym root_is) ∙ ap (λ n. n + drawn v.phase) (sym kept_length));
             taken = all_taken;
+            own_numbers = all_own;
           };
           entries = λ e i. subst (λ n. number e < n) (sym kept_length) (r.entries e i);
         }

@@ -1,7 +1,8 @@
 -- Elements by their places, and the tickets that are out.
-use Rattle.std.proofs.Common.{◌≡◌, ℕ, zero, suc, ◌+◌, ◌<◌, ◌≤◌, ◌⊎◌, inl, inr, ⊎_elim, List, [], ◌∷◌, ◌++◌, length, set, sym, refl, ap, ◌∙◌, arith}
+use Rattle.std.proofs.Common.{◌≡◌, ℕ, zero, suc, ◌+◌, ◌<◌, ◌≤◌, ◌⊎◌, inl, inr, ⊎_elim, List, [], ◌∷◌, ◌++◌, length, set, Contains, sym, refl, ap, ◌∙◌, arith}
 use mathlib.Core.Option.{some, some-injective, some-ne-none}
 use lib.ListN.{get_elem?}
+use Rattle.std.proofs.lemmas.List.Elements.{Contains-append_right}
 use Rattle.mt_turn.specs.declared.view.Phase.{Phase}
 use Rattle.mt_turn.specs.declared.view.Phase.TheVariants.{Idle, Splits, Waits, Holds, Counted, Spent}
 use Rattle.mt_turn.specs.declared.view.View.{View}
@@ -12,6 +13,11 @@ module _ {A : Type 0} where
   inside [] i a e = absurd (some-ne-none a (sym e))
   inside (x ∷ xs) zero a e = omega arith
   inside (x ∷ xs) (suc i) a e = let h = inside xs i a e in omega arith
+
+  pub contained : (l : List A) (i : ℕ) (a : A) → get_elem? l i ≡ some a → Contains l a
+  contained [] i a e = absurd (some-ne-none a (sym e))
+  contained (x ∷ xs) zero a e = (0, omega arith, some-injective x a e)
+  contained (x ∷ xs) (suc i) a e = Contains-append_right (x ∷ []) xs a (contained xs i a e)
 
   -- with its place, where it is the new one
   pub at_longer_place : (l : List A) (a b : A) (j : ℕ) → get_elem? (l ++ a ∷ []) j ≡ some b → (get_elem? l j ≡ some b) ⊎ ((j ≡ length l) × (a ≡ b))

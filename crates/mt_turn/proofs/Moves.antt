@@ -9,6 +9,7 @@ use Rattle.atomic_table.proofs.Lists.{at_set, set_here, set_else}
 use Rattle.mt_turn.specs.declared.view.Joined.{Joined}
 use Rattle.mt_turn.specs.declared.view.View.{View}
 use Rattle.mt_turn.specs.Views.{entries_of, GoesOn, up_to}
+use Rattle.mt_turn.specs.Lending.{HaveOwnNumbers}
 use Rattle.mt_turn.specs.Turning.{IsUnspent, HasTicket, IsServed, drawn, IsInPhase, out, Knows, Taken, Rooted, AtHome, IsOut, Turning}
 use Rattle.mt_turn.proofs.Facts.{goes_trans}
 use Rattle.mt_turn.proofs.Lists.{inside, same_at}
@@ -84,6 +85,7 @@ module _ {E F S : Type 0} (history : S → List E) (number : E → ℕ) (fixed :
           all = ap (λ g. length g + 1) gave ∙ (f.all ∙ sym long);
           next_number = omega arith;
           taken = λ j i. still_taken j (f.taken j (subst (λ js. Contains js j) joined i));
+          own_numbers = subst HaveOwnNumbers (sym joined) f.own_numbers;
         }
 
     rooted_else : id ≢ 0 → Rooted number log' numbers' after
@@ -97,6 +99,7 @@ module _ {E F S : Type 0} (history : S → List E) (number : E → ℕ) (fixed :
           all = f.all ∙ sym long;
           next_number = omega arith;
           taken = λ j i. still_taken j (f.taken j i);
+          own_numbers = f.own_numbers;
         }
 
     pub moved : Turning history number fixed plain record { words = words'; homes = homes'; views = set s.views id w }

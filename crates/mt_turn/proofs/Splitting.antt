@@ -8,6 +8,7 @@ use Rattle.mt_turn.specs.declared.view.Phase.TheVariants.{Splits as SplitsOff}
 use Rattle.mt_turn.specs.declared.view.Joined.{Joined}
 use Rattle.mt_turn.specs.declared.view.View.{View}
 use Rattle.mt_turn.specs.Views.{entries_of, up_to, giver, newcomer}
+use Rattle.mt_turn.specs.Lending.{HaveOwnNumbers}
 use Rattle.mt_turn.specs.Turning.{IsUnspent, HasTicket, IsServed, tickets, drawn, Knows, Taken, AtHome, IsOut, Turning}
 use Rattle.mt_turn.proofs.Facts.{none_made, nil_first, up_to_next}
 use Rattle.mt_turn.proofs.Lists.{inside, same_at, at_longer_place, out_set, out_more}
@@ -133,6 +134,7 @@ module _ {E F S : Type 0} (history : S → List E) (number : E → ℕ) (fixed :
             all = omega (arith, length-append v.gave ((length v.gave + 1) ∷ []));
             next_number = omega arith;
             taken = λ j i. still_taken j (f.taken j (subst (λ (z : View E F). Contains z.joined j) root_is i));
+            own_numbers = subst (λ (z : View E F). HaveOwnNumbers z.joined) (sym root_is) f.own_numbers;
           };
           entries = λ e i. let l = r.entries e i in omega arith;
         }

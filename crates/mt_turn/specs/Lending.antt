@@ -1,5 +1,7 @@
 -- What a seat is lent, what it may leave, and what stands at the end.
 use Rattle.std.specs.Prelude.{◌≡◌, ℕ, ◌^◌, ◌≤◌, ◌⊎◌, List, [], ◌∷◌, ◌++◌, length, Contains, Some}
+use mathlib.Core.Option.{some}
+use lib.ListN.{get_elem?}
 use Rattle.mt_turn.specs.declared.view.Phase.TheVariants.{Holds}
 use Rattle.mt_turn.specs.declared.view.Joined.{Joined}
 use Rattle.mt_turn.specs.declared.view.View.{View}
@@ -37,14 +39,19 @@ pub record Left {E F : Type 0} (number : E → ℕ) (v : View E F) (lent log : L
 abbrev pub IsJoined : {E : Type 0} → List (Joined E) → ℕ → Type 0
 IsJoined {E} joined n = (j : Joined E) × Contains joined j × (j.number ≡ n)
 
+-- no two of these joined seats have one number
+abbrev pub HaveOwnNumbers : {E : Type 0} → List (Joined E) → Type 0
+HaveOwnNumbers {E} joined = (i j : ℕ) (a b : Joined E) → get_elem? joined i ≡ some a → get_elem? joined j ≡ some b → a.number ≡ b.number → i ≡ j
+
 -- every seat that was split off has been joined again
 abbrev pub AllJoined : {E F : Type 0} → View E F → Type 0
 AllJoined v = (n : ℕ) → Contains v.gave n → IsJoined v.joined n
 
--- The history at the end, where the first seat knows v: it begins with what each seat has seen, each seat's entries are its own, and there are no others
+-- The history at the end, where the first seat knows v: it begins with what each seat has seen, each seat's entries are its own, no two seats had one number, and there are no others
 pub record Closes {E F : Type 0} (number : E → ℕ) (v : View E F) (log : List E) : Type 0 where
   pub begins : GoesOn v.seen log
   pub mine : entries_of number 0 log ≡ v.mine
   pub joined_begins : (j : Joined E) → Contains v.joined j → GoesOn j.seen log
   pub joined_mine : (j : Joined E) → Contains v.joined j → entries_of number j.number log ≡ j.mine
+  pub own_numbers : HaveOwnNumbers v.joined
   pub no_others : (e : E) → Contains log e → (number e ≡ 0) ⊎ IsJoined v.joined (number e)

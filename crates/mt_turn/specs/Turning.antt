@@ -9,6 +9,7 @@ use Rattle.mt_turn.specs.declared.view.Phase.TheVariants.{Splits, Waits, Holds, 
 use Rattle.mt_turn.specs.declared.view.Joined.{Joined}
 use Rattle.mt_turn.specs.declared.view.View.{View}
 use Rattle.mt_turn.specs.Views.{entries_of, GoesOn, up_to}
+use Rattle.mt_turn.specs.Lending.{HaveOwnNumbers}
 
 module _ {E : Type 0} where
   abbrev pub IsUnspent : Phase E → Type 0
@@ -78,6 +79,7 @@ module _ {E F : Type 0} where
     pub all : length root.gave + 1 ≡ length views
     pub next_number : numbers ≡ length views + drawn root.phase
     pub taken : (j : Joined E) → Contains root.joined j → Taken number log views j
+    pub own_numbers : HaveOwnNumbers root.joined
 
   -- the slot has the value, and no seat has the turn
   pub record AtHome {S : Type 0} (history : S → List E) (fixed : S → F) (plain : F) (log : List E) (s : State (Option S) (View E F)) : Type 0 where
