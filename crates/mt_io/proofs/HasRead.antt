@@ -1,10 +1,10 @@
 -- Over all calls of a reader: each line that it gives is the next of its source, and none is left out at the end.
-use Rattle.std.proofs.Common.{◌≡◌, ◌<◌, ℕ, ◌^◌, Bool, true, false, List, [], ◌∷◌, ◌++◌, length, None, Some, refl, sym, ◌∙◌, ap, inl, inr, arith, append_assoc, append-nil, length-append}
+use Rattle.std.proofs.Common.{◌≡◌, ◌<◌, ◌≤◌, ℕ, ◌^◌, Bool, true, false, List, [], ◌∷◌, ◌++◌, length, None, Some, refl, sym, ◌∙◌, ap, inl, inr, arith, append_assoc, append-nil, length-append}
 use Rattle.std.specs.declared.option.Option.{Option}
 use Rattle.std.specs.Io.KnownBytes.{Consumes, IsAtEnd}
 use Rattle.mt_io.specs.Lines.{lines_of, whole_lines_of, IsPart}
 use Rattle.mt_io.specs.Reading.{Reading, Store, Passes, Ends, Takes, IsDone, IsStopped, fresh}
-use Rattle.mt_io.specs.HasRead.{Tells, AreLines, HasRead, HasReadAll, HasReadPart}
+use Rattle.mt_io.specs.HasRead.{Tells, AreLines, AreRead, HasRead, HasReadAll, HasReadPart}
 use Rattle.mt_io.specs.declared.line.LineFault.{LineFault}
 use Rattle.mt_io.proofs.Known.{consumes_none, consumes_on}
 use Rattle.mt_io.proofs.Lines.{lines_of-first, lines_of-last, whole_lines_of-first, whole_lines_of-last}
@@ -128,18 +128,27 @@ read_part before now after reader new lines taken fault so_far stopped =
       size = omega (arith, so_far.size, p.count, length-append taken p.read);
     }
 
-first_lines_at : (before now : Option (List ℕ)) (reader : Reading) (lines : List (List ℕ)) (taken left : List ℕ) (has_ended : Bool) → reader.store.ended ≡ has_ended
-    → HasRead before now reader lines taken → (IsAtEnd now → left ≡ []) → (unread : List (List ℕ)) × (lines_of (taken ++ left) ≡ lines ++ unread)
-first_lines_at before now reader lines taken left true ended so_far end =
+are_read_at : (before now : Option (List ℕ)) (reader : Reading) (lines : List (List ℕ)) (taken left : List ℕ) (has_ended : Bool) → reader.store.ended ≡ has_ended
+    → HasRead before now reader lines taken → reader.store.taken ≤ 2 ^ 32 → (IsAtEnd now → left ≡ []) → AreRead (taken ++ left) left lines
+are_read_at before now reader lines taken left true ended so_far few end =
     let over = so_far.over ended in
-    let none : left ≡ [] = end over.1 in
-    ([], rw (none, append-nil taken, append-nil lines) over.0)
-first_lines_at before now reader lines taken left false going so_far end =
-    let are = so_far.going going in
-    let is : taken ++ left ≡ so_far.gone ++ (reader.store.ahead ++ left) = ap (λ xs. xs ++ left) so_far.split ∙ append_assoc so_far.gone reader.store.ahead left in
-    (lines_of (reader.store.ahead ++ left), ap lines_of is ∙ are.each (reader.store.ahead ++ left))
+    let is : taken ++ [] ≡ taken = append-nil taken in
+    record {
+      gone = taken;
+      beyond = [];
+      input_is = ap (λ xs. xs ++ left) (sym is);
+      limit = omega (arith, few, so_far.size, ap length is);
+      lines_are = inr (over.0, refl, end over.1);
+    }
+are_read_at before now reader lines taken left false going so_far few end = record {
+  gone = so_far.gone;
+  beyond = reader.store.ahead;
+  input_is = ap (λ xs. xs ++ left) so_far.split;
+  limit = omega (arith, few, so_far.size, ap length so_far.split);
+  lines_are = inl (so_far.going going);
+}
 
--- whatever is left, the lines given are the first of all
-pub first_lines : (before now : Option (List ℕ)) (reader : Reading) (lines : List (List ℕ)) (taken left : List ℕ) → HasRead before now reader lines taken
-    → (IsAtEnd now → left ≡ []) → (unread : List (List ℕ)) × (lines_of (taken ++ left) ≡ lines ++ unread)
-first_lines before now reader lines taken left so_far end = first_lines_at before now reader lines taken left reader.store.ended refl so_far end
+-- whatever is left, the lines given were read of it all
+pub are_read : (before now : Option (List ℕ)) (reader : Reading) (lines : List (List ℕ)) (taken left : List ℕ) → HasRead before now reader lines taken
+    → reader.store.taken ≤ 2 ^ 32 → (IsAtEnd now → left ≡ []) → AreRead (taken ++ left) left lines
+are_read before now reader lines taken left so_far few end = are_read_at before now reader lines taken left reader.store.ended refl so_far few end

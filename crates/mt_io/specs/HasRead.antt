@@ -1,5 +1,5 @@
 -- What a reader has read so far, over all its calls: which bytes of its source, and which lines they are.
-use Rattle.std.specs.Prelude.{◌≡◌, ◌<◌, ℕ, ◌^◌, true, false, List, ◌++◌, length, None, IfSome}
+use Rattle.std.specs.Prelude.{◌≡◌, ◌<◌, ◌≤◌, ◌⊎◌, ℕ, ◌^◌, true, false, List, [], ◌++◌, length, None, IfSome}
 use Rattle.std.specs.declared.option.Option.{Option}
 use Rattle.std.specs.Io.KnownBytes.{Consumes, IsAtEnd}
 use Rattle.mt_io.specs.Lines.{lines_of, whole_lines_of}
@@ -23,6 +23,15 @@ pub record HasRead (before now : Option (List ℕ)) (reader : Reading) (lines : 
   pub sound : reader.fault ≡ None
   pub going : reader.store.ended ≡ false → AreLines gone lines
   pub over : reader.store.ended ≡ true → (lines_of taken ≡ lines) × IsAtEnd now × (length taken < 2 ^ 32)
+
+-- Of the input, of which so much is left, these lines were read: the bytes that were taken are those of the lines, and what was taken beyond
+-- them. A last line without a 0x0A ends with the input.
+pub record AreRead (input left : List ℕ) (lines : List (List ℕ)) : Type 0 where
+  pub gone : List ℕ
+  pub beyond : List ℕ
+  pub input_is : input ≡ (gone ++ beyond) ++ left
+  pub limit : length (gone ++ beyond) ≤ 2 ^ 32
+  pub lines_are : AreLines gone lines ⊎ ((lines_of gone ≡ lines) × (beyond ≡ []) × (left ≡ []))
 
 -- The source has ended: these are all its bytes, and the lines given are their lines.
 pub record HasReadAll (before after : Option (List ℕ)) (lines : List (List ℕ)) : Type 0 where

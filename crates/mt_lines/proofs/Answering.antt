@@ -6,7 +6,7 @@ use Rattle.mt_io.specs.Reading.{Reading, Takes, IsDone, IsStopped, IsFaultAt, fr
 use Rattle.mt_io.specs.Writing.{AppendsFront}
 use Rattle.mt_io.specs.declared.line.LineFault.{LineFault}
 use Rattle.mt_io.specs.declared.line.LineFault.TheVariants as faults
-use Rattle.mt_io.proofs.HasRead.{told, read_none, read_more, read_all, read_part, first_lines}
+use Rattle.mt_io.proofs.HasRead.{told, read_none, read_more, read_all, read_part, are_read}
 use Rattle.mt_io.proofs.Known.{appends_none, appends_on, consumes_none}
 use Rattle.mt_lines.specs.Answering.{AnswersAll, AnswersFront, AnswersToLast, AnswersWhole, AreReplied, Explains, SoFar}
 
@@ -97,7 +97,7 @@ module _ {W R : Type 0} (text : R → List ℕ) (is_last : R → Bool) (IsReplie
           let read = read_more before now after reader new so_far.lines so_far.taken line so_far.read takes in
           let taken = so_far.taken ++ takes.passes.read in
           let (left, tells, tells_after, at_end) = told before after taken read.from in
-          let (unread, lines_are) = first_lines before after new (so_far.lines ++ line ∷ []) taken left read at_end in
+          let are = are_read before after new (so_far.lines ++ line ∷ []) taken left read takes.passes.limit at_end in
           record {
             input = taken ++ left;
             left = left;
@@ -106,12 +106,9 @@ module _ {W R : Type 0} (text : R → List ℕ) (is_last : R → Bool) (IsReplie
             told_after = tells_after;
             appended = appends_on held held_now held_after so_far.bytes (text reply) so_far.written sent;
             means = record {
-              taken = taken;
-              input_is = refl;
               lines = so_far.lines;
               line = line;
-              unread = unread;
-              lines_are = lines_are;
+              read = are;
               bytes = so_far.bytes;
               reply = reply;
               replied = record { middle = w; replied = so_far.replied; last = replied };
@@ -123,12 +120,12 @@ module _ {W R : Type 0} (text : R → List ℕ) (is_last : R → Bool) (IsReplie
       -- the output failed while a reply was written
       pub cut_at : Runs start before now held held_now reader w → Takes reader new now after line → IsReplied w line reply middle
           → AppendsFront held_now held_after (text reply)
-          → Explains (λ input left written. AnswersFront text is_last IsReplied IsFollowed start input written middle) before after held held_after
+          → Explains (λ input left written. AnswersFront text is_last IsReplied IsFollowed start input left written middle) before after held held_after
       cut_at so_far takes replied (front, rest, text_is, sent) =
           let read = read_more before now after reader new so_far.lines so_far.taken line so_far.read takes in
           let taken = so_far.taken ++ takes.passes.read in
           let (left, tells, tells_after, at_end) = told before after taken read.from in
-          let (unread, lines_are) = first_lines before after new (so_far.lines ++ line ∷ []) taken left read at_end in
+          let are = are_read before after new (so_far.lines ++ line ∷ []) taken left read takes.passes.limit at_end in
           record {
             input = taken ++ left;
             left = left;
@@ -139,8 +136,7 @@ module _ {W R : Type 0} (text : R → List ℕ) (is_last : R → Bool) (IsReplie
             means = record {
               lines = so_far.lines;
               line = line;
-              unread = unread;
-              lines_are = lines_are;
+              read = are;
               bytes = so_far.bytes;
               reply = reply;
               replied = record { middle = w; replied = so_far.replied; last = replied };

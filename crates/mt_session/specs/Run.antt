@@ -21,7 +21,7 @@ SessionMeans start end ReadFault input left written =
     (taken : List ℕ) × AnswersWhole reply_text is_farewell IsReplied IsFollowed start input left taken written end
 SessionMeans start end Spent input left written =
     (taken : List ℕ) × (length taken ≡ 2 ^ 32) × AnswersWhole reply_text is_farewell IsReplied IsFollowed start input left taken written end
-SessionMeans start end WriteFault input left written = AnswersFront reply_text is_farewell IsReplied IsFollowed start input written end
+SessionMeans start end WriteFault input left written = AnswersFront reply_text is_farewell IsReplied IsFollowed start input left written end
 SessionMeans start end Memory input left written = (left ≡ input) × (written ≡ []) × (end ≡ start)
 
 -- What is known of a link: the bytes left to read and the bytes written, as far as it tells them, and the counts of its faults.

@@ -38,7 +38,7 @@ module _ (until_begun : Bool) where
   LinesMean w Spent input left written = (taken : List ℕ) × (length taken ≡ 2 ^ 32)
       × answering.AnswersWhole reply_text (is_last until_begun) IsReplied IsFollowed opening_world input left taken written w
   LinesMean w WriteFault input left written =
-      answering.AnswersFront reply_text (is_last until_begun) IsReplied IsFollowed opening_world input written w
+      answering.AnswersFront reply_text (is_last until_begun) IsReplied IsFollowed opening_world input left written w
   LinesMean w Usage input left written = ⊥
   LinesMean w Setup input left written = ⊥
   LinesMean w DoorFault input left written = ⊥

@@ -32,7 +32,7 @@ OpeningMeans ReadFault input left written = (end : World) × (taken : List ℕ)
 OpeningMeans Spent input left written = (end : World) × (taken : List ℕ) × (length taken ≡ 2 ^ 32)
     × answering.AnswersWhole reply_text ends_opening IsReplied IsFollowed opening_world input left taken written end
 OpeningMeans WriteFault input left written = (end : World)
-    × answering.AnswersFront reply_text ends_opening IsReplied IsFollowed opening_world input written end
+    × answering.AnswersFront reply_text ends_opening IsReplied IsFollowed opening_world input left written end
 OpeningMeans Memory input left written = (left ≡ input) × (written ≡ [])
 OpeningMeans Done input left written = ⊥
 OpeningMeans Usage input left written = ⊥

@@ -36,10 +36,10 @@ abbrev pub AnswersWhole : List ℕ → List ℕ → List ℕ → List ℕ → Ty
 AnswersWhole input left taken written = (end : World)
     × answering.AnswersWhole reply_text is_farewell IsReplied IsFollowed opening_world input left taken written end
 
--- The bytes written answer the first lines of the input, but that the last reply is cut short.
-abbrev pub AnswersFront : List ℕ → List ℕ → Type 0
-AnswersFront input written = (end : World)
-    × answering.AnswersFront reply_text is_farewell IsReplied IsFollowed opening_world input written end
+-- The bytes written answer the lines that were read of the input, but that the last reply is cut short.
+abbrev pub AnswersFront : List ℕ → List ℕ → List ℕ → Type 0
+AnswersFront input left written = (end : World)
+    × answering.AnswersFront reply_text is_farewell IsReplied IsFollowed opening_world input left written end
 
 -- What a replay's status says of its whole input, of what it left of it, and of the bytes that it wrote. Memory is wanted only before the
 -- first line: then nothing was read and nothing written.
@@ -47,7 +47,7 @@ abbrev pub ReplayMeans : Status → List ℕ → List ℕ → List ℕ → Type 
 ReplayMeans Done input left written = AnswersAll input left written ⊎ AnswersToBye input left written
 ReplayMeans ReadFault input left written = (taken : List ℕ) × AnswersWhole input left taken written
 ReplayMeans Spent input left written = (taken : List ℕ) × (length taken ≡ 2 ^ 32) × AnswersWhole input left taken written
-ReplayMeans WriteFault input left written = AnswersFront input written
+ReplayMeans WriteFault input left written = AnswersFront input left written
 ReplayMeans Memory input left written = (left ≡ input) × (written ≡ [])
 ReplayMeans Usage input left written = ⊥
 ReplayMeans Setup input left written = ⊥
