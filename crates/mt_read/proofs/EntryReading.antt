@@ -51,7 +51,7 @@ other_is (Some key) r e = cc
 
 -- the word that an entry of a command has
 abbrev pub word_for : Command → EntryWord
-word_for (command.Plan call kind route at from level) = entries.Change change.Plan
+word_for (command.Plan call kind route at from level rvsm) = entries.Change change.Plan
 word_for (command.External call straight) = entries.Change change.External
 word_for (command.Drop call) = entries.Change change.Drop
 word_for (command.Report call report) = entries.Change change.Report

@@ -18,15 +18,15 @@ use Rattle.mt_read.specs.Field.{Reads, count_within, within}
 use Rattle.mt_read.specs.Line.{◌>>=◌, checked, kinds, who_bounds, who_fields, who_in}
 use Rattle.mt_read.specs.Rules.{rule_bounds}
 use Rattle.mt_read.specs.Steps.{external_steps, row_steps}
-use Rattle.mt_read.specs.Table.{Layout, as_request, external_bounds, straight_in}
+use Rattle.mt_read.specs.Table.{Layout, as_request, external_bounds, straight_of}
 
 next-bind : {A B : Type 0} (r : Result ⊤ Fault) (s : Result A Fault) (f : A → Result B Fault) → (next r s >>= f) ≡ next r (s >>= f)
 next-bind (Ok u) s f = refl
 next-bind (Err e) s f = refl
 
-external_is : (ms : Members) → external_steps ms ≡ judged (external_bounds ms) (straight_in ms)
+external_is : (rvsm : Bool) (ms : Members) → external_steps rvsm ms ≡ judged (external_bounds ms) (straight_of rvsm ms)
 unfolding external_steps row_steps within count_within
-external_is ms = simp next-bind
+external_is rvsm ms = simp next-bind
 
 refused : {A : Type 0} (f : Fault) (r : Result A Fault) (x : A) → r ≡ Err f → Reads r (Err f) x
 refused f (Ok y) x e = cc
@@ -43,8 +43,9 @@ reads_judged [] (Ok y) x e = (refl, (cc))
 reads_judged [] (Err f) x e = cc
 reads_judged (c ∷ cs) r x e = after (check c) (judged cs x) (judged cs (tt {0})) r x (λ q. reads_judged cs q x) e
 
-pub reads_external : (ms : Members) (r : Result Straight Fault) → r ≡ external_steps ms → Reads r (judged (external_bounds ms) (tt {0})) (straight_in ms)
-reads_external ms r e = reads_judged (external_bounds ms) r (straight_in ms) (e ∙ external_is ms)
+pub reads_external : (rvsm : Bool) (ms : Members) (r : Result Straight Fault) → r ≡ external_steps rvsm ms
+    → Reads r (judged (external_bounds ms) (tt {0})) (straight_of rvsm ms)
+reads_external rvsm ms r e = reads_judged (external_bounds ms) r (straight_of rvsm ms) (e ∙ external_is rvsm ms)
 
 -- a refusal of a rule, at its key
 abbrev pub ruled : Result ⊤ RuleName → Result ⊤ Fault

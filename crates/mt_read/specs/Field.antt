@@ -72,6 +72,10 @@ must key kind = record { key = key; may_lack = λ origin ms. false; may_stand = 
 abbrev pub may : {A : Type 0} → Key → (Data → Option A) → Field
 may key kind = record { key = key; may_lack = λ origin ms. is_line origin; may_stand = λ ms. true; kind = is_of kind }
 
+-- A field with a default, which an entry may leave out too.
+abbrev pub free : {A : Type 0} → Key → (Data → Option A) → Field
+free key kind = record { key = key; may_lack = λ origin ms. true; may_stand = λ ms. true; kind = is_of kind }
+
 -- Two fields of which exactly one stands. Where neither does, the first is missing; where both do, the second is one too many.
 abbrev pub first_of_two : {A : Type 0} → Key → (Data → Option A) → Key → Field
 first_of_two key kind other = record { key = key; may_lack = λ origin ms. stands other ms; may_stand = λ ms. true; kind = is_of kind }

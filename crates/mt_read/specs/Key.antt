@@ -19,6 +19,7 @@ rule_text rule.Ta = codes "ta"
 rule_text rule.Tv = codes "tv"
 rule_text rule.Flights = codes "flights"
 rule_text rule.History = codes "history"
+rule_text rule.Sv2 = codes "sv2"
 
 abbrev pub key_text : Key → List ℕ
 key_text key.Do = codes "do"
@@ -50,4 +51,5 @@ key_text key.Probe = codes "probe"
 key_text key.Force = codes "force"
 key_text key.Probed = codes "v"
 key_text key.Sec = codes "sec"
+key_text key.Rvsm = codes "rvsm"
 key_text (key.Rule name) = rule_text name

@@ -2,7 +2,7 @@
 use Rattle.std.specs.Prelude.{pos, neg_ℤ, ◌-◌, ◌^◌, Bool, List, [], ◌∷◌, map, unwrap_or}
 use Rattle.serde_json.specs.Data.{Members}
 use Rattle.mt_base.specs.declared.rules.RuleName.{RuleName}
-use Rattle.mt_base.specs.declared.rules.RuleName.TheVariants.{Sh, Sv, R0, Gh, Rmax, W0, Gv, Wmax, Tc, Ta, Tv, Flights, History}
+use Rattle.mt_base.specs.declared.rules.RuleName.TheVariants.{Sh, Sv, R0, Gh, Rmax, W0, Gv, Wmax, Tc, Ta, Tv, Flights, History, Sv2}
 use Rattle.mt_base.specs.declared.rules.Rules.{Rules}
 use Rattle.mt_base.specs.Rules.{rule_checks}
 use Rattle.mt_json.specs.Field.{as_whole}
@@ -13,7 +13,7 @@ use Rattle.mt_read.specs.declared.request.RuleSet.{RuleSet}
 use Rattle.mt_read.specs.Field.{bound, number, read_at}
 
 abbrev pub rule_names : List RuleName
-rule_names = Sh ∷ Sv ∷ R0 ∷ Gh ∷ Rmax ∷ W0 ∷ Gv ∷ Wmax ∷ Tc ∷ Ta ∷ Tv ∷ Flights ∷ History ∷ []
+rule_names = Sh ∷ Sv ∷ R0 ∷ Gh ∷ Rmax ∷ W0 ∷ Gv ∷ Wmax ∷ Tc ∷ Ta ∷ Tv ∷ Flights ∷ History ∷ Sv2 ∷ []
 
 -- any number that an i64 holds
 abbrev pub rule_bound : Members → RuleName → Fault × Bool
@@ -35,6 +35,7 @@ set_in ms = record {
   tv = read_at (key.Rule Tv) as_whole ms;
   flights = read_at (key.Rule Flights) as_whole ms;
   history = read_at (key.Rule History) as_whole ms;
+  sv2 = read_at (key.Rule Sv2) as_whole ms;
 }
 
 -- the rules as they stand once these are set
@@ -53,6 +54,7 @@ rules_with set rules = record {
   tv = unwrap_or set.tv rules.tv;
   flights = unwrap_or set.flights rules.flights;
   history = unwrap_or set.history rules.history;
+  sv2 = unwrap_or set.sv2 rules.sv2;
 }
 
 -- each rule within its bounds (opaque, so that a proof goes by their answer)

@@ -1,5 +1,5 @@
 -- The bounds of an external flight, each number taken where it is tested.
-use Rattle.std.specs.Prelude.{pos, neg_ℤ, ◌+◌, ◌-◌, Result, Ok}
+use Rattle.std.specs.Prelude.{pos, neg_ℤ, ◌+◌, ◌-◌, Bool, Result, Ok}
 use Rattle.serde_json.specs.Data.{Members}
 use Rattle.mt_base.specs.declared.flight.Straight.{Straight}
 use Rattle.mt_base.specs.declared.row.Row.{Row}
@@ -24,10 +24,10 @@ row_steps ms = do
   gw ← within key.Gw (pos 0) (pos 10000) ms
   Ok (record { x = x; y = y; z = z; r = r; w = w; vx = vx; vy = vy; vz = vz; gr = gr; gw = gw; leg = 0 })
 
-unfoldable pub external_steps : Members → Result Straight Fault
-external_steps ms = do
+unfoldable pub external_steps : Bool → Members → Result Straight Fault
+external_steps rvsm ms = do
   from ← count_within key.From 0 10000000 ms
   to ← count_within key.To (from + 1) (from + 14400) ms
   first ← row_steps ms
   _ ← judged (ends first (to - from)) (tt {0})
-  Ok (record { from = from; to = to; first = first })
+  Ok (record { from = from; to = to; first = first; rvsm = rvsm })

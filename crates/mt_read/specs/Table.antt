@@ -1,5 +1,5 @@
 -- The table of commands: for each its word, who may give it, its fields with kinds and bounds, and what it asks for.
-use Rattle.std.specs.Prelude.{ℕ, pos, neg_ℤ, ◌+◌, ◌-◌, ◌^◌, ◌+ℤ◌, ◌*ℤ◌, Bool, false, List, [], ◌∷◌, ◌++◌, map, codes, Option, Some, None, is_some, unwrap_or}
+use Rattle.std.specs.Prelude.{ℕ, pos, neg_ℤ, ◌+◌, ◌-◌, ◌^◌, ◌+ℤ◌, ◌*ℤ◌, Bool, true, false, List, [], ◌∷◌, ◌++◌, map, codes, Option, Some, None, is_some, unwrap_or}
 use Rattle.serde_json.specs.Data.{Members}
 use Rattle.serde_json.specs.Find.{as_bool}
 use Rattle.mt_base.specs.declared.clearance.Clearance.{Clearance}
@@ -26,7 +26,7 @@ use Rattle.mt_read.specs.declared.word.Group.TheVariants as group
 use Rattle.mt_read.specs.declared.word.Word.{Word}
 use Rattle.mt_read.specs.declared.word.Word.TheVariants as word
 use Rattle.mt_read.specs.Bands.{as_bands, as_numbers}
-use Rattle.mt_read.specs.Field.{Field, as_call, as_fix, as_list_of, as_role, as_type, bound, count, count_if_there, first_of_two, may, must, number, read_at, second_of_two}
+use Rattle.mt_read.specs.Field.{Field, as_call, as_fix, as_list_of, as_role, as_type, bound, count, count_if_there, first_of_two, free, may, must, number, read_at, second_of_two}
 use Rattle.mt_read.specs.Rules.{rule_bound, rule_names, set_in}
 
 -- A row of the table: the command's word, who may give it, its fields in order, their bounds in order, and what its members ask for.
@@ -58,6 +58,13 @@ height_bound key ms = bound key (pos 0) (pos 3600000) (number key ms)
 abbrev pub call_in : Members → List ℕ
 call_in ms = unwrap_or (read_at key.Call as_call ms) []
 
+-- whether an aircraft is approved for RVSM, which it is where nothing is said
+abbrev pub rvsm_field : Field
+rvsm_field = free key.Rvsm as_bool
+
+abbrev pub rvsm_in : Members → Bool
+rvsm_in ms = unwrap_or (read_at key.Rvsm as_bool ms) true
+
 -- ---- planned flights
 
 abbrev pub plan_fields : List Field
@@ -67,7 +74,8 @@ plan_fields =
     must key.Route (as_list_of as_fix) ∷
     must key.At as_whole ∷
     may key.From as_whole ∷
-    must key.Level as_whole ∷ []
+    must key.Level as_whole ∷
+    rvsm_field ∷ []
 
 abbrev pub plan_bounds : Members → List (Fault × Bool)
 plan_bounds ms = second_bound key.At ms ∷ level_bound key.From ms ∷ level_bound key.Level ms ∷ []
@@ -80,7 +88,7 @@ route_in ms = unwrap_or (read_at key.Route (as_list_of as_fix) ms) []
 
 -- a planned flight, whose first level is that it is cleared to where it isn't given
 abbrev pub plan_in : Members → Command
-plan_in ms = command.Plan (call_in ms) (kind_in ms) (route_in ms) (count key.At ms) (unwrap_or (count_if_there key.From ms) (count key.Level ms)) (count key.Level ms)
+plan_in ms = command.Plan (call_in ms) (kind_in ms) (route_in ms) (count key.At ms) (unwrap_or (count_if_there key.From ms) (count key.Level ms)) (count key.Level ms) (rvsm_in ms)
 
 -- ---- external flights
 
@@ -98,7 +106,8 @@ external_fields =
     may key.R as_whole ∷
     may key.Gr as_whole ∷
     may key.W as_whole ∷
-    may key.Gw as_whole ∷ []
+    may key.Gw as_whole ∷
+    rvsm_field ∷ []
 
 -- five values at the end of so many seconds of a row's gains
 abbrev pub ends : Row → ℕ → List (Fault × Bool)
@@ -124,8 +133,12 @@ row_in ms = record {
   leg = 0;
 }
 
+-- its stretch, the approval given
+abbrev pub straight_of : Bool → Members → Straight
+straight_of rvsm ms = record { from = count key.From ms; to = count key.To ms; first = row_in ms; rvsm = rvsm }
+
 abbrev pub straight_in : Members → Straight
-straight_in ms = record { from = count key.From ms; to = count key.To ms; first = row_in ms }
+straight_in ms = straight_of (rvsm_in ms) ms
 
 abbrev pub external_bounds : Members → List (Fault × Bool)
 external_bounds ms =

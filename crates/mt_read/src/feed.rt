@@ -5,11 +5,11 @@ ghost use Rattle.mt_json.specs.Shown.{members};
 ghost use Rattle.mt_read.specs.Field.{Reads};
 ghost use Rattle.mt_read.specs.Line.{checked, kinds};
 ghost use Rattle.mt_read.specs.Steps.{external_steps, row_steps};
-ghost use Rattle.mt_read.specs.Table.{call_in, change_layout, ends, external_bounds, external_fields, straight_in};
+ghost use Rattle.mt_read.specs.Table.{call_in, change_layout, ends, external_bounds, external_fields, rvsm_in, straight_of};
 ghost use Rattle.mt_read.specs.declared.word.Change.TheVariants as change;
 
 use crate::actor::{actor, actor_kind};
-use crate::field::{callsign, count_within, whole, whole_or_none, within, within_at_end};
+use crate::field::{approval, callsign, count_within, whole, whole_or_none, within, within_at_end};
 use crate::key::{Fault, Key};
 use crate::origin::Origin;
 use mt_base::{Callsign, Command, Report, Row, Straight};
@@ -69,9 +69,17 @@ pub(crate) fn renew_line(fields: &Fields, origin: Origin) -> Result<(u32, Comman
     Ok((who, Command::Renew { call }))
 }
 
-// The fields of `external` are there and of their kinds; its callsign.
-fn external_kinds(fields: &Fields, origin: Origin) -> Result<Callsign, Fault>
-    ensures { Reads result (kinds origin external_fields (members fields.now)) (call_in (members fields.now)) }
+// Whom an external line files, and whether that aircraft is approved for RVSM.
+#[derive(Clone, Copy)]
+struct Filed {
+    call: Callsign,
+    rvsm: bool,
+}
+
+// The fields of `external` are there and of their kinds.
+fn external_kinds(fields: &Fields, origin: Origin) -> Result<Filed, Fault>
+    ensures { Reads result (kinds origin external_fields (members fields.now))
+        (record { call = call_in (members fields.now); rvsm = rvsm_in (members fields.now) }) }
 {
     let call = callsign(fields, Key::Call)?;
     whole(fields, Key::From)?;
@@ -86,7 +94,8 @@ fn external_kinds(fields: &Fields, origin: Origin) -> Result<Callsign, Fault>
     whole_or_none(fields, origin, Key::Gr)?;
     whole_or_none(fields, origin, Key::W)?;
     whole_or_none(fields, origin, Key::Gw)?;
-    Ok(call)
+    let rvsm = approval(fields)?;
+    Ok(Filed { call, rvsm })
 }
 
 // The values and gains of the first second, each within its bounds.
@@ -132,22 +141,27 @@ fn row_at_end(row: &Row, seconds: u32) -> Result<(), Fault>
 
 // The stretch, each number within its bounds, step by step.
 #[tactic(auto, unfolding(crate::specs::Steps::external_steps))]
-fn external_steps(fields: &Fields) -> Result<Straight, Fault>
-    ensures { result ≡ external_steps (members fields.now) }
+fn external_steps(fields: &Fields, rvsm: bool) -> Result<Straight, Fault>
+    ensures { result ≡ external_steps rvsm (members fields.now) }
 {
     let from = count_within(fields, Key::From, 0, 10_000_000)?;
     let to = count_within(fields, Key::To, from + 1, from + 14_400)?;
     let first = first_row(fields)?;
     row_at_end(&first, to - from)?;
-    Ok(Straight { from, to, first })
+    Ok(Straight {
+        from,
+        to,
+        first,
+        rvsm,
+    })
 }
 
 // The stretch, its numbers within their bounds.
 #[tactic(auto, using(crate::proofs::StepLemmas::reads_external))]
-fn external_bounds(fields: &Fields) -> Result<Straight, Fault>
-    ensures { Reads result (judged (external_bounds (members fields.now)) (tt {0})) (straight_in (members fields.now)) }
+fn external_bounds(fields: &Fields, rvsm: bool) -> Result<Straight, Fault>
+    ensures { Reads result (judged (external_bounds (members fields.now)) (tt {0})) (straight_of rvsm (members fields.now)) }
 {
-    external_steps(fields)
+    external_steps(fields, rvsm)
 }
 
 /// `external`.
@@ -155,9 +169,10 @@ fn external_bounds(fields: &Fields) -> Result<Straight, Fault>
 pub(crate) fn external_line(fields: &Fields, origin: Origin) -> Result<(u32, Command), Fault>
     ensures { result ≡ checked origin [] (change_layout change.External) (members fields.now) }
 {
-    let call = external_kinds(fields, origin)?;
+    let filed = external_kinds(fields, origin)?;
     actor_kind(fields, origin)?;
-    let straight = external_bounds(fields)?;
+    let straight = external_bounds(fields, filed.rvsm)?;
     let who = actor(fields, origin)?;
+    let call = filed.call;
     Ok((who, Command::External { call, straight }))
 }

@@ -5,7 +5,9 @@ ghost use Rattle.mt_json.specs.Field.{as_whole};
 ghost use Rattle.mt_json.specs.Shown.{members};
 ghost use Rattle.serde_json.specs.Find.{as_bool};
 ghost use Rattle.mt_base.specs.declared.role.Role.TheVariants.{Feed};
+ghost use Rattle.mt_read.specs.declared.key.Key.TheVariants as key;
 ghost use Rattle.mt_read.specs.Field.{Reads, as_call, as_fix, as_role, as_type, bound, count, count_if_there, count_within, form_check, is_line, is_of, number, read_at, role_of, there, within};
+ghost use Rattle.mt_read.specs.Table.{rvsm_in};
 
 use crate::key::{Fault, Key, key_text};
 use crate::origin::{Origin, is_line};
@@ -35,17 +37,32 @@ pub(crate) fn whole_or_none(fields: &Fields, origin: Origin, key: Key) -> Result
     }
 }
 
-/// A truth value may be there, and nothing else, by default `false`; in an entry it must.
+/// A truth value must be there, or may be absent where `may_lack` says so; it is `absent` then.
 #[tactic(auto, unfolding(mt_base::specs::Checks::check))]
-pub(crate) fn flag(fields: &Fields, origin: Origin, key: Key) -> Result<bool, Fault>
-    ensures { Reads result (check (form_check key (is_line origin) true (is_of as_bool) (members fields.now)))
-        (unwrap_or (read_at key as_bool (members fields.now)) false) }
+fn flag(fields: &Fields, key: Key, may_lack: bool, absent: bool) -> Result<bool, Fault>
+    ensures { Reads result (check (form_check key may_lack true (is_of as_bool) (members fields.now)))
+        (unwrap_or (read_at key as_bool (members fields.now)) absent) }
 {
     match fields.flag(key_text(key)) {
         Ok(truth) => Ok(truth),
-        Err(Bad::Missing) if is_line(origin) => Ok(false),
+        Err(Bad::Missing) if may_lack => Ok(absent),
         Err(_) => Err(Fault::Form(key)),
     }
+}
+
+/// Whether another than its owner may withdraw a clearance, by default not; in an entry that must be there.
+pub(crate) fn force(fields: &Fields, origin: Origin) -> Result<bool, Fault>
+    ensures { Reads result (check (form_check key.Force (is_line origin) true (is_of as_bool) (members fields.now)))
+        (unwrap_or (read_at key.Force as_bool (members fields.now)) false) }
+{
+    flag(fields, Key::Force, is_line(origin), false)
+}
+
+/// Whether an aircraft is approved for RVSM, which it is where that is absent, in an entry too.
+pub(crate) fn approval(fields: &Fields) -> Result<bool, Fault>
+    ensures { Reads result (check (form_check key.Rvsm true true (is_of as_bool) (members fields.now))) (rvsm_in (members fields.now)) }
+{
+    flag(fields, Key::Rvsm, true, true)
 }
 
 /// A callsign must be there.

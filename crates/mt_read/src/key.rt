@@ -35,6 +35,7 @@ pub(crate) enum Key {
     Force,
     Probed,
     Sec,
+    Rvsm,
     Rule(RuleName),
 }
 
@@ -72,6 +73,7 @@ pub(crate) fn key_text(key: Key) -> &'static str
         Key::Force => "force",
         Key::Probed => "v",
         Key::Sec => "sec",
+        Key::Rvsm => "rvsm",
         Key::Rule(name) => rule_text(name),
     }
 }
@@ -93,6 +95,7 @@ fn rule_text(name: RuleName) -> &'static str
         RuleName::Tv => "tv",
         RuleName::Flights => "flights",
         RuleName::History => "history",
+        RuleName::Sv2 => "sv2",
     }
 }
 

@@ -6,7 +6,7 @@ ghost use Rattle.mt_read.specs.Table.{change_layout};
 ghost use Rattle.mt_read.specs.declared.word.Change.TheVariants as change;
 
 use crate::actor::{actor, actor_kind};
-use crate::field::{callsign, flag};
+use crate::field::{callsign, force};
 use crate::key::{Fault, Key};
 use crate::origin::Origin;
 use mt_base::Command;
@@ -18,7 +18,7 @@ pub(crate) fn withdraw_line(fields: &Fields, origin: Origin) -> Result<(u32, Com
     ensures { result ≡ checked origin [] (change_layout change.Withdraw) (members fields.now) }
 {
     let call = callsign(fields, Key::Call)?;
-    let force = flag(fields, origin, Key::Force)?;
+    let force = force(fields, origin)?;
     actor_kind(fields, origin)?;
     let who = actor(fields, origin)?;
     Ok((who, Command::Withdraw { call, force }))

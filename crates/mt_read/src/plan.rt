@@ -9,7 +9,9 @@ ghost use Rattle.mt_read.specs.Table.{change_layout};
 ghost use Rattle.mt_read.specs.declared.word.Change.TheVariants as change;
 
 use crate::actor::{actor, actor_kind};
-use crate::field::{callsign, count_or_none, count_within, type_name, whole, whole_or_none};
+use crate::field::{
+    approval, callsign, count_or_none, count_within, type_name, whole, whole_or_none,
+};
 use crate::key::{Fault, Key, key_text};
 use crate::origin::Origin;
 use crate::stop::Stop;
@@ -70,6 +72,7 @@ pub(crate) fn plan_line(
     whole(fields, Key::At)?;
     whole_or_none(fields, origin, Key::From)?;
     whole(fields, Key::Level)?;
+    let rvsm = approval(fields)?;
     actor_kind(fields, origin)?;
     let at = count_within(fields, Key::At, 0, 10_000_000)?;
     let from = count_or_none(fields, Key::From, 600)?;
@@ -84,6 +87,7 @@ pub(crate) fn plan_line(
             at,
             from: from.unwrap_or(level),
             level,
+            rvsm,
         },
     ))
 }

@@ -33,6 +33,8 @@ pub struct RuleSet {
     pub flights: Option<i64>,
     /// The greatest number of entries of the history.
     pub history: Option<i64>,
+    /// Vertical minimum above flight level 410, and above 290 without approval, in 1/60 of a foot.
+    pub sv2: Option<i64>,
 }
 
 // The number that is set, or else the one that stands.
@@ -66,6 +68,7 @@ impl RuleSet {
             tv: set_or(&self.tv, &rules.tv),
             flights: set_or(&self.flights, &rules.flights),
             history: set_or(&self.history, &rules.history),
+            sv2: set_or(&self.sv2, &rules.sv2),
         }
     }
 }

@@ -44,7 +44,8 @@ fn rule_kinds(fields: &Fields, origin: Origin) -> Result<(), Fault>
     whole_or_none(fields, origin, Key::Rule(RuleName::Ta))?;
     whole_or_none(fields, origin, Key::Rule(RuleName::Tv))?;
     whole_or_none(fields, origin, Key::Rule(RuleName::Flights))?;
-    whole_or_none(fields, origin, Key::Rule(RuleName::History))
+    whole_or_none(fields, origin, Key::Rule(RuleName::History))?;
+    whole_or_none(fields, origin, Key::Rule(RuleName::Sv2))
 }
 
 // What a line sets a rule to.
@@ -76,6 +77,7 @@ fn rule_set(fields: &Fields) -> Result<RuleSet, Fault>
     let tv = rule_at(fields, RuleName::Tv)?;
     let flights = rule_at(fields, RuleName::Flights)?;
     let history = rule_at(fields, RuleName::History)?;
+    let sv2 = rule_at(fields, RuleName::Sv2)?;
     Ok(RuleSet {
         sh,
         sv,
@@ -90,6 +92,7 @@ fn rule_set(fields: &Fields) -> Result<RuleSet, Fault>
         tv,
         flights,
         history,
+        sv2,
     })
 }
 

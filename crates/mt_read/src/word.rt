@@ -203,8 +203,8 @@ fn change_keys(change: Change) -> &'static str
     ensures { result.now ≡ keys_of (Line Replay) (change_layout change).fields }
 {
     match change {
-        Change::Plan => "do call type route at from level who ",
-        Change::External => "do call from to x y z vx vy vz r gr w gw who ",
+        Change::Plan => "do call type route at from level rvsm who ",
+        Change::External => "do call from to x y z vx vy vz r gr w gw rvsm who ",
         Change::Drop | Change::Renew | Change::Commit => "do call who ",
         Change::Report => "do call at x y z who ",
         Change::Tick => "do now who ",
@@ -226,7 +226,7 @@ fn script_keys(word: Word) -> &'static str
         | Word::Take => "do who ",
         Word::Fix => "do name x y who ",
         Word::TypeLine => "do name bands who ",
-        Word::Rule => "do sh sv r0 gh rmax w0 gv wmax tc ta tv flights history who ",
+        Word::Rule => "do sh sv r0 gh rmax w0 gv wmax tc ta tv flights history sv2 who ",
         Word::Change(change) => change_keys(change),
         Word::Flight => "do call sec who ",
         Word::History => "do from to who ",
@@ -242,8 +242,8 @@ fn session_change_keys(change: Change) -> &'static str
     ensures { result.now ≡ keys_of (Line Plain) (change_layout change).fields }
 {
     match change {
-        Change::Plan => "do call type route at from level ",
-        Change::External => "do call from to x y z vx vy vz r gr w gw ",
+        Change::Plan => "do call type route at from level rvsm ",
+        Change::External => "do call from to x y z vx vy vz r gr w gw rvsm ",
         Change::Drop | Change::Renew | Change::Commit => "do call ",
         Change::Report => "do call at x y z ",
         Change::Tick => "do now ",
@@ -265,7 +265,7 @@ fn session_keys(word: Word) -> &'static str
         | Word::Take => "do ",
         Word::Fix => "do name x y ",
         Word::TypeLine => "do name bands ",
-        Word::Rule => "do sh sv r0 gh rmax w0 gv wmax tc ta tv flights history ",
+        Word::Rule => "do sh sv r0 gh rmax w0 gv wmax tc ta tv flights history sv2 ",
         Word::Change(change) => session_change_keys(change),
         Word::Flight => "do call sec ",
         Word::History => "do from to ",
