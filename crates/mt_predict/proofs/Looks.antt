@@ -1,12 +1,13 @@
 -- What a decision has at hand, whatever is commanded.
-use Rattle.std.proofs.Common.{◌≡◌, ℕ, List, [], Bool, true, Option, Some, None, Bor, refl}
+use Rattle.std.proofs.Common.{◌≡◌, ◌∙◌, ℕ, List, [], Bool, true, Option, Some, None, Result, Bor, ap, refl}
 use Rattle.std.specs.Option.{option_copied, option_map_or}
-use Rattle.std.specs.Prelude.{IfSome, is_some, unwrap_or}
+use Rattle.std.specs.Prelude.{⊤, IfSome, is_some, unwrap_or}
 use Rattle.mt_base.specs.declared.command.Command.{Command}
 use Rattle.mt_base.specs.declared.command.Command.TheVariants.{Clear, Accept, Tentative}
 use Rattle.mt_base.specs.declared.command.Refusal.{Refusal}
 use Rattle.mt_base.specs.declared.flight.Course.{Course}
 use Rattle.mt_base.specs.declared.flight.Path.TheVariants.{Planned}
+use Rattle.mt_base.specs.Checks.{judged}
 use Rattle.mt_base.specs.Cleared.{aim_checks, clearance_checks}
 use Rattle.mt_base.specs.History.{checks}
 use Rattle.mt_base.specs.Picture.{trajectory_of}
@@ -43,7 +44,7 @@ alike : (setup : Setup) (looked : Looked) (f : Course → Trajectory → List (R
 alike setup looked f None has = refl
 alike setup looked f (Some course) has = rw has.strand refl
 
-pub checks_flown : (setup : Setup) (looked : Looked) (who : ℕ) (command : Command) → HasStrand setup looked command
+checks_flown : (setup : Setup) (looked : Looked) (who : ℕ) (command : Command) → HasStrand setup looked command
     → checks_along setup (strand_in looked) (look_of looked) who command ≡ checks setup (look_of looked) who command
 checks_flown setup looked who (Clear call clearance eff) has =
     rw (alike setup looked (λ course t. clearance_checks setup.tables course t clearance (unwrap_or eff looked.now) looked.now) (course_in (option_copied looked.flight)) has) refl
@@ -52,3 +53,8 @@ checks_flown setup looked who (Accept call clearance eff probed) has =
 checks_flown setup looked who (Tentative call clearance eff) has =
     rw (alike setup looked (λ course t. aim_checks setup.tables course t clearance (unwrap_or eff looked.now)) (course_in (option_copied looked.flight)) has) refl
 checks_flown setup looked who command has = refl
+
+pub judged_flown : (setup : Setup) (looked : Looked) (who : ℕ) (command : Command) (result : Result ⊤ Refusal) → HasStrand setup looked command
+    → result ≡ judged (checks_along setup (strand_in looked) (look_of looked) who command) (tt {0}) → result ≡ judged (checks setup (look_of looked) who command) (tt {0})
+judged_flown setup looked who command result has is =
+    is ∙ ap (λ (cs : List (Refusal × Bool)). judged cs (tt {0})) (checks_flown setup looked who command has)

@@ -21,15 +21,11 @@ use Rattle.mt_cover.specs.declared.stays.Stay.{Stay}
 use Rattle.mt_cover.specs.Cells.{cover_of}
 use Rattle.mt_cover.proofs.Law.{misses_none}
 use Rattle.mt_track.specs.Laid.{IsStrand}
-use Rattle.mt_probe.specs.declared.finding.Found.{Found}
 use Rattle.mt_probe.specs.declared.flight.Flight.{Flight}
-use Rattle.mt_probe.specs.Finds.{AreFinds, FindsMore}
 use Rattle.mt_probe.specs.Items.{AreNearItems, IsNearItem, kind_at, other_at, other_of, others_among, path_of, stays_at, stays_by, stays_of}
-use Rattle.mt_probe.specs.Shot.{Shot, kept_of, made_named, state_of}
-use Rattle.mt_probe.specs.Standing.{IsSoundShot}
+use Rattle.mt_probe.specs.Shot.{Shot, kept_of, made_named}
 use Rattle.mt_probe.proofs.Covered.{at_even, at_odd, even_half, even_kind, odd_half, odd_kind}
-use Rattle.mt_probe.proofs.Gathered.{at_kept, kept_at, kept_call}
-use Rattle.mt_base.proofs.Members.{Contains-cases, Contains-flat_map, Contains-flat_map_cases, Contains-head, Contains-none}
+use Rattle.mt_base.proofs.Members.{Contains-cases, Contains-head, Contains-none}
 
 -- what an item names of another flight is kept of that flight
 pub record IsOther (slots : List (Option Flight)) (call : List ℕ) (item : ℕ) (other : NamedTrajectory) : Type 0 where
@@ -45,7 +41,7 @@ kept_by f Actual other held =
     (λ none. absurd (Contains-none other none)) (Contains-cases actual [] other held)
 kept_by f Tentative other held = (suc held.0, omega (arith, held.1), held.2)
 
-other_is : (slots : List (Option Flight)) (call : List ℕ) (item : ℕ) (other : NamedTrajectory) → Contains (other_at call slots item) other
+pub other_is : (slots : List (Option Flight)) (call : List ℕ) (item : ℕ) (other : NamedTrajectory) → Contains (other_at call slots item) other
     → IsOther slots call item other
 other_is slots call item other held = by_flight (get_or slots (item / 2) None) refl held where
   by_call : (f : Flight) → get_or slots (item / 2) None ≡ Some f → (b : Bool) → bytes_eq f.card.call call ≡ b

@@ -1,5 +1,5 @@
 -- Near trajectories are of different flights or kinds, so each is found once.
-use Rattle.std.proofs.Common.{◌≡◌, ◌≢◌, ◌∙◌, ℕ, ◌+◌, ◌*◌, ◌/◌, ◌%◌, ◌<◌, ◌≤◌, zero, suc, ⊎_elim, List, [], ◌∷◌, ◌++◌, Option, Some, None, Contains, length, get_or, take, Bool, true, false, refl, sym, ap, subst, nat_eq, if◌then◌else◌, arith}
+use Rattle.std.proofs.Common.{◌≡◌, ◌≢◌, ◌∙◌, ℕ, ◌/◌, ◌%◌, ◌<◌, ◌≤◌, suc, ⊎_elim, List, [], ◌∷◌, Option, Some, None, Contains, length, get_or, Bool, true, false, refl, sym, ap, nat_eq, if◌then◌else◌, arith}
 use Rattle.std.specs.List.{All, AllPairs, flat_map}
 use Rattle.std.specs.List.Sorted.{IsStrictlyIncreasing}
 use Rattle.std.specs.Str.{bytes_eq}

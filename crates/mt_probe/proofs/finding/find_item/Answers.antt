@@ -1,4 +1,4 @@
-use Rattle.std.proofs.Common.{◌≡◌, ◌∙◌, ◌≤◌, ◌<◌, ℕ, None, Option, List, length, ap, subst, sym, arith}
+use Rattle.std.proofs.Common.{◌∙◌, ℕ, Option, List, length, ap, refl, subst, sym, arith}
 use Rattle.std.proofs.lemmas.Result.{IfOk-weaker}
 use Rattle.mt_base.specs.Conflict.{IsConflict}
 use Rattle.mt_base.specs.Picture.{NamedTrajectory}
