@@ -1,10 +1,10 @@
 -- More places, and more nodes.
-use Rattle.std.proofs.Common.{◌≡◌, ◌≢◌, ℕ, zero, suc, ◌+◌, ◌-◌, ◌<◌, ◌≤◌, ◌⊎◌, List, [], ◌∷◌, ◌++◌, Option, None, Some, length, get_or, set, refl, sym, ap, ◌∙◌, subst, inl, inr, arith, replicate, length-append, length-set}
+use Rattle.std.proofs.Common.{◌≡◌, ◌≢◌, ℕ, zero, suc, ◌+◌, ◌-◌, ◌*◌, ◌<◌, ◌≤◌, List, [], ◌∷◌, ◌++◌, Option, None, Some, length, get_or, set, refl, sym, ap, ◌∙◌, subst, inl, inr, arith, replicate, length-append, length-set}
 use Rattle.std.proofs.lemmas.Bool.{cases_eq, cases_lt}
 use Rattle.std.proofs.lemmas.List.{get_or-replicate, get_or_append_left, get_or-append_right, get_or_past, get_or-set_other, get_or-set_same, length-replicate}
 use Rattle.mt_edges.specs.declared.edge.Edge.{Edge}
 use Rattle.mt_edges.specs.Laid.{IsLonger, Laid}
-use Rattle.mt_edges.specs.Kept.{IsKept, Spares, node_at, standing}
+use Rattle.mt_edges.specs.Kept.{IsKept, IsRoomier, Spares, node_at, standing}
 use Rattle.mt_edges.proofs.Chains.{chain_kept}
 
 pub laid_longer : (next prev next' prev' : List ℕ) (base : ℕ) (lists : ℕ → List ℕ) → IsLonger next prev next' prev' → Laid next prev base lists → Laid next' prev' base lists
@@ -50,18 +50,19 @@ past_one : (i : ℕ) → node_at (None ∷ []) i ≡ None
 past_one zero = refl
 past_one (suc i) = refl
 
-spares_room : (nodes : List (Option Edge)) (free : List ℕ) (spare : ℕ) → Spares nodes free spare → Spares nodes (free ++ 0 ∷ []) spare
-spares_room nodes free spare s =
-    let kept = λ (k : ℕ) (l : k < spare). get_or_append_left free (0 ∷ []) 0 k (omega (arith, l, s.count, s.room)) in
+-- a longer stack holds the same free nodes
+spares_longer : (nodes : List (Option Edge)) (free free' : List ℕ) (spare : ℕ) → Spares nodes free spare → IsRoomier free free' → Spares nodes free' spare
+spares_longer nodes free free' spare s w =
+    let kept = λ (k : ℕ) (l : k < spare). w.kept k (omega (arith, l, s.count, s.room)) in
     record {
       count = s.count;
-      room = omega (arith, s.room, length-append free (0 ∷ []));
+      room = omega (arith, s.room, w.longer);
       empty = λ k l. subst (λ (z : ℕ). (z < length nodes) × (node_at nodes z ≡ None)) (sym (kept k l)) (s.empty k l);
       once = λ j k l m t. s.once j k l m (sym (kept j (omega arith)) ∙ t ∙ kept k m);
     }
 
 -- a node more changes none
-standing_more : (nodes : List (Option Edge)) → standing (nodes ++ None ∷ []) ≡ standing nodes
+pub standing_more : (nodes : List (Option Edge)) → standing (nodes ++ None ∷ []) ≡ standing nodes
 standing_more [] = refl
 standing_more (None ∷ nodes) = standing_more nodes
 standing_more (Some e ∷ nodes) = ap (λ (z : List Edge). e ∷ z) (standing_more nodes)
@@ -73,72 +74,66 @@ node_more nodes i =
       | inr g ↦ get_or-append_right nodes (None ∷ []) (length nodes) i None refl g ∙ past_one (i - length nodes) ∙ sym (get_or_past nodes i None g)
     ]
 
--- a free place more changes nothing
+-- more places change nothing
 pub kept_longer : (ends base : ℕ) (nodes : List (Option Edge)) (free free' : List ℕ) (spare : ℕ) (next prev next' prev' : List ℕ)
-    → IsKept ends base nodes free spare next prev → IsLonger next prev next' prev' → (free' ≡ free) ⊎ (free' ≡ free ++ 0 ∷ []) → IsKept ends base nodes free' spare next' prev'
-kept_longer ends base nodes free free' spare next prev next' prev' k w is = record {
+    → IsKept ends base nodes free spare next prev → IsLonger next prev next' prev' → IsRoomier free free' → IsKept ends base nodes free' spare next' prev'
+kept_longer ends base nodes free free' spare next prev next' prev' k w roomier = record {
   shape = record {
     base_is = k.shape.base_is;
     room = omega (arith, k.shape.room, w.next_length);
     sound = k.shape.sound;
-    spares = elim is [
-      | inl e ↦ subst (λ (z : List ℕ). Spares nodes z spare) (sym e) k.shape.spares
-      | inr e ↦ subst (λ (z : List ℕ). Spares nodes z spare) (sym e) (spares_room nodes free spare k.shape.spares)
-    ];
+    spares = spares_longer nodes free free' spare k.shape.spares roomier;
   };
   lists = k.lists;
   laid = laid_longer next prev next' prev' base k.lists w k.laid;
   ties = k.ties;
 }
 
-pub kept_more : (ends base : ℕ) (nodes : List (Option Edge)) (free : List ℕ) (spare : ℕ) (next prev next' prev' : List ℕ)
-    → IsKept ends base nodes free spare next prev → IsLonger next prev next' prev' → length next + 3 ≤ length next'
-    → IsKept ends base (nodes ++ None ∷ []) (set (free ++ 0 ∷ []) spare (length nodes)) (spare + 1) next' prev' × (standing (nodes ++ None ∷ []) ≡ standing nodes)
-    × (spare < length (free ++ 0 ∷ []))
-kept_more ends base nodes free spare next prev next' prev' k w longer =
-    let s = spares_room nodes free spare k.shape.spares in
+-- a free node more
+pub kept_more : (ends base : ℕ) (nodes : List (Option Edge)) (free : List ℕ) (spare : ℕ) (next prev : List ℕ)
+    → IsKept ends base nodes free spare next prev → length nodes < length free → base + 3 * length nodes + 3 ≤ length next
+    → IsKept ends base (nodes ++ None ∷ []) (set free spare (length nodes)) (spare + 1) next prev
+kept_more ends base nodes free spare next prev k more longer =
+    let s = k.shape.spares in
     let same = standing_more nodes in
     let one = length-append nodes (None ∷ []) in
-    let few : spare < length (free ++ 0 ∷ []) = omega (arith, s.count, k.shape.spares.room, length-append free (0 ∷ [])) in (
-      record {
-        shape = record {
-          base_is = k.shape.base_is;
-          room = omega (arith, k.shape.room, longer, one);
-          sound = record {
-            each = λ i e here. k.shape.sound.each i e (sym (node_more nodes i) ∙ here);
-            once = λ i j e f here there same. k.shape.sound.once i j e f (sym (node_more nodes i) ∙ here) (sym (node_more nodes j) ∙ there) same;
-          };
-          spares = record {
-            count = omega (arith, s.count, one, ap (λ (z : List Edge). length z) same);
-            room = omega (arith, k.shape.spares.room, one, length-append free (0 ∷ []), length-set (free ++ 0 ∷ []) spare (length nodes));
-            empty = λ i l. elim (cases_eq i spare) [
-              | inl q ↦ subst (λ (z : ℕ). (z < length (nodes ++ None ∷ [])) × (node_at (nodes ++ None ∷ []) z ≡ None))
-                  (sym (ap (λ (z : ℕ). get_or (set (free ++ 0 ∷ []) spare (length nodes)) z 0) q ∙ get_or-set_same (free ++ 0 ∷ []) spare (length nodes) 0 few))
-                  (omega (arith, one), node_more nodes (length nodes) ∙ get_or_past nodes (length nodes) None (omega arith))
-              | inr n ↦ (let old = s.empty i (omega (arith, l, n)) in
-                  subst (λ (z : ℕ). (z < length (nodes ++ None ∷ [])) × (node_at (nodes ++ None ∷ []) z ≡ None))
-                  (sym (get_or-set_other (free ++ 0 ∷ []) spare i (length nodes) 0 n))
-                  (omega (arith, old.0, one), node_more nodes (get_or (free ++ 0 ∷ []) i 0) ∙ old.1))
-            ];
-            once = λ j i l m t.
-                let nj : j ≢ spare = omega arith in
-                elim (cases_eq i spare) [
-                  | inl q ↦ (let old = s.empty j (omega (arith, l, q)) in
-                      let same : get_or (free ++ 0 ∷ []) j 0 ≡ length nodes = sym (get_or-set_other (free ++ 0 ∷ []) spare j (length nodes) 0 nj) ∙ t
-                      ∙ ap (λ (z : ℕ). get_or (set (free ++ 0 ∷ []) spare (length nodes)) z 0) q ∙ get_or-set_same (free ++ 0 ∷ []) spare (length nodes) 0 few in
-                      absurd (omega (arith, old.0, same)))
-                  | inr n ↦ s.once j i l (omega (arith, m, n)) (sym (get_or-set_other (free ++ 0 ∷ []) spare j (length nodes) 0 nj) ∙ t ∙ get_or-set_other (free ++ 0 ∷ []) spare i (length nodes) 0 n)
-                ];
-          };
+    let few : spare < length free = omega (arith, s.count, more) in
+    record {
+      shape = record {
+        base_is = k.shape.base_is;
+        room = omega (arith, longer, one);
+        sound = record {
+          each = λ i e here. k.shape.sound.each i e (sym (node_more nodes i) ∙ here);
+          once = λ i j e f here there same. k.shape.sound.once i j e f (sym (node_more nodes i) ∙ here) (sym (node_more nodes j) ∙ there) same;
         };
-        lists = k.lists;
-        laid = laid_longer next prev next' prev' base k.lists w k.laid;
-        ties = record {
-          listed = λ h p i has. (let o = k.ties.listed h p i has in
-              record { node = o.node; edge = o.edge; side = o.side; here = node_more nodes o.node ∙ o.here; few = o.few; head = o.head; place = o.place });
-          owned = λ i e s here few. k.ties.owned i e s (sym (node_more nodes i) ∙ here) few;
+        spares = record {
+          count = omega (arith, s.count, one, ap (λ (z : List Edge). length z) same);
+          room = omega (arith, more, one, length-set free spare (length nodes));
+          empty = λ i l. elim (cases_eq i spare) [
+            | inl q ↦ subst (λ (z : ℕ). (z < length (nodes ++ None ∷ [])) × (node_at (nodes ++ None ∷ []) z ≡ None))
+                (sym (ap (λ (z : ℕ). get_or (set free spare (length nodes)) z 0) q ∙ get_or-set_same free spare (length nodes) 0 few))
+                (omega (arith, one), node_more nodes (length nodes) ∙ get_or_past nodes (length nodes) None (omega arith))
+            | inr n ↦ (let old = s.empty i (omega (arith, l, n)) in
+                subst (λ (z : ℕ). (z < length (nodes ++ None ∷ [])) × (node_at (nodes ++ None ∷ []) z ≡ None))
+                (sym (get_or-set_other free spare i (length nodes) 0 n))
+                (omega (arith, old.0, one), node_more nodes (get_or free i 0) ∙ old.1))
+          ];
+          once = λ j i l m t.
+              let nj : j ≢ spare = omega arith in
+              elim (cases_eq i spare) [
+                | inl q ↦ (let old = s.empty j (omega (arith, l, q)) in
+                    let same : get_or free j 0 ≡ length nodes = sym (get_or-set_other free spare j (length nodes) 0 nj) ∙ t
+                    ∙ ap (λ (z : ℕ). get_or (set free spare (length nodes)) z 0) q ∙ get_or-set_same free spare (length nodes) 0 few in
+                    absurd (omega (arith, old.0, same)))
+                | inr n ↦ s.once j i l (omega (arith, m, n)) (sym (get_or-set_other free spare j (length nodes) 0 nj) ∙ t ∙ get_or-set_other free spare i (length nodes) 0 n)
+              ];
         };
-      },
-      same,
-      few,
-    )
+      };
+      lists = k.lists;
+      laid = k.laid;
+      ties = record {
+        listed = λ h p i has. (let o = k.ties.listed h p i has in
+            record { node = o.node; edge = o.edge; side = o.side; here = node_more nodes o.node ∙ o.here; few = o.few; head = o.head; place = o.place });
+        owned = λ i e s here few. k.ties.owned i e s (sym (node_more nodes i) ∙ here) few;
+      };
+    }

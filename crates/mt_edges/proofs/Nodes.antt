@@ -1,5 +1,5 @@
 -- What a write of one node leaves.
-use Rattle.std.proofs.Common.{◌≡◌, ◌≢◌, ℕ, zero, suc, ◌+◌, ◌-◌, ◌*◌, ◌<◌, ◌⊎◌, List, [], ◌∷◌, Option, None, Some, true, false, not, length, get_or, set, filter, Contains, refl, sym, ap, ◌∙◌, subst, inl, inr, arith, get_or-set_same, get_or-set_other, length-set, length-append}
+use Rattle.std.proofs.Common.{◌≡◌, ◌≢◌, ℕ, zero, suc, ◌+◌, ◌-◌, ◌*◌, ◌<◌, ◌≤◌, ◌⊎◌, List, [], ◌∷◌, Option, None, Some, true, false, not, length, get_or, set, filter, Contains, refl, sym, ap, ◌∙◌, subst, inl, inr, arith, get_or-set_same, get_or-set_other, length-set, length-append}
 use Rattle.std.proofs.lemmas.Bool.{cases_eq, cases_lt, ne_eqb}
 use Rattle.std.proofs.lemmas.List.{get_or_past, get_or_read}
 use Rattle.std.proofs.lemmas.List.Elements.{Contains-append_right, filter-append}
@@ -116,6 +116,12 @@ ties_dropped ends base nodes lists lists' i e t here fewer enough = record {
 -- a pair that has not this end
 pub untouched : (end : ℕ) (e : Edge) → (e.a ≡ end → ⊥) → (e.b ≡ end → ⊥) → touches end e ≡ false
 untouched end e a b = rw (ne_eqb e.a end a, ne_eqb e.b end b) refl
+
+-- no pair has an end that is none
+pub outside : (ends : ℕ) (nodes : List (Option Edge)) (end : ℕ) → Sound ends nodes → ends ≤ end → (i : ℕ) (e : Edge) → node_at nodes i ≡ Some e → touches end e ≡ false
+outside ends nodes end sound past i e here =
+    let kept = sound.each i e here in
+    untouched end e (λ k. absurd (omega (arith, k, kept.order, kept.ends_in))) (λ k. absurd (omega (arith, k, kept.ends_in)))
 
 -- where no pair has this end, none is left out
 pub none_touches : (nodes : List (Option Edge)) (end : ℕ) → ((i : ℕ) (e : Edge) → node_at nodes i ≡ Some e → touches end e ≡ false)

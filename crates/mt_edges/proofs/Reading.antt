@@ -1,5 +1,5 @@
 -- Walks that read a list.
-use Rattle.std.proofs.Common.{◌≡◌, ◌≢◌, ℕ, zero, suc, ◌+◌, ◌-◌, ◌*◌, ◌/◌, ◌<◌, ◌≤◌, ◌⊎◌, List, [], ◌∷◌, ◌++◌, Option, None, Some, true, eqb, Contains, All, length, get_or, refl, sym, ap, ◌∙◌, subst, inl, inr, arith, append_assoc, length-append, leb, ltb, ◌&&◌}
+use Rattle.std.proofs.Common.{◌≡◌, ◌≢◌, ℕ, zero, suc, ◌+◌, ◌-◌, ◌*◌, ◌/◌, ◌<◌, ◌≤◌, ◌⊎◌, List, [], ◌∷◌, ◌++◌, Option, None, Some, true, false, eqb, Contains, All, length, get_or, refl, sym, ap, ◌∙◌, subst, inl, inr, arith, append_assoc, length-append, leb, ltb, ◌&&◌}
 use Rattle.std.proofs.lemmas.Bool.{eqb-true, or_cases, or_left, or_right, and_parts, cases_Bool, cases_eq, cases_lt, eq-eqb, ltb-true, leb-true, lt-ltb, le-leb, ne_eqb}
 use Rattle.std.proofs.lemmas.List.{append-nil, get_or_append_left, get_or-append_right}
 use Rattle.std.proofs.lemmas.List.Elements.{All-contains_itself, All-weaker, Contains-append_cases, Contains-append_left, Contains-append_right, Contains-get_or}
@@ -318,6 +318,14 @@ standing_apart ends (Some e ∷ nodes) once =
     let is : e ≡ g = subst (λ (z : ℕ). get_or (e ∷ []) z g ≡ g) first in_one.2 in
     let j = found nodes f in_rest in
     absurd (omega (arith, once 0 (suc j.0) g f (ap (λ (z : Edge). Some z) is) j.1 same)))
+
+-- an end that is none has no pairs
+pub none_each : (nodes : List (Option Edge)) (end : ℕ) → ((i : ℕ) (e : Edge) → node_at nodes i ≡ Some e → touches end e ≡ false)
+    → IsEach (λ e. touches end e ≡ true) (standing nodes) []
+none_each nodes end none = record {
+  exact = λ e. ((λ has. absurd (let below = has.1 in omega (arith, below))), (λ has. absurd (let at = found nodes e has.0 in let not = none at.0 e at.1 in let is = has.1 in cc)));
+  apart = λ i j d before below. absurd (omega arith);
+}
 
 -- the pairs of an end
 pub of_each : (ends : ℕ) (nodes : List (Option Edge)) (end : ℕ) (new : List Edge) → Sound ends nodes → end < ends

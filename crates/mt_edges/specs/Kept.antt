@@ -1,5 +1,5 @@
 -- How pairs are kept: nodes, a stack of free nodes, and lists of places, three places for each node.
-use Rattle.std.specs.Prelude.{◌≡◌, ◌≢◌, ℕ, zero, suc, ◌+◌, ◌*◌, ◌/◌, ◌<◌, ◌≤◌, List, [], ◌∷◌, ◌++◌, length, slice_index, slice_index_or, Option, None, Some, if◌then◌else◌, ◌==◌, ◌-◌, ◌&&◌, nat_le, nat_lt}
+use Rattle.std.specs.Prelude.{◌≡◌, ◌≢◌, ℕ, zero, suc, ◌+◌, ◌*◌, ◌/◌, ◌<◌, ◌≤◌, List, [], ◌∷◌, ◌++◌, length, slice_index, slice_index_or, vec_len, vec_capacity, Option, None, Some, if◌then◌else◌, ◌==◌, ◌-◌, ◌&&◌, nat_le, nat_lt}
 use Rattle.mt_edges.specs.declared.edge.Edge.{Edge}
 use Rattle.mt_edges.specs.declared.table.Table.{Table}
 use Rattle.mt_edges.specs.Laid.{Has, IsHead, Laid}
@@ -65,6 +65,17 @@ pub record IsKept (ends base : ℕ) (nodes : List (Option Edge)) (free : List �
 -- a table that keeps all of it
 abbrev pub IsTable : Table → Type 0
 IsTable t = IsKept t.ends t.base t.nodes.items t.free.items t.spare t.links.next.items t.links.prev.items
+
+-- a list that is at least as long as another, and the same as far as that goes
+pub record IsRoomier (old new : List ℕ) : Type 0 where
+  pub longer : length old ≤ length new
+  pub kept : (k : ℕ) → k < length old → slice_index new k ≡ slice_index old k
+
+-- Memory is there for that many nodes more: in the table of nodes, on the stack of free ones, and among the links.
+pub record HasRoom (t : Table) (count : ℕ) : Type 0 where
+  pub nodes : vec_len t.nodes + count ≤ vec_capacity t.nodes
+  pub free : length t.nodes.items + count ≤ length t.free.items
+  pub links : t.base + 3 * (length t.nodes.items + count) ≤ length t.links.next.items
 
 -- the first place of a list, 0 where it has none
 abbrev pub first_of : List ℕ → ℕ

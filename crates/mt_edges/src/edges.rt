@@ -1,4 +1,4 @@
-ghost use Rattle.std.specs.Prelude.{◌≡◌, ◌+◌, ◌*◌, ◌<◌, ◌≤◌, true, All, Contains, [], OnOk, IfOk, IfSome, IfNone};
+ghost use Rattle.std.specs.Prelude.{◌≡◌, ◌+◌, ◌*◌, ◌<◌, ◌≤◌, true, All, Contains, [], OnOk, OnErr, IfOk, IfSome, IfNone};
 ghost use Rattle.mt_edges.specs.Pairs.{AreApart, AreSame, IsEach, IsEdge, IsWith, degree, touches, without_end};
 
 use crate::edge::Edge;
@@ -39,15 +39,17 @@ impl Edges {
         })
     }
 
-    /// Takes memory, so that at least n pairs may be added. On an error the pairs stay, and as many may be added as before or more.
+    /// Takes memory, so that at least n pairs may be added. On an error nothing changes.
     pub fn reserve(&mut self, n: u32) -> Result<(), Memory>
         ensures ok { OnOk result (n ≤ self.new.spare) }
         ensures edges { self.new.edges ≡ self.old.edges }
         ensures ends { self.new.ends ≡ self.old.ends }
         ensures spare { self.old.spare ≤ self.new.spare }
+        ensures err { OnErr result (self.new ≡ self.old) }
     {
-        while self.table.spare < n as usize {
-            self.table.grow()?;
+        let (wanted, spare) = (n as usize, self.table.spare);
+        if spare < wanted {
+            self.table.grow(wanted - spare)?;
         }
         Ok(())
     }
@@ -56,6 +58,21 @@ impl Edges {
     ///
     /// It makes at most six steps for each pair of that end, and one; a step is one link written or one node visited.
     pub fn drop_all(&mut self, end: u32, steps: &mut Steps)
+        ensures edges { self.new.edges ≡ without_end end self.old.edges }
+        ensures apart { AreApart self.new.edges }
+        ensures sound { All (IsEdge self.new.ends) self.new.edges }
+        ensures spare { self.new.spare ≡ self.old.spare + degree end self.old.edges }
+        ensures ends { self.new.ends ≡ self.old.ends }
+        ensures steps { steps.new ≤ steps.old + 6 * degree end self.old.edges + 1 }
+    {
+        if end as usize >= self.table.ends {
+            return;
+        }
+        self.drop_list(end, steps);
+    }
+
+    // The same of an end that is one.
+    fn drop_list(&mut self, end: u32, steps: &mut Steps)
         requires end { end < self.old.ends }
         ensures edges { self.new.edges ≡ without_end end self.old.edges }
         ensures apart { AreApart self.new.edges }
@@ -102,10 +119,12 @@ impl Edges {
 
     /// The pairs of an end, each once, in no order that is told.
     pub fn of(&self, end: u32) -> Result<Vec<Edge>, Memory>
-        requires { end < self.now.ends }
         ensures { IfOk result (λ found. IsEach (λ e. touches end e ≡ true) self.now.edges found.items) }
     {
         let mut found = Vec::new(*self.table.nodes.allocator());
+        if end as usize >= self.table.ends {
+            return Ok(found);
+        }
         self.table
             .gather(1 + end as usize, 0, u32::MAX, &mut found)?;
         Ok(found)

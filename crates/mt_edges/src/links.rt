@@ -1,4 +1,4 @@
-ghost use Rattle.std.specs.Prelude.{◌≡◌, ◌≢◌, ℕ, ◌+◌, ◌<◌, ◌≤◌, length, replicate, slice_index, IfOk, OnOk};
+ghost use Rattle.std.specs.Prelude.{◌≡◌, ◌≢◌, ℕ, ◌+◌, ◌<◌, ◌≤◌, ◌^◌, length, replicate, slice_index, IfOk, OnOk};
 ghost use Rattle.mt_edges.specs.Laid.{CanLink, CanUnlink, IsLinked, IsLonger, IsUnlinked};
 
 use mt_base::Steps;
@@ -25,24 +25,18 @@ impl Links {
         })
     }
 
-    /// One place more, which stands in no list.
-    fn grow(&mut self) -> Result<(), Memory>
+    /// That many places more, which stand in no list. On an error there may be some more too.
+    pub(crate) fn room(&mut self, count: usize) -> Result<(), Memory>
+        requires { count < 2 ^ 34 }
         ensures longer { IsLonger self.old.next.items self.old.prev.items self.new.next.items self.new.prev.items }
-        ensures ok { OnOk result (length self.new.next.items ≡ length self.old.next.items + 1) }
+        ensures ok { OnOk result (length self.new.next.items ≡ length self.old.next.items + count) }
     {
-        self.prev.push(0)?;
-        self.next.push(0)?;
+        let places = self.next.len() + count;
+        if self.prev.len() < places {
+            self.prev.resize(places, 0)?;
+        }
+        self.next.resize(places, 0)?;
         Ok(())
-    }
-
-    /// Three places more, which stand in no list. On an error there may be some more too.
-    pub(crate) fn room(&mut self) -> Result<(), Memory>
-        ensures longer { IsLonger self.old.next.items self.old.prev.items self.new.next.items self.new.prev.items }
-        ensures ok { OnOk result (length self.new.next.items ≡ length self.old.next.items + 3) }
-    {
-        self.grow()?;
-        self.grow()?;
-        self.grow()
     }
 
     /// The place behind a place; 0 at the end of its list.

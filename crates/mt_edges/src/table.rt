@@ -1,5 +1,5 @@
-ghost use Rattle.std.specs.Prelude.{◌≡◌, ◌≢◌, ℕ, ◌+◌, ◌-◌, ◌/◌, ◌<◌, ◌≤◌, ◌++◌, Some, length, slice_index, vec_len, [], OnOk, OnErr, IfOk, IfSome, IfNone, Contains, All};
-ghost use Rattle.mt_edges.specs.Kept.{IsDropped, IsGathered, IsTable, IsWalk, in_range_of, node_at, standing};
+ghost use Rattle.std.specs.Prelude.{◌≡◌, ◌≢◌, ℕ, ◌+◌, ◌-◌, ◌/◌, ◌^◌, ◌<◌, ◌≤◌, ◌++◌, Some, length, slice_index, vec_len, [], OnOk, OnErr, IfOk, IfSome, IfNone, Contains, All};
+ghost use Rattle.mt_edges.specs.Kept.{HasRoom, IsDropped, IsGathered, IsRoomier, IsTable, IsWalk, in_range_of, node_at, standing};
 ghost use Rattle.mt_edges.specs.Laid.{IsHead};
 ghost use Rattle.mt_edges.specs.Pairs.{AreSame, IsEdge, IsWith};
 ghost use Rattle.mt_edges.specs.declared.edge.Edge.{Edge};
@@ -45,6 +45,17 @@ fn keep(edge: Edge, from: Second, to: Second, out: &mut Vec<Edge>) -> Result<(),
     Ok(())
 }
 
+/// At least that many numbers: those that were there, and zeros behind them.
+fn lengthen(numbers: &mut Vec<usize>, least: usize) -> Result<(), Memory>
+    ensures kept { IsRoomier numbers.old.items numbers.new.items }
+    ensures ok { OnOk result (least ≤ length numbers.new.items) }
+{
+    if numbers.len() < least {
+        numbers.resize(least, 0)?;
+    }
+    Ok(())
+}
+
 impl Table {
     /// No node.
     pub(crate) fn make(alloc: Global, ends: u32) -> Result<Table, Memory>
@@ -65,22 +76,53 @@ impl Table {
         })
     }
 
-    /// One free node more. On an error there are as many free nodes as before.
-    pub(crate) fn grow(&mut self) -> Result<(), Memory>
+    /// That many free nodes more. On an error there are as many as before.
+    pub(crate) fn grow(&mut self, count: usize) -> Result<(), Memory>
         requires kept { IsTable self.old }
+        requires few { count < 2 ^ 32 }
         ensures kept { IsTable self.new }
         ensures ends { self.new.ends ≡ self.old.ends }
         ensures edges { standing self.new.nodes.items ≡ standing self.old.nodes.items }
-        ensures ok { OnOk result (self.new.spare ≡ self.old.spare + 1) }
+        ensures ok { OnOk result (self.new.spare ≡ self.old.spare + count) }
         ensures err { OnErr result (self.new.spare ≡ self.old.spare) }
     {
-        self.links.room()?;
-        self.free.push(0)?;
+        self.take_room(count)?;
+        for _ in 0..count {
+            self.add_node();
+        }
+        Ok(())
+    }
+
+    /// Takes memory for that many nodes more. The nodes stay, whatever the result.
+    fn take_room(&mut self, count: usize) -> Result<(), Memory>
+        requires kept { IsTable self.old }
+        requires few { count < 2 ^ 32 }
+        ensures kept { IsTable self.new }
+        ensures ends { self.new.ends ≡ self.old.ends }
+        ensures nodes { self.new.nodes.items ≡ self.old.nodes.items }
+        ensures spare { self.new.spare ≡ self.old.spare }
+        ensures room { OnOk result (HasRoom self.new count) }
+    {
+        self.links.room(3 * count)?;
+        lengthen(&mut self.free, self.nodes.len() + count)?;
+        self.nodes.reserve(count)?;
+        Ok(())
+    }
+
+    /// One free node more, for which memory was taken.
+    fn add_node(&mut self)
+        requires kept { IsTable self.old }
+        requires room { HasRoom self.old 1 }
+        ensures kept { IsTable self.new }
+        ensures ends { self.new.ends ≡ self.old.ends }
+        ensures edges { standing self.new.nodes.items ≡ standing self.old.nodes.items }
+        ensures spare { self.new.spare ≡ self.old.spare + 1 }
+        ensures room { (count : ℕ) → HasRoom self.old (count + 1) → HasRoom self.new count }
+    {
         let node = self.nodes.len();
-        self.nodes.push(None)?;
+        self.nodes.push_reserved(None);
         self.free[self.spare] = node;
         self.spare += 1;
-        Ok(())
     }
 
     /// Drops the pair at a place of the list of an end that is let go as a whole, and gives the next place of that list. It makes at most

@@ -1,43 +1,19 @@
-use Rattle.std.proofs.Common.{◌<◌, refl, sym, ◌∙◌, arith}
+use Rattle.std.proofs.Common.{sym, arith}
+use Rattle.mt_edges.proofs.Nodes.{none_degree, none_touches, outside}
 use Rattle.mt_edges.proofs.Reading.{all_apart, all_sound}
-use Rattle.mt_edges.proofs.Walks.{walk_begins, walk_ends}
 use Rattle.mt_edges.proofs.edges.Edges.drop_all.Goals as goal
 
-pub loop-place-init : goal.loop-place-init
-loop-place-init c =
-    let within : c.args.end < c.self.inside.table.ends = rw (← c.self.view_is) at c.requires.end in
-    record {
-      head = refl;
-      walk = rw c.behind-place.ensures (walk_begins _ _ _ _ _ _ _ _ c.self.invariant within);
-      ends = refl;
-      spare = refl;
-      kept = refl;
-      steps = omega arith;
-    }
+pub returns-then-end-self-clause-edges : goal.returns-then-end-self-clause-edges
+returns-then-end-self-clause-edges c = rw (← c.self.view_is)
+    (sym (none_touches c.self.inside.table.nodes.items c.args.end (outside _ _ c.args.end c.self.invariant.shape.sound (omega (arith, c.if-end-self.true)))))
 
-pub invariant_of-self : goal.invariant_of-self
-invariant_of-self c =
-    let before : c.args.end < c.self.inside.table.ends = rw (← c.self.view_is) at c.requires.end in
-    let within : c.args.end < c.loop-place.self-inside.table.ends = omega (arith, c.loop-place.invariant.ends) in
-    rw c.clear.ensures.back
-    (walk_ends _ _ _ _ _ _ _ _ _ _ c.loop-place.invariant.walk c.loop-place-test.false within c.clear.ensures.lengths c.clear.ensures.first c.clear.ensures.kept).0
+pub returns-then-end-self-clause-apart : goal.returns-then-end-self-clause-apart
+returns-then-end-self-clause-apart c = rw (← c.self.view_is) (all_apart _ c.self.inside.table.nodes.items c.self.invariant.shape.sound)
 
-pub returns-clause-edges : goal.returns-clause-edges
-returns-clause-edges c =
-    let before : c.args.end < c.self.inside.table.ends = rw (← c.self.view_is) at c.requires.end in
-    let within : c.args.end < c.loop-place.self-inside.table.ends = omega (arith, c.loop-place.invariant.ends) in
-    rw (← c.self.view_is)
-    (sym (walk_ends _ _ _ _ _ _ _ _ _ _ c.loop-place.invariant.walk c.loop-place-test.false within c.clear.ensures.lengths c.clear.ensures.first c.clear.ensures.kept).1 ∙ c.loop-place.invariant.kept)
+pub returns-then-end-self-clause-sound : goal.returns-then-end-self-clause-sound
+returns-then-end-self-clause-sound c = rw (← c.self.view_is) (all_sound _ c.self.inside.table.nodes.items c.self.invariant.shape.sound)
 
-pub returns-clause-apart : goal.returns-clause-apart
-returns-clause-apart c = all_apart _ c.loop-place.self-inside.table.nodes.items c.loop-place.invariant.walk.shape.sound
-
-pub returns-clause-sound : goal.returns-clause-sound
-returns-clause-sound c = all_sound _ c.loop-place.self-inside.table.nodes.items c.loop-place.invariant.walk.shape.sound
-
-pub returns-clause-spare : goal.returns-clause-spare
-returns-clause-spare c =
-    let before : c.args.end < c.self.inside.table.ends = rw (← c.self.view_is) at c.requires.end in
-    let within : c.args.end < c.loop-place.self-inside.table.ends = omega (arith, c.loop-place.invariant.ends) in
-    let none = (walk_ends _ _ _ _ _ _ _ _ _ _ c.loop-place.invariant.walk c.loop-place-test.false within c.clear.ensures.lengths c.clear.ensures.first c.clear.ensures.kept).2 in
-    rw (← c.self.view_is) (omega (arith, none, c.loop-place.invariant.spare))
+pub returns-then-end-self-clause-spare : goal.returns-then-end-self-clause-spare
+returns-then-end-self-clause-spare c =
+    let none = none_degree c.self.inside.table.nodes.items c.args.end (outside _ _ c.args.end c.self.invariant.shape.sound (omega (arith, c.if-end-self.true))) in
+    rw (← c.self.view_is) (omega (arith, none))

@@ -1,7 +1,7 @@
 use Rattle.std.proofs.Common.{◌≡◌, ◌+◌, ◌*◌, ◌≤◌}
 use Rattle.mt_edges.specs.Pairs.{degree, without_end}
 use Rattle.mt_edges.specs.Kept.{Walk, standing}
-use Rattle.mt_edges.proofs.edges.Edges.drop_all.Given as goal
+use Rattle.mt_edges.proofs.edges.Edges.drop_list.Given as goal
 
 abbrev pub invariant-loop-place : goal.invariant-loop-place
 invariant-loop-place l = record {
