@@ -1,4 +1,4 @@
-use Rattle.std.proofs.Common.{◌≡◌, ◌≢◌, ℕ, ℤ, ◌+◌, ◌<◌, ◌≤◌, pos, ◌≤ℤ◌, ◌<ℤ◌, true, not, List, [], ◌∷◌, ◌++◌, length, Ok, refl, sym, ap, arith, length-append}
+use Rattle.std.proofs.Common.{◌≡◌, ◌≢◌, ℕ, ℤ, ◌+◌, ◌<◌, ◌≤◌, pos, ◌≤ℤ◌, ◌<ℤ◌, Bool, true, not, List, [], ◌∷◌, ◌++◌, length, Ok, refl, sym, ap, arith, length-append}
 use Rattle.std.proofs.lemmas.Int.{ints}
 use Rattle.std.proofs.lemmas.List.Elements.{All-push, All-filter, All-from_recursion}
 use Rattle.std.proofs.lemmas.List.Filters.{length-filter_both}
@@ -69,14 +69,14 @@ filed setup s call path sound within free room most = record {
   few_enough = let fewer = below (length s.records) setup.rules.flights room most in
       rw (length-append s.records ((record { call = call; path = path }) ∷ [])) (omega arith)
 
-pub sound_plan : (setup : Setup) (s : State) (who : ℕ) (call kind : List ℕ) (route : List (List ℕ)) (at from level : ℕ) → AreWithinBounds setup.rules
-    → IsSoundState setup s → Passes setup s who (Plan call kind route at from level) → IsBoundedCommand (Plan call kind route at from level)
+pub sound_plan : (setup : Setup) (s : State) (who : ℕ) (call kind : List ℕ) (route : List (List ℕ)) (at from level : ℕ) (rvsm : Bool) → AreWithinBounds setup.rules
+    → IsSoundState setup s → Passes setup s who (Plan call kind route at from level rvsm) → IsBoundedCommand (Plan call kind route at from level rvsm)
     → IsInPlane (first_of (points_of setup.tables route)).x (first_of (points_of setup.tables route)).y
-    → IsSoundState setup (record s { records = s.records ++ (record { call = call; path = Planned (course_of setup kind route at from level) }) ∷ [] })
-sound_plan setup s who call kind route at from level rules sound tests within plane =
+    → IsSoundState setup (record s { records = s.records ++ (record { call = call; path = Planned (course_of setup kind route at from level rvsm) }) ∷ [] })
+sound_plan setup s who call kind route at from level rvsm rules sound tests within plane =
     let split = halves (λ c. c.1 ≡ true) (route_checks setup.tables route) _ tests.1.1 in
-    filed setup s call (Planned (course_of setup kind route at from level)) sound
-    (sound_course setup kind route at from level rules within.0 within.1 within.2 plane tests.1.0 split.0) tests.0 split.1.1.1.0 rules.flights.most
+    filed setup s call (Planned (course_of setup kind route at from level rvsm)) sound
+    (sound_course setup kind route at from level rvsm rules within.0 within.1 within.2 plane tests.1.0 split.0) tests.0 split.1.1.1.0 rules.flights.most
 
 pub sound_external : (setup : Setup) (s : State) (who : ℕ) (call : List ℕ) (stretch : Straight) → AreWithinBounds setup.rules → IsSoundState setup s
     → Passes setup s who (External call stretch) → IsBoundedCommand (External call stretch)
@@ -95,7 +95,7 @@ sound_drop setup s call sound = record {
 
 -- a command is entered only where there is room in the history
 room_by : (setup : Setup) (s : State) (who : ℕ) (c : Command) → Passes setup s who c → int_lt (pos s.version) setup.rules.history ≡ true
-room_by setup s who (Plan call kind route at from level) tests = (halves (λ c. c.1 ≡ true) (route_checks setup.tables route) _ tests.1.1).1.1.1.1.0
+room_by setup s who (Plan call kind route at from level rvsm) tests = (halves (λ c. c.1 ≡ true) (route_checks setup.tables route) _ tests.1.1).1.1.1.1.0
 room_by setup s who (External call stretch) tests = tests.1.1.0
 room_by setup s who (Drop call) tests = tests.1.0
 room_by setup s who (commands.Report call report) tests = tests.1.1.1.1.0

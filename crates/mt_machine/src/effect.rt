@@ -69,9 +69,10 @@ impl Plain {
                 at,
                 from,
                 level,
+                rvsm,
             } => {
                 let course = planned_course(
-                    self.alloc, tables, rules, *kind, route, *at, *from, *level,
+                    self.alloc, tables, rules, *kind, route, *at, *from, *level, *rvsm,
                 )?;
                 let path = Path::Planned(course);
                 self.file(Record { call: *call, path })?;

@@ -13,7 +13,7 @@ returns-in_ok-file-in-Plan-clause-sound c =
     let plane = c.planned_course.ensures.plane in
     rw (c.in_ok-file-in-Plan.ensures.ok, c.in_ok-course-in-Plan.ensures.course)
     (sound_plan (setup_with c.args.rules.now c.args.tables.now) c.args.self.now c.args.who c.in-Plan.call c.in-Plan.kind
-    c.in-Plan.route c.in-Plan.at c.in-Plan.from c.in-Plan.level c.requires.rules c.requires.sound passed within plane)
+    c.in-Plan.route c.in-Plan.at c.in-Plan.from c.in-Plan.level c.in-Plan.rvsm c.requires.rules c.requires.sound passed within plane)
 
 pub returns-in_ok-file-in-External-clause-sound : goal.returns-in_ok-file-in-External-clause-sound
 returns-in_ok-file-in-External-clause-sound c =
