@@ -1,11 +1,14 @@
-use Rattle.std.proofs.Common.{◌≡◌, ◌+◌, ℕ, List, [], ◌∷◌, ◌++◌, length, Result, Ok, Err, refl, sym, ap, ◌∙◌, arith}
+use Rattle.std.proofs.Common.{◌≡◌, ◌+◌, ℕ, cond, eqb, eq-eqb, List, [], ◌∷◌, ◌++◌, length, Result, Ok, Err, refl, sym, ap, ◌∙◌, arith}
 use Rattle.std.proofs.lemmas.List.{append_assoc, append-nil, length-append, take-append-le}
+use Rattle.std.proofs.lemmas.List.Elements.{filter-append}
+use Rattle.mt_base.proofs.CheckLemmas.{answer_is}
 use Rattle.mt_base.proofs.HistoryLemmas.{version_is}
 use Rattle.mt_base.specs.declared.command.Command.{Command}
 use Rattle.mt_base.specs.declared.command.Command.TheVariants.{Renew}
 use Rattle.mt_base.specs.declared.command.Entered.{Entered}
 use Rattle.mt_base.specs.declared.command.Entry.{Entry}
 use Rattle.mt_base.specs.declared.command.Refusal.{Refusal}
+use Rattle.mt_base.specs.History.{IsDecided, checks, filled, look_at}
 use Rattle.mt_base.specs.Picture.{State}
 use Rattle.mt_base.specs.Tables.{Setup}
 use Rattle.mt_board.specs.declared.ask.Answer.{Answer}
@@ -30,6 +33,16 @@ same_on s t u a b = record { number = b.number ∙ a.number; fixed = b.fixed ∙
 
 pub same_itself : (s : Seat) → IsSameSeat s s
 same_itself s = record { number = refl; fixed = refl }
+
+-- an entry more, of the seat
+pub entries_push : (number : ℕ) (history : List Entry) (e : Entry) → e.who ≡ number → entries_by number (history ++ e ∷ []) ≡ entries_by number history ++ e ∷ []
+entries_push number history e own =
+    filter-append (λ (x : Entry). eqb x.who number) history (e ∷ []) ∙ ap (λ b. entries_by number history ++ cond b (e ∷ []) []) (eq-eqb e.who number own)
+
+-- an entry that is decided is its actor's
+pub decided_who : (setup : Setup) (s : State) (who : ℕ) (c : Command) (e : Entry) → IsDecided setup s who c (Ok e) → e.who ≡ who
+decided_who setup s who c e decided =
+    sym (ap (λ (f : Entry). f.who) (answer_is (checks setup (look_at s c) who c) (record { who = who; command = filled s.now c }) e decided.0))
 
 -- looks
 pub looked_itself : (s : Seat) → HasLooked s s
