@@ -28,8 +28,8 @@ use Rattle.mt_board.specs.declared.no.No.TheVariants.{Memory, Refused}
 use Rattle.mt_board.specs.Asking.{IsRead}
 use Rattle.mt_board.specs.Changing.{HasEntered}
 use Rattle.mt_board.specs.Probing.{IsAdvised, IsPast, IsProbed, Probe, free_probe}
-use Rattle.mt_board.specs.Seat.{HasSeen, Seat, state_seen}
-use Rattle.mt_board.proofs.SeatLemmas.{goes_on_itself, looked_itself}
+use Rattle.mt_board.specs.Seat.{HasSeen, Seat, entries_by, state_seen}
+use Rattle.mt_board.proofs.SeatLemmas.{decided_who, entries_push, goes_on_itself, looked_itself}
 use Rattle.mt_change.specs.Sound.{IsSoundState}
 use Rattle.mt_plain_board.specs.Kept.{IsKept, IsNotToldOf, IsToldOf}
 
@@ -48,11 +48,11 @@ kept_push fixed h s after e kept decided in_time was_free is after_sound = recor
 }
 
 -- the seat has seen its own history
-pub seen_kept : (b : Seat) (s : State) → IsKept b.fixed b.seen s → HasSeen b b s.version
-seen_kept b s kept = record {
+pub seen_kept : (b : Seat) (s : State) → IsKept b.fixed b.seen s → entries_by b.number b.seen ≡ b.mine → HasSeen b b s.version
+seen_kept b s kept own = record {
   looked = looked_itself b;
   version_is = version_kept b.fixed b.seen s kept;
-  sound = record { rules = kept.rules; legal = kept.legal };
+  sound = record { rules = kept.rules; legal = kept.legal; mine = own };
 }
 
 -- its picture is that of all entries
@@ -68,10 +68,10 @@ past_kept b s kept =
 
 -- what was tried on its picture
 pub probed_kept : (b : Seat) (s : State) (call : List ℕ) (clearance : Clearance) (eff : Option ℕ) (hits : List Hit) → IsKept b.fixed b.seen s
-    → IsWhatIf b.fixed s call clearance eff (Ok hits)
+    → entries_by b.number b.seen ≡ b.mine → IsWhatIf b.fixed s call clearance eff (Ok hits)
     → IsProbed b b call clearance eff (record { call = call; clearance = clearance; eff = unwrap_or eff s.now; version = s.version; hits = hits })
-probed_kept b s call clearance eff hits kept follows = record {
-  seen = seen_kept b s kept;
+probed_kept b s call clearance eff hits kept own follows = record {
+  seen = seen_kept b s kept own;
   call_is = refl;
   clearance_is = refl;
   eff_is = ap (λ (x : State). unwrap_or eff x.now) kept.state_is;
@@ -84,7 +84,7 @@ free_kept fixed h s call clearance kept =
     ap₂ (λ (eff version : ℕ). free_probe call eff version clearance) (ap (λ (x : State). x.now) kept.state_is) (version_kept fixed h s kept)
 
 -- what was entered, alone
-pub entered_kept : (b t : Seat) (s : State) (command : Command) (e : Entry) (entered : Entered) → IsKept b.fixed b.seen s → b.mine ≡ b.seen
+pub entered_kept : (b t : Seat) (s : State) (command : Command) (e : Entry) (entered : Entered) → IsKept b.fixed b.seen s → entries_by b.number b.seen ≡ b.mine
     → IsDecided b.fixed (state_seen b) b.number command (Ok e) → IsDecided b.fixed (state_seen b) e.who e.command (Ok e) → IsInTime (length b.seen) e.command
     → WasFree b.fixed b.seen e.command → entered ≡ entered_by b.fixed (state_seen b) e
     → t ≡ record b { seen = b.seen ++ e ∷ []; mine = b.mine ++ e ∷ [] } → HasEntered b t command entered
@@ -97,18 +97,22 @@ entered_kept b t s command e entered kept own decided again in_time was_free ent
   entered_is = entered_is;
   seen = refl;
   mine = refl;
-  sound = record { rules = kept.rules; legal = legal_push b.fixed b.seen e kept.legal again in_time was_free };
+  sound = record {
+    rules = kept.rules;
+    legal = legal_push b.fixed b.seen e kept.legal again in_time was_free;
+    mine = entries_push b.number b.seen e (decided_who b.fixed (state_seen b) b.number command e decided) ∙ ap (λ es. es ++ e ∷ []) own;
+  };
 })
 
 -- the clearances that are advised on its picture
-pub advised_kept : (b : Seat) (s : State) (call : List ℕ) (cs : List Clearance) (now version : ℕ) (ps : List Probe) → IsKept b.fixed b.seen s
+pub advised_kept : (b : Seat) (s : State) (call : List ℕ) (cs : List Clearance) (now version : ℕ) (ps : List Probe) → IsKept b.fixed b.seen s → entries_by b.number b.seen ≡ b.mine
     → IsAdvice b.fixed s call (Ok cs) → length cs ≤ 16 → now ≡ s.now → version ≡ length b.seen
     → ps ≡ map (free_probe call (state_seen b).now (length b.seen)) cs → IsAdvised b b call now version ps
-advised_kept b s call cs now version ps kept advice few now_is version_is ps_is =
+advised_kept b s call cs now version ps kept own advice few now_is version_is ps_is =
     let eff_is : now ≡ (state_seen b).now = now_is ∙ ap (λ (x : State). x.now) kept.state_is in
     let count : length ps ≡ length cs = ap length ps_is ∙ length-map cs (free_probe call (state_seen b).now (length b.seen)) in
     record {
-      seen = record { looked = looked_itself b; version_is = version_is; sound = record { rules = kept.rules; legal = kept.legal } };
+      seen = record { looked = looked_itself b; version_is = version_is; sound = record { rules = kept.rules; legal = kept.legal; mine = own } };
       eff_is = eff_is;
       clearances = cs;
       advice = subst (λ (x : State). IsAdvice b.fixed x call (Ok cs)) kept.state_is advice;

@@ -35,6 +35,7 @@ impl PlainBoard {
 
     // Puts what was decided into the history and the picture. Where memory is wanted, nothing changes.
     fn enter(&mut self, entry: Entry) -> Result<Entered, Memory>
+        requires own { entry.who ≡ self.old.number }
         requires decided { IsDecided self.old.fixed (state_seen self.old) entry.who entry.command (Ok entry) }
         requires bounded { IsBoundedCommand entry.command }
         requires in_time { IsInTime (length self.old.seen) entry.command }

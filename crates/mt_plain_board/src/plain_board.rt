@@ -21,12 +21,12 @@ pub struct PlainBoard {
 }
 
 impl Model for PlainBoard {
-    ghost use Rattle.mt_board.specs.Seat.{Seat};
+    ghost use Rattle.mt_board.specs.Seat.{Seat, entries_by};
     ghost use Rattle.mt_plain_board.specs.Kept.{IsKept};
 
     ghost Value = { Seat };
 
-    ghost view = { λ b. record { number = b.number; seen = b.history; mine = b.history; fixed = record { rules = b.rules; tables = b.tables } } };
+    ghost view = { λ b. record { number = b.number; seen = b.history; mine = entries_by b.number b.history; fixed = record { rules = b.rules; tables = b.tables } } };
 
     ghost invariant = { λ b. IsKept (record { rules = b.rules; tables = b.tables }) b.history b.picture };
 }

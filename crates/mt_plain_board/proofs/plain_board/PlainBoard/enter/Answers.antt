@@ -4,6 +4,7 @@ use Rattle.std.proofs.lemmas.Result.{err_from_is_err_and}
 use Rattle.mt_base.specs.History.{effect}
 use Rattle.mt_board.specs.Seat.{Seat}
 use Rattle.mt_base.specs.Tables.{Setup}
+use Rattle.mt_board.proofs.SeatLemmas.{entries_push}
 use Rattle.mt_plain_board.proofs.KeptLemmas.{kept_push}
 use Rattle.mt_plain_board.proofs.plain_board.PlainBoard.enter.Goals as goal
 
@@ -37,7 +38,9 @@ returns-in-Err-clause-err c = rw (c.drop_last.ensures c.self.inside.history c.ar
 
 pub returns-in-Ok-clause-ok : goal.returns-in-Ok-clause-ok
 returns-in-Ok-clause-ok c =
-    rw c.in_ok-push.ensures.ok (ap (λ (b : Seat). record b { seen = b.seen ++ c.args.entry ∷ []; mine = b.mine ++ c.args.entry ∷ [] }) c.self.view_is)
+    let own = rw (← c.self.view_is) at c.requires.own in
+    rw (c.in_ok-push.ensures.ok, entries_push c.self.inside.number c.self.inside.history c.args.entry own)
+    (ap (λ (b : Seat). record b { seen = b.seen ++ c.args.entry ∷ []; mine = b.mine ++ c.args.entry ∷ [] }) c.self.view_is)
 
 pub returns-in-Ok-clause-entered : goal.returns-in-Ok-clause-entered
 returns-in-Ok-clause-entered c =

@@ -4,7 +4,8 @@ use Rattle.mt_base.specs.declared.command.Refusal.{Refusal}
 use Rattle.mt_base.specs.History.{IsDecided}
 use Rattle.mt_base.specs.Picture.{State}
 use Rattle.mt_base.specs.Tables.{Setup}
-use Rattle.mt_board.specs.Seat.{Seat}
+use Rattle.mt_board.specs.Seat.{Seat, entries_by}
+use Rattle.mt_board.proofs.SeatLemmas.{decided_who}
 use Rattle.mt_machine.proofs.Filled.{decided_is, entry_bounded, entry_free, entry_in_time}
 use Rattle.mt_plain_board.proofs.KeptLemmas.{entered_kept}
 use Rattle.mt_plain_board.proofs.plain_board.PlainBoard.publish.Goals as goal
@@ -16,6 +17,13 @@ enter-requires-clause-decided g c =
     c.in_ok-entry.ensures in
     rw (← c.self.view_is, ← c.self.invariant.state_is)
     (decided_is fixed c.self.inside.picture c.self.inside.number c.args.command.now c.in-Ok.entry decided)
+
+pub enter-requires-clause-own : goal.enter-requires-clause-own
+enter-requires-clause-own g c =
+    let fixed : Setup = record { rules = c.self.inside.rules; tables = c.self.inside.tables } in
+    let decided = subst (λ (d : Result Entry Refusal). IsDecided fixed c.self.inside.picture c.self.inside.number c.args.command.now d) c.in-Ok.is
+    c.in_ok-entry.ensures in
+    rw (← c.self.view_is) (decided_who fixed c.self.inside.picture c.self.inside.number c.args.command.now c.in-Ok.entry decided)
 
 pub enter-requires-clause-bounded : goal.enter-requires-clause-bounded
 enter-requires-clause-bounded g c =
@@ -43,7 +51,7 @@ returns-in_ok-enter-in-Ok g c =
     let b : Seat = record {
       number = c.self.inside.number;
       seen = c.self.inside.history;
-      mine = c.self.inside.history;
+      mine = entries_by c.self.inside.number c.self.inside.history;
       fixed = record { rules = c.self.inside.rules; tables = c.self.inside.tables };
     } in
     let fixed : Setup = record { rules = c.self.inside.rules; tables = c.self.inside.tables } in
