@@ -82,6 +82,7 @@ impl Approach {
     ghost use Rattle.mt_pair.specs.Below.{HoldsIn, HoldsBetween, HoldsOver};
     ghost use Rattle.mt_pair.specs.Cases.{IsHighOf, IsLoss};
     ghost use Rattle.mt_pair.specs.Gap.{excess_of, gap_of};
+    ghost use Rattle.mt_pair.specs.Greatest.{AreSizes};
     ghost use Rattle.mt_pair.specs.High.{level_of};
     ghost use Rattle.mt_pair.specs.Span.{IsGreatest, IsLeast, IsSpan};
 
@@ -94,6 +95,7 @@ impl Approach {
         ensures over { result.over ≡ excess_of rules.now.sv a.now b.now }
         ensures under { result.under ≡ excess_of rules.now.sv b.now a.now }
         ensures high { IsHighOf rules.now (level_of approved) a.now b.now seconds result.high }
+        ensures sizes { AreSizes rules.now a.now b.now }
     {
         Approach {
             gap: gap(rules, a, b),

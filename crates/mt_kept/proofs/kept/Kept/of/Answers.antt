@@ -7,9 +7,6 @@ use Rattle.mt_kept.specs.Places.{seen}
 use Rattle.mt_kept.proofs.Again.{finds_again}
 use Rattle.mt_kept.proofs.kept.Kept.of.Goals as goal
 
-pub of-requires : goal.of-requires
-of-requires c = rw c.self.invariant.all (rw (← c.self.view_is) at c.requires)
-
 pub returns : goal.returns
 returns c =
     let k = c.self.invariant in
