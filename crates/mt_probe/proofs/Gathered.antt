@@ -17,7 +17,7 @@ use Rattle.mt_base.specs.Tables.{Setup}
 use Rattle.mt_base.specs.Trajectory.{Trajectory}
 use Rattle.mt_probe.specs.declared.finding.Found.{Found}
 use Rattle.mt_probe.specs.declared.flight.Flight.{Flight}
-use Rattle.mt_probe.specs.Finds.{AreFinds, AreNamedApart, AreOfOthers, AreOneEach, FindsMore, HasName, IsFound, IsFoundOrQuiet, IsListed, IsNamedAmong, IsOfAnother}
+use Rattle.mt_probe.specs.Finds.{AreFinds, AreNamedApart, AreCalledApart, AreOneEach, FindsMore, HasName, IsFound, IsFoundOrQuiet, IsListed, IsNamedAmong, IsOfAnother}
 use Rattle.mt_probe.specs.Narrow.{all_end}
 use Rattle.mt_probe.specs.Shot.{Shot, flight_at, kept_of, made_named, records_in, state_of}
 use Rattle.mt_probe.specs.Standing.{IsSoundShot}
@@ -91,7 +91,7 @@ module _ (rules : Rules) (now : ℕ) (t : Trajectory) where
         (λ left. still_listed mid new other second.kept (first.listed other left k ahead loss))
         (λ right. second.listed other right k ahead loss) (Contains-append_cases xs ys other held);
     once = λ others apart before.
-        let parts = distinct_parts AreOfOthers xs ys others in
+        let parts = distinct_parts AreCalledApart xs ys others in
         second.once parts.1
         (λ found other held behind same. ⊎_elim
         (λ was. apart found other was (Contains-append_right xs ys other behind) same)

@@ -13,7 +13,7 @@ use Rattle.mt_base.specs.Picture.{NamedTrajectory}
 use Rattle.mt_base.specs.Trajectory.{Trajectory}
 use Rattle.mt_base.proofs.Members.{Contains-cases, Contains-flat_map, Contains-flat_map_cases, Contains-none, distinct_append}
 use Rattle.mt_probe.specs.declared.flight.Flight.{Flight}
-use Rattle.mt_probe.specs.Finds.{AreFinds, AreOfOthers, FindsMore}
+use Rattle.mt_probe.specs.Finds.{AreFinds, AreCalledApart, FindsMore}
 use Rattle.mt_probe.specs.Items.{AreNearItems, kind_at, other_at, other_of, others_among, path_of}
 use Rattle.mt_probe.specs.Shot.{Shot, made_named, state_of}
 use Rattle.mt_probe.specs.Standing.{IsSoundShot}
@@ -82,7 +82,7 @@ same_parity i j same = by_tests (nat_eq (i % 2) 0) refl (nat_eq (j % 2) 0) refl 
 
 -- two items name trajectories of different flights, or of different kinds
 apart_items : (shot : Shot) (call : List ℕ) (i j : ℕ) → IsSoundShot shot → i < j → (a b : NamedTrajectory) → Contains (other_at call shot.slots i) a
-    → Contains (other_at call shot.slots j) b → AreOfOthers a b
+    → Contains (other_at call shot.slots j) b → AreCalledApart a b
 apart_items shot call i j sound before a b held there same =
     let x = other_is shot.slots call i a held in
     let y = other_is shot.slots call j b there in
@@ -95,8 +95,8 @@ apart_items shot call i j sound before a b held there same =
 
 -- and so do some rising items
 pub apart_among : (shot : Shot) (call : List ℕ) (items : List ℕ) → IsSoundShot shot → IsStrictlyIncreasing items
-    → AllPairs AreOfOthers (others_among call shot.slots items)
-apart_among shot call items sound rising = distinct_flat_map AreOfOthers (other_at call shot.slots) items
+    → AllPairs AreCalledApart (others_among call shot.slots items)
+apart_among shot call items sound rising = distinct_flat_map AreCalledApart (other_at call shot.slots) items
     (λ i j d before below. apart_items shot call (get_or items i d) (get_or items j d) sound (AllPairs-from_increasing items rising i j d before below))
     (λ item. let one = one_other shot.slots call item in λ i j d before below. absurd (omega (arith, one, before, below)))
 

@@ -33,8 +33,8 @@ abbrev pub AreNamedApart : Found → Found → Type 0
 AreNamedApart f g = ¬ ((f.call ≡ g.call) × (f.kind ≡ g.kind))
 
 -- and so are two trajectories
-abbrev pub AreOfOthers : NamedTrajectory → NamedTrajectory → Type 0
-AreOfOthers a b = ¬ ((a.call ≡ b.call) × (a.kind ≡ b.kind))
+abbrev pub AreCalledApart : NamedTrajectory → NamedTrajectory → Type 0
+AreCalledApart a b = ¬ ((a.call ≡ b.call) × (a.kind ≡ b.kind))
 
 -- one of some finds is what is found with another trajectory
 pub record IsListed (rules : Rules) (now : ℕ) (t : Trajectory) (finds : List Found) (other : NamedTrajectory) : Type 0 where
@@ -87,4 +87,4 @@ pub record FindsMore (rules : Rules) (now : ℕ) (t : Trajectory) (others : List
   pub exact : (found : Found) → Contains new found → Contains old found ⊎ IsFoundAmong rules now t others found
   pub listed : (other : NamedTrajectory) → Contains others other → (k : ℕ) → k < all_end → IsLossSecond rules t other.path k
       → IsListed rules now t new other
-  pub once : AllPairs AreOfOthers others → AreOfNone others old → AllPairs AreNamedApart old → AllPairs AreNamedApart new
+  pub once : AllPairs AreCalledApart others → AreOfNone others old → AllPairs AreNamedApart old → AllPairs AreNamedApart new
