@@ -38,7 +38,7 @@ decided_is setup s who c e decided =
       again : judge setup s who (filled s.now c) ≡ Ok filled_entry
       again = rw (filled_checks setup s who c, filled_twice s.now c) (decided.0 ∙ ap Ok (sym (entry_is setup s who c e decided.0)))
 
-filled_bounded : (now : ℕ) (c : Command) → now ≤ 10000000 → IsBoundedCommand c → IsBoundedCommand (filled now c)
+pub filled_bounded : (now : ℕ) (c : Command) → now ≤ 10000000 → IsBoundedCommand c → IsBoundedCommand (filled now c)
 filled_bounded now (Clear call clearance (Some eff)) early within = within
 filled_bounded now (Clear call clearance None) early within = (within.0, early)
 filled_bounded now (Tentative call clearance (Some eff)) early within = within

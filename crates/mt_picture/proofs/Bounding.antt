@@ -59,7 +59,7 @@ none_preps story who c (Some p) old new same = λ mine made. none_both story c p
 
 -- a command that makes no test is within its bound
 pub none_within : (story : Story) (who : ℕ) (c : Command) (prep : Option Prepared) (old new : ℕ) → new ≡ old → IsWithinBound story who c prep old new
-none_within story who (Plan call kind route at from level) prep old new same = none_preps story who (Plan call kind route at from level) prep old new same
+none_within story who (Plan call kind route at from level rvsm) prep old new same = none_preps story who (Plan call kind route at from level rvsm) prep old new same
 none_within story who (External call straight) prep old new same = none_preps story who (External call straight) prep old new same
 none_within story who (Drop call) prep old new same = none_preps story who (Drop call) prep old new same
 none_within story who (commands.Report call report) prep old new same = none_preps story who (commands.Report call report) prep old new same

@@ -111,12 +111,12 @@ pub record IsFiledLast (setup : Setup) (who now : ℕ) (command : Command) (rs :
 
 pub filed_last : (setup : Setup) (s : State) (who : ℕ) (command : Command) (card : Record) → IsFiling command → IsLeft setup s who command card
     → IsFiledLast setup who s.now command s.records card
-filed_last setup s who (Plan call kind route at from level) card filing left =
-    let tests = passes setup s who (Plan call kind route at from level) left.passed in
+filed_last setup s who (Plan call kind route at from level rvsm) card filing left =
+    let tests = passes setup s who (Plan call kind route at from level rvsm) left.passed in
     let none : flight_of s.records call ≡ None = is_none (flight_of s.records call) tests.0 in
-    let new : Record = record { call = call; path = Planned (course_of setup kind route at from level) } in
+    let new : Record = record { call = call; path = Planned (course_of setup kind route at from level rvsm) } in
     let same : new ≡ card = behind call s.records new card none refl left.card_is in
-    subst (λ (r : Record). IsFiledLast setup who s.now (Plan call kind route at from level) s.records r) same
+    subst (λ (r : Record). IsFiledLast setup who s.now (Plan call kind route at from level rvsm) s.records r) same
     (record { none = none; records = refl; unmarked = refl; still = refl })
 filed_last setup s who (External call straight) card filing left =
     let tests = passes setup s who (External call straight) left.passed in
@@ -130,11 +130,11 @@ filed_last setup s who command card filing left = absurd filing
 -- so the command alone says what is filed
 pub filed_unique : (setup : Setup) (s r : State) (who whom : ℕ) (c : Command) (card other : Record) → IsFiling c → judged_aside setup s who c ≡ Ok (tt {0})
     → flight_left setup s who c ≡ Some card → judged_aside setup r whom c ≡ Ok (tt {0}) → flight_left setup r whom c ≡ Some other → card ≡ other
-filed_unique setup s r who whom (Plan call kind route at from level) card other filing one card_is two other_is =
-    let c : Command = Plan call kind route at from level in
+filed_unique setup s r who whom (Plan call kind route at from level rvsm) card other filing one card_is two other_is =
+    let c : Command = Plan call kind route at from level rvsm in
     let none = is_none (flight_of s.records call) (passes setup s who c one).0 in
     let none_too = is_none (flight_of r.records call) (passes setup r whom c two).0 in
-    let new : Record = record { call = call; path = Planned (course_of setup kind route at from level) } in
+    let new : Record = record { call = call; path = Planned (course_of setup kind route at from level rvsm) } in
     sym (behind call s.records new card none refl card_is) ∙ behind call r.records new other none_too refl other_is
 filed_unique setup s r who whom (External call straight) card other filing one card_is two other_is =
     let c : Command = External call straight in
@@ -216,7 +216,7 @@ altered_by shot slot old who c card sound at_is own alters left =
     }
 
 still_altered : (now : ℕ) (c : Command) → Alters c → now_after (filled now c) now ≡ now
-still_altered now (Plan call kind route at from level) alters = absurd alters
+still_altered now (Plan call kind route at from level rvsm) alters = absurd alters
 still_altered now (External call straight) alters = absurd alters
 still_altered now (Drop call) alters = absurd alters
 still_altered now (Tick next) alters = absurd alters

@@ -51,12 +51,12 @@ no_first setup s c first unprobed none = subst (IsFirstHit setup s c) (sym none)
   by_command c is = refl
 
 pub filing_kind : (c : Command) → IsFiling c → kind_made c ≡ Actual
-filing_kind (Plan call kind route at from level) filing = refl
+filing_kind (Plan call kind route at from level rvsm) filing = refl
 filing_kind (External call straight) filing = refl
 filing_kind c filing = absurd filing
 
 pub filing_unprobed : (c : Command) → IsFiling c → is_probed c ≡ false
-filing_unprobed (Plan call kind route at from level) filing = refl
+filing_unprobed (Plan call kind route at from level rvsm) filing = refl
 filing_unprobed (External call straight) filing = refl
 filing_unprobed c filing = absurd filing
 

@@ -1,5 +1,6 @@
 pub mod Asking
 pub mod Bounding
+pub mod Completed
 pub mod Counted
 pub mod Counting
 pub mod Entered

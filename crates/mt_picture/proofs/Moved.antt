@@ -3,10 +3,12 @@ use Rattle.std.proofs.Common.{◌≡◌, ℕ, ◌+◌, ◌<◌, inl, ⊎_elim, L
 use Rattle.std.specs.List.{filter}
 use Rattle.std.specs.Str.{bytes_eq}
 use Rattle.std.proofs.lemmas.Bool.{cases_eq}
+use Rattle.std.proofs.lemmas.List.Elements.{All-push}
 use Rattle.mt_base.specs.declared.command.Command.TheVariants.{Drop, Tick}
 use Rattle.mt_base.specs.declared.command.Entry.{Entry}
 use Rattle.mt_base.specs.declared.flight.Record.{Record}
 use Rattle.mt_base.specs.declared.rules.Rules.{Rules}
+use Rattle.mt_base.specs.Complete.{IsComplete}
 use Rattle.mt_base.specs.History.{effect, state_of}
 use Rattle.mt_base.specs.Picture.{NamedTrajectory, State}
 use Rattle.mt_base.specs.Tables.{Setup}
@@ -22,10 +24,10 @@ use Rattle.mt_picture.specs.Places.{all_places}
 use Rattle.mt_picture.specs.Stamps.{AreStamped, IsPicture}
 use Rattle.mt_picture.proofs.Standing.{stamped_on}
 
-pub picture_tick : (shot after : Shot) (h : List Entry) (who now : ℕ) (kept new : Watched) → IsPicture shot h kept → IsSoundShot after
-    → after ≡ with_moment shot now → new.rules ≡ kept.rules → new.moment ≡ now → new.places ≡ kept.places
+pub picture_tick : (shot after : Shot) (h : List Entry) (who now : ℕ) (kept new : Watched) → IsPicture shot h kept
+    → IsComplete (record { who = who; command = Tick now }) → IsSoundShot after → after ≡ with_moment shot now → new.rules ≡ kept.rules → new.moment ≡ now → new.places ≡ kept.places
     → IsPicture after (h ++ record { who = who; command = Tick now } ∷ []) new
-picture_tick shot after h who now kept new is sound_after value rules moment places =
+picture_tick shot after h who now kept new is complete sound_after value rules moment places =
     let e : Entry = record { who = who; command = Tick now } in
     let setup_is : after.setup ≡ shot.setup = ap (λ (s : Shot). s.setup) value in
     let slots_are : after.slots ≡ shot.slots = ap (λ (s : Shot). s.slots) value in
@@ -38,18 +40,19 @@ picture_tick shot after h who now kept new is sound_after value rules moment pla
     record {
       stands = subst (λ (u : Setup). state_in after ≡ state_of u (h ++ e ∷ [])) (sym setup_is) stands;
       stamped = subst (λ (u : Setup). AreStamped u (h ++ e ∷ []) after.slots) (sym setup_is) stamped;
+      complete = All-push IsComplete h e is.complete complete;
       filed = λ i g at_is. let n = is.filed i g (rw slots_are at at_is) in omega (arith, n, version_is);
       rules_are = rules ∙ is.rules_are ∙ ap (λ (u : Setup). u.rules) (sym setup_is);
       moment_is = moment ∙ sym now_is;
       places_are = places ∙ is.places_are ∙ ap all_places (sym slots_are);
     }
 
-pub picture_drop : (shot after : Shot) (h : List Entry) (who slot : ℕ) (call : List ℕ) (old : Flight) (kept new : Watched) → IsPicture shot h kept → IsSoundShot after
-    → slot < length shot.slots → flight_at shot slot ≡ Some old → old.card.call ≡ call → after ≡ with_flight shot slot None
+pub picture_drop : (shot after : Shot) (h : List Entry) (who slot : ℕ) (call : List ℕ) (old : Flight) (kept new : Watched) → IsPicture shot h kept
+    → IsComplete (record { who = who; command = Drop call }) → IsSoundShot after → slot < length shot.slots → flight_at shot slot ≡ Some old → old.card.call ≡ call → after ≡ with_flight shot slot None
     → (state_in after).records ≡ records_put (flight_at shot slot) None (records_in shot.slots)
     → new.rules ≡ kept.rules → new.moment ≡ kept.moment → new.places ≡ all_places (set shot.slots slot None)
     → IsPicture after (h ++ record { who = who; command = Drop call } ∷ []) new
-picture_drop shot after h who slot call old kept new is sound_after inside at own value put rules moment places =
+picture_drop shot after h who slot call old kept new is complete sound_after inside at own value put rules moment places =
     let e : Entry = record { who = who; command = Drop call } in
     let setup_is : after.setup ≡ shot.setup = ap (λ (s : Shot). s.setup) value in
     let slots_are : after.slots ≡ set shot.slots slot None = ap (λ (s : Shot). s.slots) value in
@@ -73,6 +76,7 @@ picture_drop shot after h who slot call old kept new is sound_after inside at ow
     record {
       stands = subst (λ (u : Setup). state_in after ≡ state_of u (h ++ e ∷ [])) (sym setup_is) stands;
       stamped = subst (λ (u : Setup). AreStamped u (h ++ e ∷ []) after.slots) (sym setup_is) stamped;
+      complete = All-push IsComplete h e is.complete complete;
       filed = λ i g at_is. let n = is.filed i g (from i g at_is) in omega (arith, n, version_is);
       rules_are = rules ∙ is.rules_are ∙ ap (λ (u : Setup). u.rules) (sym setup_is);
       moment_is = moment ∙ is.moment_is ∙ ap (λ (s : Shot). s.now) (sym value);

@@ -64,7 +64,7 @@ module _ (setup : Setup) (s : State) (who : ℕ) (rules : AreWithinBounds setup.
 
   -- and that there is room for the entry
   pub has_entry : (c : Command) → All c → int_lt (pos s.version) setup.rules.history ≡ true
-  has_entry (Plan call kind route at from level) all = (end_of (route_checks setup.tables route) _ all.1.1).1.1.1.0
+  has_entry (Plan call kind route at from level rvsm) all = (end_of (route_checks setup.tables route) _ all.1.1).1.1.1.0
   has_entry (External call straight) all = all.1.1.0
   has_entry (Drop call) all = all.1.0
   has_entry (commands.Report call report) all = all.1.1.1.1.0
@@ -86,7 +86,7 @@ module _ (setup : Setup) (s : State) (who : ℕ) (rules : AreWithinBounds setup.
   Aside c = AllByRecursion Holds (checks setup (roomy s c) who c)
 
   aside_all : (c : Command) → All c → Aside c
-  aside_all (Plan call kind route at from level) all =
+  aside_all (Plan call kind route at from level rvsm) all =
       let e = end_of (route_checks setup.tables route) _ all.1.1 in
       (all.0, (all.1.0, both_of (route_checks setup.tables route) _ (front_of (route_checks setup.tables route) _ all.1.1) (e.0, (e.1.0, (flight_room, (entry_room, tt))))))
   aside_all (External call straight) all = (all.0, (flight_room, (entry_room, tt)))
@@ -113,7 +113,7 @@ module _ (setup : Setup) (s : State) (who : ℕ) (rules : AreWithinBounds setup.
 
   -- that there is room for one more flight, where one is filed
   has_seat : (c : Command) → IsFiling c → All c → int_lt (pos (length s.records)) setup.rules.flights ≡ true
-  has_seat (Plan call kind route at from level) filing all = (end_of (route_checks setup.tables route) _ all.1.1).1.1.0
+  has_seat (Plan call kind route at from level rvsm) filing all = (end_of (route_checks setup.tables route) _ all.1.1).1.1.0
   has_seat (External call straight) filing all = all.1.0
   has_seat c filing all = absurd filing
 

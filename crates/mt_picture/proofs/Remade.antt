@@ -111,14 +111,14 @@ bare_mark setup who now (Withdraw call force) (Outer stretch) withdraws = refl
 bare_mark setup who now c path withdraws = absurd withdraws
 
 pub report_alters : (c : Command) → IsReport c ⊎ IsWithdrawal c → Alters c
-report_alters (Plan call kind route at from level) is = absurd (⊎_elim (λ r. r) (λ w. w) is)
+report_alters (Plan call kind route at from level rvsm) is = absurd (⊎_elim (λ r. r) (λ w. w) is)
 report_alters (External call straight) is = absurd (⊎_elim (λ r. r) (λ w. w) is)
 report_alters (Drop call) is = absurd (⊎_elim (λ r. r) (λ w. w) is)
 report_alters (Tick next) is = absurd (⊎_elim (λ r. r) (λ w. w) is)
 report_alters c is = tt
 
 pub remaking_alters : (c : Command) → IsRemaking c → Alters c
-remaking_alters (Plan call kind route at from level) is = absurd is
+remaking_alters (Plan call kind route at from level rvsm) is = absurd is
 remaking_alters (External call straight) is = absurd is
 remaking_alters (Drop call) is = absurd is
 remaking_alters (Tick next) is = absurd is
@@ -139,7 +139,7 @@ Keeps old f kind = stamped_at kind (Some f) ≡ stamped_at kind old
 -- of the other kind it has nothing, after a commitment, or what it had
 other_kind : (old : Option Flight) (version : ℕ) (c : Command) (card : Record) (t : Trajectory) (f : Flight) → kind_made c ≡ kinds.Actual → IsRemade old version c card t f
     → ((f.mark ≡ None) × ((call : List ℕ) × (c ≡ Commit call))) ⊎ (Keeps old f kinds.Tentative × ((call : List ℕ) → c ≡ Commit call → ⊥))
-other_kind old version (Plan call kind route at from level) card t f actual is = inr (is.rest, λ call e. cc)
+other_kind old version (Plan call kind route at from level rvsm) card t f actual is = inr (is.rest, λ call e. cc)
 other_kind old version (External call straight) card t f actual is = inr (is.rest, λ call e. cc)
 other_kind old version (Drop call) card t f actual is = inr (is.rest, λ call e. cc)
 other_kind old version (commands.Report call report) card t f actual is = inr (is.rest, λ call e. cc)

@@ -60,7 +60,7 @@ altered_same setup who c call rs r alters named other =
     )
 
 same_after : (setup : Setup) (who : ℕ) (c : Command) (rs : List Record) (r : Record) → call_of c ≢ Some r.call → SameRecord setup who c rs r
-same_after setup who (Plan call kind route at from level) rs r other =
+same_after setup who (Plan call kind route at from level rvsm) rs r other =
     ((λ held. Contains-append_left rs _ r held), (λ held. filed_from rs _ r (λ same. other (ap Some same)) held))
 same_after setup who (External call straight) rs r other =
     ((λ held. Contains-append_left rs _ r held), (λ held. filed_from rs _ r (λ same. other (ap Some same)) held))
@@ -148,7 +148,7 @@ some_is (Some r) is = (r, refl)
 
 -- a command that makes a trajectory files a flight or alters one
 files_or_alters : (c : Command) → MakesStrand c → IsFiling c ⊎ Alters c
-files_or_alters (Plan call kind route at from level) makes = inl tt
+files_or_alters (Plan call kind route at from level rvsm) makes = inl tt
 files_or_alters (External call straight) makes = inl tt
 files_or_alters (Drop call) makes = absurd makes
 files_or_alters (commands.Report call report) makes = absurd makes
@@ -157,7 +157,7 @@ files_or_alters (Withdraw call force) makes = absurd makes
 files_or_alters c makes = inr tt
 
 pub remakes : (c : Command) → MakesStrand c → ¬ IsFiling c → IsRemaking c
-remakes (Plan call kind route at from level) makes none = absurd (none tt)
+remakes (Plan call kind route at from level rvsm) makes none = absurd (none tt)
 remakes (External call straight) makes none = absurd (none tt)
 remakes (Drop call) makes none = absurd makes
 remakes (commands.Report call report) makes none = absurd makes

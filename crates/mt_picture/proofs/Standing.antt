@@ -2,8 +2,10 @@
 use Rattle.std.proofs.Common.{◌≡◌, ◌≢◌, ℕ, ◌+◌, ◌<◌, ◌≤◌, ◌⊎◌, inl, inr, ⊎_elim, List, [], ◌∷◌, ◌++◌, length, take, slice_get, get_or, set, Contains, Option, Some, None, refl, sym, ◌∙◌, ap, subst, arith, length-append, get_or-set_other, get_or-set_same}
 use Rattle.std.proofs.lemmas.Bool.{cases_eq, cases_lt}
 use Rattle.std.proofs.lemmas.List.{take-append-le, take_all}
+use Rattle.std.proofs.lemmas.List.Elements.{All-push}
 use Rattle.mt_base.specs.declared.command.Entry.{Entry}
 use Rattle.mt_base.specs.declared.conflict.Kind.{Kind}
+use Rattle.mt_base.specs.Complete.{IsComplete}
 use Rattle.mt_base.specs.History.{call_of, effect, state_of}
 use Rattle.mt_base.specs.Picture.{NamedTrajectory, State, trajectories}
 use Rattle.mt_base.specs.Tables.{Setup}
@@ -160,13 +162,14 @@ module _ (shot after : Shot) (h : List Entry) (e : Entry) (slot : ℕ) (f : Flig
       (λ away. inl (all i g kind made (else_is i g away at_is) made_is))
       (cases_eq i slot))
 
-  pub picture_put : (kept new : Watched) → IsPicture shot h kept → IsSoundShot after → new.rules ≡ kept.rules → new.moment ≡ kept.moment
+  pub picture_put : (kept new : Watched) → IsPicture shot h kept → IsComplete e → IsSoundShot after → new.rules ≡ kept.rules → new.moment ≡ kept.moment
       → new.places ≡ all_places (set shot.slots slot (Some f)) → IsPicture after (h ++ e ∷ []) new
-  picture_put kept new is sound rules moment places =
+  picture_put kept new is complete sound rules moment places =
       let setup_is : after.setup ≡ shot.setup = ap (λ (s : Shot). s.setup) value in
       record {
         stands = subst (λ (u : Setup). state_in after ≡ state_of u (h ++ e ∷ [])) (sym setup_is) stands_put;
         stamped = subst (λ (u : Setup). AreStamped u (h ++ e ∷ []) after.slots) (sym setup_is) (stamped_put sound is.stamped);
+        complete = All-push IsComplete h e is.complete complete;
         filed = λ i g at_is. ⊎_elim
             (λ here. let n = ap (λ (q : Flight). q.filed) (here_is i g here at_is) in let v = version_after in omega (arith, n, put.filed, v))
             (λ away. let n = is.filed i g (else_is i g away at_is) in let v = version_after in omega (arith, n, v))

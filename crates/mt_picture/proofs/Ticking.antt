@@ -27,7 +27,7 @@ use Rattle.mt_picture.proofs.Asking.{one_place}
 use Rattle.mt_picture.proofs.Knowing.{kept_made, stands_at}
 
 abbrev fetch : Option NamedTrajectory → NamedTrajectory
-fetch None = record { call = []; kind = Actual; path = record { start = 0; rows = [] } }
+fetch None = record { call = []; kind = Actual; path = record { start = 0; rows = []; rvsm = true } }
 fetch (Some t) = t
 
 module _ (shot : Shot) (sound : IsSoundShot shot) where

@@ -8,7 +8,7 @@ use Rattle.mt_probe.specs.Shot.{records_in}
 
 -- it files a flight
 abbrev pub IsFiling : Command → Type 0
-IsFiling (Plan call kind route at from level) = ⊤
+IsFiling (Plan call kind route at from level rvsm) = ⊤
 IsFiling (External call straight) = ⊤
 IsFiling command = ⊥
 

@@ -1,7 +1,8 @@
 -- What a picture holds, and what ties its parts together.
-use Rattle.std.specs.Prelude.{◌≡◌, ℕ, ◌+◌, ◌<◌, ◌≤◌, List, length, take, slice_get, get_or, Contains, Option, Some, None}
+use Rattle.std.specs.Prelude.{◌≡◌, ℕ, ◌+◌, ◌<◌, ◌≤◌, All, List, length, take, slice_get, get_or, Contains, Option, Some, None}
 use Rattle.mt_base.specs.declared.command.Entry.{Entry}
 use Rattle.mt_base.specs.declared.conflict.Kind.{Kind}
+use Rattle.mt_base.specs.Complete.{IsComplete}
 use Rattle.mt_base.specs.History.{call_of, state_of}
 use Rattle.mt_base.specs.Picture.{NamedTrajectory, trajectories}
 use Rattle.mt_base.specs.Tables.{Setup}
@@ -26,10 +27,12 @@ abbrev pub AreStamped : Setup → List Entry → List (Option Flight) → Type 0
 AreStamped setup h slots = (i : ℕ) (f : Flight) (kind : Kind) (made : Made) → get_or slots i None ≡ Some f → made_of f kind ≡ Some made
     → IsMadeAt setup h (made_of_kind f kind made) made.stamp
 
--- The snapshot stands for the state of the history, each trajectory has stood since its stamp, and what is kept is kept of the snapshot's places.
+-- The snapshot stands for the state of the history, whose entries are complete; each trajectory has stood since its stamp, and what is kept is kept
+-- of the snapshot's places.
 pub record IsPicture (shot : Shot) (h : List Entry) (kept : Watched) : Type 0 where
   pub stands : state_in shot ≡ state_of shot.setup h
   pub stamped : AreStamped shot.setup h shot.slots
+  pub complete : All IsComplete h
   pub filed : (i : ℕ) (f : Flight) → flight_at shot i ≡ Some f → f.filed ≤ shot.version
   pub rules_are : kept.rules ≡ shot.setup.rules
   pub moment_is : kept.moment ≡ shot.now

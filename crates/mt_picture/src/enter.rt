@@ -48,6 +48,7 @@ fn enter_filing(
     requires held { IsPicture held.old.snapshot held.old.history.items held.old.kept }
     requires passed { judged (checks held.old.snapshot.setup (look_at (state_in held.old.snapshot) command.now) who command.now) (tt {0}) ≡ Ok (tt {0}) }
     requires filing { IsFiling command.now }
+    requires bounded { IsBoundedCommand command.now }
     requires left { IsLeft held.old.snapshot.setup (state_in held.old.snapshot) who command.now card }
     requires setup { prep.now.setup ≡ held.old.snapshot.setup }
     requires of { prep.now.card.call ≡ card.call }

@@ -1,7 +1,8 @@
 //! Entering a command that names a flight: what it leaves in the flight's slot.
 ghost use Rattle.std.specs.Prelude.{◌≡◌, ◌<◌, ◌+◌, ◌++◌, ◌∷◌, ◌^◌, [], None, Some, IfOk, OnOk, OnErr, is_some, length, option_and_then, option_map, false, true};
 ghost use Rattle.std.specs.Arc.{arc_value};
-ghost use Rattle.mt_base.specs.Bounds.{IsSoundFlight};
+ghost use Rattle.mt_base.specs.Bounds.{IsBoundedCommand, IsSoundFlight};
+ghost use Rattle.mt_base.specs.Complete.{IsComplete};
 ghost use Rattle.mt_base.specs.History.{filled};
 ghost use Rattle.mt_base.specs.Picture.{NamedTrajectory};
 ghost use Rattle.mt_machine.specs.Deciding.{IsFirstHit};
@@ -48,6 +49,7 @@ fn put_made(
     requires held { IsPicture held.old.snapshot held.old.history.items held.old.kept }
     requires counted { held.old.snapshot.version < 2 ^ 40 }
     requires put { IsPutBy held.old.snapshot slot flight entry }
+    requires complete { IsComplete entry }
     requires setup { prep.now.setup ≡ held.old.snapshot.setup }
     requires call { flight.card.call ≡ prep.now.card.call }
     requires new { (m : NamedTrajectory) → place_kind kind (Some flight) ≡ Some m → IsPreps prep.now known m.path }
@@ -134,8 +136,12 @@ fn entry_of(
     who: u32,
     command: &Command,
 ) -> Result<Entry, Memory>
-    ensures { IfOk result (λ entry. entry ≡ record { who = who; command = filled snapshot.now.now command.now }) }
+    requires { IsBoundedCommand command.now }
+    ensures entry { IfOk result (λ entry. entry ≡ record { who = who; command = filled snapshot.now.now command.now }) }
+    ensures complete { IfOk result IsComplete }
 {
+    let _version = snapshot.version();
+    command.is_named();
     let command = command.filled(alloc, snapshot.now())?;
     Ok(Entry { who, command })
 }
@@ -157,6 +163,7 @@ pub(crate) fn file(
     requires slot { slot < length held.old.snapshot.slots }
     requires free { flight_at held.old.snapshot slot ≡ None }
     requires filing { IsFiling command.now }
+    requires bounded { IsBoundedCommand command.now }
     requires left { IsLeft held.old.snapshot.setup (state_in held.old.snapshot) who command.now card }
     requires setup { prep.now.setup ≡ held.old.snapshot.setup }
     requires of { prep.now.card.call ≡ card.call }
@@ -291,6 +298,7 @@ pub(crate) fn remake(
     requires counted { held.old.snapshot.version < 2 ^ 40 }
     requires there { option_map (λ f. f.card.call) (flight_at held.old.snapshot slot) ≡ Some card.call }
     requires remaking { IsRemaking command.now }
+    requires bounded { IsBoundedCommand command.now }
     requires left { IsLeft held.old.snapshot.setup (state_in held.old.snapshot) who command.now card }
     requires setup { prep.now.setup ≡ held.old.snapshot.setup }
     requires of { prep.now.card.call ≡ card.call }
@@ -329,6 +337,7 @@ pub(crate) fn report(
     requires counted { held.old.snapshot.version < 2 ^ 40 }
     requires there { option_map (λ f. f.card.call) (flight_at held.old.snapshot slot) ≡ Some card.call }
     requires reports { IsReport command.now }
+    requires bounded { IsBoundedCommand command.now }
     requires left { IsLeft held.old.snapshot.setup (state_in held.old.snapshot) who command.now card }
     ensures held { IsPicture held.new.snapshot held.new.history.items held.new.kept }
     ensures setup { held.new.snapshot.setup ≡ held.old.snapshot.setup }
@@ -355,6 +364,7 @@ pub(crate) fn withdraw(
     requires counted { held.old.snapshot.version < 2 ^ 40 }
     requires there { option_map (λ f. f.card.call) (flight_at held.old.snapshot slot) ≡ Some card.call }
     requires withdraws { IsWithdrawal command.now }
+    requires bounded { IsBoundedCommand command.now }
     requires left { IsLeft held.old.snapshot.setup (state_in held.old.snapshot) who command.now card }
     ensures held { IsPicture held.new.snapshot held.new.history.items held.new.kept }
     ensures setup { held.new.snapshot.setup ≡ held.old.snapshot.setup }

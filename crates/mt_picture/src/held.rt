@@ -1,6 +1,7 @@
 //! What a picture holds, and how its parts are changed together.
 ghost use Rattle.std.specs.Prelude.{◌≡◌, ◌<◌, ◌≤◌, ◌+◌, ◌++◌, ◌∷◌, ◌^◌, [], OnOk, OnErr, Some, length, option_map};
 ghost use Rattle.mt_base.specs.declared.command.Command.TheVariants.{Drop, Tick};
+ghost use Rattle.mt_base.specs.Complete.{IsComplete};
 ghost use Rattle.mt_kept.specs.Finds.{AreFinds};
 ghost use Rattle.mt_kept.specs.Places.{seen, with_slot};
 ghost use Rattle.mt_kept.specs.Window.{WasTestedOnce};
@@ -38,6 +39,7 @@ pub(crate) fn put_change(
     requires held { IsPicture held.old.snapshot held.old.history.items held.old.kept }
     requires counted { held.old.snapshot.version < 2 ^ 40 }
     requires put { IsPutBy held.old.snapshot slot flight entry }
+    requires complete { IsComplete entry }
     requires first { seen change.first ≡ first_of (Some flight) }
     requires second { seen change.second ≡ second_of (Some flight) }
     requires finds { AreFinds held.old.kept.rules (with_slot held.old.kept.places slot (first_of (Some flight)) (second_of (Some flight)))
@@ -74,6 +76,7 @@ pub(crate) fn put_card(
     requires held { IsPicture held.old.snapshot held.old.history.items held.old.kept }
     requires counted { held.old.snapshot.version < 2 ^ 40 }
     requires put { IsPutBy held.old.snapshot slot flight entry }
+    requires complete { IsComplete entry }
     requires first { first_of (Some flight) ≡ first_of (flight_at held.old.snapshot slot) }
     requires second { second_of (Some flight) ≡ second_of (flight_at held.old.snapshot slot) }
     ensures held { IsPicture held.new.snapshot held.new.history.items held.new.kept }
@@ -138,6 +141,7 @@ pub(crate) fn remove(
     ensures err { OnErr result (held.new.history.items ≡ held.old.history.items) }
 {
     let _version = held.snapshot.version();
+    let _letters = call.bytes();
     let snapshot = held.snapshot.put(slot, None)?;
     let _next = snapshot.version();
     held.history.reserve(1)?;

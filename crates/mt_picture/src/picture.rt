@@ -1,7 +1,8 @@
 //! The kept picture.
-ghost use Rattle.std.specs.Prelude.{◌≡◌, [], IfErr, IfOk, OnErr, OnOk, length, option_copied, slice_get};
+ghost use Rattle.std.specs.Prelude.{◌≡◌, [], All, IfErr, IfOk, OnErr, OnOk, length, option_copied, slice_get};
 ghost use Rattle.std.specs.Arc.{arc_value};
 ghost use Rattle.mt_base.specs.Bounds.{AreWithinBounds, IsBoundedCommand};
+ghost use Rattle.mt_base.specs.Complete.{IsComplete};
 ghost use Rattle.mt_base.specs.History.{IsInTime, IsLegal, IsReplayable, WasFree, state_of};
 ghost use Rattle.mt_base.specs.Picture.{IsPublished};
 ghost use Rattle.mt_probe.specs.Shot.{state_of as state_in};
@@ -99,9 +100,10 @@ impl Picture {
         self.held.history.get(place as usize)
     }
 
-    /// The history.
+    /// The history. What every picture keeps is said here too: its entries are complete.
     pub fn entries(&self) -> &[Entry]
-        ensures { result.now ≡ self.now.history }
+        ensures history { result.now ≡ self.now.history }
+        ensures complete { All IsComplete self.now.history }
     {
         self.held.history.as_slice()
     }

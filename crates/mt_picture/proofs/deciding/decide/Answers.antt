@@ -1,4 +1,9 @@
+use Rattle.mt_predict.proofs.Looks.{judged_flown, some_strand}
 use Rattle.mt_picture.proofs.deciding.decide.Goals as goal
 
+pub judge-requires : goal.judge-requires
+judge-requires c = record { strand = some_strand c.args.snapshot.now.setup c.look-looked.result c.args.command.now c.look-looked.ensures.strand }
+
 pub returns : goal.returns
-returns c = rw (c.tables.ensures, c.rules.ensures.rules, c.look-looked.ensures.look) at c.judge.ensures
+returns c = rw c.look-looked.ensures.look at (judged_flown c.args.snapshot.now.setup c.look-looked.result c.args.who c.args.command.now c.judge.result
+    c.look-looked.ensures.strand (rw (c.tables.ensures, c.rules.ensures.rules) at c.judge.ensures))

@@ -24,7 +24,7 @@ put_made-requires-clause-put c =
       actual = record { strand = c.in_ok-strand.strand; stamp = c.version-version.result + 1 };
       mark = None;
     } in
-    rw c.in_ok-entry.ensures
+    rw c.in_ok-entry.ensures.entry
     (put_filed shot c.args.slot f c.args.who c.args.command.now c.version-version.ensures.kept c.requires.slot c.requires.free c.requires.filing c.requires.left refl
     c.in_ok-strand.ensures.made (ap (λ n. n + 1) v) (ap (λ n. n + 1) v) c.requires.held.filed)
 
@@ -41,7 +41,7 @@ put_made-requires-clause-new c = λ m is known.
     ap (λ (u : NamedTrajectory). u.path) (sym e) ∙ c.in_ok-strand.ensures.known known
 
 pub returns-clause-ok : goal.returns-clause-ok
-returns-clause-ok c = rw c.in_ok-entry.ensures at c.put_made.ensures.ok
+returns-clause-ok c = rw c.in_ok-entry.ensures.entry at c.put_made.ensures.ok
 
 pub returns-clause-hits : goal.returns-clause-hits
 returns-clause-hits c =

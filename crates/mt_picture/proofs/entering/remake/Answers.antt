@@ -14,7 +14,7 @@ use Rattle.mt_picture.proofs.entering.remake.Goals as goal
 pub put_made-requires-clause-put : goal.put_made-requires-clause-put
 put_made-requires-clause-put c =
     let shot = c.args.held.now.snapshot in
-    rw c.in_ok-entry.ensures
+    rw c.in_ok-entry.ensures.entry
     (put_remade shot c.args.slot c.in_ok-flight.flight c.args.who c.args.command.now c.args.card (arc_value c.in_ok-strand.strand) c.version-version.ensures.kept
     c.requires.there c.requires.remaking c.requires.left c.requires.held.filed (rw c.kind_made-kind.ensures at c.in_ok-strand.ensures.made) c.in_ok-flight.ensures)
 
@@ -34,7 +34,7 @@ put_made-requires-clause-other c = λ m is.
     c.kind_made-kind.ensures c.in_ok-flight.ensures is
 
 pub returns-clause-ok : goal.returns-clause-ok
-returns-clause-ok c = rw c.in_ok-entry.ensures at c.put_made.ensures.ok
+returns-clause-ok c = rw c.in_ok-entry.ensures.entry at c.put_made.ensures.ok
 
 pub returns-clause-hits : goal.returns-clause-hits
 returns-clause-hits c =

@@ -21,5 +21,5 @@ change_bare-requires-clause-was c =
 pub put_change-requires-clause-put : goal.put_change-requires-clause-put
 put_change-requires-clause-put c =
     let shot = c.args.held.now.snapshot in
-    rw c.in_ok-entry.ensures (put_bare shot c.args.slot c.args.card c.in_ok-flight.flight c.args.who c.args.command.now
+    rw c.in_ok-entry.ensures.entry (put_bare shot c.args.slot c.args.card c.in_ok-flight.flight c.args.who c.args.command.now
     c.version-version.ensures.kept c.requires.there c.requires.withdraws c.requires.left c.requires.held.filed c.in_ok-flight.ensures)

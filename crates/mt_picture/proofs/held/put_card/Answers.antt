@@ -14,4 +14,4 @@ returns-clause-held c =
     let places = c.requires.held.places_are ∙ sym (places_same shot.slots c.args.slot (Some c.args.flight) c.requires.first c.requires.second) in
     subst (λ (g : List Entry). IsPicture c.in_ok-snapshot.snapshot g c.args.held.now.kept) (sym entered)
     (picture_put shot c.in_ok-snapshot.snapshot h e c.args.slot c.args.flight c.requires.held.stands c.requires.put c.in_ok-snapshot.ensures.value
-    c.in_ok-snapshot.ensures.records c.args.held.now.kept c.args.held.now.kept c.requires.held c.version-next.ensures.kept refl refl places)
+    c.in_ok-snapshot.ensures.records c.args.held.now.kept c.args.held.now.kept c.requires.held c.requires.complete c.version-next.ensures.kept refl refl places)

@@ -26,5 +26,5 @@ returns-clause-held c =
     ) at c.in_ok-change.ensures.ok in
     subst (λ (g : List Entry). IsPicture c.in_ok-snapshot.snapshot g c.change.new.self) (sym entered)
     (picture_put shot c.in_ok-snapshot.snapshot h e c.args.slot c.args.flight c.requires.held.stands c.requires.put c.in_ok-snapshot.ensures.value
-    c.in_ok-snapshot.ensures.records c.args.held.now.kept c.change.new.self c.requires.held c.version-next.ensures.kept
+    c.in_ok-snapshot.ensures.records c.args.held.now.kept c.change.new.self c.requires.held c.requires.complete c.version-next.ensures.kept
     c.in_ok-change.ensures.rules c.in_ok-change.ensures.moment places)

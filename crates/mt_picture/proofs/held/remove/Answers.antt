@@ -26,7 +26,7 @@ returns-clause-held c =
     let places = rw (c.requires.held.places_are, ← places_set shot.slots c.args.slot None inside) at c.in_ok-remove.ensures.ok in
     subst (λ (g : List Entry). IsPicture c.in_ok-snapshot.snapshot g c.remove.new.self) (sym entered)
     (picture_drop shot c.in_ok-snapshot.snapshot h c.args.who c.args.slot c.args.call it.flight c.args.held.now.kept c.remove.new.self c.requires.held
-    c.version-next.ensures.kept inside it.at_is it.own c.in_ok-snapshot.ensures.value c.in_ok-snapshot.ensures.records
+    (record { names = c.bytes-letters.ensures.named; timed = tt; bounded = tt; who = c.ranges.who.fits }) c.version-next.ensures.kept inside it.at_is it.own c.in_ok-snapshot.ensures.value c.in_ok-snapshot.ensures.records
     c.in_ok-remove.ensures.rules c.in_ok-remove.ensures.moment places)
 
 pub remove-requires : goal.remove-requires

@@ -14,7 +14,7 @@ returns-clause-held c =
     let entered : c.push_reserved.new.self.items ≡ h ++ e ∷ [] = cc in
     subst (λ (g : List Entry). IsPicture c.in_ok-snapshot.snapshot g c.move_to.new.self) (sym entered)
     (picture_tick shot c.in_ok-snapshot.snapshot h c.args.who c.args.now c.args.held.now.kept c.move_to.new.self c.requires.held
-    c.version-next.ensures.kept c.in_ok-snapshot.ensures c.in_ok-move_to.ensures.rules c.in_ok-move_to.ensures.ok c.in_ok-move_to.ensures.places)
+    (record { names = tt; timed = tt; bounded = c.requires.early; who = c.ranges.who.fits }) c.version-next.ensures.kept c.in_ok-snapshot.ensures c.in_ok-move_to.ensures.rules c.in_ok-move_to.ensures.ok c.in_ok-move_to.ensures.places)
 
 pub returns-in_err-snapshot-clause-counted : goal.returns-in_err-snapshot-clause-counted
 returns-in_err-snapshot-clause-counted c = none_tested _ _ _ _

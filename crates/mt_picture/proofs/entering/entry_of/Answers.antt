@@ -1,0 +1,7 @@
+use Rattle.mt_picture.proofs.Completed.{complete_entry}
+use Rattle.mt_picture.proofs.entering.entry_of.Goals as goal
+
+pub returns-clause-complete : goal.returns-clause-complete
+returns-clause-complete c =
+    let shot = c.args.snapshot.now in
+    rw (c.in_ok-command.ensures, c.now.ensures.now) (complete_entry c.args.who shot.now c.args.command.now c.is_named.ensures c.requires c.version-version.ensures.kept.early c.ranges.who.fits)
