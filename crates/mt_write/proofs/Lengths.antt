@@ -58,7 +58,7 @@ named_length : (low high : ℕ) (text : List ℕ) → is_name low high text ≡ 
 named_length low high text h = grind (arith, nat_tests)
 
 name_length : (text : List ℕ) → is_name 1 7 text ≡ true → length (escape text) ≤ 7
-name_length text h = subst (λ written. length written ≤ 7) (sym (plain_name text h)) (named_length 1 7 text h)
+name_length text h = subst (λ written. length written ≤ 7) (sym (plain_name 1 7 text h)) (named_length 1 7 text h)
 
 hit_length : (hit : Hit) → IsShortHit hit → length (compact_text (hit_value hit)) ≤ 55
 unfolding json_on_literals

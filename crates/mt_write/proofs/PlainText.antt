@@ -19,5 +19,5 @@ plain_letters (b ∷ bs) h =
 named_letters : (low high : ℕ) (text : List ℕ) → is_name low high text ≡ true → list_all is_letter text ≡ true
 named_letters low high text h = grind (arith, nat_tests)
 
-pub plain_name : (text : List ℕ) → is_name 1 7 text ≡ true → escape text ≡ text
-plain_name text h = plain_letters text (named_letters 1 7 text h)
+pub plain_name : (low high : ℕ) (text : List ℕ) → is_name low high text ≡ true → escape text ≡ text
+plain_name low high text h = plain_letters text (named_letters low high text h)

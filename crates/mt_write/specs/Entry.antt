@@ -41,15 +41,16 @@ call_members word call who =
 -- An entry has its command's fields, all of them, and the number of who asked for it; the keys stand in byte order. (A clearance
 -- that is entered says from when it holds; 0 stands for one that doesn't.)
 abbrev pub entry_members : ℕ → Command → Members
-entry_members who (command.Plan call kind route at from level) =
+entry_members who (command.Plan call kind route at from level rvsm) =
     member (codes "at") (whole (pos at)) (
     member (codes "call") (string call) (
     member (codes "do") (string (codes "plan")) (
     member (codes "from") (whole (pos from)) (
     member (codes "level") (whole (pos level)) (
     member (codes "route") (array (values string route)) (
+    member (codes "rvsm") (boolean rvsm) (
     member (codes "type") (string kind) (
-    member (codes "who") (whole (pos who)) no_members)))))))
+    member (codes "who") (whole (pos who)) no_members))))))))
 entry_members who (command.External call straight) =
     member (codes "call") (string call) (
     member (codes "do") (string (codes "external")) (
@@ -57,6 +58,7 @@ entry_members who (command.External call straight) =
     member (codes "gr") (whole straight.first.gr) (
     member (codes "gw") (whole straight.first.gw) (
     member (codes "r") (whole straight.first.r) (
+    member (codes "rvsm") (boolean straight.rvsm) (
     member (codes "to") (whole (pos straight.to)) (
     member (codes "vx") (whole straight.first.vx) (
     member (codes "vy") (whole straight.first.vy) (
@@ -65,7 +67,7 @@ entry_members who (command.External call straight) =
     member (codes "who") (whole (pos who)) (
     member (codes "x") (whole straight.first.x) (
     member (codes "y") (whole straight.first.y) (
-    member (codes "z") (whole straight.first.z) no_members))))))))))))))
+    member (codes "z") (whole straight.first.z) no_members)))))))))))))))
 entry_members who (command.Drop call) = call_members (codes "drop") call who
 entry_members who (command.Report call report) =
     member (codes "at") (whole (pos report.at)) (

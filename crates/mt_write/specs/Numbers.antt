@@ -23,12 +23,20 @@ abbrev pub numbers_text : List (Bor (List ℕ) × ℤ) → List ℕ
 numbers_text [] = 125 ∷ []
 numbers_text (n ∷ ns) = number_text n.0.now n.1 ++ numbers_text ns
 
--- the numbers of an external flight behind its first second, in the byte order of their keys, and the closing bracket
+-- whether an aircraft is approved for RVSM
+abbrev pub approval_text : Bool → List ℕ
+approval_text rvsm = codes ",\"rvsm\":" ++ compact_text (boolean rvsm)
+
+-- The members of an external flight behind its first second, in the byte order of their keys: the gains of its margins, its horizontal
+-- margin and its approval; then its other numbers, and the closing bracket.
+abbrev pub external_gains : Straight → List ℕ
+external_gains straight = number_text (codes "gr") straight.first.gr ++ number_text (codes "gw") straight.first.gw
+
+abbrev pub external_middle : Straight → List ℕ
+external_middle straight = external_gains straight ++ (number_text (codes "r") straight.first.r ++ approval_text straight.rvsm)
+
 abbrev pub external_numbers : ℕ → Straight → List ℕ
 external_numbers who straight =
-    number_text (codes "gr") straight.first.gr ++ (
-    number_text (codes "gw") straight.first.gw ++ (
-    number_text (codes "r") straight.first.r ++ (
     number_text (codes "to") (pos straight.to) ++ (
     number_text (codes "vx") straight.first.vx ++ (
     number_text (codes "vy") straight.first.vy ++ (
@@ -37,7 +45,7 @@ external_numbers who straight =
     number_text (codes "who") (pos who) ++ (
     number_text (codes "x") straight.first.x ++ (
     number_text (codes "y") straight.first.y ++ (
-    number_text (codes "z") straight.first.z ++ 125 ∷ [])))))))))))
+    number_text (codes "z") straight.first.z ++ 125 ∷ []))))))))
 
 -- what stands before them
 abbrev pub external_front : List ℕ → ℕ → List ℕ
@@ -45,7 +53,7 @@ external_front call from = codes "{\"call\":\"" ++ (escape call ++ (codes "\",\"
 
 -- the whole entry of an external flight
 abbrev pub external_text : ℕ → List ℕ → Straight → List ℕ
-external_text who call straight = external_front call straight.from ++ external_numbers who straight
+external_text who call straight = external_front call straight.from ++ (external_middle straight ++ external_numbers who straight)
 
 -- what is told of a flight, in parts: up to its last second; its level and row; its first second and tentative clearance; the version
 abbrev pub flight_front : FlightView → List ℕ
@@ -62,7 +70,7 @@ flight_marked view = (codes ",\"start\":" ++ compact_text (whole (pos view.start
 abbrev pub flight_text : FlightView → List ℕ
 flight_text view = flight_front view ++ (flight_flown view ++ (flight_marked view ++ (codes ",\"version\":" ++ (decimal view.version ++ codes "}\n"))))
 
--- a plan up to its first level, then its level and route, then the rest
+-- a plan up to its first level, then its level and route, then, behind its approval, the rest
 abbrev pub plan_front : List ℕ → ℕ → ℕ → List ℕ
 plan_front call at from = codes "{\"at\":" ++ (decimal at ++ (codes ",\"call\":\"" ++ (escape call ++ (codes "\",\"do\":\"plan\",\"from\":" ++ decimal from))))
 

@@ -35,13 +35,14 @@ impl Written for Entry {
                 at,
                 from,
                 level,
+                rvsm,
             } => {
                 let start = Start {
                     at: *at,
                     from: *from,
                     level: *level,
                 };
-                put_plan(out, self.who, call, kind, route, &start)
+                put_plan(out, self.who, call, kind, route, &start, *rvsm)
             }
             Command::External { call, straight } => put_external(out, self.who, call, straight),
             Command::Drop { call } => { put_call_alone(out, self.who, call, b"\",\"do\":\"drop\"") }

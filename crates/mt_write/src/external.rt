@@ -1,8 +1,9 @@
 //! The entry of an external flight.
-ghost use Rattle.mt_write.specs.Numbers.{external_front, external_numbers, external_text};
+ghost use Rattle.mt_write.specs.Numbers.{external_front, external_gains, external_middle, external_numbers, external_text};
 ghost use Rattle.mt_write.specs.Puts.{Puts};
 
-use crate::number::put_numbers;
+use crate::number::{put_number, put_numbers};
+use crate::truth::put_approval;
 use crate::write::put_all;
 use itoa::Buffer;
 use mt_base::{Callsign, Straight};
@@ -34,10 +35,28 @@ pub(crate) fn put_external(
     ensures { Puts result out.old out.new (external_text who call.now straight.now) }
 {
     put_external_front(out, call, straight.from)?;
+    put_external_middle(out, straight)?;
     put_external_numbers(out, who, straight)
 }
 
-// Puts the numbers of an external flight behind its first second.
+// Puts the gains of an external flight's margins behind its first second.
+fn put_external_gains(out: &mut Vec<u8>, straight: &Straight) -> Result<(), Memory>
+    ensures { Puts result out.old out.new (external_gains straight.now) }
+{
+    put_number(out, "gr", straight.first.gr)?;
+    put_number(out, "gw", straight.first.gw)
+}
+
+// Puts these, the horizontal margin and the approval.
+fn put_external_middle(out: &mut Vec<u8>, straight: &Straight) -> Result<(), Memory>
+    ensures { Puts result out.old out.new (external_middle straight.now) }
+{
+    put_external_gains(out, straight)?;
+    put_number(out, "r", straight.first.r)?;
+    put_approval(out, straight.rvsm)
+}
+
+// Puts the numbers of an external flight behind these.
 fn put_external_numbers(out: &mut Vec<u8>, who: u32, straight: &Straight) -> Result<(), Memory>
     ensures { Puts result out.old out.new (external_numbers who straight.now) }
 {
@@ -45,9 +64,6 @@ fn put_external_numbers(out: &mut Vec<u8>, who: u32, straight: &Straight) -> Res
     put_numbers(
         out,
         &[
-            ("gr", first.gr),
-            ("gw", first.gw),
-            ("r", first.r),
             ("to", i64::from(straight.to)),
             ("vx", first.vx),
             ("vy", first.vy),

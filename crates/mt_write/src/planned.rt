@@ -1,9 +1,10 @@
 //! The entry of a planned flight.
 ghost use Rattle.std.specs.Prelude.{◌++◌};
-ghost use Rattle.mt_write.specs.Numbers.{plan_back, plan_front, plan_route};
+ghost use Rattle.mt_write.specs.Numbers.{approval_text, plan_back, plan_front, plan_route};
 ghost use Rattle.mt_write.specs.Puts.{Puts};
 
 use crate::number::put_number;
+use crate::truth::put_approval;
 use crate::write::{put, put_all};
 use crate::written::put_items;
 use itoa::Buffer;
@@ -26,12 +27,14 @@ pub(crate) fn put_plan(
     kind: &TypeName,
     route: &Route,
     start: &Start,
+    rvsm: bool,
 ) -> Result<(), Memory>
     ensures { Puts result out.old out.new
-        (plan_front call.now start.now.at start.now.from ++ (plan_route start.now.level route.now ++ plan_back who kind.now)) }
+        (plan_front call.now start.now.at start.now.from ++ (plan_route start.now.level route.now ++ (approval_text rvsm ++ plan_back who kind.now))) }
 {
     put_plan_front(out, call, start.at, start.from)?;
     put_plan_route(out, start.level, route)?;
+    put_approval(out, rvsm)?;
     put_plan_back(out, who, kind)
 }
 

@@ -8,5 +8,5 @@ pub returns : goal.returns
 returns c =
     puts_is c.put_all.result c.args.out.now c.put_all.new.out _ _
     (report_front_text c.args.who c.args.at c.args.call.now _ _ _ (c.as_bytes.ensures.value ∙ c.format.ensures.text)
-    (c.bytes.ensures.text ∙ sym (plain_name c.args.call.now c.bytes.ensures.named)) (c.as_bytes-2.ensures.value ∙ c.format-2.ensures.text))
+    (c.bytes.ensures.text ∙ sym (plain_name 1 7 c.args.call.now c.bytes.ensures.named)) (c.as_bytes-2.ensures.value ∙ c.format-2.ensures.text))
     c.put_all.ensures

@@ -16,5 +16,5 @@ returns-in-Level c =
 pub returns-in-Direct : goal.returns-in-Direct
 returns-in-Direct c =
     puts_is c.put_all-in-Direct.result c.args.out.now c.put_all-in-Direct.new.out _ _
-    (direct_advised_text c.in-Direct.fix c.args.self.now.probe _ _ (c.bytes.ensures.text ∙ sym (plain_name c.in-Direct.fix c.bytes.ensures.named)) (c.as_bytes-probe.ensures.value ∙ c.format.ensures.text)
+    (direct_advised_text c.in-Direct.fix c.args.self.now.probe _ _ (c.bytes.ensures.text ∙ sym (plain_name 2 5 c.in-Direct.fix c.bytes.ensures.named)) (c.as_bytes-probe.ensures.value ∙ c.format.ensures.text)
     ∙ ap (λ clearance. compact_text (object (advised_members clearance c.args.self.now.probe))) (sym c.in-Direct.is)) c.put_all-in-Direct.ensures

@@ -10,7 +10,7 @@ pub returns-in-Plan : goal.returns-in-Plan
 returns-in-Plan c =
     let p = c.in-Plan in
     puts_is c.put_plan.result c.args.out.now c.put_plan.new.out _ _
-    (plan_text c.args.self.now.who p.call p.kind p.route p.at p.from p.level ∙ ap (λ command. compact_text (object (entry_members c.args.self.now.who command))) (sym p.is))
+    (plan_text c.args.self.now.who p.call p.kind p.route p.at p.from p.level p.rvsm ∙ ap (λ command. compact_text (object (entry_members c.args.self.now.who command))) (sym p.is))
     c.put_plan.ensures
 
 pub returns-in-External : goal.returns-in-External

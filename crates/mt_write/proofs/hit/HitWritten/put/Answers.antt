@@ -8,4 +8,4 @@ pub returns : goal.returns
 returns c =
     puts_is c.put_all.result c.args.out.now c.put_all.new.out _ _
     (hit_text c.args.self.now _ _ _ (c.as_bytes.ensures.value ∙ c.format.ensures.text) (c.as_bytes-2.ensures.value ∙ c.format-2.ensures.text)
-    (c.bytes.ensures.text ∙ sym (plain_name c.args.self.now.with c.bytes.ensures.named))) c.put_all.ensures
+    (c.bytes.ensures.text ∙ sym (plain_name 1 7 c.args.self.now.with c.bytes.ensures.named))) c.put_all.ensures
