@@ -8,8 +8,9 @@ use Rattle.mt_base.specs.declared.clearance.Clearance.TheVariants.{Level, Direct
 use Rattle.mt_base.specs.declared.command.Command.{Command}
 use Rattle.mt_base.specs.declared.command.Command.TheVariants as command
 use Rattle.mt_base.specs.Bounds.{IsBoundedCommand, IsWithin}
+use Rattle.mt_base.specs.Complete.{HasNames, IsTimed}
+use Rattle.mt_base.specs.Name.{IsFixName}
 use Rattle.mt_write.specs.Entry.{entry_members, values, whole}
-use Rattle.mt_wire.specs.Complete.{HasNames, IsFixName, IsTimed}
 use Rattle.mt_wire.specs.Held.{HoldsWhole, ItemsHoldWhole}
 use Rattle.mt_wire.proofs.PlainText.{are_plain, ascii_name, is_plain}
 
@@ -19,7 +20,7 @@ plain_names (name ∷ names) each =
     rw (ascii_name 2 5 name (All-head IsFixName name names each), plain_names names (All-tail IsFixName name names each)) refl
 
 pub plain_entry : (who : ℕ) (c : Command) → HasNames c → is_plain (object (entry_members who c)) ≡ true
-plain_entry who (command.Plan call kind route at from level) h = rw (ascii_name 1 7 call h.0, ascii_name 2 4 kind h.1, plain_names route h.2) refl
+plain_entry who (command.Plan call kind route at from level rvsm) h = rw (ascii_name 1 7 call h.0, ascii_name 2 4 kind h.1, plain_names route h.2) refl
 plain_entry who (command.External call straight) h = rw (ascii_name 1 7 call h) refl
 plain_entry who (command.Drop call) h = rw (ascii_name 1 7 call h) refl
 plain_entry who (command.Report call report) h = rw (ascii_name 1 7 call h) refl
@@ -44,8 +45,8 @@ held_names [] = tt
 held_names (name ∷ names) = (tt, held_names names)
 
 pub held_entry : (who : ℕ) (c : Command) → IsTimed c → IsBoundedCommand c → who < 2 ^ 32 → HoldsWhole (object (entry_members who c))
-held_entry who (command.Plan call kind route at from level) t b w =
-    (omega (arith, b.0), (tt, (tt, (omega (arith, b.1), (omega (arith, b.2), (held_names route, (tt, (omega (arith, w), tt))))))))
+held_entry who (command.Plan call kind route at from level rvsm) t b w =
+    (omega (arith, b.0), (tt, (tt, (omega (arith, b.1), (omega (arith, b.2), (held_names route, (tt, (tt, (omega (arith, w), tt)))))))))
 held_entry who (command.External call s) t b w =
     let k = b.kept in (
       tt,
@@ -60,24 +61,27 @@ held_entry who (command.External call s) t b w =
               (
                 held 0 72000 s.first.r (omega arith) (omega arith) k.r.value,
                 (
-                  omega (arith, b.begins, b.short),
+                  tt,
                   (
-                    held 1000 1000 s.first.vx (omega arith) (omega arith) k.x.growth,
+                    omega (arith, b.begins, b.short),
                     (
-                      held 1000 1000 s.first.vy (omega arith) (omega arith) k.y.growth,
+                      held 1000 1000 s.first.vx (omega arith) (omega arith) k.x.growth,
                       (
-                        held 10000 10000 s.first.vz (omega arith) (omega arith) k.z.growth,
+                        held 1000 1000 s.first.vy (omega arith) (omega arith) k.y.growth,
                         (
-                          held 0 600000 s.first.w (omega arith) (omega arith) k.w.value,
+                          held 10000 10000 s.first.vz (omega arith) (omega arith) k.z.growth,
                           (
-                            omega (arith, w),
+                            held 0 600000 s.first.w (omega arith) (omega arith) k.w.value,
                             (
-                              held 3686400 3686400 s.first.x (omega arith) (omega arith) k.x.value,
+                              omega (arith, w),
                               (
-                                held 3686400 3686400 s.first.y (omega arith) (omega arith) k.y.value,
+                                held 3686400 3686400 s.first.x (omega arith) (omega arith) k.x.value,
                                 (
-                                  held 0 3600000 s.first.z (omega arith) (omega arith) k.z.value,
-                                  tt,
+                                  held 3686400 3686400 s.first.y (omega arith) (omega arith) k.y.value,
+                                  (
+                                    held 0 3600000 s.first.z (omega arith) (omega arith) k.z.value,
+                                    tt,
+                                  ),
                                 ),
                               ),
                             ),

@@ -14,16 +14,16 @@ use Rattle.mt_wire.specs.Held.{HoldsWhole}
 use Rattle.mt_wire.proofs.ReadBack.{items_read, numbered, read_back}
 
 pub entry_read : (who : ℕ) (command : Command) → HoldsWhole (object (entry_members who command)) → of_json (outline (object (entry_members who command))) ≡ Some (object (entry_members who command))
-entry_read who (command.Plan call kind route at from level) h =
+entry_read who (command.Plan call kind route at from level rvsm) h =
     rw (
       numbered (pos at) h.0,
       numbered (pos from) h.1.1.1.0,
       numbered (pos level) h.1.1.1.1.0,
       items_read string (λ name _. refl) route h.1.1.1.1.1.0,
-      numbered (pos who) h.1.1.1.1.1.1.1.0,
+      numbered (pos who) h.1.1.1.1.1.1.1.1.0,
     ) refl
 entry_read who (command.External call s) h =
-    let (_, (_, (from, (gr, (gw, (r, (to, (vx, (vy, (vz, (w, (actor, (x, (y, (z, _))))))))))))))) = h in
+    let (_, (_, (from, (gr, (gw, (r, (_, (to, (vx, (vy, (vz, (w, (actor, (x, (y, (z, _)))))))))))))))) = h in
     rw (
       numbered (pos s.from) from,
       numbered s.first.gr gr,
@@ -68,7 +68,7 @@ names_depth [] = omega arith
 names_depth (name ∷ names) = omega (arith, names_depth names)
 
 pub entry_depth : (who : ℕ) (command : Command) → tree.depth (outline (object (entry_members who command))) ≤ 2
-entry_depth who (command.Plan call kind route at from level) = omega (arith, names_depth route)
+entry_depth who (command.Plan call kind route at from level rvsm) = omega (arith, names_depth route)
 entry_depth who (command.Clear call (Level level) eff) = omega arith
 entry_depth who (command.Clear call (Direct fix) eff) = omega arith
 entry_depth who (command.Accept call (Level level) eff probed) = omega arith

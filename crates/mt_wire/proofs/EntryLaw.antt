@@ -14,11 +14,11 @@ use Rattle.serde_json.specs.Read.{max_depth, of_json, read}
 use Rattle.serde_json.specs.Written.{compact_text, outline}
 use Rattle.serde_json.proofs.Texts.{print-outline}
 use Rattle.mt_base.specs.declared.command.Entry.{Entry}
+use Rattle.mt_base.specs.Complete.{IsComplete}
 use Rattle.mt_read.specs.Entry.{as_entry, entry, held_in}
 use Rattle.mt_read.specs.Line.{read_value}
 use Rattle.mt_read.proofs.Decoding.{decoded_some}
 use Rattle.mt_write.specs.Entry.{entry_text, entry_value}
-use Rattle.mt_wire.specs.Complete.{IsComplete}
 use Rattle.mt_wire.specs.Held.{HoldsWhole}
 use Rattle.mt_wire.proofs.CompleteEntries.{held_entry, plain_entry}
 use Rattle.mt_wire.proofs.EntryBack.{entry_back}

@@ -1,5 +1,5 @@
 -- The members of an entry are read as that entry.
-use Rattle.std.proofs.Common.{◌≡◌, ℕ, ℤ, pos, negsuc, ◌+◌, ◌-◌, ◌<◌, ◌^◌, ◌+ℤ◌, ◌*ℤ◌, true, List, [], ◌∷◌, Some, None, Ok, refl, sym, ap, ap₂, subst, arith}
+use Rattle.std.proofs.Common.{◌≡◌, ℕ, ℤ, pos, negsuc, ◌+◌, ◌-◌, ◌<◌, ◌^◌, ◌+ℤ◌, ◌*ℤ◌, Bool, true, List, [], ◌∷◌, Some, None, Ok, refl, sym, ap, ap₂, subst, arith}
 use Rattle.std.specs.Prelude.{◌&&◌, int_le, is_some, unwrap_or, All}
 use Rattle.std.proofs.lemmas.List.Elements.{All-head, All-tail}
 use Rattle.serde_json.specs.Data.{string}
@@ -11,13 +11,13 @@ use Rattle.mt_base.specs.declared.flight.Report.{Report}
 use Rattle.mt_base.specs.declared.flight.Straight.{Straight}
 use Rattle.mt_base.specs.declared.row.Row.{Row}
 use Rattle.mt_base.specs.Bounds.{IsBoundedCommand, IsBoundedReport, IsBoundedStretch, IsWithin}
-use Rattle.mt_base.specs.Name.{is_name, name_of}
+use Rattle.mt_base.specs.Complete.{HasNames, IsTimed}
+use Rattle.mt_base.specs.Name.{IsFixName, is_name, name_of}
 use Rattle.mt_read.specs.Entry.{held_in}
 use Rattle.mt_read.specs.Field.{as_fix, each_of}
 use Rattle.mt_read.specs.Words.{change_word_of, entry_word_of}
 use Rattle.mt_read.proofs.EntryReading.{HoldCommand, counted, is_held, tested}
 use Rattle.mt_write.specs.Entry.{entry_members, values}
-use Rattle.mt_wire.specs.Complete.{HasNames, IsFixName, IsTimed}
 
 -- ---- a number that was written is read as that number
 
@@ -57,14 +57,14 @@ route_is (name ∷ names) each = rw (All-head IsFixName name names each, route_i
 call_alone : (command : List ℕ → Command) (call : List ℕ) → is_name 1 7 call ≡ true → command (unwrap_or (name_of 1 7 call) []) ≡ command call
 call_alone command call h = ap command (name_is 1 7 call h)
 
-plan_held : (who : ℕ) (call kind : List ℕ) (route : List (List ℕ)) (at from level : ℕ) → HasNames (command.Plan call kind route at from level)
-    → IsBoundedCommand (command.Plan call kind route at from level)
-    → HoldCommand (entry_members who (command.Plan call kind route at from level)) who (command.Plan call kind route at from level)
+plan_held : (who : ℕ) (call kind : List ℕ) (route : List (List ℕ)) (at from level : ℕ) (rvsm : Bool) → HasNames (command.Plan call kind route at from level rvsm)
+    → IsBoundedCommand (command.Plan call kind route at from level rvsm)
+    → HoldCommand (entry_members who (command.Plan call kind route at from level rvsm)) who (command.Plan call kind route at from level rvsm)
 unfolding entry_word_of change_word_of
-plan_held who call kind route at from level h b = record {
+plan_held who call kind route at from level rvsm h b = record {
   word = refl;
   keys = refl;
-  fields = (named_stands 1 7 call h.0, (named_stands 2 4 kind h.1, (rw (route_is route h.2) refl, (refl, (refl, (refl, tt))))));
+  fields = (named_stands 1 7 call h.0, (named_stands 2 4 kind h.1, (rw (route_is route h.2) refl, (refl, (refl, (refl, (refl, tt)))))));
   bounds = (counted 0 10000000 at (omega arith) b.0, (counted 0 600 from (omega arith) b.1, (counted 0 600 level (omega arith) b.2, tt)));
   asks = rw (h.0, h.1, route_is route h.2) refl;
   actor = refl;
@@ -112,7 +112,10 @@ external_held who call s h b =
                               whole_stands f.w,
                               (
                                 whole_stands f.gw,
-                                tt,
+                                (
+                                  refl,
+                                  tt,
+                                ),
                               ),
                             ),
                           ),
@@ -178,7 +181,7 @@ external_held who call s h b =
           ),
         ),
       );
-      asks = ap₂ (λ (c : List ℕ) (row : Row). command.External c (record { from = s.from; to = s.to; first = row })) (name_is 1 7 call h) (row_is f b.no_leg);
+      asks = ap₂ (λ (c : List ℕ) (row : Row). command.External c (record { from = s.from; to = s.to; first = row; rvsm = s.rvsm })) (name_is 1 7 call h) (row_is f b.no_leg);
       actor = refl;
     }
 
@@ -203,7 +206,7 @@ report_held who call report h b = record {
 -- each command, complete and within its bounds
 held : (who : ℕ) (c : Command) → HasNames c → IsTimed c → IsBoundedCommand c → HoldCommand (entry_members who c) who c
 unfolding entry_word_of change_word_of
-held who (command.Plan call kind route at from level) h t b = plan_held who call kind route at from level h b
+held who (command.Plan call kind route at from level rvsm) h t b = plan_held who call kind route at from level rvsm h b
 held who (command.External call s) h t b = external_held who call s h b
 held who (command.Drop call) h t b =
     record { word = refl; keys = refl; fields = (named_stands 1 7 call h, tt); bounds = tt; asks = call_alone command.Drop call h; actor = refl }

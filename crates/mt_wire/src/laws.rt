@@ -2,11 +2,11 @@ ghost use Rattle.std.specs.Prelude.{◌≡◌, Some, Ok};
 ghost use Rattle.serde_json.specs.Read.{read};
 ghost use Rattle.serde_json.specs.Written.{compact_text};
 ghost use Rattle.mt_base.specs.declared.command.Entry.{Entry};
+ghost use Rattle.mt_base.specs.Complete.{IsComplete};
 ghost use Rattle.mt_read.specs.Entry.{entry};
 ghost use Rattle.mt_write.specs.declared.reply.Reply.{Reply};
 ghost use Rattle.mt_write.specs.Entry.{entry_text, entry_value};
 ghost use Rattle.mt_write.specs.Reply.{reply_value};
-ghost use Rattle.mt_wire.specs.Complete.{IsComplete};
 ghost use Rattle.mt_wire.specs.Held.{HoldsWhole};
 
 /// What stands before the 0x0A of a reply's or an entry's text is read by serde_json as the object that the reply or entry says, where its
