@@ -1,5 +1,5 @@
 -- A plan by the values that were drawn for it.
-use Rattle.std.proofs.Common.{◌≡◌, ℕ, ◌+◌, ◌*◌, List, [], ◌∷◌, refl}
+use Rattle.std.proofs.Common.{◌≡◌, ℕ, ◌+◌, ◌*◌, true, List, [], ◌∷◌, refl}
 use Rattle.mt_base.specs.declared.command.Command.TheVariants.{Plan}
 use Rattle.mt_make.specs.Draws.{drawn, next_state, state_after}
 use Rattle.mt_make.specs.Input.{callsign, fix_name, kind_name, other_than, plan_from}
@@ -23,6 +23,6 @@ four_are before first second third fourth to_first to_second to_third to_fourth 
 pub plan_is : (n before s1 s2 s3 s4 first drawn_second second tens at : ℕ) (call kind : List ℕ) (route : List (List ℕ)) → AreFour before s1 s2 s3 s4
     → first ≡ drawn 64 s1 → drawn_second ≡ drawn 63 s2 → tens ≡ drawn 10 s3 → at ≡ drawn 1200 s4 → second ≡ other_than first drawn_second
     → call ≡ callsign n → kind ≡ kind_name → route ≡ fix_name first ∷ fix_name second ∷ []
-    → Plan call kind route at (300 + 10 * tens) (300 + 10 * tens) ≡ plan_from n before
+    → Plan call kind route at (300 + 10 * tens) (300 + 10 * tens) true ≡ plan_from n before
 plan_is n before s1 s2 s3 s4 first drawn_second second tens at call kind route four is_first is_drawn is_tens is_at is_second is_call is_kind is_route =
     rw (is_route, is_kind, is_call, is_second, is_first, is_drawn, is_tens, is_at, four.first_is, four.second_is, four.third_is, four.fourth_is) refl

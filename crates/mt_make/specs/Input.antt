@@ -54,13 +54,14 @@ bands =
 abbrev pub other_than : ℕ → ℕ → ℕ
 other_than a b = if nat_le a b then b + 1 else b
 
--- The plan of flight n, by four draws from a state: from one fix to another, at a level from 300 to 390, from a second below 1,200 on.
+-- The plan of flight n, by four draws from a state: from one fix to another, at a level from 300 to 390, from a second below 1,200 on, approved
+-- for RVSM.
 abbrev pub plan_from : ℕ → ℕ → Command
 plan_from n state =
     let first = drawn 64 (state_after 1 state) in
     let second = other_than first (drawn 63 (state_after 2 state)) in
     let level = 300 + 10 * drawn 10 (state_after 3 state) in
-    Plan (callsign n) kind_name (fix_name first ∷ fix_name second ∷ []) (drawn 1200 (state_after 4 state)) level level
+    Plan (callsign n) kind_name (fix_name first ∷ fix_name second ∷ []) (drawn 1200 (state_after 4 state)) level level true
 
 -- each flight takes four draws, behind those of the flights before it; the number is the first state
 abbrev pub plan_of : ℕ → ℕ → Request
@@ -75,5 +76,5 @@ inputs flights number =
 
 -- the route of a plan has 2 to 64 names, no two neighbours equal
 abbrev pub HasRightRoute : Request → Type 0
-HasRightRoute (Change (Plan call kind route at from level)) = All (λ (c : RouteNo × Bool). c.1 ≡ true) (length_checks route)
+HasRightRoute (Change (Plan call kind route at from level rvsm)) = All (λ (c : RouteNo × Bool). c.1 ≡ true) (length_checks route)
 HasRightRoute request = ⊤

@@ -16,7 +16,7 @@ const FIRST_TICK: u32 = 60;
 ///
 /// In this order it sets 64 fixes, `F00` to `F77`, 32 nautical miles apart in a square, and the type `JA1`; begins with the usual rules; files
 /// the flights `L0000`, `L0001` and so on, and moves the moment to second 60. For each flight two different fixes are drawn, a level, one of
-/// 300, 310 and so on to 390, and a second below 1,200. The definition is `inputs`.
+/// 300, 310 and so on to 390, and a second below 1,200; all are approved for RVSM. The definition is `inputs`.
 ///
 /// The numbers of each request are within their bounds, whatever the rules are, and no route has a fix twice. The one error is want of memory.
 pub fn input(alloc: Global, flights: u32, number: u64) -> Result<Vec<Request>, Memory>

@@ -47,6 +47,7 @@ fn plan(alloc: Global, draws: &mut Draws, number: u32) -> Result<Command, Memory
         at,
         from: level,
         level,
+        rvsm: true,
     })
 }
 
