@@ -1,7 +1,8 @@
 -- What a change of the kept conflicts costs, by trajectories.
-use Rattle.std.proofs.Common.{◌≡◌, ◌≢◌, ℕ, ◌+◌, ◌*◌, ◌/◌, ◌≤◌, ⊎_elim, Bool, true, false, not, ◌==◌, List, [], ◌∷◌, length, map, Contains, All, AllPairs, Option, Some, None, refl, sym, ◌∙◌, ap, subst, arith}
-use Rattle.std.proofs.lemmas.Bool.{cases_eq}
-use Rattle.std.proofs.lemmas.List.{length-map}
+use Rattle.std.proofs.Common.{◌≡◌, ◌≢◌, ℕ, ◌+◌, ◌*◌, ◌/◌, ◌≤◌, ⊎_elim, Bool, true, false, not, ◌==◌, List, [], ◌∷◌, ◌++◌, length, map, get_or, Contains, All, AllPairs, Option, Some, None, refl, sym, ◌∙◌, ap, subst, arith}
+use Rattle.std.proofs.lemmas.Bool.{cases_eq, cases_lt}
+use Rattle.std.proofs.lemmas.List.{get_or_default, length-map, map-append}
+use Rattle.std.proofs.lemmas.List.Elements.{Contains-append_cases}
 use Rattle.std.proofs.lemmas.List.Kept.{AllPairs-filter}
 use Rattle.std.proofs.lemmas.Slice.Eq.{bytes_eq-Decides}
 use Rattle.std.specs.List.{filter, sum_by}
@@ -20,7 +21,7 @@ use Rattle.mt_kept.specs.Places.{at}
 use Rattle.mt_base.specs.Tally.{RoseUpTo}
 use Rattle.mt_kept.specs.Window.{is_straddling}
 use Rattle.mt_kept.proofs.Costs.{cost_sum}
-use Rattle.mt_base.proofs.Members.{All-from_held, Contains-filter, Contains-map, Contains-map_cases, distinct_held, distinct_map}
+use Rattle.mt_base.proofs.Members.{All-from_held, Contains-filter, Contains-map, Contains-map_cases, distinct_append, distinct_held, distinct_map}
 use Rattle.mt_kept.proofs.Gathering.{rising_once}
 use Rattle.mt_kept.proofs.Keeping.{halves}
 use Rattle.mt_probe.specs.Items.{kind_at}
@@ -32,7 +33,7 @@ use Rattle.mt_probe.proofs.Covered.{even_kind, odd_kind}
 use Rattle.mt_probe.proofs.Gathered.{at_kept}
 use Rattle.mt_picture.specs.Asked.{AreNearby, IsCrossingNow, IsLaterNow, IsNearNow, WasTestedAgain, WasTestedAnew}
 use Rattle.mt_picture.specs.Places.{all_places, made_of_kind}
-use Rattle.mt_picture.specs.Stamps.{AreStamped, IsMadeAt}
+use Rattle.mt_picture.specs.Stamps.{AreStamped, HaveStood, IsMadeAt}
 use Rattle.mt_picture.specs.Story.{Story}
 use Rattle.mt_picture.specs.Verdicts.{AreNear, IsPreps}
 use Rattle.mt_picture.proofs.HitsHere.{both_true}
@@ -62,6 +63,18 @@ one_place shot i j t sound i_is j_is =
     (λ differ. absurd ((sound.apart (i / 2) (j / 2) s.flight r.flight differ s.at_is r.at_is).calls call)) (cases_eq (i / 2) (j / 2)) in
     same_place i j half kind
 
+-- one candidate stands in a place
+one_at_place : (xs : List Candidate) (x y : Candidate) → AllPairs (λ x y. x.place ≢ y.place) xs → Contains xs x → Contains xs y → x.place ≡ y.place → x ≡ y
+one_at_place xs x y once x_in y_in same = ⊎_elim
+    (λ here. sym x_in.2 ∙ get_or_default xs x_in.0 x y x_in.1 ∙ ap (λ (k : ℕ). get_or xs k y) here ∙ y_in.2)
+    (λ away. absurd (⊎_elim
+    (λ before. once x_in.0 y_in.0 x before y_in.1 (ap (λ (z : Candidate). z.place) x_in.2 ∙ same
+    ∙ ap (λ (z : Candidate). z.place) (sym y_in.2 ∙ get_or_default xs y_in.0 y x y_in.1)))
+    (λ behind. once y_in.0 x_in.0 x (let differ = away in omega arith) x_in.1
+    (ap (λ (z : Candidate). z.place) (sym (get_or_default xs y_in.0 y x y_in.1) ∙ y_in.2) ∙ sym same ∙ ap (λ (z : Candidate). z.place) (sym x_in.2)))
+    (cases_lt x_in.0 y_in.0)))
+    (cases_eq x_in.0 y_in.0)
+
 -- ---- the candidates that are listed
 
 record IsListed (places : List (Option NamedTrajectory)) (call : List ℕ) (j : ℕ) : Type 0 where
@@ -86,7 +99,7 @@ fetch mine (Some t) = t
 module _ (story : Story) (shot : Shot) (p : Prepared) (known : Bool) (place : ℕ) (mine : NamedTrajectory) (sound : IsSoundShot shot)
     (setup_is : shot.setup ≡ story.setup) (stands : state_in shot ≡ state_of story.setup story.history) (all : AreStamped story.setup story.history shot.slots)
     (rules_are : p.setup.rules ≡ shot.setup.rules) (own : mine.call ≡ p.card.call) (preps : IsPreps p known mine.path) (xs : List Candidate)
-    (near : AreNear shot mine.path p known xs) where
+    (near : AreNear shot mine.path p known xs) (stood : HaveStood shot p) where
   abbrev places : List (Option NamedTrajectory)
   places = all_places shot.slots
 
@@ -130,41 +143,50 @@ module _ (story : Story) (shot : Shot) (p : Prepared) (known : Bool) (place : �
       }
 
   crossing_one : (x : Candidate) (t : NamedTrajectory) → Contains xs x → at places x.place ≡ Some t → t.call ≢ mine.call → is_crossing shot.now x.verdict ≡ true
-      → IsCrossingNow story mine t
+      → IsCrossingNow story p mine t
   crossing_one x t held is apart e =
       let s = stands_at shot.slots x.place t is in
       let differ : s.flight.card.call ≢ p.card.call = λ same. apart (sym (ap (λ (u : NamedTrajectory). u.call) s.is) ∙ same ∙ sym own) in
       let right = (near.known_is x held).right s.flight s.made mine s.at_is s.made_is differ preps in
       let right_t : IsRight p.setup.rules mine t x.verdict = subst (λ (u : NamedTrajectory). IsRight p.setup.rules mine u x.verdict) s.is right in
       let rules_story : p.setup.rules ≡ story.setup.rules = rules_are ∙ ap (λ (u : Setup). u.rules) setup_is in
-      by_verdict x.verdict (subst (λ (u : Rules). IsRight u mine t x.verdict) rules_story right_t) e where
+      by_verdict x.verdict refl (subst (λ (u : Rules). IsRight u mine t x.verdict) rules_story right_t) e where
         now_is : shot.now ≡ (state_of story.setup story.history).now
         now_is = ap (λ (q : State). q.now) stands
 
-        by_verdict : (v : Verdict) → IsRight story.setup.rules mine t v → is_crossing shot.now v ≡ true → IsCrossingNow story mine t
-        by_verdict Unknown r c = absurd (cc)
-        by_verdict (Known None) r c = absurd (cc)
-        by_verdict (Known (Some span)) r c = record {
+        -- it was there when the prep was made
+        was_there : (span : Option (ℕ × ℕ)) → x.verdict ≡ Known span → Contains (trajectories p.setup p.state) t
+        was_there span known_is =
+            let s = stands_at shot.slots x.place t is in
+            subst (Contains (trajectories p.setup p.state)) s.is (stood (x.place / 2) s.flight (kind_at x.place) s.made s.at_is s.made_is
+            ((near.known_is x held).earlier span known_is s.flight s.made s.at_is s.made_is))
+
+        by_verdict : (v : Verdict) → x.verdict ≡ v → IsRight story.setup.rules mine t v → is_crossing shot.now v ≡ true → IsCrossingNow story p mine t
+        by_verdict Unknown v_is r c = absurd (cc)
+        by_verdict (Known None) v_is r c = absurd (cc)
+        by_verdict (Known (Some span)) v_is r c = record {
           now = near_one x t held is apart;
+          prepared = was_there (Some span) v_is;
           first = span.0;
           last = span.1;
           conflict = r;
           straddling = subst (λ (n : ℕ). is_straddling n span.0 span.1 ≡ true) now_is c;
         }
 
-  -- those of some kind, each once
-  distinct_seen : (q : Candidate → Bool) → ((x : Candidate) → q x ≡ true → is_listed places place mine.call x ≡ true) → AllPairs (λ s t. s ≢ t) (map seen (filter q xs))
-  distinct_seen q listed =
-      distinct_map (λ s t. s ≢ t) seen (filter q xs)
-      (distinct_held (λ x y. x.place ≢ y.place) (λ x y. seen x ≢ seen y) (filter q xs)
+  -- those in different places are different
+  distinct_seen : (ys : List Candidate) → ((x : Candidate) → Contains ys x → is_listed places place mine.call x ≡ true)
+      → AllPairs (λ x y. x.place ≢ y.place) ys → AllPairs (λ s t. s ≢ t) (map seen ys)
+  distinct_seen ys listed =
+      λ once. distinct_map (λ s t. s ≢ t) seen ys
+      (distinct_held (λ x y. x.place ≢ y.place) (λ x y. seen x ≢ seen y) ys
       (λ x y x_in y_in differ same.
-      let x_test = ((Contains-filter q xs x).0 x_in).1 in
-      let y_test = ((Contains-filter q xs y).0 y_in).1 in
-      let x_there = listed_there places place mine.call x (listed x x_test) in
-      let y_there = listed_there places place mine.call y (listed y y_test) in
+      let x_there = listed_there places place mine.call x (listed x x_in) in
+      let y_there = listed_there places place mine.call y (listed y y_in) in
       let both : x_there.other ≡ y_there.other = sym (seen_is x x_there.other x_there.is) ∙ same ∙ seen_is y y_there.other y_there.is in
-      differ (one_place shot x.place y.place y_there.other sound (x_there.is ∙ ap Some both) y_there.is))
-      (AllPairs-filter (λ (x y : Candidate). x.place ≢ y.place) q xs (rising_once xs near.near.rising)))
+      differ (one_place shot x.place y.place y_there.other sound (x_there.is ∙ ap Some both) y_there.is)) once)
+
+  once_of : (q : Candidate → Bool) → AllPairs (λ x y. x.place ≢ y.place) (filter q xs)
+  once_of q = AllPairs-filter (λ (x y : Candidate). x.place ≢ y.place) q xs (rising_once xs near.near.rising)
 
   each_seen : (P : NamedTrajectory → Type 0) (q : Candidate → Bool) → ((x : Candidate) → q x ≡ true → is_listed places place mine.call x ≡ true)
       → ((x : Candidate) (t : NamedTrajectory) → Contains xs x → q x ≡ true → at places x.place ≡ Some t → t.call ≢ mine.call → P t) → All P (map seen (filter q xs))
@@ -187,7 +209,31 @@ module _ (story : Story) (shot : Shot) (p : Prepared) (known : Bool) (place : �
   abbrev some : Candidate → Bool
   some = is_listed places place mine.call
 
-  pub again : (old new : ℕ) → known ≡ true → RoseUpTo (sum_by (cost places place mine.call shot.now) xs) old new → WasTestedAgain story p.state.version mine old new
+  -- those of which nothing is known are none of those whose conflict is known
+  apart_known : (x y : Candidate) → Contains (filter two xs) x → Contains (filter one xs) y → x.place ≢ y.place
+  apart_known x y x_in y_in same =
+      let x_is = (Contains-filter two xs x).0 x_in in
+      let y_is = (Contains-filter one xs y).0 y_in in
+      let same_one : x ≡ y = one_at_place xs x y (rising_once xs near.near.rising) x_is.0 y_is.0 same in
+      let unknown = unknown_is x.verdict (both_true (some x) (is_unknown x.verdict) x_is.1).1 in
+      let crossing : is_crossing shot.now y.verdict ≡ true = (both_true (some y) (is_crossing shot.now y.verdict) y_is.1).1 in
+      let none : is_crossing shot.now y.verdict ≡ false =
+      subst (λ (z : Candidate). is_crossing shot.now z.verdict ≡ false) same_one (rw unknown refl) in
+      (let both : true ≡ false = sym crossing ∙ none in cc)
+
+  both_listed : (x : Candidate) → Contains (filter two xs ++ filter one xs) x → is_listed places place mine.call x ≡ true
+  both_listed x held = ⊎_elim
+      (λ among. (both_true (some x) (is_unknown x.verdict) ((Contains-filter two xs x).0 among).1).0)
+      (λ among. (both_true (some x) (is_crossing shot.now x.verdict) ((Contains-filter one xs x).0 among).1).0)
+      (Contains-append_cases (filter two xs) (filter one xs) x held)
+
+  distinct_both : AllPairs (λ s t. s ≢ t) (map seen (filter two xs) ++ map seen (filter one xs))
+  distinct_both =
+      subst (AllPairs (λ s t. s ≢ t)) (map-append seen (filter two xs) (filter one xs))
+      (distinct_seen (filter two xs ++ filter one xs) both_listed
+      (distinct_append (λ x y. x.place ≢ y.place) (filter two xs) (filter one xs) (once_of two) (once_of one) apart_known))
+
+  pub again : (old new : ℕ) → known ≡ true → RoseUpTo (sum_by (cost places place mine.call shot.now) xs) old new → WasTestedAgain story p mine old new
   again old new is_known rose =
       let total = cost_sum places place mine.call shot.now xs in
       let a = length-map (filter two xs) seen in
@@ -195,13 +241,12 @@ module _ (story : Story) (shot : Shot) (p : Prepared) (known : Bool) (place : �
       let within = rose.within in
       record {
         later = map seen (filter two xs);
-        later_distinct = distinct_seen two (λ x e. (both_true (some x) (is_unknown x.verdict) e).0);
         later_each = each_seen (IsLaterNow story p.state.version mine) two (λ x e. (both_true (some x) (is_unknown x.verdict) e).0)
             (λ x t held e is apart. later_one x t held is apart is_known (unknown_is x.verdict (both_true (some x) (is_unknown x.verdict) e).1));
         crossing = map seen (filter one xs);
-        crossing_distinct = distinct_seen one (λ x e. (both_true (some x) (is_crossing shot.now x.verdict) e).0);
-        crossing_each = each_seen (IsCrossingNow story mine) one (λ x e. (both_true (some x) (is_crossing shot.now x.verdict) e).0)
+        crossing_each = each_seen (IsCrossingNow story p mine) one (λ x e. (both_true (some x) (is_crossing shot.now x.verdict) e).0)
             (λ x t held e is apart. crossing_one x t held is apart (both_true (some x) (is_crossing shot.now x.verdict) e).1);
+        distinct = distinct_both;
         more = rose.more;
         within = omega (arith, total, a, b, within);
         is = rose.is;
@@ -229,7 +274,7 @@ module _ (story : Story) (shot : Shot) (p : Prepared) (known : Bool) (place : �
       let within = rose.within in
       record {
         others = map seen (filter some xs);
-        distinct = distinct_seen some (λ x e. e);
+        distinct = distinct_seen (filter some xs) (λ x held. ((Contains-filter some xs x).0 held).1) (once_of some);
         each = each_seen (IsNearNow story mine) some (λ x e. e) (λ x t held e is apart. near_one x t held is apart);
         more = rose.more;
         within = omega (arith, total, most, a, within);

@@ -6,7 +6,7 @@ use Rattle.std.specs.Prelude.{option_and_then}
 use Rattle.std.specs.Arc.{arc_value}
 use Rattle.std.specs.Str.{bytes_eq}
 use Rattle.mt_base.specs.declared.command.Command.{Command}
-use Rattle.mt_base.specs.declared.command.Command.TheVariants.{Drop, External, Plan, Tentative, Tick}
+use Rattle.mt_base.specs.declared.command.Command.TheVariants.{Drop, External, Plan, Tick}
 use Rattle.mt_base.specs.declared.conflict.Kind.{Kind}
 use Rattle.mt_base.specs.declared.conflict.Kind.TheVariants as kinds
 use Rattle.mt_base.specs.declared.flight.Mark.{Mark}
@@ -37,6 +37,7 @@ use Rattle.mt_base.proofs.Cases.{is_none}
 use Rattle.mt_picture.specs.Entries.{IsFiling}
 use Rattle.mt_picture.specs.Places.{IsNewOrStays}
 use Rattle.mt_picture.specs.Putting.{IsPutBy}
+use Rattle.mt_picture.proofs.Making.{filing_kind, filing_makes, filled_kind, filled_makes}
 
 -- the flight in a slot, by its callsign
 pub record IsThere (at : Option Flight) (call : List ℕ) : Type 0 where
@@ -145,11 +146,16 @@ filed_unique setup s r who whom (External call straight) card other filing one c
 filed_unique setup s r who whom command card other filing one card_is two other_is = absurd filing
 
 -- of no trajectory at all, or of one with this stamp
-none_new : (f : Flight) (version : ℕ) (old : Option Flight) → f.mark ≡ None → IsNewOrStays old version f kinds.Tentative
-none_new f version old none = inl (λ made is. absurd (let both : None ≡ Some made = sym none ∙ is in cc))
+none_new : (f : Flight) (version : ℕ) (c : Command) (old : Option Flight) → f.mark ≡ None → IsNewOrStays old version c f kinds.Tentative
+none_new f version c old none = inl (λ made is. absurd (let both : None ≡ Some made = sym none ∙ is in cc))
 
-actual_new : (f : Flight) (version : ℕ) (old : Option Flight) → f.actual.stamp ≡ version → IsNewOrStays old version f kinds.Actual
-actual_new f version old stamp = inl (λ made is. (let same : f.actual ≡ made = cc in ap (λ (m : Made). m.stamp) (sym same) ∙ stamp))
+actual_new : (f : Flight) (version now : ℕ) (c : Command) (old : Option Flight) → f.actual.stamp ≡ version → IsFiling c
+    → IsNewOrStays old version (filled now c) f kinds.Actual
+actual_new f version now c old stamp filing = inl (λ made is. (
+  let same : f.actual ≡ made = cc in ap (λ (m : Made). m.stamp) (sym same) ∙ stamp,
+  filled_makes now c (filing_makes c filing),
+  filled_kind now c ∙ filing_kind c filing,
+))
 
 both_kinds : (P : Kind → Type 0) → P kinds.Actual → P kinds.Tentative → (kind : Kind) → P kind
 both_kinds P actual tentative kinds.Actual = actual
@@ -172,8 +178,9 @@ put_filed shot slot f who c sound inside free filing left unmarked made stamp fi
         filed = subst (IsFiledAt shot slot f) (sym free) (λ i g at_is. (let n = earlier i g at_is in omega (arith, n, filed)));
       };
       was = λ g at_is. absurd (let both : None ≡ Some g = sym free ∙ at_is in cc);
-      made = both_kinds (IsNewOrStays (flight_at shot slot) (shot.version + 1) f) (actual_new f (shot.version + 1) (flight_at shot slot) stamp)
-          (none_new f (shot.version + 1) (flight_at shot slot) unmarked);
+      made = both_kinds (IsNewOrStays (flight_at shot slot) (shot.version + 1) (filled shot.now c) f)
+          (actual_new f (shot.version + 1) shot.now c (flight_at shot slot) stamp filing)
+          (none_new f (shot.version + 1) (filled shot.now c) (flight_at shot slot) unmarked);
       filed = omega (arith, filed);
       names = filled_call shot.now c ∙ left.call_is;
       still = last.still;
@@ -226,7 +233,7 @@ still_altered now c alters = refl
 pub put_altered : (shot : Shot) (slot : ℕ) (old f : Flight) (who : ℕ) (c : Command) → IsSoundShot shot → flight_at shot slot ≡ Some old
     → old.card.call ≡ f.card.call → Alters c → IsLeft shot.setup (state_in shot) who c f.card → f.filed ≡ old.filed → old.filed ≤ shot.version
     → path_of kinds.Actual f ≡ path_made shot.setup f.card kinds.Actual → path_of kinds.Tentative f ≡ path_made shot.setup f.card kinds.Tentative
-    → ((kind : Kind) → IsNewOrStays (flight_at shot slot) (shot.version + 1) f kind)
+    → ((kind : Kind) → IsNewOrStays (flight_at shot slot) (shot.version + 1) (filled shot.now c) f kind)
     → IsPutBy shot slot f (record { who = who; command = filled shot.now c })
 put_altered shot slot old f who c sound at_is own alters left filed earlier actual mark made =
     let by = altered_by shot slot old who c f.card sound at_is own alters left in

@@ -19,8 +19,7 @@ use Rattle.mt_kept.specs.Finds.{AreFinds}
 use Rattle.mt_machine.specs.Deciding.{IsFirstHit}
 use Rattle.mt_machine.proofs.Decisions.{first_of_hits}
 use Rattle.mt_probe.specs.declared.flight.Flight.{Flight}
-use Rattle.mt_base.specs.declared.conflict.Kind.TheVariants.{Actual}
-use Rattle.mt_probe.specs.Prepared.{IsLeft, kind_made}
+use Rattle.mt_probe.specs.Prepared.{IsLeft}
 use Rattle.mt_probe.specs.Shot.{Shot, flight_at, records_in}
 use Rattle.mt_probe.specs.Shot.{state_of as state_in}
 use Rattle.mt_probe.specs.Standing.{IsSoundEntry, IsSoundShot}
@@ -49,11 +48,6 @@ no_first setup s c first unprobed none = subst (IsFirstHit setup s c) (sym none)
   by_command : (c : Command) → is_probed c ≡ false → HasHits setup s c []
   by_command (Accept call clearance eff probed) is = absurd (cc)
   by_command c is = refl
-
-pub filing_kind : (c : Command) → IsFiling c → kind_made c ≡ Actual
-filing_kind (Plan call kind route at from level rvsm) filing = refl
-filing_kind (External call straight) filing = refl
-filing_kind c filing = absurd filing
 
 pub filing_unprobed : (c : Command) → IsFiling c → is_probed c ≡ false
 filing_unprobed (Plan call kind route at from level rvsm) filing = refl

@@ -31,7 +31,7 @@ use Rattle.mt_base.proofs.Members.{Contains-head}
 use Rattle.mt_probe.proofs.Nearby.{near_by_loss}
 use Rattle.mt_picture.specs.Places.{all_places, first_of, made_of_kind, second_of}
 use Rattle.mt_picture.specs.Stamps.{HaveStood}
-use Rattle.mt_picture.specs.Verdicts.{AreNear, IsKnown, IsPreps}
+use Rattle.mt_picture.specs.Verdicts.{AreNear, IsEarlierAt, IsKnown, IsPreps}
 use Rattle.mt_picture.proofs.Slotted.{at_first, at_second}
 
 -- what is found says the conflict over all seconds
@@ -60,6 +60,14 @@ found_right shot slot kind p known stamp card found stood stamp_is card_is early
     let is = says (made_of_kind f kind made) (record { there = there; apart = apart }) (ap (λ (r : Record). r.call) (sym d)) refl in
     subst (λ (t : Trajectory). IsConflict p.setup.rules t (arc_value made.strand) 0 horizon (whole_of found)) (sym (preps is_known))
     (whole_is p.setup.rules p.state.now p.strand (made_of_kind f kind made) found is)
+
+-- what a prep knows of was made before it
+pub earlier_there : (p : Prepared) (slot : Option Flight) (kind : Kind) (stamp : ℕ)
+    → Some stamp ≡ option_map (λ (m : Made). m.stamp) (option_and_then (λ f. made_of f kind) slot) → stamp ≤ p.state.version → IsEarlierAt p slot kind
+earlier_there p slot kind stamp stamp_is early f made at_is made_is =
+    let s : Some stamp ≡ Some made.stamp = rw (at_is, made_is) at stamp_is in
+    let e : stamp ≡ made.stamp = cc in
+    omega (arith, e, early)
 
 -- what stands in a place: the trajectory of a kind of the flight in its slot
 pub record StandsAt (slots : List (Option Flight)) (j : ℕ) (t : NamedTrajectory) : Type 0 where

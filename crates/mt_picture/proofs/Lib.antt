@@ -10,6 +10,7 @@ pub mod Given
 pub mod HitsHere
 pub mod Knowing
 pub mod Looked
+pub mod Making
 pub mod Moved
 pub mod Opening
 pub mod Passing

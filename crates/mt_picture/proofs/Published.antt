@@ -19,7 +19,7 @@ use Rattle.mt_base.specs.Tables.{Setup}
 use Rattle.mt_base.proofs.HistoryLemmas.{legal_push, replayable_push, version_is}
 use Rattle.mt_board.specs.declared.no.No.TheVariants as nos
 use Rattle.mt_kept.specs.Kept.{Watched}
-use Rattle.mt_kept.specs.Places.{at, held}
+use Rattle.mt_kept.specs.Places.{held}
 use Rattle.mt_kept.proofs.Publishing.{held_at, stands}
 use Rattle.mt_machine.specs.Deciding.{IsFirstHit}
 use Rattle.mt_machine.proofs.Decisions.{entered, refused, stale}

@@ -19,7 +19,7 @@ use Rattle.mt_change.specs.Altered.{Alters, path_after}
 use Rattle.mt_probe.specs.declared.flight.Flight.{Flight}
 use Rattle.mt_probe.specs.declared.flight.Made.{Made}
 use Rattle.mt_probe.specs.Items.{path_of}
-use Rattle.mt_probe.specs.Prepared.{IsLeft, kind_made, marked_of, path_made}
+use Rattle.mt_probe.specs.Prepared.{IsLeft, MakesStrand, kind_made, marked_of, path_made}
 use Rattle.mt_probe.specs.Shot.{Shot, flight_at, made_of}
 use Rattle.mt_probe.specs.Shot.{state_of as state_in}
 use Rattle.mt_probe.specs.Standing.{IsSoundEntry, IsSoundShot}
@@ -27,6 +27,7 @@ use Rattle.mt_picture.specs.Entries.{IsRemaking, IsReport, IsWithdrawal}
 use Rattle.mt_picture.specs.Places.{IsNewOrStays, first_of, made_of_kind, place_kind, place_other, second_of, stamped, stamped_at}
 use Rattle.mt_picture.specs.Putting.{IsKeptFlight, IsPutBy, IsRemade}
 use Rattle.mt_picture.proofs.Entered.{altered_by, own_actual, own_mark, put_altered, there}
+use Rattle.mt_picture.proofs.Making.{filled_kind, filled_makes, remaking_makes}
 
 abbrev path_with : NamedTrajectory × ℕ → Trajectory
 path_with m = m.0.path
@@ -179,9 +180,15 @@ module _ (setup : Setup) (who now version : ℕ) (c : Command) (old f : Flight) 
       ∙ sym (mark_stays setup who now c old.card.path remaking e keeps.1) ∙ ap (marked_of setup) (sym path))
       (other_kind (Some old) version c card t f e is)
 
-  pub remade_stamps : (made_kind kind : Kind) → kind_made c ≡ made_kind → IsNewOrStays (Some old) version f kind
-  remade_stamps kinds.Actual kinds.Actual e = inl (new_stamp f kinds.Actual version _ (subst (λ (k : Kind). stamped_at k (Some f) ≡ Some (record { call = card.call; kind = k; path = t }, version)) e is.stamp))
-  remade_stamps kinds.Tentative kinds.Tentative e = inl (new_stamp f kinds.Tentative version _ (subst (λ (k : Kind). stamped_at k (Some f) ≡ Some (record { call = card.call; kind = k; path = t }, version)) e is.stamp))
+  new_made : (kind : Kind) → kind_made c ≡ kind → (made : Made) → made_of f kind ≡ Some made
+      → (made.stamp ≡ version) × MakesStrand (filled now c) × (kind_made (filled now c) ≡ kind)
+  new_made kind e m m_is =
+      let stamp = subst (λ (k : Kind). stamped_at k (Some f) ≡ Some (record { call = card.call; kind = k; path = t }, version)) e is.stamp in
+      (new_stamp f kind version _ stamp m m_is, filled_makes now c (remaking_makes c remaking), filled_kind now c ∙ e)
+
+  pub remade_stamps : (made_kind kind : Kind) → kind_made c ≡ made_kind → IsNewOrStays (Some old) version (filled now c) f kind
+  remade_stamps kinds.Actual kinds.Actual e = inl (new_made kinds.Actual e)
+  remade_stamps kinds.Tentative kinds.Tentative e = inl (new_made kinds.Tentative e)
   remade_stamps kinds.Tentative kinds.Actual e = inr (keeps_actual (Some old) version c card t f e is)
   remade_stamps kinds.Actual kinds.Tentative e = ⊎_elim
       (λ none. inl (λ m m_is. absurd (let both : None ≡ Some m = sym none.0 ∙ m_is in cc)))
@@ -236,7 +243,7 @@ put_remade shot slot f who c card t sound there_is remaking left earlier made is
     ∙ ap (λ (r : Record). path_made shot.setup r kinds.Actual) (sym is.card_is))
     (remade_mark shot.setup who shot.now (shot.version + 1) c old f card t remaking one entry by.path made (kind_made c) refl
     ∙ ap (λ (r : Record). path_made shot.setup r kinds.Tentative) (sym is.card_is))
-    (λ kind. subst (λ (at : Option Flight). IsNewOrStays at (shot.version + 1) f kind) (sym at_is)
+    (λ kind. subst (λ (at : Option Flight). IsNewOrStays at (shot.version + 1) (filled shot.now c) f kind) (sym at_is)
     (remade_stamps shot.setup who shot.now (shot.version + 1) c old f card t remaking one entry by.path made (kind_made c) kind refl))
 
 -- and one that a report or a withdrawal leaves
@@ -261,8 +268,8 @@ put_kept shot slot old f who c sound at_is own which left filed earlier actual m
     ∙ sym (bare_mark shot.setup who shot.now c old.card.path withdraws) ∙ ap (marked_of shot.setup) (sym by.path))
     which)
     (by_kind actual (⊎_elim (λ reports. inr (mark reports)) (λ withdraws. inl (λ m is. absurd (let both : None ≡ Some m = sym (bare withdraws) ∙ is in cc))) which)) where
-      by_kind : stamped_at kinds.Actual (Some f) ≡ stamped_at kinds.Actual (flight_at shot slot) → IsNewOrStays (flight_at shot slot) (shot.version + 1) f kinds.Tentative
-          → (kind : Kind) → IsNewOrStays (flight_at shot slot) (shot.version + 1) f kind
+      by_kind : stamped_at kinds.Actual (Some f) ≡ stamped_at kinds.Actual (flight_at shot slot) → IsNewOrStays (flight_at shot slot) (shot.version + 1) (filled shot.now c) f kinds.Tentative
+          → (kind : Kind) → IsNewOrStays (flight_at shot slot) (shot.version + 1) (filled shot.now c) f kind
       by_kind stays other kinds.Actual = inr stays
       by_kind stays other kinds.Tentative = other
 

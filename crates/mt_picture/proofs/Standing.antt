@@ -6,7 +6,7 @@ use Rattle.std.proofs.lemmas.List.Elements.{All-push}
 use Rattle.mt_base.specs.declared.command.Entry.{Entry}
 use Rattle.mt_base.specs.declared.conflict.Kind.{Kind}
 use Rattle.mt_base.specs.Complete.{IsComplete}
-use Rattle.mt_base.specs.History.{call_of, effect, state_of}
+use Rattle.mt_base.specs.History.{effect, state_of}
 use Rattle.mt_base.specs.Picture.{NamedTrajectory, State, trajectories}
 use Rattle.mt_base.specs.Tables.{Setup}
 use Rattle.mt_base.proofs.HistoryLemmas.{slice_get-append_left, state_of-push, version_is}
@@ -21,7 +21,7 @@ use Rattle.mt_probe.specs.Standing.{IsSoundShot}
 use Rattle.mt_probe.proofs.Gathered.{at_kept}
 use Rattle.mt_picture.specs.Places.{all_places, made_of_kind, stamped, stamped_at}
 use Rattle.mt_picture.specs.Putting.{IsPutBy}
-use Rattle.mt_picture.specs.Stamps.{AreStamped, HaveStood, IsMadeAt, IsPicture}
+use Rattle.mt_picture.specs.Stamps.{AreStamped, HaveStood, IsMadeAt, IsPicture, Makes}
 use Rattle.mt_picture.proofs.Knowing.{kept_made}
 
 at_end : (h : List Entry) (e : Entry) → slice_get (h ++ e ∷ []) (length h) ≡ Some e
@@ -47,13 +47,13 @@ made_kept setup h e t stamp was there =
           (λ short. let same = take-append-le w h (e ∷ []) short in rw same (was.stood w low short)) (cases_lt (length h) w);
     }
 
-pub made_now : (setup : Setup) (h : List Entry) (e : Entry) (t : NamedTrajectory) → call_of e.command ≡ Some t.call
+pub made_now : (setup : Setup) (h : List Entry) (e : Entry) (t : NamedTrajectory) → Makes e.command t.call t.kind
     → Contains (trajectories setup (state_of setup (h ++ e ∷ []))) t → IsMadeAt setup (h ++ e ∷ []) t (length h + 1)
-made_now setup h e t names held =
+made_now setup h e t makes held =
     let n = length-append h (e ∷ []) in
     record {
       entry = e;
-      made = λ i is. (subst (λ (j : ℕ). slice_get (h ++ e ∷ []) j ≡ Some e) (let same : length h ≡ i = omega arith in same) (at_end h e), names);
+      made = λ i is. (subst (λ (j : ℕ). slice_get (h ++ e ∷ []) j ≡ Some e) (let same : length h ≡ i = omega arith in same) (at_end h e), makes);
       some = omega arith;
       within = omega arith;
       stood = λ w low high. rw (take_whole h e w (omega arith)) held;
@@ -62,7 +62,7 @@ made_now setup h e t names held =
 -- the stamps after an entry: each trajectory stood before, or is made by it
 pub stamped_on : (setup : Setup) (after : Shot) (h : List Entry) (e : Entry) → IsSoundShot after → after.setup ≡ setup → state_in after ≡ state_of setup (h ++ e ∷ [])
     → ((i : ℕ) (f : Flight) (kind : Kind) (made : Made) → flight_at after i ≡ Some f → made_of f kind ≡ Some made
-    → IsMadeAt setup h (made_of_kind f kind made) made.stamp ⊎ ((call_of e.command ≡ Some f.card.call) × (made.stamp ≡ length h + 1)))
+    → IsMadeAt setup h (made_of_kind f kind made) made.stamp ⊎ (Makes e.command f.card.call kind × (made.stamp ≡ length h + 1)))
     → AreStamped setup (h ++ e ∷ []) after.slots
 stamped_on setup after h e sound same stands from i f kind made at_is made_is =
     let t = made_of_kind f kind made in
@@ -143,9 +143,9 @@ module _ (shot after : Shot) (h : List Entry) (e : Entry) (slot : ℕ) (f : Flig
       sym (get_or-set_other shot.slots slot i (Some f) None away) ∙ there
 
   own : AreStamped shot.setup h shot.slots → (kind : Kind) (made : Made) → made_of f kind ≡ Some made
-      → IsMadeAt shot.setup h (made_of_kind f kind made) made.stamp ⊎ ((call_of e.command ≡ Some f.card.call) × (made.stamp ≡ length h + 1))
+      → IsMadeAt shot.setup h (made_of_kind f kind made) made.stamp ⊎ (Makes e.command f.card.call kind × (made.stamp ≡ length h + 1))
   own all kind made is = ⊎_elim
-      (λ new. let n = version_here in let s = new made is in inr (put.names, omega (arith, s, n)))
+      (λ new. let n = version_here in let s = new made is in inr (record { names = put.names; makes = s.1; kind_is = s.2 }, s.0 ∙ ap (λ (v : ℕ). v + 1) n))
       (λ stays.
       let mine : stamped_at kind (Some f) ≡ Some (made_of_kind f kind made, made.stamp) = ap (stamped f kind) is in
       inl (stood_at shot.setup h shot.slots slot kind (made_of_kind f kind made) made.stamp all
@@ -157,7 +157,7 @@ module _ (shot after : Shot) (h : List Entry) (e : Entry) (slot : ℕ) (f : Flig
       stamped_on shot.setup after h e sound (ap (λ (s : Shot). s.setup) value) stands_put
       (λ i g kind made at_is made_is. ⊎_elim
       (λ here. subst (λ (q : Flight). made_of q kind ≡ Some made
-      → IsMadeAt shot.setup h (made_of_kind q kind made) made.stamp ⊎ ((call_of e.command ≡ Some q.card.call) × (made.stamp ≡ length h + 1)))
+      → IsMadeAt shot.setup h (made_of_kind q kind made) made.stamp ⊎ (Makes e.command q.card.call kind × (made.stamp ≡ length h + 1)))
       (here_is i g here at_is) (own all kind made) made_is)
       (λ away. inl (all i g kind made (else_is i g away at_is) made_is))
       (cases_eq i slot))

@@ -1,7 +1,11 @@
 -- How many pair tests a command may cost.
-use Rattle.std.specs.Prelude.{◌≡◌, ◌≢◌, ◌<◌, ◌≤◌, ◌+◌, ◌*◌, ℕ, List, true, All, AllPairs, Contains, Option, Some, None, length}
+use Rattle.std.specs.Prelude.{◌≡◌, ◌≢◌, ◌<◌, ◌≤◌, ◌+◌, ◌*◌, ◌++◌, ℕ, List, true, All, AllPairs, Contains, Option, Some, None, length}
+use Rattle.std.specs.Cmp.Lexicographic.{slice_cmp}
+use Rattle.std.specs.Ordering.{nat_cmp}
+use Rattle.std.specs.declared.cmp.Ordering.TheVariants.{Less}
 use Rattle.mt_base.specs.declared.command.Command.{Command}
-use Rattle.mt_base.specs.declared.command.Command.TheVariants.{Tick}
+use Rattle.mt_base.specs.declared.command.Command.TheVariants.{Drop, Tick, Withdraw}
+use Rattle.mt_base.specs.declared.command.Command.TheVariants as commands
 use Rattle.mt_base.specs.Conflict.{IsConflict, IsSpanOfLoss}
 use Rattle.mt_base.specs.declared.rules.Rules.{Rules}
 use Rattle.mt_base.specs.History.{state_of}
@@ -42,9 +46,10 @@ pub record IsLaterNow (story : Story) (v : ℕ) (mine other : NamedTrajectory) :
   pub later : v < stamp
   pub made : IsMadeAt story.setup story.history other stamp
 
--- its conflict with the new one over all seconds straddles an edge of the window now
-pub record IsCrossingNow (story : Story) (mine other : NamedTrajectory) : Type 0 where
+-- it was there when the prep was made, and its conflict with the new one over all seconds straddles an edge of the window now
+pub record IsCrossingNow (story : Story) (p : Prepared) (mine other : NamedTrajectory) : Type 0 where
   pub now : IsNearNow story mine other
+  pub prepared : Contains (trajectories p.setup p.state) other
   pub first : ℕ
   pub last : ℕ
   pub conflict : IsConflict story.setup.rules mine.path other.path 0 horizon (Some (first, last))
@@ -59,24 +64,24 @@ pub record WasTestedAnew (story : Story) (mine : NamedTrajectory) (old new : ℕ
   pub within : more ≤ 2 * length others
   pub is : new ≡ raised_by more old
 
--- At most two tests were made for each trajectory of another flight that is near the new one and was made after version v, and one for each
--- whose conflict with it straddles an edge of the window now.
-pub record WasTestedAgain (story : Story) (v : ℕ) (mine : NamedTrajectory) (old new : ℕ) : Type 0 where
+-- At most two tests were made for each trajectory of another flight that is near the new one and was made after the prep, and one for each that was
+-- there when the prep was made and whose conflict with the new one straddles an edge of the window now. None is counted twice.
+pub record WasTestedAgain (story : Story) (p : Prepared) (mine : NamedTrajectory) (old new : ℕ) : Type 0 where
   pub later : List NamedTrajectory
-  pub later_distinct : AllPairs (λ s t. s ≢ t) later
-  pub later_each : All (IsLaterNow story v mine) later
+  pub later_each : All (IsLaterNow story p.state.version mine) later
   pub crossing : List NamedTrajectory
-  pub crossing_distinct : AllPairs (λ s t. s ≢ t) crossing
-  pub crossing_each : All (IsCrossingNow story mine) crossing
+  pub crossing_each : All (IsCrossingNow story p mine) crossing
+  pub distinct : AllPairs (λ s t. s ≢ t) (later ++ crossing)
   pub more : ℕ
   pub within : more ≤ 2 * length later + length crossing
   pub is : new ≡ raised_by more old
 
--- Two trajectories of different flights that stand now, with their conflict over all seconds, which straddles an edge of the window from `now`.
+-- Two trajectories of different flights that stand now, the one of the lesser callsign first, with their conflict over all seconds, which straddles
+-- an edge of the window from `now`.
 pub record IsCrossingPair (story : Story) (now : ℕ) (pair : NamedTrajectory × NamedTrajectory) : Type 0 where
   pub left_stands : Contains (trajectories story.setup (state_now story)) pair.0
   pub right_stands : Contains (trajectories story.setup (state_now story)) pair.1
-  pub apart : pair.0.call ≢ pair.1.call
+  pub before : slice_cmp nat_cmp pair.0.call pair.1.call ≡ Less
   pub first : ℕ
   pub last : ℕ
   pub span : IsSpanOfLoss story.setup.rules pair.0.path pair.1.path 0 horizon first last
@@ -89,17 +94,30 @@ pub record WasTestedForTick (story : Story) (now old new : ℕ) : Type 0 where
   pub each : All (IsCrossingPair story now) pairs
   pub is : new ≡ raised_by (length pairs) old
 
--- The bound of a command with a prep: that of testing anew, and where the prep is usable that of testing again.
+-- A new trajectory was tested anew; and where the prep is usable, again.
 pub record IsWithinBoth (story : Story) (command : Command) (p : Prepared) (mine : NamedTrajectory) (old new : ℕ) : Type 0 where
   pub anew : WasTestedAnew story mine old new
-  pub again : IsUsable story command p → WasTestedAgain story p.state.version mine old new
+  pub again : IsUsable story command p → WasTestedAgain story p mine old new
+
+-- The tests of a command that makes a trajectory, by its prep and the trajectory that it leaves now: none, where it leaves none.
+abbrev pub IsWithinPrep : Story → Command → Option Prepared → Option NamedTrajectory → ℕ → ℕ → Type 0
+IsWithinPrep story command prep None old new = new ≡ old
+IsWithinPrep story command None (Some mine) old new = new ≡ old
+IsWithinPrep story command (Some p) (Some mine) old new = IsWithinBoth story command p mine old new
 
 abbrev pub IsWithinPreps : Story → ℕ → Command → Option Prepared → ℕ → ℕ → Type 0
-IsWithinPreps story who command None old new = new ≡ old
-IsWithinPreps story who command (Some p) old new = (mine : NamedTrajectory) → left_made story.setup (state_now story) who command ≡ Some mine
-    → IsWithinBoth story command p mine old new
+IsWithinPreps story who command prep old new = IsWithinPrep story command prep (left_made story.setup (state_now story) who command) old new
 
--- The bound of each command: of a tick its own, of one that makes no trajectory no test, of one that makes one that of its prep.
+-- The bound of each command:
+--   a tick                                    one test for each pair that straddles an edge of its window
+--   a drop, a report, a withdrawal            none
+--   any other, where it leaves no trajectory  none
+--     where its prep is usable                two for each near trajectory that was made after it, one for each that was there and whose conflict
+--                                             straddles an edge of the window now
+--     else                                    two for each near trajectory
 abbrev pub IsWithinBound : Story → ℕ → Command → Option Prepared → ℕ → ℕ → Type 0
 IsWithinBound story who (Tick now) prep old new = WasTestedForTick story now old new
+IsWithinBound story who (Drop call) prep old new = new ≡ old
+IsWithinBound story who (commands.Report call report) prep old new = new ≡ old
+IsWithinBound story who (Withdraw call force) prep old new = new ≡ old
 IsWithinBound story who command prep old new = IsWithinPreps story who command prep old new

@@ -4,11 +4,13 @@ use Rattle.std.specs.Prelude.{◌≡◌, ℕ, ◌⊎◌, List, [], ◌∷◌, Op
 use Rattle.std.specs.Arc.{arc_value}
 use Rattle.std.specs.List.{flat_map}
 use Rattle.std.specs.Option.{option_map}
+use Rattle.mt_base.specs.declared.command.Command.{Command}
 use Rattle.mt_base.specs.declared.conflict.Kind.{Kind}
 use Rattle.mt_base.specs.declared.conflict.Kind.TheVariants.{Actual, Tentative}
 use Rattle.mt_base.specs.Picture.{NamedTrajectory}
 use Rattle.mt_probe.specs.declared.flight.Flight.{Flight}
 use Rattle.mt_probe.specs.declared.flight.Made.{Made}
+use Rattle.mt_probe.specs.Prepared.{MakesStrand, kind_made}
 use Rattle.mt_probe.specs.Shot.{made_of}
 
 -- a trajectory of a flight, with its name
@@ -49,7 +51,8 @@ abbrev pub stamped_at : Kind → Option Flight → Option (NamedTrajectory × �
 stamped_at kind None = None
 stamped_at kind (Some f) = stamped f kind (made_of f kind)
 
--- of a kind a flight has what the slot had, or what is made at that version, or nothing
-abbrev pub IsNewOrStays : Option Flight → ℕ → Flight → Kind → Type 0
-IsNewOrStays old version f kind =
-    ((made : Made) → made_of f kind ≡ Some made → made.stamp ≡ version) ⊎ (stamped_at kind (Some f) ≡ stamped_at kind old)
+-- of a kind a flight has what the slot had, or what that command makes at that version, or nothing
+abbrev pub IsNewOrStays : Option Flight → ℕ → Command → Flight → Kind → Type 0
+IsNewOrStays old version command f kind =
+    ((made : Made) → made_of f kind ≡ Some made → (made.stamp ≡ version) × MakesStrand command × (kind_made command ≡ kind))
+    ⊎ (stamped_at kind (Some f) ≡ stamped_at kind old)

@@ -25,7 +25,7 @@ pub record IsPutBy (shot : Shot) (slot : ℕ) (f : Flight) (e : Entry) : Type 0 
   pub inside : slot < length shot.slots
   pub fits : Fits shot slot f
   pub was : (g : Flight) → flight_at shot slot ≡ Some g → g.card.call ≡ f.card.call
-  pub made : (kind : Kind) → IsNewOrStays (flight_at shot slot) (shot.version + 1) f kind
+  pub made : (kind : Kind) → IsNewOrStays (flight_at shot slot) (shot.version + 1) e.command f kind
   pub filed : f.filed ≤ shot.version + 1
   pub names : call_of e.command ≡ Some f.card.call
   pub still : now_after e.command shot.now ≡ shot.now

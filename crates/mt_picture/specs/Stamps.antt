@@ -1,5 +1,6 @@
 -- What a picture holds, and what ties its parts together.
 use Rattle.std.specs.Prelude.{◌≡◌, ℕ, ◌+◌, ◌<◌, ◌≤◌, All, List, length, take, slice_get, get_or, Contains, Option, Some, None}
+use Rattle.mt_base.specs.declared.command.Command.{Command}
 use Rattle.mt_base.specs.declared.command.Entry.{Entry}
 use Rattle.mt_base.specs.declared.conflict.Kind.{Kind}
 use Rattle.mt_base.specs.Complete.{IsComplete}
@@ -9,15 +10,21 @@ use Rattle.mt_base.specs.Tables.{Setup}
 use Rattle.mt_kept.specs.Kept.{Watched}
 use Rattle.mt_probe.specs.declared.flight.Flight.{Flight}
 use Rattle.mt_probe.specs.declared.flight.Made.{Made}
-use Rattle.mt_probe.specs.Prepared.{Prepared}
+use Rattle.mt_probe.specs.Prepared.{MakesStrand, Prepared, kind_made}
 use Rattle.mt_probe.specs.Shot.{Shot, flight_at, made_of}
 use Rattle.mt_probe.specs.Shot.{state_of as state_in}
 use Rattle.mt_picture.specs.Places.{all_places, made_of_kind}
 
--- A trajectory was made by the entry that made version `stamp`, which names its flight, and has stood since.
+-- A command makes a trajectory of that kind, of the flight of that callsign.
+pub record Makes (command : Command) (call : List ℕ) (kind : Kind) : Type 0 where
+  pub names : call_of command ≡ Some call
+  pub makes : MakesStrand command
+  pub kind_is : kind_made command ≡ kind
+
+-- A trajectory was made by the entry that made version `stamp`, and has stood since.
 pub record IsMadeAt (setup : Setup) (h : List Entry) (t : NamedTrajectory) (stamp : ℕ) : Type 0 where
   pub entry : Entry
-  pub made : (n : ℕ) → n + 1 ≡ stamp → (slice_get h n ≡ Some entry) × (call_of entry.command ≡ Some t.call)
+  pub made : (n : ℕ) → n + 1 ≡ stamp → (slice_get h n ≡ Some entry) × Makes entry.command t.call t.kind
   pub some : 0 < stamp
   pub within : stamp ≤ length h
   pub stood : (w : ℕ) → stamp ≤ w → w ≤ length h → Contains (trajectories setup (state_of setup (take w h))) t

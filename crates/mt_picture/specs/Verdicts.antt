@@ -1,12 +1,12 @@
 -- What a prep says of the trajectories of a snapshot. No public contract cites these.
-use Rattle.std.specs.Prelude.{◌≡◌, ◌≢◌, ◌<◌, ◌/◌, List, Bool, true, Option, Some, None, Contains, get_or, map}
+use Rattle.std.specs.Prelude.{◌≡◌, ◌≢◌, ◌<◌, ◌≤◌, ◌/◌, ℕ, List, Bool, true, Option, Some, None, Contains, get_or, map}
 use Rattle.mt_base.specs.declared.conflict.Kind.{Kind}
 use Rattle.mt_base.specs.Picture.{NamedTrajectory}
 use Rattle.mt_base.specs.Trajectory.{Trajectory}
 use Rattle.mt_cover.specs.Cells.{cover_of}
 use Rattle.mt_kept.specs.declared.finds.Candidate.{Candidate}
 use Rattle.mt_kept.specs.declared.finds.Verdict.{Verdict}
-use Rattle.mt_kept.specs.declared.finds.Verdict.TheVariants.{Unknown}
+use Rattle.mt_kept.specs.declared.finds.Verdict.TheVariants.{Known, Unknown}
 use Rattle.mt_kept.specs.Finds.{IsRight, place_of}
 use Rattle.mt_probe.specs.declared.flight.Flight.{Flight}
 use Rattle.mt_probe.specs.declared.flight.Made.{Made}
@@ -28,9 +28,15 @@ IsRightAt p known slot kind verdict = (f : Flight) (made : Made) (mine : NamedTr
 abbrev pub IsLaterAt : Prepared → Option Flight → Kind → Type 0
 IsLaterAt p slot kind = (f : Flight) (made : Made) → slot ≡ Some f → made_of f kind ≡ Some made → p.state.version < made.stamp
 
--- What is known of a candidate is right; and where nothing is known of it though the prep is of use, it was made after the prep.
+-- it was made before it
+abbrev pub IsEarlierAt : Prepared → Option Flight → Kind → Type 0
+IsEarlierAt p slot kind = (f : Flight) (made : Made) → slot ≡ Some f → made_of f kind ≡ Some made → made.stamp ≤ p.state.version
+
+-- What is known of a candidate is right, and the candidate was made before the prep; where nothing is known of it though the prep is of use, it
+-- was made after the prep.
 pub record IsKnown (p : Prepared) (known : Bool) (slots : List (Option Flight)) (x : Candidate) : Type 0 where
   pub right : IsRightAt p known (get_or slots (x.place / 2) None) (kind_at x.place) x.verdict
+  pub earlier : (span : Option (ℕ × ℕ)) → x.verdict ≡ Known span → IsEarlierAt p (get_or slots (x.place / 2) None) (kind_at x.place)
   pub later : known ≡ true → x.verdict ≡ Unknown → IsLaterAt p (get_or slots (x.place / 2) None) (kind_at x.place)
 
 -- The candidates of a trajectory: the trajectories that are near it, with what is known of them.

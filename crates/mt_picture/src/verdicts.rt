@@ -1,10 +1,10 @@
 //! What a prep says of the trajectories that stand now.
-ghost use Rattle.std.specs.Prelude.{◌≡◌, IfOk, true};
-ghost use Rattle.mt_kept.specs.declared.finds.Verdict.TheVariants.{Unknown};
+ghost use Rattle.std.specs.Prelude.{◌≡◌, ℕ, Option, IfOk, true};
+ghost use Rattle.mt_kept.specs.declared.finds.Verdict.TheVariants.{Known, Unknown};
 ghost use Rattle.mt_probe.specs.Items.{kind_at};
 ghost use Rattle.mt_probe.specs.Shot.{flight_at};
 ghost use Rattle.mt_picture.specs.Stamps.{HaveStood};
-ghost use Rattle.mt_picture.specs.Verdicts.{AreNear, IsLaterAt, IsRightAt};
+ghost use Rattle.mt_picture.specs.Verdicts.{AreNear, IsEarlierAt, IsLaterAt, IsRightAt};
 
 use mt_base::{Kind, Memory};
 use mt_cover::cover;
@@ -18,6 +18,7 @@ use std::alloc::Global;
 fn verdict(snapshot: &Snapshot, slot: u32, kind: Kind, prep: &Prep, known: bool) -> Verdict
     requires stood { HaveStood snapshot.now prep.now }
     ensures right { IsRightAt prep.now known (flight_at snapshot.now slot) kind result }
+    ensures earlier { (span : Option (ℕ × ℕ)) → result ≡ Known span → IsEarlierAt prep.now (flight_at snapshot.now slot) kind }
     ensures later { known ≡ true → result ≡ Unknown → IsLaterAt prep.now (flight_at snapshot.now slot) kind }
 {
     let Some(stamp) = snapshot.stamp(slot, kind) else {

@@ -4,7 +4,7 @@ use Rattle.mt_probe.specs.Prepared.{IsLeft, left_made}
 use Rattle.mt_probe.specs.Shot.{state_of as state_in}
 use Rattle.mt_change.proofs.Filling.{bounded_besides}
 use Rattle.mt_picture.specs.Story.{Story}
-use Rattle.mt_picture.proofs.Bounding.{none_both, within_both}
+use Rattle.mt_picture.proofs.Bounding.{none_preps, within_both, within_preps}
 use Rattle.mt_picture.proofs.Passing.{aside_passes, few_entries}
 use Rattle.mt_picture.proofs.Remade.{remaking_alters}
 use Rattle.mt_picture.proofs.Stale.{prep_call, remakes, usable_card}
@@ -78,36 +78,42 @@ remake-requires-clause-stood c =
     c.requires.prepared.within c.requires.prepared.state_is
 
 pub returns-in_err-card-clause-counted : goal.returns-in_err-card-clause-counted
-returns-in_err-card-clause-counted c = λ mine made.
-    none_both (record { setup = c.args.held.now.snapshot.setup; history = c.args.held.now.history.items }) c.args.command.now c.args.prep.now mine
+returns-in_err-card-clause-counted c =
+    none_preps (record { setup = c.args.held.now.snapshot.setup; history = c.args.held.now.history.items }) c.args.who c.args.command.now (Some c.args.prep.now)
     c.args.tests.now c.args.tests.now refl
 
 pub returns-then-is_filing-clause-counted : goal.returns-then-is_filing-clause-counted
-returns-then-is_filing-clause-counted c = λ mine made.
+returns-then-is_filing-clause-counted c =
     let shot = c.args.held.now.snapshot in
     let story : Story = record { setup = shot.setup; history = c.args.held.now.history.items } in
     let p = c.args.prep.now in
     let left : IsLeft shot.setup (state_in shot) c.args.who c.args.command.now c.in-Ok.card = rw c.in-Ok.is at c.in_ok-card.ensures in
     let kept = c.version-prepared.ensures.kept in
+    let stood = have_stood shot c.args.held.now.history.items p c.requires.held.stamped c.requires.prepared.setup_is c.requires.prepared.within c.requires.prepared.state_is in
+    within_preps story c.args.who c.args.command.now p c.in-Ok.card _ _
+    (subst (λ (s : State). IsLeft shot.setup s c.args.who c.args.command.now c.in-Ok.card) c.requires.held.stands left) (λ mine made.
     let here = subst (λ (s : State). left_made shot.setup s c.args.who c.args.command.now ≡ Some mine) (sym c.requires.held.stands) made in
     within_both story shot c.args.who c.args.command.now p c.is_usable-known.result c.in-Ok.card mine _ _ c.version-version.ensures.kept refl c.requires.held.stands
     c.requires.held.stamped c.requires.prepared kept left
     (prep_call story c.args.who c.args.command.now p c.in-Ok.card.call c.requires.prepared kept left.call_is)
     (λ is. usable_card shot c.args.held.now.history.items c.args.who c.args.command.now p c.in-Ok.card c.version-version.ensures.kept c.requires.held.stands
     c.requires.prepared kept (rw c.deref.ensures.value at (c.is_usable-known.ensures.usable is)) left)
-    (rw c.deref.ensures.value at c.is_usable-known.ensures.unusable) here (c.enter_filing.ensures.counted mine here)
+    (rw c.deref.ensures.value at c.is_usable-known.ensures.unusable) stood here (c.enter_filing.ensures.counted mine here))
 
 pub returns-clause-counted : goal.returns-clause-counted
-returns-clause-counted c = λ mine made.
+returns-clause-counted c =
     let shot = c.args.held.now.snapshot in
     let story : Story = record { setup = shot.setup; history = c.args.held.now.history.items } in
     let p = c.args.prep.now in
     let left : IsLeft shot.setup (state_in shot) c.args.who c.args.command.now c.in-Ok.card = rw c.in-Ok.is at c.in_ok-card.ensures in
     let kept = c.version-prepared.ensures.kept in
+    let stood = have_stood shot c.args.held.now.history.items p c.requires.held.stamped c.requires.prepared.setup_is c.requires.prepared.within c.requires.prepared.state_is in
+    within_preps story c.args.who c.args.command.now p c.in-Ok.card _ _
+    (subst (λ (s : State). IsLeft shot.setup s c.args.who c.args.command.now c.in-Ok.card) c.requires.held.stands left) (λ mine made.
     let here = subst (λ (s : State). left_made shot.setup s c.args.who c.args.command.now ≡ Some mine) (sym c.requires.held.stands) made in
     within_both story shot c.args.who c.args.command.now p c.is_usable-known.result c.in-Ok.card mine _ _ c.version-version.ensures.kept refl c.requires.held.stands
     c.requires.held.stamped c.requires.prepared kept left
     (prep_call story c.args.who c.args.command.now p c.in-Ok.card.call c.requires.prepared kept left.call_is)
     (λ is. usable_card shot c.args.held.now.history.items c.args.who c.args.command.now p c.in-Ok.card c.version-version.ensures.kept c.requires.held.stands
     c.requires.prepared kept (rw c.deref.ensures.value at (c.is_usable-known.ensures.usable is)) left)
-    (rw c.deref.ensures.value at c.is_usable-known.ensures.unusable) here (c.remake.ensures.counted mine here)
+    (rw c.deref.ensures.value at c.is_usable-known.ensures.unusable) stood here (c.remake.ensures.counted mine here))

@@ -10,7 +10,8 @@ use Rattle.mt_picture.proofs.Entered.{put_filed}
 use Rattle.std.specs.Arc.{arc_value}
 use Rattle.mt_probe.specs.Prepared.{named, path_made}
 use Rattle.mt_picture.proofs.Bounding.{made_known}
-use Rattle.mt_picture.proofs.FirstHit.{filing_kind, filing_unprobed, no_first}
+use Rattle.mt_picture.proofs.FirstHit.{filing_unprobed, no_first}
+use Rattle.mt_picture.proofs.Making.{filing_kind}
 use Rattle.mt_picture.proofs.entering.file.Goals as goal
 
 pub put_made-requires-clause-put : goal.put_made-requires-clause-put

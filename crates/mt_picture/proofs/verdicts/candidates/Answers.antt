@@ -18,6 +18,7 @@ loop-item-preserved c =
     let x : Candidate = record { place = item; verdict = c.verdict-verdict.result } in
     let one : IsKnown c.args.prep.now c.args.known slots x = record {
       right = rw c.kind_of.ensures at c.verdict-verdict.ensures.right;
+      earlier = rw c.kind_of.ensures at c.verdict-verdict.ensures.earlier;
       later = rw c.kind_of.ensures at c.verdict-verdict.ensures.later;
     } in
     rw c.in_ok-push.ensures.items (record {

@@ -1,5 +1,6 @@
 use Rattle.std.proofs.Common.{◌≡◌, ◌≤◌, true, arith, Some, None}
-use Rattle.mt_picture.proofs.Knowing.{found_right}
+use Rattle.mt_probe.specs.Shot.{flight_at}
+use Rattle.mt_picture.proofs.Knowing.{earlier_there, found_right}
 use Rattle.mt_picture.proofs.verdicts.verdict.Goals as goal
 
 pub returns-in-Some-found-clause-right : goal.returns-in-Some-found-clause-right
@@ -23,3 +24,13 @@ returns-then-version-stamp-clause-later c = λ known unknown f made is made_is.
     let v = c.version.ensures.version in
     let t = c.if-version-stamp.true in
     omega arith
+
+pub returns-in-Some-found-clause-earlier : goal.returns-in-Some-found-clause-earlier
+returns-in-Some-found-clause-earlier c = λ span is.
+    let early : c.in-Some.stamp ≤ c.args.prep.now.state.version = let v = c.version.ensures.version in let t = c.if-version-stamp.false in omega arith in
+    earlier_there c.args.prep.now (flight_at c.args.snapshot.now c.args.slot) c.args.kind c.in-Some.stamp c.in-Some.ensures early
+
+pub returns-in-None-clause-earlier : goal.returns-in-None-clause-earlier
+returns-in-None-clause-earlier c = λ span is.
+    let early : c.in-Some.stamp ≤ c.args.prep.now.state.version = let v = c.version.ensures.version in let t = c.if-version-stamp.false in omega arith in
+    earlier_there c.args.prep.now (flight_at c.args.snapshot.now c.args.slot) c.args.kind c.in-Some.stamp c.in-Some.ensures early
