@@ -98,3 +98,32 @@ pub bad_is : (bytes rest line others : List ℕ) (entries : List Entry) (place :
 bad_is bytes rest line others entries place (Line named) up cut at is =
     first_bad bytes rest line others entries named is.1.0 up cut (is.0 ∙ at) is.1.1
 bad_is bytes rest line others entries place Memory up cut at is = tt
+
+-- ---- a line of those that are read is read, so no such line is bad
+
+line_read : (lines : List (List ℕ)) (entries : List Entry) (place : ℕ) (line : List ℕ) → map entry lines ≡ map read_as entries
+    → slice_get lines place ≡ Some line → (e : Entry) × (entry line ≡ Ok e)
+line_read [] entries place line read is = cc
+line_read (l ∷ lines) [] place line read is = cc
+line_read (l ∷ lines) (e ∷ entries) zero line read is =
+    let first : entry l ≡ read_as e = cc in
+    let same : l ≡ line = cc in
+    (e, subst (λ (x : List ℕ). entry x ≡ read_as e) same first)
+line_read (l ∷ lines) (e ∷ entries) (suc place) line read is =
+    let rest : map entry lines ≡ map read_as entries = cc in
+    line_read lines entries place line rest is
+
+read_at : (lines : List (List ℕ)) (entries : List Entry) (place : ℕ) (line : List ℕ) → AreRead lines entries → slice_get lines place ≡ Some line
+    → (e : Entry) × (entry line ≡ Ok e)
+unfolding AreRead
+read_at lines entries place line read is = line_read lines entries place line read is
+
+none_bad : (bytes : List ℕ) (entries : List Entry) (place : ℕ) → AreRead (lines_of bytes) entries → IsFirstBad bytes place → ⊥
+none_bad bytes entries place read bad =
+    let (e, is) = read_at (lines_of bytes) entries place bad.line read bad.is in
+    let both : Ok e ≡ Err bad.refusal = sym is ∙ bad.refused in
+    cc
+
+pub never_bad : (bytes : List ℕ) (entries : List Entry) (bad : Bad) → AreRead (lines_of bytes) entries → IsBad bytes bad → bad ≡ Memory
+never_bad bytes entries (Line place) read bad = absurd (none_bad bytes entries place read bad)
+never_bad bytes entries Memory read bad = refl

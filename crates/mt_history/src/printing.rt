@@ -1,6 +1,7 @@
 //! A history as text.
 ghost use Rattle.std.specs.Prelude.{◌≡◌, ◌-◌, ◌≤◌, IfOk, take, drop, length};
-ghost use Rattle.mt_history.specs.Printed.{printed};
+ghost use Rattle.mt_io.specs.Lines.{lines_of};
+ghost use Rattle.mt_history.specs.Printed.{AreRead, printed};
 
 use mt_base::Entry;
 use mt_memory::Memory;
@@ -22,10 +23,13 @@ fn text_of(alloc: Global, entries: &[Entry]) -> Result<Vec<u8>, Memory>
 
 /// The entries of a history from the place `from` up to the place `to`, without it, as text: a line for each, in order. Places are counted
 /// from 0. It asks that `from` is at most `to`, and that no more than that many entries are asked for.
+///
+/// Whatever the picture, [`read_all`](crate::read_all) gives these entries of that text, and no others, unless memory is wanted.
 pub fn print(alloc: Global, picture: &Picture, from: u64, to: u64) -> Result<Vec<u8>, Memory>
     requires order { from ≤ to }
     requires within { to ≤ length picture.now.history }
-    ensures { IfOk result (λ bytes. bytes.items ≡ printed (take (to - from) (drop from picture.now.history))) }
+    ensures text { IfOk result (λ bytes. bytes.items ≡ printed (take (to - from) (drop from picture.now.history))) }
+    ensures read_back { IfOk result (λ bytes. AreRead (lines_of bytes.items) (take (to - from) (drop from picture.now.history))) }
 {
     let entries = picture.entries();
     text_of(alloc, &entries[from as usize..to as usize])
