@@ -88,6 +88,7 @@ fn entry(rt: &(impl AllocGlobal + Abort)) -> Entry {
             at: 7,
             from: 350,
             level: 360,
+            rvsm: false,
         },
     }
 }
@@ -112,6 +113,7 @@ fn record(rt: &(impl AllocGlobal + Abort)) -> Record {
         last: None,
         due: false,
         mark: None,
+        rvsm: false,
     };
     Record {
         call: callsign(rt, b"DDD1"),
@@ -129,7 +131,10 @@ fn check_entry(rt: &(impl AllocGlobal + Abort), entry: &Entry) {
     assert!(rt; entry.who == 2);
     assert!(rt; entry.command.call() == Some(callsign(rt, b"DDD1")));
     match &entry.command {
-        Command::Plan { route, .. } => check_route(rt, route),
+        Command::Plan { route, rvsm, .. } => {
+            assert!(rt; !*rvsm);
+            check_route(rt, route);
+        }
         _ => panic!(rt; "another command"),
     }
 }
@@ -137,6 +142,7 @@ fn check_entry(rt: &(impl AllocGlobal + Abort), entry: &Entry) {
 fn check_course(rt: &(impl AllocGlobal + Abort), course: &Course) {
     assert!(rt; course.kind == type_name(rt, b"JA1"));
     assert!(rt; course.base.at == 7);
+    assert!(rt; !course.rvsm);
     check_route(rt, &course.route);
 }
 
@@ -222,6 +228,7 @@ fn usual_but(name: RuleName, value: i64) -> Rules {
         RuleName::Tv => &mut rules.tv,
         RuleName::Flights => &mut rules.flights,
         RuleName::History => &mut rules.history,
+        RuleName::Sv2 => &mut rules.sv2,
     };
     *rule = value;
     rules
@@ -239,6 +246,8 @@ fn the_first_rule_outside_its_bounds_is_named(rt: HostRuntime) {
     check_rule(&rt, RuleName::Sh, 72_000, None);
     check_rule(&rt, RuleName::Sh, 0, Some(RuleName::Sh));
     check_rule(&rt, RuleName::Sv, 600_001, Some(RuleName::Sv));
+    check_rule(&rt, RuleName::Sv, 120_000, None);
+    check_rule(&rt, RuleName::Sv, 120_001, Some(RuleName::Sv2));
     check_rule(&rt, RuleName::R0, 9_000, None);
     check_rule(&rt, RuleName::R0, 9_001, Some(RuleName::R0));
     check_rule(&rt, RuleName::Rmax, -1, Some(RuleName::R0));
@@ -253,4 +262,7 @@ fn the_first_rule_outside_its_bounds_is_named(rt: HostRuntime) {
     check_rule(&rt, RuleName::Flights, 1_025, Some(RuleName::Flights));
     check_rule(&rt, RuleName::History, 4_194_304, None);
     check_rule(&rt, RuleName::History, 0, Some(RuleName::History));
+    check_rule(&rt, RuleName::Sv2, 60_000, None);
+    check_rule(&rt, RuleName::Sv2, 59_999, Some(RuleName::Sv2));
+    check_rule(&rt, RuleName::Sv2, 600_001, Some(RuleName::Sv2));
 }

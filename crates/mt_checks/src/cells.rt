@@ -200,10 +200,15 @@ const LANE: Row = Row {
 
 /// The cover of the stretch that flies from a row.
 fn covered(rt: &(impl AllocGlobal + Abort), from: Second, to: Second, first: Row) -> Cover
-    requires { IsBoundedStretch (record { from = from; to = to; first = first }) }
+    requires { IsBoundedStretch (record { from = from; to = to; first = first; rvsm = true }) }
     ensures { AreInGrid result }
 {
-    let stretch = Straight { from, to, first };
+    let stretch = Straight {
+        from,
+        to,
+        first,
+        rvsm: true,
+    };
     let strand = Strand::straight(rt.alloc(), &stretch).expect(rt, "memory");
     cover(rt.alloc(), &strand, &Rules::usual()).expect(rt, "memory")
 }
@@ -216,7 +221,7 @@ fn check_stay(rt: &(impl AllocGlobal + Abort), stay: &Stay, wanted: &str) {
 
 /// The stays of that stretch are those wanted, each with its cell, its first second and the one after its last.
 fn check(rt: &(impl AllocGlobal + Abort), from: Second, to: Second, first: Row, wanted: &str)
-    requires { IsBoundedStretch (record { from = from; to = to; first = first }) }
+    requires { IsBoundedStretch (record { from = from; to = to; first = first; rvsm = true }) }
 {
     let cover = covered(rt, from, to, first);
     let mut stays = cover.stays().iter();
@@ -275,8 +280,8 @@ fn check_taken(rt: &impl Abort, grid: &Grid, cover: &Cover, other: &Cover)
 
 /// Whether the second stretch is near the first, once it is put into an empty grid; before that and after it is taken it isn't.
 fn is_near(rt: &(impl AllocGlobal + Abort), one: Row, other: Row) -> bool
-    requires one { IsBoundedStretch (record { from = 0; to = 300; first = one }) }
-    requires other { IsBoundedStretch (record { from = 0; to = 300; first = other }) }
+    requires one { IsBoundedStretch (record { from = 0; to = 300; first = one; rvsm = true }) }
+    requires other { IsBoundedStretch (record { from = 0; to = 300; first = other; rvsm = true }) }
 {
     let one = covered(rt, 0, 300, one);
     let other = covered(rt, 0, 300, other);

@@ -57,12 +57,13 @@ const NORTH: Row = Row {
 
 /// The strand of an hour that begins with that row.
 fn strand(rt: &(impl AllocGlobal + Abort), first: Row) -> Arc<Strand>
-    requires { IsBoundedStretch (record { from = 0; to = 3600; first = first }) }
+    requires { IsBoundedStretch (record { from = 0; to = 3600; first = first; rvsm = true }) }
 {
     let hour = Straight {
         from: 0,
         to: 3600,
         first,
+        rvsm: true,
     };
     let strand = Strand::straight(rt.alloc(), &hour).expect(rt, "memory");
     Arc::new(rt.alloc(), strand).ok().expect(rt, "memory")

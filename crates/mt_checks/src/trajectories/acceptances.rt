@@ -33,6 +33,7 @@ const STRETCH: Straight = Straight {
         gw: 0,
         leg: 0,
     },
+    rvsm: true,
 };
 
 /// The acceptance that the next values of a line say, at that moment.

@@ -40,6 +40,7 @@ pub(super) fn course(rt: &impl Abort, alloc: Global) -> Course {
         last: None,
         due: false,
         mark: None,
+        rvsm: true,
     }
 }
 

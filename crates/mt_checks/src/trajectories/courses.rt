@@ -162,6 +162,7 @@ fn course(rt: &impl Abort, alloc: Global) -> Course {
             base: tentative,
             level: 299,
         }),
+        rvsm: false,
     }
 }
 

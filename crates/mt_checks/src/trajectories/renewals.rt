@@ -97,7 +97,7 @@ fn a_flight_that_is_due_begins_anew_at_its_report(rt: HostRuntime) {
     course.base.next = 9;
     course.due = true;
     check(&rt, &mut course, &strand, OF_STRAND);
-    let empty = Strand::empty(rt.alloc(), 100);
+    let empty = Strand::empty(rt.alloc(), 100, true);
     check(&rt, &mut course, &empty, OF_EMPTY_STRAND);
     drop(empty);
     drop(strand);

@@ -102,6 +102,7 @@ fn plan(rt: &(impl Abort + AllocGlobal), fixes: &str, who: u32) -> Entry {
             at: 10000000,
             from: 350,
             level: 600,
+            rvsm: who > 0,
         },
     }
 }
@@ -116,7 +117,7 @@ fn entries_of_planned_flights(rt: HostRuntime) {
 }
 
 const ENTRY: &str =
-    r#"{"at":10000000,"call":"DDD1","do":"plan","from":350,"level":600,"route":["Q0","R1234","Q0"],"type":"JA1","who":4294967295}"#;
+    r#"{"at":10000000,"call":"DDD1","do":"plan","from":350,"level":600,"route":["Q0","R1234","Q0"],"rvsm":true,"type":"JA1","who":4294967295}"#;
 
 const HISTORY: &str =
-    r#"{"entries":[{"at":10000000,"call":"DDD1","do":"plan","from":350,"level":600,"route":[],"type":"JA1","who":0},{"at":10000000,"call":"DDD1","do":"plan","from":350,"level":600,"route":["AB"],"type":"JA1","who":1}],"version":2}"#;
+    r#"{"entries":[{"at":10000000,"call":"DDD1","do":"plan","from":350,"level":600,"route":[],"rvsm":false,"type":"JA1","who":0},{"at":10000000,"call":"DDD1","do":"plan","from":350,"level":600,"route":["AB"],"rvsm":true,"type":"JA1","who":1}],"version":2}"#;

@@ -122,6 +122,7 @@ fn straight() -> Straight {
             gw: 12,
             leg: 0,
         },
+        rvsm: false,
     }
 }
 
@@ -143,7 +144,7 @@ fn entries_of_a_history(rt: HostRuntime) {
 }
 
 const HISTORY: &str =
-    r#"{"entries":[{"call":"AAA1","do":"external","from":60,"gr":0,"gw":12,"r":72000,"to":14460,"vx":1000,"vy":-1000,"vz":-10000,"w":600000,"who":4294967295,"x":-3686400,"y":3686400,"z":3600000},{"call":"AAA1","do":"drop","who":0},{"do":"tick","now":10000000,"who":15}],"version":3}"#;
+    r#"{"entries":[{"call":"AAA1","do":"external","from":60,"gr":0,"gw":12,"r":72000,"rvsm":false,"to":14460,"vx":1000,"vy":-1000,"vz":-10000,"w":600000,"who":4294967295,"x":-3686400,"y":3686400,"z":3600000},{"call":"AAA1","do":"drop","who":0},{"do":"tick","now":10000000,"who":15}],"version":3}"#;
 
 #[test]
 fn a_short_reply_in_a_room(rt: HostRuntime) {
