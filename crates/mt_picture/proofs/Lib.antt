@@ -16,6 +16,7 @@ pub mod Opening
 pub mod Passing
 pub mod Published
 pub mod Remade
+pub mod Since
 pub mod Slotted
 pub mod Stale
 pub mod Standing

@@ -3,6 +3,7 @@ pub mod Asking
 pub mod Entries
 pub mod Finding
 pub mod Hits
+pub mod Laws
 pub mod Places
 pub mod Putting
 pub mod Stamps

@@ -7,10 +7,12 @@ mod enter;
 mod entering;
 mod held;
 mod hits;
+mod laws;
 mod picture;
 mod usable;
 mod verdicts;
 
+pub use laws::{restoring_law, stale_law};
 pub use mt_board::No;
 pub use mt_memory::Memory;
 pub use picture::Picture;
