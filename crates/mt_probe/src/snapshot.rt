@@ -93,6 +93,17 @@ impl Snapshot {
         })
     }
 
+    /// The opening snapshot of the same rules and tables. It copies no table.
+    pub fn reopened(&self) -> Result<Snapshot, Memory>
+        ensures setup { IfOk result (λ shot. shot.setup ≡ self.now.setup) }
+        ensures version { IfOk result (λ shot. shot.version ≡ 0) }
+        ensures state { IfOk result (λ shot. state_of shot ≡ opening) }
+    {
+        let rules = *self.rules();
+        let tables = Arc::try_clone(&self.body.tables)?;
+        Snapshot::opening(self.body.alloc, rules, tables)
+    }
+
     /// The version. What every snapshot keeps is said here too; its state is sound, as long as the version is one that a history can have.
     pub fn version(&self) -> u64
         ensures version { result ≡ self.now.version }
