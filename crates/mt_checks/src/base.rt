@@ -2,7 +2,7 @@
 ghost use Rattle.std.specs.Prelude.{◌<◌, length};
 
 use crate::conflicts::{conflict, conflict_of, conflicts};
-use crate::names::{callsign, route, type_name};
+use crate::names::{callsign, fix_name, route, type_name};
 use mt_base::{
     Base, Callsign, Command, Conflict, Course, Entry, FixName, Kind, Path, Record, Route, RuleName,
     Rules, TypeName, Words, history_laws, one_published_list_law,
@@ -70,6 +70,14 @@ fn fixes_and_types_have_short_names(rt: HostRuntime) {
     check_name(&rt, b"JA1XYZ", false, false);
     check_name(&rt, b"q0", false, false);
     check_name(&rt, b"Q-", false, false);
+}
+
+#[test]
+fn names_are_ordered_by_bytes(rt: HostRuntime) {
+    assert!(rt; fix_name(&rt, b"Q0") < fix_name(&rt, b"Q00"));
+    assert!(rt; fix_name(&rt, b"Q09") < fix_name(&rt, b"QA"));
+    assert!(rt; type_name(&rt, b"B9Z") < type_name(&rt, b"BA"));
+    assert!(rt; type_name(&rt, b"JA1") == type_name(&rt, b"JA1"));
 }
 
 /// A route of two fixes.

@@ -14,7 +14,7 @@ pub trait Check {
 }
 
 /// Whether a line of a table is a case.
-fn is_case(line: &str) -> bool {
+pub fn is_case(line: &str) -> bool {
     !line.is_empty() && !line.starts_with(';')
 }
 

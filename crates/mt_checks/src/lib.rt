@@ -21,6 +21,8 @@ mod fractions;
 #[cfg(test)]
 mod json_lines;
 #[cfg(test)]
+mod minima;
+#[cfg(test)]
 mod names;
 #[cfg(test)]
 mod pages;

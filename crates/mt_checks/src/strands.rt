@@ -114,15 +114,17 @@ const AT_BORDERS: &str = "\
 
 #[test]
 fn rows_stand_at_and_around_each_border(rt: HostRuntime) {
-    let mut strand = Strand::empty(rt.alloc(), 10);
+    let mut strand = Strand::empty(rt.alloc(), 10, false);
     check(&rt, &strand, (10, 10), WITHOUT_SEGMENTS);
     strand.push(CLIMB).expect(&rt, "memory");
     strand.push(LEVEL).expect(&rt, "memory");
     strand.push(DESCENT).expect(&rt, "memory");
     check(&rt, &strand, (10, 18), AT_BORDERS);
     assert!(rt; strand.segments() == [CLIMB, LEVEL, DESCENT].as_slice());
+    assert!(rt; !strand.rvsm());
     let copy = strand.copy().expect(&rt, "memory");
     check(&rt, &copy, (10, 18), AT_BORDERS);
+    assert!(rt; !copy.rvsm());
     assert!(rt; copy.segments() == strand.segments());
     drop(copy);
     drop(strand);
@@ -155,9 +157,11 @@ fn a_straight_stretch_has_growing_margins(rt: HostRuntime) {
             gw: 100,
             leg: 0,
         },
+        rvsm: true,
     };
     let strand = Strand::straight(rt.alloc(), &stretch).expect(&rt, "memory");
     check(&rt, &strand, (5, 9), GROWING);
+    assert!(rt; strand.rvsm());
     drop(strand);
 }
 
@@ -165,7 +169,7 @@ fn a_straight_stretch_has_growing_margins(rt: HostRuntime) {
 fn empty_from(rt: &(impl AllocGlobal + Abort), start: u32) -> Arc<Strand>
     requires { start ≤ 10014400 }
 {
-    Arc::new(rt.alloc(), Strand::empty(rt.alloc(), start))
+    Arc::new(rt.alloc(), Strand::empty(rt.alloc(), start, true))
         .ok()
         .expect(rt, "memory")
 }

@@ -36,7 +36,8 @@ fn values(row: &Row) -> [i64; 11] {
     ]
 }
 
-fn is_within(low: i64, high: i64, z: &i64) -> bool
+/// Whether a number is so much at least and at most.
+pub fn is_within(low: i64, high: i64, z: &i64) -> bool
     ensures { IsTrue result → IsWithin low high z.now }
 {
     low <= *z && *z <= high
@@ -101,7 +102,7 @@ fn is_held(rules: &Rules, a: &Place) -> bool
     is_up_to(&rules.rmax, &a.r) && is_up_to(&rules.wmax, &a.w)
 }
 
-/// The trajectory over fixes that begins at a second and a place, in the usual rules.
+/// The trajectory over fixes that begins at a second and a place, in the usual rules, of an aircraft that isn't approved.
 fn fly(
     rt: &impl Abort,
     alloc: Global,
@@ -120,7 +121,11 @@ fn fly(
     assert!(rt; (next as usize) < fixes.len());
     assert!(rt; at <= 10_000_000);
     assert!(rt; is_held(&rules, &from));
-    fly_route(alloc, &rules, bands, level, fixes, next, at, from).expect(rt, "memory")
+    let strand = fly_route(alloc, &rules, bands, level, fixes, next, at, from, false).expect(
+        rt, "memory",
+    );
+    assert!(rt; !strand.rvsm());
+    strand
 }
 
 /// What the strand says of one second.

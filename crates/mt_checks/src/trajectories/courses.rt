@@ -174,6 +174,7 @@ fn the_trajectory_of_a_tentative_clearance(rt: HostRuntime) {
     let course = course(&rt, alloc);
     assert!(rt; course.mark.is_some());
     let strand = predicted(&rt, alloc, &tables, &rules, &course, Kind::Tentative);
+    assert!(rt; !strand.rvsm());
     check(&rt, strand, (60, 126), 7, TENTATIVE);
     drop(course);
     drop(tables);

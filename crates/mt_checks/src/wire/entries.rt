@@ -28,6 +28,12 @@ const ENTRIES: &str = r#"
 {"call":"DDD1","do":"commit"} => form who
 {"at":0,"call":"DDD1","do":"plan","level":360,"route":["Q0","Q1"],"type":"JA1","who":0} => form from
 {"call":"AAA1","do":"external","from":0,"gr":0,"gw":0,"r":0,"to":1,"vx":0,"vy":0,"vz":0,"who":1,"x":0,"y":0,"z":0} => form w
+{"at":0,"call":"DDD1","do":"plan","from":350,"level":360,"route":["Q0","Q1"],"rvsm":1,"type":"JA1","who":0} => form rvsm
+{"at":0,"call":"DDD1","do":"plan","from":350,"level":360,"route":["Q0","Q1"],"rvsm":null,"type":"JA1","who":0} => form rvsm
+{"at":-1,"call":"DDD1","do":"plan","from":350,"level":360,"route":["Q0","Q1"],"rvsm":"true","type":"JA1","who":"0"} => form rvsm
+{"call":"AAA1","do":"external","from":0,"gr":15,"gw":1,"r":2,"rvsm":0,"to":1200,"vx":-480,"vy":3,"vz":-4,"w":5,"who":1,"x":0,"y":0,"z":0} => form rvsm
+{"call":"AAA1","do":"external","from":0,"gr":15,"gw":"1","r":2,"rvsm":0,"to":1200,"vx":-480,"vy":3,"vz":-4,"w":5,"who":1,"x":0,"y":0,"z":0} => form gw
+{"call":"DDD1","do":"clear","eff":0,"level":350,"rvsm":true,"who":0} => form rvsm
 {"call":"DDD1","do":"clear","level":350,"who":0} => form eff
 {"call":"DDD1","do":"accept","eff":10,"level":360,"who":"0"} => form v
 {"call":"DDD1","do":"accept","level":360,"who":0} => form eff
@@ -37,6 +43,12 @@ const ENTRIES: &str = r#"
 {"call":"DDD1","do":"accept","eff":10,"level":360,"v":4194305,"who":-1} => range v
 {"call":"DDD1","do":"commit","who":-1} => range who
 {"call":"DDD1","do":"commit","who":4294967296} => range who
+"#;
+
+// Texts as they were printed before entries told the approval, and as they are printed now.
+const WITHOUT_APPROVAL: &str = r#"
+{"at":0,"call":"DDD1","do":"plan","from":350,"level":360,"route":["Q0","Q1"],"type":"JA1","who":0} => {"at":0,"call":"DDD1","do":"plan","from":350,"level":360,"route":["Q0","Q1"],"rvsm":true,"type":"JA1","who":0}
+{"call":"AAA1","do":"external","from":0,"gr":15,"gw":1,"r":2,"to":1200,"vx":-480,"vy":3,"vz":-4,"w":5,"who":1,"x":-3110400,"y":3682800,"z":2100000} => {"call":"AAA1","do":"external","from":0,"gr":15,"gw":1,"r":2,"rvsm":true,"to":1200,"vx":-480,"vy":3,"vz":-4,"w":5,"who":1,"x":-3110400,"y":3682800,"z":2100000}
 "#;
 
 /// What comes of the text of an entry.
@@ -58,4 +70,22 @@ impl Check for Texts {
 #[test]
 fn texts_of_entries_are_read_or_refused(rt: HostRuntime) {
     check_each::<Texts>(&rt, ENTRIES);
+}
+
+/// What an entry is written as that is read of a text.
+struct Approved;
+
+impl Check for Approved {
+    fn check(rt: &(impl Abort + AllocGlobal), case: &str) {
+        let (text, wanted) = case.split_once(" => ").expect(rt, "two columns");
+        let entry = read_entry(rt.alloc(), text.as_bytes())
+            .ok()
+            .expect(rt, "an entry");
+        check_entry(rt, entry, wanted);
+    }
+}
+
+#[test]
+fn an_entry_without_an_approval_is_of_an_approved_aircraft(rt: HostRuntime) {
+    check_each::<Approved>(&rt, WITHOUT_APPROVAL);
 }
