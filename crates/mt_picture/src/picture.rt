@@ -132,8 +132,9 @@ impl Picture {
     /// the first entries of this picture's history, as many as its version says.
     ///
     /// At most two pairs are tested for each trajectory of another flight that is near the new one. Where the prep is usable, these are only those
-    /// that were made after it, and one more test is made for each whose conflict with the new one straddles an edge of the window. A tick tests
-    /// once each pair that straddles an edge of its window, and a command that makes no trajectory tests none.
+    /// that were made after it, and one more test is made for each that was there before and whose conflict with the new one straddles an edge of
+    /// the window. A tick tests once each pair that straddles an edge of its window; a command that makes no trajectory, or leaves none now, tests
+    /// none.
     pub fn publish(
         &mut self,
         alloc: Global,
