@@ -57,7 +57,7 @@ there : (P : Setup → State → Type 0) (t : Seat) (shot : Shot) → StandsFor 
 there P t shot for x = subst (λ (f : Setup). P f (state_seen t)) for.setup_is (subst (λ (s : State). P shot.setup s) for.state_is x)
 
 -- the seat has seen the history of that version
-seen_at : (s t : Seat) (version : ℕ) → HasSeen s t (length t.seen) → version ≡ length t.seen → HasSeen s t version
+pub seen_at : (s t : Seat) (version : ℕ) → HasSeen s t (length t.seen) → version ≡ length t.seen → HasSeen s t version
 seen_at s t version seen is = record { looked = seen.looked; version_is = is; sound = seen.sound }
 
 -- Its state is that of the first entries that the seat has seen, as many as its version says: of all.

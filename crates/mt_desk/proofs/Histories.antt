@@ -7,11 +7,10 @@ use Rattle.mt_base.specs.declared.command.Command.TheVariants.{Accept}
 use Rattle.mt_base.specs.declared.command.Entered.{Entered}
 use Rattle.mt_base.specs.declared.command.Entry.{Entry}
 use Rattle.mt_base.specs.Bounds.{AreWithinBounds}
-use Rattle.mt_base.specs.History.{IsDecided, IsInTime, IsLegal, WasFree, checks, filled, look_at, state_of}
+use Rattle.mt_base.specs.History.{IsInTime, IsLegal, WasFree, state_of}
 use Rattle.mt_base.specs.Picture.{State}
 use Rattle.mt_base.specs.Tables.{Setup}
 use Rattle.mt_base.specs.WhatIf.{IsWhatIf}
-use Rattle.mt_base.proofs.CheckLemmas.{answer_is}
 use Rattle.mt_board.specs.declared.no.No.{No}
 use Rattle.mt_board.specs.Seat.{GoesOn}
 use Rattle.mt_picture.specs.Story.{IsEntered, Story}
@@ -31,11 +30,6 @@ free_on setup a b (Accept call clearance eff probed) on in_time free =
 free_on setup a b c on in_time free = tt
 
 -- ---- what is decided
-
--- an entry that is decided is its actor's
-pub decided_who : (setup : Setup) (s : State) (who : ℕ) (c : Command) (e : Entry) → IsDecided setup s who c (Ok e) → e.who ≡ who
-decided_who setup s who c e decided =
-    sym (ap (λ (f : Entry). f.who) (answer_is (checks setup (look_at s c) who c) (record { who = who; command = filled s.now c }) e decided.0))
 
 -- a picture with a legal history has one after a decision
 pub legal_after : (p q : Story) (who : ℕ) (c : Command) (result : Result Entered No) → IsLegalStory p → WasFree p.setup p.history c
