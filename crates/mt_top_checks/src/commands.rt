@@ -115,19 +115,25 @@ pub fn plan(
         at: 0,
         from: level,
         level,
+        rvsm: true,
     }
 }
 
 /// An external flight.
 pub fn outer(rt: &impl Abort, call: &[u8], from: Second, to: Second, first: Row) -> Command
-    requires { IsBoundedStretch (record { from = from; to = to; first = first }) }
+    requires { IsBoundedStretch (record { from = from; to = to; first = first; rvsm = true }) }
     ensures makes { MakesStrand result }
     ensures bounded { IsBoundedCommand result }
     ensures in_time { (place : ℕ) → IsInTime place result }
 {
     Command::External {
         call: callsign(rt, call),
-        straight: Straight { from, to, first },
+        straight: Straight {
+            from,
+            to,
+            first,
+            rvsm: true,
+        },
     }
 }
 

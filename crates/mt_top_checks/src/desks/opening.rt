@@ -62,6 +62,7 @@ pub fn outer(call: Callsign, thousands: u8) -> Command
         from: 0,
         to: 100,
         first,
+        rvsm: true,
     };
     Command::External { call, straight }
 }

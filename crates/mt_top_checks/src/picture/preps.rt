@@ -17,7 +17,7 @@ use std::process::Abort;
 // An external flight is entered, for 1,200 seconds from that one on, and the version with it is this one.
 fn come(rt: &impl Abort, scene: &mut Scene, call: &[u8], from: Second, first: &Row, version: u64)
     requires early { from ≤ 10 }
-    requires bounded { IsBoundedStretch (record { from = from; to = from + 1200; first = first.now }) }
+    requires bounded { IsBoundedStretch (record { from = from; to = from + 1200; first = first.now; rvsm = true }) }
     ensures { IsLater scene.old.picture scene.new.picture }
 {
     let coming = outer(rt, call, from, from + 1200, *first);
