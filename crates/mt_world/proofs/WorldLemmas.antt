@@ -1,10 +1,10 @@
 -- What a world keeps as it goes on.
-use Rattle.std.proofs.Common.{◌≡◌, ◌⊎◌, inl, inr, ℕ, zero, suc, ◌<◌, Bool, true, false, List, [], ◌∷◌, ◌++◌, All, length, map, replicate, get_or, refl, sym, ◌∙◌, ap, ap₂, subst, arith, length-append}
+use Rattle.std.proofs.Common.{◌≡◌, ◌⊎◌, inl, inr, ℕ, zero, suc, ◌<◌, Bool, true, false, List, [], ◌∷◌, ◌++◌, All, length, map, replicate, take, get_or, refl, sym, ◌∙◌, ap, ap₂, subst, arith, length-append}
 use Rattle.std.proofs.lemmas.List.{length-set, map-set, take-append-le, take_all}
 use Rattle.std.specs.Prelude.{MatchBool, slice_set}
 use Rattle.mt_base.specs.declared.command.Entry.{Entry}
 use Rattle.mt_base.specs.History.{IsLegal, state_of}
-use Rattle.mt_base.specs.Picture.{State}
+use Rattle.mt_base.specs.Picture.{State, opening}
 use Rattle.mt_base.specs.Tables.{Setup}
 use Rattle.mt_base.proofs.HistoryLemmas.{version_is}
 use Rattle.mt_machine.specs.Book.{Book, empty_book, told_book}
@@ -130,3 +130,24 @@ shown_first shot (a ∷ bs) (suc n) none e all = ap₂ (λ (b : world.Actor) (cs
     (first_shown a (all 0 a (omega arith))) (shown_first shot bs n none (omega arith) (λ k d below. all (suc k) d (omega arith))) where
       first_shown : (b : Actor) → IsFirst shot b → shown b ≡ new_actor
       first_shown b is = rw (is.0, is.1, none) refl
+
+-- a world in which each actor has taken version 0 is sound where its history is legal
+pub sound_first : (setup : Setup) (h : List Entry) (shot : Shot) (actors : List Actor) → IsLegal setup h → shot.setup ≡ setup → shot.version ≡ 0
+    → state_in shot ≡ opening → length actors ≡ 16 → All (IsFirst shot) actors → IsSoundWorld (record { setup = setup; history = h }) actors
+sound_first setup h shot actors legal setup_is none state sixteen all = record {
+  legal = legal;
+  sixteen = sixteen;
+  each = λ k d below. sound_one (get_or actors k d) (all k d below);
+} where
+  taken : IsTakenOf setup h shot
+  taken = record { setup_is = setup_is; past = omega (arith, none); state_is = state ∙ ap (λ (n : ℕ). state_of setup (take n h)) (sym none) }
+
+  sound_one : (actor : Actor) → IsFirst shot actor → IsSoundActor setup h actor
+  sound_one actor first = record {
+    taken = subst (IsTakenOf setup h) (sym first.0) taken;
+    kept = subst (λ (b : Book Tried). All (IsKeptOf setup h) b.last) (sym first.1) (λ k d below. absurd (omega arith));
+  }
+
+-- an empty history is legal
+pub legal_none : (setup : Setup) → IsLegal setup []
+legal_none setup = record { replayable = λ i e is. absurd (cc); free = λ i e is. absurd (cc) }

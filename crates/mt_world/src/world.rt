@@ -1,5 +1,5 @@
 //! A world, and what each request is answered.
-ghost use Rattle.std.specs.Prelude.{◌≡◌, ◌⊎◌, ◌≤◌, [], length, replicate, true, All, IfOk};
+ghost use Rattle.std.specs.Prelude.{◌≡◌, ◌⊎◌, ◌≤◌, length, replicate, true, All, IfOk};
 ghost use Rattle.mt_base.specs.History.{IsLegal};
 ghost use Rattle.mt_machine.specs.Book.{empty_book};
 ghost use Rattle.mt_probe.specs.Shot.{Shot};
@@ -61,18 +61,18 @@ fn new_actors(alloc: Global, taken: &Snapshot) -> Result<Vec<Actor>, Memory>
 }
 
 impl World {
-    /// The world of a picture that nothing was entered into: each actor has taken version 0 and has an empty book.
+    /// The world of a picture whose history is legal: each actor has taken version 0 and has an empty book.
     pub fn make<R: Threads + Sync>(rt: &R, alloc: Global, picture: Picture) -> Result<World, Memory>
-        requires { picture.history ≡ [] }
+        requires { IsLegal picture.setup picture.history }
         ensures { IfOk result (λ world. world ≡ record {
           rules = picture.setup.rules;
           tables = picture.setup.tables;
           begun = true;
-          history = [];
+          history = picture.history;
           actors = replicate 16 new_actor;
         }) }
     {
-        let opening = picture.snapshot()?;
+        let opening = picture.snapshot()?.reopened()?;
         let actors = new_actors(alloc, &opening)?;
         Ok(World {
             alloc,

@@ -1,14 +1,16 @@
-use Rattle.std.proofs.Common.{◌≡◌, ◌∙◌, ap, length, true}
-use Rattle.mt_base.specs.Picture.{State}
-use Rattle.mt_base.proofs.HistoryLemmas.{version_is}
-use Rattle.mt_world.proofs.WorldLemmas.{shown_first}
+use Rattle.std.proofs.Common.{true}
+use Rattle.mt_world.proofs.WorldLemmas.{shown_first, sound_first}
 use Rattle.mt_world.proofs.world.World.make.Goals as goal
+
+pub invariant_of-result : goal.invariant_of-result
+invariant_of-result g c =
+    let story = c.args.picture in
+    sound_first story.setup story.history c.in_ok-opening.opening c.in_ok-actors.actors.items c.requires
+    (rw c.in_ok-snapshot.ensures.setup at c.in_ok-opening.ensures.setup) c.in_ok-opening.ensures.version c.in_ok-opening.ensures.state
+    c.in_ok-actors.ensures.0 c.in_ok-actors.ensures.1
 
 pub returns : goal.returns
 returns g c =
     let story = c.args.picture in
-    let counted : c.in_ok-opening.opening.version ≡ length story.history =
-    ap (λ (s : State). s.version) c.in_ok-opening.ensures.state ∙ version_is story.setup story.history in
-    let first = counted ∙ ap length c.requires in
-    let actors = shown_first c.in_ok-opening.opening c.in_ok-actors.actors.items 16 first c.in_ok-actors.ensures.0 c.in_ok-actors.ensures.1 in
-    λ i. record { rules = story.setup.rules; tables = story.setup.tables; begun = true; history = c.requires i; actors = actors i }
+    let actors = shown_first c.in_ok-opening.opening c.in_ok-actors.actors.items 16 c.in_ok-opening.ensures.version c.in_ok-actors.ensures.0 c.in_ok-actors.ensures.1 in
+    λ i. record { rules = story.setup.rules; tables = story.setup.tables; begun = true; history = story.history; actors = actors i }
