@@ -1,5 +1,5 @@
 //! Tentative trajectories among those that are flown: what is published, in order, and how many pairs were tested.
-ghost use Rattle.std.specs.Prelude.{◌≤◌};
+ghost use Rattle.std.specs.Prelude.{◌≤◌, true};
 ghost use Rattle.mt_base.specs.Bounds.{IsBoundedStretch};
 
 use crate::conflicts::{conflict, conflict_of};

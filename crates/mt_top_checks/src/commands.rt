@@ -1,5 +1,5 @@
 //! The tables of the tests, and the commands that they enter.
-ghost use Rattle.std.specs.Prelude.{◌≤◌, ℕ, IfSome};
+ghost use Rattle.std.specs.Prelude.{◌≤◌, ℕ, IfSome, true};
 ghost use Rattle.mt_base.specs.Bounds.{IsAskedFor, IsBoundedCommand, IsBoundedStretch, IsInPlane};
 ghost use Rattle.mt_base.specs.History.{IsInTime};
 ghost use Rattle.mt_probe.specs.Prepared.{MakesStrand};

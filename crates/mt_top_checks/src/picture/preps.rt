@@ -1,5 +1,5 @@
 //! Clearances that were prepared before a flight came that is in conflict with them.
-ghost use Rattle.std.specs.Prelude.{◌≡◌, ◌+◌, ◌≤◌, ℕ};
+ghost use Rattle.std.specs.Prelude.{◌≡◌, ◌+◌, ◌≤◌, ℕ, true};
 ghost use Rattle.mt_base.specs.Bounds.{IsBoundedClearance, IsBoundedCommand, IsBoundedStretch};
 ghost use Rattle.mt_base.specs.History.{IsInTime};
 ghost use Rattle.mt_picture.specs.Story.{IsPrepFor};
