@@ -18,7 +18,7 @@ use Rattle.mt_pair.specs.declared.approach.High.{High}
 use Rattle.mt_pair.specs.Below.{AreBelowAt, AreBelowWithAt, HoldsIn}
 use Rattle.mt_pair.specs.Cases.{IsHighLoss, IsHighOf, IsLoss}
 use Rattle.mt_pair.specs.Gap.{above_of, gap_of, excess_of}
-use Rattle.mt_pair.specs.High.{AreFar, AreLow, IsDuring, LosesAbove, StaysAbove, level_of}
+use Rattle.mt_pair.specs.High.{AreFar, AreLow, IsLow, IsDuring, LosesAbove, StaysAbove, level_of}
 
 pub are_open : (gap : Quad) (over under : Line) → IsOpen (AreBelowAt gap over under)
 are_open gap over under =
@@ -99,9 +99,12 @@ stays line seconds n d some above during = contrary _
     (between line.b line.c (pos seconds) n d above.start above.end (omega (arith, ints)) during.begun during.ahead)
 
 -- so a row that is not above a level at both ends is not so between
-stays_low : (level : ℤ) (a : Row) (seconds : ℕ) (n d : ℤ) → 0 < seconds → StaysAbove (above_of level a) seconds → IsDuring seconds n d
+stays_low : (level : ℤ) (a : Row) (seconds : ℕ) (n d : ℤ) → 0 < seconds → IsLow level a seconds → IsDuring seconds n d
     → ((level *ℤ d) <ℤ value_at a.z a.vz n d) → ⊥
-stays_low level a seconds n d some low during above = stays (above_of level a) seconds n d some low during ((is_above level a n d).1 above)
+stays_low level a seconds n d some low during above =
+    let start : pos 0 ≤ℤ (level -ℤ a.z) = omega (arith, lin, low.start) in
+    let end : pos 0 ≤ℤ (neg_ℤ a.vz *ℤ pos seconds +ℤ (level -ℤ a.z)) = let e = low.end in simp spread (omega (arith, lin, e)) in
+    stays (above_of level a) seconds n d some (record { start = start; end = end }) during ((is_above level a n d).1 above)
 
 -- ---- the conditions of the greater minimum joined
 

@@ -1,5 +1,5 @@
 -- How great the numbers of rows, offsets and products are.
-use Rattle.std.proofs.Common.{ℕ, ◌*◌, ◌+◌, ◌≤◌, ℤ, pos, neg_ℤ, ◌+ℤ◌, ◌-ℤ◌, ◌*ℤ◌, ◌≤ℤ◌, FitsSigned, arith, lit<}
+use Rattle.std.proofs.Common.{ℕ, ◌*◌, ◌+◌, ◌<◌, ◌≤◌, ◌^◌, ℤ, pos, neg_ℤ, ◌+ℤ◌, ◌-ℤ◌, ◌*ℤ◌, ◌≤ℤ◌, FitsSigned, arith, lit<}
 use Rattle.std.proofs.lemmas.Int.{ints}
 use mir.Syntax.{w64, w128}
 use Rattle.mt_ring.proofs.Sizes.{Abs, abs_add, abs_sub, abs_mul, abs_weaken, fits_64, fits_128}
@@ -140,3 +140,23 @@ product_size {m} {n} p q p_kept q_kept =
     let h = offset_sizes p_kept in
     let k = offset_sizes q_kept in
     abs_sub (abs_add (abs_mul h.x k.x) (abs_mul h.y k.y)) (abs_mul h.w k.w)
+
+-- the parts of a height after some seconds fit 64 bits
+pub record HeightFits (a : Row) (seconds : ℕ) : Type 0 where
+  pub fits_z : FitsSigned w64 a.z
+  pub fits_vz : FitsSigned w64 a.vz
+  pub fits_seconds : FitsSigned w64 (pos seconds)
+  pub fits_climb : FitsSigned w64 (a.vz *ℤ pos seconds)
+  pub fits_all : FitsSigned w64 (a.z +ℤ a.vz *ℤ pos seconds)
+
+pub height_fits : (a : Row) (seconds : ℕ) → IsBoundedRow a → seconds < 2 ^ 32 → HeightFits a seconds
+height_fits a seconds kept small =
+    let h = row_sizes a kept in
+    let k : Abs 4294967296 (pos seconds) = record { low = omega (arith, ints); high = omega (arith, ints, small) } in
+    record {
+      fits_z = fits_64 h.z (lit< tt);
+      fits_vz = fits_64 h.vz (lit< tt);
+      fits_seconds = fits_64 k (lit< tt);
+      fits_climb = fits_64 (abs_mul h.vz k) (lit< tt);
+      fits_all = fits_64 (abs_add h.z (abs_mul h.vz k)) (lit< tt);
+    }

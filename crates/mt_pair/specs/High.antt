@@ -3,7 +3,7 @@ use Rattle.std.specs.Prelude.{Bool, true, false, ℕ, ℤ, pos, ◌+ℤ◌, ◌*
 use Rattle.mt_base.specs.declared.row.Row.{Row}
 use Rattle.mt_base.specs.declared.rules.Rules.{Rules}
 use Rattle.mt_frac.specs.declared.linear.Line.{Line}
-use Rattle.mt_pair.specs.Gap.{above_of, excess_of}
+use Rattle.mt_pair.specs.Gap.{excess_of}
 use Rattle.mt_base.specs.Loss.{IsNearAt, IsOneAboveAt, apart_x, apart_y, fl290, fl410, width}
 
 -- the level above which the greater minimum holds for two aircraft: flight level 410 where both are approved, else 290
@@ -22,9 +22,14 @@ pub record StaysAbove (line : Line) (seconds : ℕ) : Type 0 where
   pub start : pos 0 ≤ℤ line.c
   pub end : pos 0 ≤ℤ (line.b *ℤ pos seconds +ℤ line.c)
 
--- neither of two rows is above a level at the start, nor that many seconds later if it keeps its gain
+-- a row isn't above a level at the start of its second, nor that many seconds later if it keeps its gain
+pub record IsLow (level : ℤ) (a : Row) (seconds : ℕ) : Type 0 where
+  pub start : a.z ≤ℤ level
+  pub end : (a.z +ℤ a.vz *ℤ pos seconds) ≤ℤ level
+
+-- nor is the other of two
 abbrev pub AreLow : ℤ → Row → Row → ℕ → Type 0
-AreLow level a b seconds = StaysAbove (above_of level a) seconds × StaysAbove (above_of level b) seconds
+AreLow level a b seconds = IsLow level a seconds × IsLow level b seconds
 
 -- one of two rows is above the other by the lesser minimum, at the start and that many seconds later
 abbrev pub AreFar : Rules → Row → Row → ℕ → Type 0

@@ -2,7 +2,7 @@ ghost use Rattle.std.specs.Prelude.{◌≡◌, ◌↔◌, ◌&&◌, ◌+ℤ◌, 
 ghost use Rattle.mt_base.specs.Bounds.{AreWithinBounds, IsBoundedRow, IsWithin};
 ghost use Rattle.mt_frac.specs.Signs.{IsBoundedLine};
 ghost use Rattle.mt_pair.specs.Gap.{above_of, excess_of};
-ghost use Rattle.mt_pair.specs.High.{AreFar, AreLow, StaysAbove, level_of};
+ghost use Rattle.mt_pair.specs.High.{AreFar, AreLow, IsLow, StaysAbove, level_of};
 
 use mt_base::{Row, Rules, Second};
 use mt_frac::Line;
@@ -64,13 +64,29 @@ pub(crate) fn above(approved: bool, a: &Row) -> Line
     }
 }
 
+/// The height of a row that many seconds after the start of its second, if it keeps its gain.
+fn height_after(a: &Row, seconds: Second) -> i64
+    requires a_kept { IsBoundedRow a.now }
+    ensures { result ≡ a.now.z +ℤ a.now.vz *ℤ pos seconds }
+{
+    a.z + a.vz * i64::from(seconds)
+}
+
+/// Whether a row isn't above that level, neither at the start of its second nor that many seconds later.
+fn is_low(approved: bool, a: &Row, seconds: Second) -> bool
+    requires a_kept { IsBoundedRow a.now }
+    ensures { IsTrue result ↔ IsLow (level_of approved) a.now seconds }
+{
+    a.z <= level(approved) && height_after(a, seconds) <= level(approved)
+}
+
 /// Whether neither of two rows of one second is above that level, neither at the start of the second nor that many seconds later.
 pub(crate) fn are_low(approved: bool, a: &Row, b: &Row, seconds: Second) -> bool
     requires a_kept { IsBoundedRow a.now }
     requires b_kept { IsBoundedRow b.now }
     ensures { IsTrue result ↔ AreLow (level_of approved) a.now b.now seconds }
 {
-    stays_above(above(approved, a), seconds) && stays_above(above(approved, b), seconds)
+    is_low(approved, a, seconds) && is_low(approved, b, seconds)
 }
 
 /// Whether one of two rows of one second is above the other by the lesser minimum, both at the start of the second and that many seconds
