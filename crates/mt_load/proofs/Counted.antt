@@ -3,11 +3,11 @@ use Rattle.std.proofs.Common.{◌≡◌, ◌∙◌, ℕ, List, length, refl, sym
 use Rattle.std.specs.Prelude.{All}
 use Rattle.mt_base.specs.declared.command.Entry.{Entry}
 use Rattle.mt_base.specs.declared.conflict.Conflict.{Conflict}
+use Rattle.mt_base.specs.Complete.{IsComplete}
 use Rattle.mt_base.specs.History.{state_of}
 use Rattle.mt_base.specs.Picture.{IsPublished, State}
 use Rattle.mt_base.proofs.ConflictOrder.{total}
 use Rattle.mt_base.proofs.OneOrder.{one_order}
-use Rattle.mt_wire.specs.Complete.{IsComplete}
 use Rattle.mt_history.proofs.LinesPrinted.{read_back}
 use Rattle.mt_history.proofs.LinesRead.{one_reading}
 use Rattle.mt_io.specs.Lines.{lines_of}

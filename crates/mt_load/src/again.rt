@@ -1,10 +1,10 @@
 //! A picture rebuilt of its printed history.
 ghost use Rattle.std.specs.Prelude.{◌≡◌, All, IfOk};
 ghost use Rattle.std.specs.Arc.{arc_value};
+ghost use Rattle.mt_base.specs.History.{IsReplayable};
 ghost use Rattle.mt_history.specs.Printed.{AreRead, printed};
 ghost use Rattle.mt_history.specs.Rebuilt.{IsReady};
 ghost use Rattle.mt_io.specs.Lines.{lines_of};
-ghost use Rattle.mt_load.specs.Again.{IsReadable, IsReplayedAgain};
 ghost use Rattle.mt_load.specs.Summary.{IsCountedAgain};
 
 use mt_base::Entries;
@@ -16,10 +16,10 @@ use std::alloc::Global;
 use std::sync::Arc;
 use std::thread::Threads;
 
-// The entries as which the history of a picture, printed, is read. It asks that each line is read as one.
+// The entries as which the history of a picture, printed, is read. Where the history can be replayed, so can they.
 fn read_back(alloc: Global, picture: &Picture) -> Result<Entries, Memory>
-    requires { IsReadable picture.now.history }
     ensures read { IfOk result (AreRead (lines_of (printed picture.now.history))) }
+    ensures replayable { IfOk result (λ entries. IsReplayable picture.now.setup picture.now.history → IsReplayable picture.now.setup entries) }
     ensures ready { IfOk result (All IsReady) }
 {
     let text = print(alloc, picture, 0, picture.version())?;
@@ -30,8 +30,8 @@ fn read_back(alloc: Global, picture: &Picture) -> Result<Entries, Memory>
     }
 }
 
-/// How many conflicts are published of the picture that is rebuilt of a picture's history, printed and read back. It asks that each
-/// line is read as an entry and that these entries can be replayed, and not that they are those of the picture.
+/// How many conflicts are published of the picture that is rebuilt of a picture's history, printed and read back. It asks that the history can
+/// be replayed.
 pub(crate) fn again<R: Threads + Sync>(
     rt: &R,
     alloc: Global,
@@ -39,8 +39,7 @@ pub(crate) fn again<R: Threads + Sync>(
     tables: Arc<Tables>,
 ) -> Result<u64, Memory>
     requires tables { arc_value tables ≡ picture.now.setup.tables }
-    requires readable { IsReadable picture.now.history }
-    requires replayed { IsReplayedAgain picture.now.setup picture.now.history }
+    requires replayable { IsReplayable picture.now.setup picture.now.history }
     ensures { IfOk result (IsCountedAgain picture.now.setup picture.now.history) }
 {
     let entries = read_back(alloc, picture)?;

@@ -1,10 +1,10 @@
 //! The requests of a load run, served one after the other.
-ghost use Rattle.std.specs.Prelude.{◌≡◌, ◌≤◌, ◌%◌, All, IfOk, MatchBool, OnOk, nat_eq};
+ghost use Rattle.std.specs.Prelude.{◌≡◌, ◌<◌, ◌≤◌, ◌+◌, ◌%◌, ◌^◌, All, IfOk, MatchBool, OnOk, nat_eq};
 ghost use Rattle.mt_base.specs.declared.rules.Rules.{Rules};
 ghost use Rattle.mt_make.specs.Input.{callsign};
 ghost use Rattle.mt_read.specs.Bounded.{IsBoundedRequest};
 ghost use Rattle.mt_world.specs.World.{IsServed, opening_world};
-ghost use Rattle.mt_load.specs.Load.{AreAsked, EachDivided, IsAdviceTaken, IsAdvisedFlight, IsAsked, IsDroppedFlight, IsFirstAccepted, IsLoadRun};
+ghost use Rattle.mt_load.specs.Load.{AreAsked, AreNamed, CanBeNamed, EachDivided, IsAdviceTaken, IsAdvisedFlight, IsAsked, IsDroppedFlight, IsFirstAccepted, IsLoadRun, probes_of};
 
 use mt_base::{Callsign, Command};
 use mt_make::{callsign, input};
@@ -23,9 +23,6 @@ const POSITION: u32 = 1;
 
 /// The second that the moment is moved to once flights were advised.
 const LAST_TICK: u32 = 120;
-
-/// The greatest number of a probe that can be accepted.
-const LAST_PROBE: u64 = 9_223_372_036_854_775_807;
 
 // Serves a request.
 fn serve<R: Threads + Sync>(
@@ -80,22 +77,20 @@ fn ask_all<R: Threads + Sync>(
     ask_all(rt, alloc, script, who, rest)
 }
 
-// Accepts the first of some advised clearances. A number that no acceptance can name is answered as want of memory.
+// Accepts the first of some advised clearances.
 fn accept_first<R: Threads + Sync>(
     rt: &R,
     alloc: Global,
     script: &mut Script,
     advice: &[AdviceItem],
 ) -> Result<(), Memory>
+    requires { All CanBeNamed advice.now }
     ensures { OnOk result (IsFirstAccepted script.old advice.now script.new) }
 {
     let Some((item, _)) = advice.split_first() else {
         return Ok(());
     };
     let probe = item.probe;
-    if probe == 0 || LAST_PROBE < probe {
-        return Err(Memory);
-    }
     ask(rt, alloc, script, POSITION, &Request::Accept { probe })
 }
 
@@ -106,6 +101,7 @@ fn take_advice<R: Threads + Sync>(
     script: &mut Script,
     reply: &Reply,
 ) -> Result<(), Memory>
+    requires { AreNamed reply.now }
     ensures { OnOk result (IsAdviceTaken script.old reply.now script.new) }
 {
     match reply {
@@ -121,6 +117,7 @@ fn advise<R: Threads + Sync>(
     script: &mut Script,
     call: Callsign,
 ) -> Result<(), Memory>
+    requires { probes_of script.old 1 + 16 < 2 ^ 63 }
     ensures { OnOk result (IsAdvisedFlight script.old call script.new) }
 {
     ask(rt, alloc, script, POSITION, &Request::Take)?;
@@ -135,7 +132,8 @@ fn advise_eighth<R: Threads + Sync>(
     script: &mut Script,
     flight: u32,
 ) -> Result<(), Memory>
-    requires { flight ≤ 1024 }
+    requires flight { flight ≤ 1024 }
+    requires probes { probes_of script.old 1 + 16 < 2 ^ 63 }
     ensures { OnOk result (MatchBool (nat_eq (flight % 8) 0) (IsAdvisedFlight script.old (callsign flight) script.new) (script.new ≡ script.old)) }
 {
     if flight % 8 != 0 {
@@ -151,7 +149,8 @@ fn advise_all<R: Threads + Sync>(
     script: &mut Script,
     flights: u32,
 ) -> Result<(), Memory>
-    requires { flights ≤ 1024 }
+    requires flights { flights ≤ 1024 }
+    requires none { probes_of script.old 1 ≡ 0 }
     ensures { OnOk result (EachDivided IsAdvisedFlight 8 flights script.old script.new) }
 {
     for flight in 0..flights {

