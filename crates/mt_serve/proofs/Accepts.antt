@@ -1,13 +1,15 @@
 -- Links, one by one.
-use Rattle.std.proofs.Common.{◌≡◌, ◌<◌, ◌+◌, suc, List, [], ◌∷◌, ◌++◌, map, length, All, None, Some, refl, sym, ap, ◌∙◌, subst, append_assoc, append-nil, arith}
-use Rattle.std.specs.Prelude.{MatchOption}
+use Rattle.std.proofs.Common.{◌≡◌, ◌<◌, ◌+◌, Bool, suc, List, [], ◌∷◌, ◌++◌, map, length, All, None, Some, refl, sym, ap, ◌∙◌, subst, append_assoc, append-nil, arith}
+use Rattle.std.specs.Prelude.{MatchOption, false, is_some}
+use Rattle.std.specs.Option.{option_to_list}
+use Rattle.std.proofs.lemmas.List.Elements.{All-push}
 use Rattle.std.specs.declared.option.Option.{Option}
 use Rattle.mt_base.specs.Tables.{Setup}
 use Rattle.mt_desk.specs.Desk.{Desk, IsReady}
 use Rattle.mt_turn.specs.Places.{Place}
 use Rattle.mt_base.specs.declared.command.Entry.{Entry}
 use Rattle.mt_io.specs.Door.{Count, Loses, Gains, gave_one}
-use Rattle.mt_serve.specs.Sitting.{Start, HasBegun, seats_of}
+use Rattle.mt_serve.specs.Sitting.{HaveNoChannel, Start, HasBegun, seats_of}
 use Rattle.mt_serve.specs.Accepting.{Accepting}
 
 pub loses_none : {A : Type 0} (a : Option (List A)) → Loses a a []
@@ -59,10 +61,10 @@ pub all_front : {A : Type 0} (P : A → Type 0) (x : A) (xs ys : List A) → All
 all_front P x xs ys all is = all_first P x xs (subst (All P) is all)
 
 pub accepting_more : {L : Type 0} (desk : Desk) (c d e : Count) (still left now : Option (List L)) (seats rest after : List (Place Entry Setup)) (starts : List (Start L)) (link : L) (seat : Place Entry Setup)
-    → Accepting desk c d still left seats rest starts → (d.given < d.sessions) × (e ≡ gave_one d) × Loses left now (link ∷ []) → rest ≡ seat ∷ after
-    → Accepting desk c e still now seats after (starts ++ record { link = link; seat = seat } ∷ [])
-accepting_more {L} desk c d e still left now seats rest after starts link seat so gave is =
-    let s : Start L = record { link = link; seat = seat } in
+    (has_channel : Bool) → Accepting desk c d still left seats rest starts → (d.given < d.sessions) × (e ≡ gave_one d) × Loses left now (link ∷ []) → rest ≡ seat ∷ after
+    → Accepting desk c e still now seats after (starts ++ record { link = link; seat = seat; has_channel = has_channel } ∷ [])
+accepting_more {L} desk c d e still left now seats rest after starts link seat has_channel so gave is =
+    let s : Start L = record { link = link; seat = seat; has_channel = has_channel } in
     let same = gave.1 in
     record {
       begun = record {
@@ -76,6 +78,21 @@ accepting_more {L} desk c d e still left now seats rest after starts link seat s
       ready = all_rest (IsReady desk) seat after (subst (λ zs. All (IsReady desk) zs) is so.ready);
       seated = omega (arith, ap (λ (z : Count). z.given) same, ap (λ (z : Count). z.sessions) same, so.seated, ap (λ (zs : List (Place Entry Setup)). length zs) is);
     }
+
+-- where there are no senders none is taken
+none_taken : {S : Type 0} (job : Option S) (before after : List S) → before ≡ option_to_list job ++ after → before ≡ [] → (job ≡ None) × (after ≡ [])
+none_taken None before after is none = (refl, sym is ∙ none)
+none_taken (Some x) before after is none = cc
+
+-- so the session that begins then has no channel, as those before it had none
+pub channels_more : {L S : Type 0} (all before after : List S) (job : Option S) (starts more : List (Start L)) (s : Start L)
+    → (all ≡ [] → (before ≡ []) × HaveNoChannel starts) → before ≡ option_to_list job ++ after → more ≡ starts ++ s ∷ [] → s.has_channel ≡ is_some job
+    → all ≡ [] → (after ≡ []) × HaveNoChannel more
+channels_more {L} {S} all before after job starts more s so taken is own none =
+    let was = so none in
+    let left = none_taken job before after taken was.0 in
+    let quiet : s.has_channel ≡ false = own ∙ ap (λ (o : Option S). is_some o) left.0 in
+    (left.1, subst (λ (xs : List (Start L)). HaveNoChannel xs) (sym is) (All-push (λ (x : Start L). x.has_channel ≡ false) starts s was.1 quiet))
 
 -- what holds of the door that the scope gives back holds of the door afterwards
 pub begun_at : {L D : Type 0} (count : D → Count) (still : D → Option (List L)) (c : Count) (all : Option (List L)) (seats rest : List (Place Entry Setup)) (starts : List (Start L)) (d e : D)

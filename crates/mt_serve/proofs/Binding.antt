@@ -95,7 +95,7 @@ module _ {L : Type 0} (source : Source.Ghosts L) (sink : Sink.Ghosts L) where
       | inl in_starts ↦
           let a = contains_unmap (λ (z : Start L). z.seat) (starts_of mets) s in_starts in
           let b = contains_unmap (λ (z : Met L). z.from) mets a.0 a.1 in
-          let served = All-contains (λ (m : Met L). HasServed source sink m.from.link m.from.seat m.link m.seat m.outcome) mets b.0 so.over b.1 in
+          let served = All-contains (λ (m : Met L). HasServed source sink m.from.link m.from.seat m.from.has_channel m.link m.seat m.outcome) mets b.0 so.over b.1 in
           (joined_as b.0.seat.view, join_of b.0.seat.view (in_mets mets rest works hands b.0 b.1), served.same.0 ∙ ap (λ (z : Start L). z.seat.view.number) b.2 ∙ ap (λ (z : Place Entry Setup). z.view.number) a.2)
       | inr in_rests ↦ (joined_as s.view, join_of s.view (in_rest mets rest works hands s in_rests), refl)
     ]
@@ -131,7 +131,7 @@ module _ {L : Type 0} (source : Source.Ghosts L) (sink : Sink.Ghosts L) where
 
       session_in : (m : Met L) → Contains mets m → IsInHistory source sink desk.fixed h m
       session_in m c =
-          let served = All-contains (λ (m : Met L). HasServed source sink m.from.link m.from.seat m.link m.seat m.outcome) mets m so.over c in
+          let served = All-contains (λ (m : Met L). HasServed source sink m.from.link m.from.seat m.from.has_channel m.link m.seat m.outcome) mets m so.over c in
           let fresh = fresh_start m c in
           let at = in_mets mets rest works hands m c in
           record {

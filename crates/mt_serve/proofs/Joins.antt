@@ -1,5 +1,5 @@
 -- Seats joined, one by one.
-use Rattle.std.proofs.Common.{◌≡◌, ◌<◌, ◌≤◌, ◌+◌, ◌^◌, List, [], ◌∷◌, ◌++◌, length, All, Option, refl, sym, ap, ◌∙◌, subst, append-nil, length-append, arith}
+use Rattle.std.proofs.Common.{Bool, ◌≡◌, ◌<◌, ◌≤◌, ◌+◌, ◌^◌, List, [], ◌∷◌, ◌++◌, length, All, Option, refl, sym, ap, ◌∙◌, subst, append-nil, length-append, arith}
 use Rattle.std.proofs.lemmas.List.Elements.{All-push}
 use Rattle.mt_base.specs.Tables.{Setup}
 use Rattle.mt_desk.specs.Desk.{Desk, IsReady}
@@ -62,7 +62,7 @@ module _ {L : Type 0} (source : Source.Ghosts L) (sink : Sink.Ghosts L) where
 
   pub sessions_more : (desk : Desk) (v w w' : View Entry Setup) (all rest rest' : List (Met L)) (c d e : Count) (back now then : Option (List L)) (counts counts' : Counts) (x y : Met L)
       → JoinsSessions source sink desk v w all rest c d back now counts → rest ≡ y ∷ rest' → x ≡ y → w' ≡ taker w x.seat.view
-      → HasServed source sink x.from.link x.from.seat x.link x.seat x.outcome → e ≡ took_one d → Gains now then (x.link ∷ []) → counts' ≡ with_outcome x.outcome counts
+      → HasServed source sink x.from.link x.from.seat x.from.has_channel x.link x.seat x.outcome → e ≡ took_one d → Gains now then (x.link ∷ []) → counts' ≡ with_outcome x.outcome counts
       → JoinsSessions source sink desk v w' all rest' c e back then counts'
   sessions_more desk v w w' all rest rest' c d e back now then counts counts' x y so front same takes served took gains more_counts = record {
     past = so.past ++ x ∷ [];
@@ -72,7 +72,7 @@ module _ {L : Type 0} (source : Source.Ghosts L) (sink : Sink.Ghosts L) where
         (sym (ap views_of (map_push (λ (z : Met L). z.seat) so.past x) ∙ map_push (λ (s : Place Entry Setup). s.view) (ends_of so.past) x.seat))
         (joined_more v w w' (views_of (ends_of so.past)) x.seat.view so.joined takes);
     ready = all_moved (λ (z : Met L). IsReady desk z.from.seat) y rest' rest so.ready front;
-    served = All-push (λ (m : Met L). HasServed source sink m.from.link m.from.seat m.link m.seat m.outcome) so.past x so.served served;
+    served = All-push (λ (m : Met L). HasServed source sink m.from.link m.from.seat m.from.has_channel m.link m.seat m.outcome) so.past x so.served served;
     count =
         let more : c.back + length so.past + 1 ≡ c.back + length (so.past ++ x ∷ []) = omega (arith, length_push so.past x) in
         took ∙ ap took_one so.count ∙ ap (λ n. record { port = c.port; sessions = c.sessions; given = c.given; back = n }) more;
@@ -98,9 +98,9 @@ module _ {L : Type 0} (source : Source.Ghosts L) (sink : Sink.Ghosts L) where
       omega (arith, count, parts, few)
 
   -- a session that is over leaves a seat of the desk that it got one of
-  pub done_ready : (desk : Desk) (a : L) (before : Place Entry Setup) (b : L) (after : Place Entry Setup) (outcome : Outcome)
-      → HasServed source sink a before b after outcome → IsReady desk before → IsReady desk after
-  done_ready desk a before b after outcome served ready = record {
+  pub done_ready : (desk : Desk) (a : L) (before : Place Entry Setup) (has_channel : Bool) (b : L) (after : Place Entry Setup) (outcome : Outcome)
+      → HasServed source sink a before has_channel b after outcome → IsReady desk before → IsReady desk after
+  done_ready desk a before has_channel b after outcome served ready = record {
     home_is = served.home ∙ ready.home_is;
     idle = served.idle;
     fixed_is = served.same.3 ∙ ready.fixed_is;

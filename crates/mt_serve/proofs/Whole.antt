@@ -1,5 +1,6 @@
 -- The parts of a serve, put together.
-use Rattle.std.proofs.Common.{◌≡◌, ◌≤◌, ◌+◌, ◌^◌, ◌⊎◌, inl, inr, ℕ, Bool, true, false, List, [], length, All, Option, refl, sym, ap, ◌∙◌, subst, length-append, arith}
+use Rattle.std.proofs.Common.{◌≡◌, ◌≤◌, ◌+◌, ◌^◌, ◌<◌, inl, inr, ℕ, Bool, true, false, List, [], length, All, Option, refl, sym, ap, ◌∙◌, subst, length-append, arith}
+use Rattle.std.specs.Prelude.{MatchBool}
 use Rattle.std.proofs.lemmas.Bool.{false≢true}
 use Rattle.mt_base.specs.Tables.{Setup}
 use Rattle.mt_base.specs.History.{IsLegal}
@@ -15,7 +16,7 @@ use Rattle.mt_turn.specs.Places.{Place}
 use Rattle.mt_turn.specs.Views.{first_view}
 use Rattle.mt_base.specs.declared.command.Entry.{Entry}
 use Rattle.mt_io.specs.Door.{Count, Loses, Gains, listened}
-use Rattle.mt_serve.specs.Sitting.{Met, Start, HasBegun, IsOver, starts_of, seats_of, links_of}
+use Rattle.mt_serve.specs.Sitting.{HaveNoChannel, Met, Start, HasBegun, IsOver, starts_of, seats_of, links_of}
 use Rattle.mt_serve.specs.Seating.{IsFresh, AllSplit, HasSplit}
 use Rattle.mt_serve.specs.Tied.{IsTied, HasServedAll, gave_back, backs_of}
 use Rattle.mt_serve.proofs.Accepts.{loses_none}
@@ -40,12 +41,13 @@ few_met {L} sessions workers old new still left seats rest mets begun many few =
     omega (arith, parts, length_map (λ (s : Start L). s.seat) (starts_of mets), length_map (λ (m : Met L). m.from) mets, many, few)
 
 over_cause : (b : Bool) (c : Count) (f f' : ℕ) → IsOver b c f f' → b ≡ true → Rose f f'
-over_cause true c f f' over is = over
+over_cause true c f f' over is = over.0
 over_cause false c f f' over is = absurd (false≢true is)
 
-over_cases : (b : Bool) (c : Count) (f f' : ℕ) → IsOver b c f f' → (b ≡ true) ⊎ (c.given ≡ c.sessions)
-over_cases true c f f' over = inl refl
-over_cases false c f f' over = inr over
+over_all : (b : Bool) (c : Count) (f f' given sessions : ℕ) → IsOver b c f f' → c.given ≡ given → c.sessions ≡ sessions
+    → MatchBool b (given < sessions) (given ≡ sessions)
+over_all true c f f' given sessions over g s = omega (arith, over.1, g, s)
+over_all false c f f' given sessions over g s = sym g ∙ over ∙ s
 
 count_is : (c : Count) (port sessions given back : ℕ) → c.port ≡ port → c.sessions ≡ sessions → c.given ≡ given → c.back ≡ back → c ≡ record { port = port; sessions = sessions; given = given; back = back }
 count_is c port sessions given back a b d e =
@@ -55,12 +57,12 @@ count_is c port sessions given back a b d e =
     ∙ ap (λ n. record { port = port; sessions = sessions; given = given; back = n }) e
 
 module _ {L : Type 0} (source : Source.Ghosts L) (sink : Sink.Ghosts L) where
-  pub served_all : (setup : Setup) (port sessions : ℕ) (c0 c1 c2 c3 : Count) (s0 s1 s2 s3 b0 b1 b2 b3 : Option (List L)) (f0 f1 f2 f3 : ℕ) (faulted : Bool) (h : List Entry) (mets : List (Met L)) (seats rest : List (Place Entry Setup))
+  pub served_all : (setup : Setup) (port sessions workers staff : ℕ) (c0 c1 c2 c3 : Count) (s0 s1 s2 s3 b0 b1 b2 b3 : Option (List L)) (f0 f1 f2 f3 : ℕ) (faulted : Bool) (h : List Entry) (mets : List (Met L)) (seats rest : List (Place Entry Setup))
       → c1 ≡ listened port sessions → s1 ≡ s0 → b1 ≡ b0 → f0 ≤ f1
       → HasBegun c1 c2 s1 s2 seats rest (starts_of mets) → b2 ≡ b1 → f1 ≤ f2 → IsOver faulted c2 f1 f2
       → IsTied source sink setup h mets → c3 ≡ gave_back c2 (length mets) → s3 ≡ s2 → Gains b2 b3 (backs_of mets) → f2 ≤ f3
-      → HasServedAll source sink setup port sessions c0 c3 s0 s3 b0 b3 f0 f3 faulted h mets
-  served_all setup port sessions c0 c1 c2 c3 s0 s1 s2 s3 b0 b1 b2 b3 f0 f1 f2 f3 faulted h mets seats rest listen ss bs later1 begun bs2 later2 over tied back ss3 gains later3 =
+      → staff ≤ workers → (staff ≡ 0 → HaveNoChannel (starts_of mets)) → HasServedAll source sink setup port sessions workers c0 c3 s0 s3 b0 b3 f0 f3 faulted h mets
+  served_all setup port sessions workers staff c0 c1 c2 c3 s0 s1 s2 s3 b0 b1 b2 b3 f0 f1 f2 f3 faulted h mets seats rest listen ss bs later1 begun bs2 later2 over tied back ss3 gains later3 staff_is channels =
       let many = length_map (λ (z : Met L). z.from) mets in
       let p1 = ap (λ (z : Count). z.port) listen in let n1 = ap (λ (z : Count). z.sessions) listen in let g1 = ap (λ (z : Count). z.given) listen in let k1 = ap (λ (z : Count). z.back) listen in
       let given : c2.given ≡ length mets = omega (arith, begun.given, g1, many) in
@@ -71,16 +73,19 @@ module _ {L : Type 0} (source : Source.Ghosts L) (sink : Sink.Ghosts L) where
         returned = subst (λ b. Gains b b3 (backs_of mets)) (bs2 ∙ bs) gains;
         count = inl (
           count_is c3 port sessions (length mets) (length mets) (ap (λ (z : Count). z.port) back ∙ begun.port ∙ p1) (ap (λ (z : Count). z.sessions) back ∙ begun.sessions ∙ n1) (ap (λ (z : Count). z.given) back ∙ given) k3,
-          elim (over_cases faulted c2 f1 f2 over) [ inl yes_ ↦ inl yes_ | inr all ↦ inr (sym given ∙ all ∙ begun.sessions ∙ n1) ],
+          over_all faulted c2 f1 f2 (length mets) sessions over given (begun.sessions ∙ n1),
         );
         cause = λ is. let r = over_cause faulted c2 f1 f2 over is in omega (arith, r, later1, later3);
+        staff = staff;
+        staff_is = staff_is;
+        channels = channels;
       }
 
-  pub not_listened : (setup : Setup) (port sessions : ℕ) (c0 c1 c3 : Count) (s0 s1 s3 b0 b1 b3 : Option (List L)) (f0 f1 f3 : ℕ) (h : List Entry) (mets : List (Met L))
+  pub not_listened : (setup : Setup) (port sessions workers : ℕ) (c0 c1 c3 : Count) (s0 s1 s3 b0 b1 b3 : Option (List L)) (f0 f1 f3 : ℕ) (h : List Entry) (mets : List (Met L))
       → c1 ≡ c0 → s1 ≡ s0 → b1 ≡ b0 → Rose f0 f1 → mets ≡ []
       → IsTied source sink setup h mets → c3 ≡ gave_back c1 (length mets) → s3 ≡ s1 → Gains b1 b3 (backs_of mets) → f1 ≤ f3
-      → HasServedAll source sink setup port sessions c0 c3 s0 s3 b0 b3 f0 f3 true h mets
-  not_listened setup port sessions c0 c1 c3 s0 s1 s3 b0 b1 b3 f0 f1 f3 h mets listen ss bs rose none tied back ss3 gains later =
+      → HasServedAll source sink setup port sessions workers c0 c3 s0 s3 b0 b3 f0 f3 true h mets
+  not_listened setup port sessions workers c0 c1 c3 s0 s1 s3 b0 b1 b3 f0 f1 f3 h mets listen ss bs rose none tied back ss3 gains later =
       let zero_ : length mets ≡ 0 = ap (λ (ms : List (Met L)). length ms) none in
       let same : c1.back + length mets ≡ c1.back = omega (arith, zero_) in
       record {
@@ -89,14 +94,17 @@ module _ {L : Type 0} (source : Source.Ghosts L) (sink : Sink.Ghosts L) where
         returned = subst (λ b. Gains b b3 (backs_of mets)) bs gains;
         count = inr (back ∙ ap (λ n. record { port = c1.port; sessions = c1.sessions; given = c1.given; back = n }) same ∙ listen, zero_, refl);
         cause = λ is. omega (arith, rose, later);
+        staff = 0;
+        staff_is = omega arith;
+        channels = λ _. subst (λ (ms : List (Met L)). HaveNoChannel (starts_of ms)) (sym none) (λ k d below. absurd (omega arith));
       }
 
   -- the whole, by the closed picture
-  pub whole : (setup fixed : Setup) (port sessions : ℕ) (old new : Count) (still left back now : Option (List L)) (before after : ℕ) (failed faulted : Bool)
+  pub whole : (setup fixed : Setup) (port sessions workers : ℕ) (old new : Count) (still left back now : Option (List L)) (before after : ℕ) (failed faulted : Bool)
       (picture : Story) (counts : Counts) (mets : List (Met L)) → setup ≡ fixed → faulted ≡ failed → picture.setup ≡ setup → IsLegal setup picture.history
-      → HasServedAll source sink setup port sessions old new still left back now before after failed picture.history mets → counts ≡ counted mets
-      → HasServedWhole source sink fixed port sessions old new still left back now before after faulted picture counts
-  whole setup fixed port sessions old new still left back now before after failed faulted picture counts mets same told own legal all are =
-      subst (λ (s : Setup). HasServedWhole source sink s port sessions old new still left back now before after faulted picture counts) same
-      (subst (λ (b : Bool). HasServedWhole source sink setup port sessions old new still left back now before after b picture counts) (sym told)
+      → HasServedAll source sink setup port sessions workers old new still left back now before after failed picture.history mets → counts ≡ counted mets
+      → HasServedWhole source sink fixed port sessions workers old new still left back now before after faulted picture counts
+  whole setup fixed port sessions workers old new still left back now before after failed faulted picture counts mets same told own legal all are =
+      subst (λ (s : Setup). HasServedWhole source sink s port sessions workers old new still left back now before after faulted picture counts) same
+      (subst (λ (b : Bool). HasServedWhole source sink setup port sessions workers old new still left back now before after b picture counts) (sym told)
       (record { mets = mets; setup_is = own; legal = legal; all = all; counts_are = are }))

@@ -1,5 +1,5 @@
 -- What a session makes of a link and a seat.
-use Rattle.std.specs.Prelude.{◌≡◌, ◌⊎◌, Option, Some, None}
+use Rattle.std.specs.Prelude.{◌≡◌, Bool, true, false, Option, Some, None}
 use Rattle.mt_base.specs.declared.command.Entry.{Entry}
 use Rattle.mt_base.specs.Tables.{Setup}
 use Rattle.mt_desk.specs.Desk.{seat_of}
@@ -12,23 +12,23 @@ use Rattle.mt_turn.specs.Lending.{IsSameSeat}
 use Rattle.mt_turn.specs.Places.{Place}
 use Rattle.mt_workers.specs.Jobs.{Jobs}
 
--- no channel, or one that tells nothing of its jobs
-abbrev pub IsUntold : Option (Option Jobs) → Type 0
-IsUntold outbox = (outbox ≡ None) ⊎ (outbox ≡ Some None)
+-- the outbox of a session: with a channel one that tells nothing of its jobs, and none without
+abbrev pub outbox_of : Bool → Option (Option Jobs)
+outbox_of true = Some None
+outbox_of false = None
 
 module _ {L : Type 0} (source : Source.Ghosts L) (sink : Sink.Ghosts L) where
   -- what is known of a link
   abbrev pub link_of : L → Link
   link_of a = record { left = source.left a; held = sink.held a; read_faults = source.faults a; write_faults = sink.faults a }
 
-  -- A session of the link a by the seat `before` left the link b and the seat `after`, which is the same seat of the same turn and doesn't hold
-  -- it. Its lines and replies are those of a session by what the seat knew and knows.
-  pub record HasServed (a : L) (before : Place Entry Setup) (b : L) (after : Place Entry Setup) (outcome : Outcome) : Type 0 where
+  -- A session of the link a by the seat `before`, with a channel or without, left the link b and the seat `after`, which is the same seat of the
+  -- same turn and doesn't hold it. Its lines and replies are those of a session by what the seat knew and knows.
+  pub record HasServed (a : L) (before : Place Entry Setup) (has_channel : Bool) (b : L) (after : Place Entry Setup) (outcome : Outcome) : Type 0 where
     pub home : after.home ≡ before.home
     pub idle : after.view.phase ≡ Idle
     pub same : IsSameSeat before.view after.view
     pub fixed : Setup
     pub fixed_is : before.view.fixed ≡ Some fixed
-    pub outbox : Option (Option Jobs)
-    pub untold : IsUntold outbox
-    pub session : IsSession (seat_of fixed before.view) (seat_of fixed after.view) (link_of a) (link_of b) outbox outbox outcome
+    pub session : IsSession (seat_of fixed before.view) (seat_of fixed after.view) (link_of a) (link_of b)
+        (outbox_of has_channel) (outbox_of has_channel) outcome

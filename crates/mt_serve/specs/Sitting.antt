@@ -1,5 +1,5 @@
 -- Sessions, as contracts see them: what each is given, and what it gives back.
-use Rattle.std.specs.Prelude.{◌≡◌, ◌≤◌, ℕ, ◌+◌, Bool, List, [], ◌++◌, map, length, MatchBool, Option, All}
+use Rattle.std.specs.Prelude.{◌≡◌, ◌<◌, ◌≤◌, ℕ, ◌+◌, Bool, false, List, [], ◌++◌, map, length, MatchBool, Option, All}
 use Rattle.mt_base.specs.declared.command.Entry.{Entry}
 use Rattle.mt_base.specs.Tables.{Setup}
 use Rattle.mt_desk.specs.Desk.{Desk, IsReady}
@@ -8,10 +8,11 @@ use Rattle.mt_io.specs.Door.{Count, Loses}
 use Rattle.mt_session.specs.declared.outcome.Outcome.{Outcome}
 use Rattle.mt_turn.specs.Places.{Place}
 
--- what a session is given
+-- what a session is given: a link, a seat, and a channel for its jobs or none
 pub record Start (L : Type 0) : Type 0 where
   pub link : L
   pub seat : Place Entry Setup
+  pub has_channel : Bool
 
 -- what it was given, and what it gave back
 pub record Met (L : Type 0) : Type 0 where
@@ -29,6 +30,10 @@ seats_of {L} starts = map (λ (s : Start L). s.seat) starts
 abbrev pub starts_of : {L : Type 0} → List (Met L) → List (Start L)
 starts_of {L} mets = map (λ (m : Met L). m.from) mets
 
+-- none of them has a channel
+abbrev pub HaveNoChannel : {L : Type 0} → List (Start L) → Type 0
+HaveNoChannel {L} starts = All (λ (s : Start L). s.has_channel ≡ false) starts
+
 -- The door gave these links, and each went with the next seat.
 pub record HasBegun {L : Type 0} (old new : Count) (still left : Option (List L)) (seats rest : List (Place Entry Setup)) (starts : List (Start L)) : Type 0 where
   pub port : new.port ≡ old.port
@@ -42,9 +47,9 @@ pub record HasBegun {L : Type 0} (old new : Count) (still left : Option (List L)
 abbrev pub IsSeated : Count → List (Place Entry Setup) → Type 0
 IsSeated count seats = count.given + length seats ≡ count.sessions
 
--- the door gave as many links as it was asked for, or it failed
+-- the door gave as many links as it was asked for, or it failed while some were to come
 abbrev pub IsOver : Bool → Count → ℕ → ℕ → Type 0
-IsOver faulted count before now = MatchBool faulted (Rose before now) (count.given ≡ count.sessions)
+IsOver faulted count before now = MatchBool faulted (Rose before now × (count.given < count.sessions)) (count.given ≡ count.sessions)
 
 -- What it takes to serve links: a seat of this desk for each, and room for so many sessions that run and so many that have ended.
 pub record IsPrepared {L : Type 0} (desk : Desk) (count : Count) (seats : List (Place Entry Setup)) (many running ended : ℕ)

@@ -51,10 +51,10 @@ with_outcome outcome counts = record {
 module _ {L : Type 0} (source : Source.Ghosts L) (sink : Sink.Ghosts L) where
   -- What was served, by the closed picture: its history is legal, by the rules and tables of the picture at first, and it ties all links, which
   -- the door gave and has back. The counts are those of their sessions.
-  pub record HasServedWhole (setup : Setup) (port sessions : ℕ) (old new : Count) (still left back now : Option (List L)) (before after : ℕ)
+  pub record HasServedWhole (setup : Setup) (port sessions workers : ℕ) (old new : Count) (still left back now : Option (List L)) (before after : ℕ)
       (faulted : Bool) (picture : Story) (counts : Counts) : Type 0 where
     pub mets : List (Met L)
     pub setup_is : picture.setup ≡ setup
     pub legal : IsLegal setup picture.history
-    pub all : HasServedAll source sink setup port sessions old new still left back now before after faulted picture.history mets
+    pub all : HasServedAll source sink setup port sessions workers old new still left back now before after faulted picture.history mets
     pub counts_are : counts ≡ counted mets

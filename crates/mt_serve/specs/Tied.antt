@@ -1,5 +1,5 @@
 -- What stands once all sessions are over: one history, and what each link was answered from it.
-use Rattle.std.specs.Prelude.{◌≡◌, ◌+◌, ◌⊎◌, ℕ, Bool, true, List, [], map, length, All, Contains, Option, Some}
+use Rattle.std.specs.Prelude.{◌≡◌, ◌<◌, ◌≤◌, ◌+◌, ◌⊎◌, ℕ, Bool, true, MatchBool, List, [], map, length, All, Contains, Option, Some}
 use Rattle.std.specs.List.{range_with_len}
 use Rattle.mt_base.specs.declared.command.Entry.{Entry}
 use Rattle.mt_base.specs.Tables.{Setup}
@@ -11,7 +11,7 @@ use Rattle.mt_turn.specs.Places.{Place}
 use Rattle.mt_turn.specs.Views.{GoesOn, entries_of}
 use Rattle.mt_serve.specs.Seating.{numbers_of}
 use Rattle.mt_serve.specs.Serving.{HasServed}
-use Rattle.mt_serve.specs.Sitting.{Met, links_of, seats_of, starts_of}
+use Rattle.mt_serve.specs.Sitting.{HaveNoChannel, Met, links_of, seats_of, starts_of}
 use Rattle.mt_serve.specs.Working.{IsRenewal}
 
 abbrev pub number_of : Entry → ℕ
@@ -34,7 +34,7 @@ IsSessions {L} mets n = (m : Met L) × Contains mets m × (m.seat.view.number �
 module _ {L : Type 0} (source : Source.Ghosts L) (sink : Sink.Ghosts L) where
   -- each session served its link
   abbrev pub AreOver : List (Met L) → Type 0
-  AreOver mets = All (λ (m : Met L). HasServed source sink m.from.link m.from.seat m.link m.seat m.outcome) mets
+  AreOver mets = All (λ (m : Met L). HasServed source sink m.from.link m.from.seat m.from.has_channel m.link m.seat m.outcome) mets
 
   -- What one session is to the history: it began with nothing seen and nothing of its own, what it has seen last is a front of the history, and
   -- the entries of its number in the history are its own.
@@ -42,7 +42,7 @@ module _ {L : Type 0} (source : Source.Ghosts L) (sink : Sink.Ghosts L) where
     pub number : m.seat.view.number ≡ m.from.seat.view.number
     pub fixed : m.from.seat.view.fixed ≡ Some setup
     pub began : (m.from.seat.view.seen ≡ []) × (m.from.seat.view.mine ≡ [])
-    pub served : HasServed source sink m.from.link m.from.seat m.link m.seat m.outcome
+    pub served : HasServed source sink m.from.link m.from.seat m.from.has_channel m.link m.seat m.outcome
     pub begins : GoesOn m.seat.view.seen h
     pub mine : entries_of number_of m.seat.view.number h ≡ m.seat.view.mine
 
@@ -52,13 +52,17 @@ module _ {L : Type 0} (source : Source.Ghosts L) (sink : Sink.Ghosts L) where
     pub each : All (IsInHistory setup h) mets
     pub others : (e : Entry) → Contains h e → IsSessions mets e.who ⊎ IsRenewal e
 
-  -- The door was asked for a port and so many sessions, and gave that many links, or failed. Each was served, and all are back, in order; one
-  -- history ties them. Where the door doesn't listen, no link was given.
-  pub record HasServedAll (setup : Setup) (port sessions : ℕ) (old new : Count) (still left back now : Option (List L)) (before after : ℕ)
+  -- The door was asked for a port and so many sessions, and gave that many links, or failed while some were to come. Each was served, and all are
+  -- back, in order; one history ties them. Where the door doesn't listen, no link was given. Of so many workers some were started; where none
+  -- was, no session had a channel.
+  pub record HasServedAll (setup : Setup) (port sessions workers : ℕ) (old new : Count) (still left back now : Option (List L)) (before after : ℕ)
       (faulted : Bool) (h : List Entry) (mets : List (Met L)) : Type 0 where
     pub tied : IsTied setup h mets
     pub given : Loses still left (links_of (starts_of mets))
     pub returned : Gains back now (backs_of mets)
-    pub count : ((new ≡ record { port = port; sessions = sessions; given = length mets; back = length mets }) × ((faulted ≡ true) ⊎ (length mets ≡ sessions)))
+    pub count : ((new ≡ record { port = port; sessions = sessions; given = length mets; back = length mets }) × MatchBool faulted (length mets < sessions) (length mets ≡ sessions))
         ⊎ ((new ≡ old) × (length mets ≡ 0) × (faulted ≡ true))
     pub cause : faulted ≡ true → Rose before after
+    pub staff : ℕ
+    pub staff_is : staff ≤ workers
+    pub channels : staff ≡ 0 → HaveNoChannel (starts_of mets)

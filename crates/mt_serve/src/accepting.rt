@@ -3,7 +3,7 @@ ghost use Rattle.std.specs.Prelude.{◌≡◌, ◌≤◌, [], All};
 ghost use Rattle.std.specs.Thread.{IsSync};
 ghost use Rattle.std.specs.VecDeque.{deque_len, deque_capacity};
 ghost use Rattle.mt_desk.specs.Desk.{IsReady};
-ghost use Rattle.mt_serve.specs.Sitting.{HasBegun, IsOver, IsPrepared, IsSeated, starts_of};
+ghost use Rattle.mt_serve.specs.Sitting.{HasBegun, HaveNoChannel, IsOver, IsPrepared, IsSeated, starts_of};
 
 use crate::serving::{begin, finish};
 use crate::sitting::{Done, Sitting};
@@ -16,7 +16,8 @@ use std::sync::Wait;
 use std::thread;
 use std::thread::{Scope, Threads};
 
-// Serves each link that the door gives with the next seat, until it gives none or fails. Says whether it failed.
+// Serves each link that the door gives with the next seat, and with the next sender while there is one, until it gives none or fails. Says
+// whether it failed.
 fn accept<'s, E, R: Threads + Wait + Sync, D: Door, G: Gate + Sync>(
     scope: &Scope<'s, E>,
     rt: &'s R,
@@ -40,6 +41,7 @@ where
     ensures returned { D.returned door.new ≡ D.returned door.old }
     ensures faults { D.faults door.old ≤ D.faults door.new }
     ensures over { IsOver result (D.count door.new) (D.faults door.old) (D.faults door.new) }
+    ensures channels { senders.old.items ≡ [] → HaveNoChannel sittings.new.items }
 {
     for _ in rt.forever() {
         match door.next_link() {
@@ -94,6 +96,7 @@ pub(crate) fn serve_links<R: Threads + Wait + Sync, D: Door, G: Gate + Sync>(
     ensures returned { D.returned door.new ≡ D.returned door.old }
     ensures faults { D.faults door.old ≤ D.faults door.new }
     ensures over { IsOver result.2 (D.count door.new) (D.faults door.old) (D.faults door.new) }
+    ensures channels { senders.items ≡ [] → HaveNoChannel (starts_of result.1.items) }
 {
     let (door, seats, dones, faulted) = thread::scope(
         thread::scope_env(),
@@ -106,6 +109,7 @@ pub(crate) fn serve_links<R: Threads + Wait + Sync, D: Door, G: Gate + Sync>(
             ensures returned { D.returned result.0.now ≡ D.returned door.entry.now }
             ensures faults { D.faults door.entry.now ≤ D.faults result.0.now }
             ensures over { IsOver result.3 (D.count result.0.now) (D.faults door.entry.now) (D.faults result.0.now) }
+            ensures channels { senders.items ≡ [] → HaveNoChannel (starts_of result.2.items) }
         {
             let mut seats = seats;
             let mut sittings = sittings;

@@ -1,5 +1,5 @@
 //! The summary of what was served, and its line.
-ghost use Rattle.std.specs.Prelude.{◌≡◌, ◌++◌, OnOk};
+ghost use Rattle.std.specs.Prelude.{◌≡◌, ◌≤◌, ◌+◌, ◌++◌, OnOk, Ok, vec_capacity, vec_len};
 ghost use Rattle.mt_serve.specs.Closing.{IsClosing, closing_text};
 
 use crate::service::Served;
@@ -39,10 +39,11 @@ pub fn sum_up(served: &Served) -> Closing
     }
 }
 
-/// Puts the line of a summary behind what stands: one compact object, its keys in byte order, and 0x0A at its end. `Memory` is the one error; a
-/// front of the line may stand there then. It has at most 170 bytes.
+/// Puts the line of a summary behind what stands: one compact object, its keys in byte order, and 0x0A at its end. It has at most 191 bytes.
+/// `Memory` is the one error, and a front of the line may stand there then; where there is room for the line it succeeds.
 pub fn put_closing(line: &mut Vec<u8>, closing: &Closing) -> Result<(), Memory>
-    ensures { OnOk result (line.new.items ≡ line.old.items ++ closing_text closing.now) }
+    ensures put { OnOk result (line.new.items ≡ line.old.items ++ closing_text closing.now) }
+    ensures room { vec_len line.old + 191 ≤ vec_capacity line.old → result ≡ Ok tt }
 {
     put_number(line, b"{\"conflicts\":", closing.conflicts)?;
     put_number(line, b",\"entries\":", closing.entries)?;

@@ -6,7 +6,7 @@ ghost use Rattle.mt_base.specs.History.{IsLegal};
 ghost use Rattle.mt_desk.specs.Desk.{IsReady};
 ghost use Rattle.mt_io.specs.Door.{Gains};
 ghost use Rattle.mt_serve.specs.Seating.{AllSplit};
-ghost use Rattle.mt_serve.specs.Sitting.{HasBegun, IsOver, IsPrepared, seats_of, starts_of};
+ghost use Rattle.mt_serve.specs.Sitting.{HasBegun, HaveNoChannel, IsOver, IsPrepared, seats_of, starts_of};
 ghost use Rattle.mt_serve.specs.Summary.{HasServedWhole, counted};
 ghost use Rattle.mt_serve.specs.Tied.{IsTied, backs_of, gave_back};
 ghost use Rattle.mt_serve.specs.Working.{IsStaffed, froms_of};
@@ -26,18 +26,19 @@ use mt_workers::JobSender;
 use std::alloc::Global;
 use std::collections::VecDeque;
 use std::sync::Wait;
-use std::sync::atomic::{AtomicU64, Ordering};
+use std::sync::atomic::AtomicU64;
 use std::thread;
 use std::thread::Threads;
 
 // What is left once all threads are over: the seats of sessions that never began, the sessions, the seats of workers that never began, the
-// workers, and whether the door failed.
+// workers, how many of them had a thread, and whether the door failed.
 #[derive(Drop)]
 struct Left<L: Duplex> {
     seats: VecDeque<Seat>,
     dones: VecDeque<Done<L>>,
     hands: VecDeque<Seat>,
     resteds: VecDeque<Rested>,
+    staff: u64,
     faulted: bool,
 }
 
@@ -52,13 +53,11 @@ pub struct Served {
     pub faulted: bool,
 }
 
-// The senders for sessions; none where no worker could be started, for then nobody would take a job.
-fn kept_where_worked(
-    alloc: Global,
-    limit: &AtomicU64,
-    senders: VecDeque<JobSender>,
-) -> VecDeque<JobSender> {
-    if limit.load(Ordering::SeqCst) == 0 {
+// The senders for sessions; none where no worker was started, for then nobody would take a job.
+fn senders_to(alloc: Global, staff: u64, senders: VecDeque<JobSender>) -> VecDeque<JobSender>
+    ensures { staff ≡ 0 → result.items ≡ [] }
+{
+    if staff == 0 {
         return VecDeque::new(alloc);
     }
     senders
@@ -70,7 +69,7 @@ fn serve_beside<R: Threads + Wait + Sync, D: Door, G: Gate + Sync>(
     rt: &R,
     alloc: Global,
     desk: &Desk,
-    limit: &AtomicU64,
+    left_out: &AtomicU64,
     gate: &G,
     door: &mut D,
     seats: VecDeque<Seat>,
@@ -87,6 +86,8 @@ fn serve_beside<R: Threads + Wait + Sync, D: Door, G: Gate + Sync>(
     ensures returned { D.returned door.new ≡ D.returned door.old }
     ensures faults { D.faults door.old ≤ D.faults door.new }
     ensures over { IsOver result.faulted (D.count door.new) (D.faults door.old) (D.faults door.new) }
+    ensures staffed { result.staff ≤ deque_len hands }
+    ensures channels { result.staff ≡ 0 → HaveNoChannel (starts_of result.dones.items) }
 {
     let Room {
         sittings,
@@ -110,21 +111,23 @@ fn serve_beside<R: Threads + Wait + Sync, D: Door, G: Gate + Sync>(
             ensures returned { D.returned result.0.now ≡ D.returned door.entry.now }
             ensures faults { D.faults door.entry.now ≤ D.faults result.0.now }
             ensures over { IsOver result.1.faulted (D.count result.0.now) (D.faults door.entry.now) (D.faults result.0.now) }
+            ensures staffed { result.1.staff ≤ deque_len hands }
+            ensures channels { result.1.staff ≡ 0 → HaveNoChannel (starts_of result.1.dones.items) }
         {
             let mut hands = hands;
             let mut workings = workings;
             let mut resteds = resteds;
-            begin_all(
+            let staff = begin_all(
                 scope,
                 rt,
                 desk,
-                limit,
+                left_out,
                 gate,
                 &mut hands,
                 receivers,
                 &mut workings,
             );
-            let senders = kept_where_worked(alloc, limit, senders);
+            let senders = senders_to(alloc, staff, senders);
             let (seats, dones, faulted) = serve_links(
                 rt, alloc, desk, gate, door, seats, sittings, dones, senders,
             );
@@ -134,6 +137,7 @@ fn serve_beside<R: Threads + Wait + Sync, D: Door, G: Gate + Sync>(
                 dones,
                 hands,
                 resteds,
+                staff,
                 faulted,
             };
             (door, left)
@@ -164,6 +168,7 @@ fn settle<D: Door>(desk: Desk, door: &mut D, first: Seat, left: Left<D::Link>) -
         dones,
         hands,
         resteds,
+        staff: _,
         faulted,
     } = left;
     let mut first = first;
@@ -183,8 +188,8 @@ fn settle<D: Door>(desk: Desk, door: &mut D, first: Seat, left: Left<D::Link>) -
 ///
 /// It takes all seats, the ends of the job channel, which has 1,024 places, and the room for what comes back, before it listens; `Memory` is
 /// answered then, and the door wasn't called. A session whose thread can't be started is served by the caller. A worker that can't be started
-/// is left out; where there is no worker, each session renews its flights itself. A fault of the door ends no session: those that run are
-/// waited for.
+/// is left out, and it alone; where none was started, no session has a channel, and each renews its flights itself. A fault of the door ends
+/// no session: those that run are waited for.
 ///
 /// `HasServedWhole` says what stands then: one legal history that ties all links, and the counts.
 pub fn serve<R: Threads + Wait + Sync, D: Door, G: Gate + Sync>(
@@ -200,7 +205,7 @@ pub fn serve<R: Threads + Wait + Sync, D: Door, G: Gate + Sync>(
     requires sync { IsSync R.row }
     requires opening { picture.history ≡ [] }
     requires few { sessions + workers ≤ 2 ^ 31 }
-    ensures served { IfOk result (λ served. HasServedWhole D.Link.Source D.Link.Sink picture.setup port sessions (D.count door.old) (D.count door.new)
+    ensures served { IfOk result (λ served. HasServedWhole D.Link.Source D.Link.Sink picture.setup port sessions workers (D.count door.old) (D.count door.new)
         (D.still door.old) (D.still door.new) (D.returned door.old) (D.returned door.new) (D.faults door.old) (D.faults door.new)
         served.faulted served.picture served.counts) }
     ensures uncalled { IfErr result (λ _. door.new ≡ door.old) }
@@ -221,11 +226,13 @@ pub fn serve<R: Threads + Wait + Sync, D: Door, G: Gate + Sync>(
             dones,
             hands,
             resteds,
+            staff: 0,
             faulted: true,
         };
         return Ok(settle(desk, door, first, left));
     };
-    let limit = AtomicU64::new(u64::MAX);
-    let left = serve_beside(rt, alloc, &desk, &limit, gate, door, seats, hands, room);
+    // No worker has this place.
+    let left_out = AtomicU64::new(u64::MAX);
+    let left = serve_beside(rt, alloc, &desk, &left_out, gate, door, seats, hands, room);
     Ok(settle(desk, door, first, left))
 }

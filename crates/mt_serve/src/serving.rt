@@ -1,5 +1,5 @@
 //! Sessions begun and ended.
-ghost use Rattle.std.specs.Prelude.{◌≡◌};
+ghost use Rattle.std.specs.Prelude.{◌≡◌, is_some};
 ghost use Rattle.std.specs.Thread.{IsSync};
 ghost use Rattle.mt_desk.specs.Desk.{IsReady};
 ghost use Rattle.mt_serve.specs.Serving.{HasServed};
@@ -26,7 +26,7 @@ fn serve_one<L: Duplex, R: Threads + Wait + Sync, G: Gate>(
 ) -> Back<L>
     requires sync { IsSync R.row }
     requires ready { IsReady desk.now seat }
-    ensures { HasServed L.Source L.Sink link seat result.link result.seat result.outcome }
+    ensures { HasServed L.Source L.Sink link seat (is_some jobs) result.link result.seat result.outcome }
 {
     let hand = desk.hand(seat);
     let (hand, outcome) = match jobs {
@@ -40,7 +40,7 @@ fn serve_one<L: Duplex, R: Threads + Wait + Sync, G: Gate>(
     }
 }
 
-/// Starts a session on a thread of its own; where none can be started, it is served here.
+/// Starts a session on a thread of its own; where none can be started, it is served here. It hands its jobs to the channel, where there is one.
 pub(crate) fn begin<'s, E, L: Duplex + Send + Drop + 's, R: Threads + Wait + Sync, G: Gate + Sync>(
     scope: &Scope<'s, E>,
     rt: &'s R,
@@ -53,15 +53,18 @@ pub(crate) fn begin<'s, E, L: Duplex + Send + Drop + 's, R: Threads + Wait + Syn
 ) -> Sitting<L>
     requires sync { IsSync R.row }
     requires ready { IsReady desk.now seat }
-    ensures { result ≡ record { link = link; seat = seat } }
+    ensures { result ≡ record { link = link; seat = seat; has_channel = is_some jobs } }
 {
+    let has_channel = jobs.is_some();
     let promise = Given {
         link: Snapshot::of(&link),
         seat: Snapshot::of(&seat),
+        has_channel,
     };
     let given = Given {
         link: Snapshot::of(&link),
         seat: Snapshot::of(&seat),
+        has_channel,
     };
     match scope.spawn_with(
         promise,

@@ -24,10 +24,11 @@ pub struct Back<L> {
 pub struct Given<L> {
     pub(crate) link: Snapshot<L>,
     pub(crate) seat: Snapshot<Seat>,
+    pub(crate) has_channel: bool,
 }
 
 impl<L: Duplex> Promise<Back<L>> for Given<L> {
-    ghost kept_by = { λ p r. HasServed L.Source L.Sink p.link.value p.seat.value r.link r.seat r.outcome };
+    ghost kept_by = { λ p r. HasServed L.Source L.Sink p.link.value p.seat.value p.has_channel r.link r.seat r.outcome };
 }
 
 /// A session that is over, as what it was given and what it gave back.
@@ -44,13 +45,13 @@ impl<L: Duplex> Model for Done<L> {
     ghost Value = { Met L };
 
     ghost view = { λ d. record {
-      from = record { link = d.given.link.value; seat = d.given.seat.value };
+      from = record { link = d.given.link.value; seat = d.given.seat.value; has_channel = d.given.has_channel };
       link = d.back.link;
       seat = d.back.seat;
       outcome = d.back.outcome;
     } };
 
-    ghost invariant = { λ d. HasServed L.Source L.Sink d.given.link.value d.given.seat.value d.back.link d.back.seat d.back.outcome };
+    ghost invariant = { λ d. HasServed L.Source L.Sink d.given.link.value d.given.seat.value d.given.has_channel d.back.link d.back.seat d.back.outcome };
 }
 
 /// A session on a thread of its own, or one that the caller has served, as what it was given.
@@ -67,9 +68,9 @@ impl<L: Duplex> Model for Sitting<L> {
 
     ghost Value = { Start L };
 
-    ghost view = { λ s. record { link = s.given.link.value; seat = s.given.seat.value } };
+    ghost view = { λ s. record { link = s.given.link.value; seat = s.given.seat.value; has_channel = s.given.has_channel } };
 
     ghost invariant = { λ s. MatchResult s.state
-        (λ h. (h.promise.link.value ≡ s.given.link.value) × (h.promise.seat.value ≡ s.given.seat.value))
-        (λ b. HasServed L.Source L.Sink s.given.link.value s.given.seat.value b.link b.seat b.outcome) };
+        (λ h. (h.promise.link.value ≡ s.given.link.value) × (h.promise.seat.value ≡ s.given.seat.value) × (h.promise.has_channel ≡ s.given.has_channel))
+        (λ b. HasServed L.Source L.Sink s.given.link.value s.given.seat.value s.given.has_channel b.link b.seat b.outcome) };
 }

@@ -23,6 +23,13 @@ pub struct Working {
     pub(crate) state: Result<PromisedHandle<Seat, Post>, Seat>,
 }
 
+impl Working {
+    /// Whether a thread was started for it.
+    pub(crate) fn is_started(&self) -> bool {
+        self.state.is_ok()
+    }
+}
+
 impl Model for Working {
     ghost use Rattle.std.specs.Prelude.{◌≡◌, MatchResult};
     ghost use Rattle.mt_base.specs.declared.command.Entry.{Entry};

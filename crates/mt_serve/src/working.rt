@@ -15,28 +15,28 @@ use std::sync::Wait;
 use std::sync::atomic::{AtomicU64, Ordering};
 use std::thread::{Scope, Threads};
 
-// Works until no job will come, where its place is below the limit; else it gives its seat back at once.
-fn work_below<R: Threads + Wait + Sync, G: Gate>(
+// Works until no job will come; where its place is the one that is left out, it gives its seat back at once.
+fn work_at<R: Threads + Wait + Sync, G: Gate>(
     rt: &R,
     desk: &Desk,
     seat: Seat,
     jobs: JobReceiver,
     place: u64,
-    limit: &AtomicU64,
+    left_out: &AtomicU64,
     gate: &G,
 ) -> Seat
     requires sync { IsSync R.row }
     requires ready { IsReady desk.now seat }
     ensures { HasWorked seat result }
 {
-    if limit.load(Ordering::SeqCst) <= place {
+    if left_out.load(Ordering::SeqCst) == place {
         return seat;
     }
     let hand = desk.hand(seat);
     work(rt, hand, jobs, gate).back()
 }
 
-// Starts a worker on a thread of its own. Where none can be started it does nothing, and neither does any at a later place.
+// Starts a worker on a thread of its own. Where none can be started it is left out, and it alone.
 fn begin_work<'s, E, R: Threads + Wait + Sync, G: Gate + Sync>(
     scope: &Scope<'s, E>,
     rt: &'s R,
@@ -44,7 +44,7 @@ fn begin_work<'s, E, R: Threads + Wait + Sync, G: Gate + Sync>(
     seat: Seat,
     jobs: JobReceiver,
     place: u64,
-    limit: &'s AtomicU64,
+    left_out: &'s AtomicU64,
     gate: &'s G,
 ) -> Working
     requires sync { IsSync R.row }
@@ -61,15 +61,15 @@ fn begin_work<'s, E, R: Threads + Wait + Sync, G: Gate + Sync>(
         promise,
         move ||
             requires { IsSync R.row × IsReady desk.now seat }
-        { work_below(rt, desk, seat, jobs, place, limit, gate) },
+        { work_at(rt, desk, seat, jobs, place, left_out, gate) },
     ) {
         Ok(handle) => Working {
             given,
             state: Ok(handle),
         },
         Err(refused) => {
-            // Its closure has the seat, and gives it back at once below this limit.
-            limit.store(place, Ordering::SeqCst);
+            // Its closure has the seat, and gives it back at once. No other worker has this place, so none that runs takes it for its own.
+            left_out.store(place, Ordering::SeqCst);
             let seat = (refused.value)();
             Working {
                 given,
@@ -91,34 +91,40 @@ fn rest<R: Threads>(rt: &R, working: Working) -> Rested
     Rested { given, seat }
 }
 
-/// Starts a worker for each receiver, with the next seat.
+/// Starts a worker for each receiver, with the next seat. Says for how many a thread was started.
 pub(crate) fn begin_all<'s, E, R: Threads + Wait + Sync, G: Gate + Sync>(
     scope: &Scope<'s, E>,
     rt: &'s R,
     desk: &'s Desk,
-    limit: &'s AtomicU64,
+    left_out: &'s AtomicU64,
     gate: &'s G,
     seats: &mut VecDeque<Seat>,
     mut receivers: VecDeque<JobReceiver>,
     workings: &mut VecDeque<Working>,
-)
+) -> u64
     requires sync { IsSync R.row }
     requires ready { All (IsReady desk.now) seats.old.items }
     requires room { deque_len seats.old ≤ deque_capacity workings.old }
     requires none { workings.old.items ≡ [] }
     ensures begun { seats.old.items ≡ workings.new.items ++ seats.new.items }
     ensures ready { All (IsReady desk.now) seats.new.items }
+    ensures started { result ≤ deque_len seats.old }
 {
     let mut place = 0;
+    let mut started = 0;
     while let Some(seat) = seats.pop_front() {
         let Some(jobs) = receivers.pop_front() else {
             seats.push_front_reserved(seat);
-            return;
+            return started;
         };
-        let working = begin_work(scope, rt, desk, seat, jobs, place, limit, gate);
+        let working = begin_work(scope, rt, desk, seat, jobs, place, left_out, gate);
+        if working.is_started() {
+            started += 1;
+        }
         workings.push_back_reserved(working);
         place += 1;
     }
+    started
 }
 
 /// Waits for all workers, in order.

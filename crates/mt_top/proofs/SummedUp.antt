@@ -10,7 +10,7 @@ use Rattle.mt_picture.specs.Story.{Story}
 use Rattle.mt_serve.specs.Summary.{HasServedWhole}
 use Rattle.mt_serve.specs.declared.counts.Counts.{Counts}
 use Rattle.mt_top.specs.Opening.{Begins}
-use Rattle.mt_top.specs.Serve.{Appended, AreServed, Doorway, IsClosingLine, IsFront, IsNothing, IsShown, SaysClosing, ServeMeans}
+use Rattle.mt_top.specs.Serve.{Appended, AreServed, Doorway, IsClosingLine, IsFront, IsShown, SaysClosing, ServeMeans}
 use Rattle.mt_top.specs.declared.status.Status.{Status}
 use Rattle.mt_top.specs.declared.status.Status.TheVariants.{Done, Usage, Setup, ReadFault, WriteFault, DoorFault, Spent, Memory}
 
@@ -24,29 +24,29 @@ says_later closed counts faulted f g h Done held after later said = said
 says_later closed counts faulted f g h DoorFault held after later (is, (shown, sums, appended)) =
     (is, (shown, shown_later f g h closed counts shown later sums, appended))
 says_later closed counts faulted f g h WriteFault held after later said = said
-says_later closed counts faulted f g h Memory held after later said = said
+says_later closed counts faulted f g h Memory held after later none = absurd none
 says_later closed counts faulted f g h Setup held after later none = absurd none
 says_later closed counts faulted f g h ReadFault held after later none = absurd none
 says_later closed counts faulted f g h Spent held after later none = absurd none
 says_later closed counts faulted f g h Usage held after later none = absurd none
 
-module _ {L : Type 0} (source : Source.Ghosts L) (sink : Sink.Ghosts L) (port sessions : ℕ) (old new : Doorway L) (f g : ℕ) where
+module _ {L : Type 0} (source : Source.Ghosts L) (sink : Sink.Ghosts L) (port sessions workers : ℕ) (old new : Doorway L) (f g : ℕ) where
   -- the picture has begun, and there was no memory for serving
   pub unserved : (picture : Story) (before after held held_after : Option (List ℕ)) → new ≡ old
       → Explains (λ input left written. Begins input left written picture) before after held held_after
-      → Explains (ServeMeans source sink port sessions old new f g Memory) before after held held_after
+      → Explains (ServeMeans source sink port sessions workers old new f g Memory) before after held held_after
   unserved picture before after held held_after same explained =
-      explained_as (λ input left written. Begins input left written picture) (ServeMeans source sink port sessions old new f g Memory) before after held held_after
-      (λ input left written begins. inr (inl (picture, begins, same))) explained
+      explained_as (λ input left written. Begins input left written picture) (ServeMeans source sink port sessions workers old new f g Memory) before after held held_after
+      (λ input left written begins. inr (picture, begins, same)) explained
 
   module _ (picture closed : Story) (counts : Counts) (faulted : Bool)
-      (served : HasServedWhole source sink picture.setup port sessions old.count new.count old.still new.still old.returned new.returned
+      (served : HasServedWhole source sink picture.setup port sessions workers old.count new.count old.still new.still old.returned new.returned
       old.faults new.faults faulted closed counts)
       (before after held middle held_after : Option (List ℕ))
       (explained : Explains (λ input left written. Begins input left written picture) before after held middle) where
     -- so much of what sums it up was written
     summed : (b : Bool) (Sums : Story → Counts → List ℕ → Type 0) → faulted ≡ b → Appended (Sums closed counts) middle held_after
-        → Explains (AreServed source sink port sessions old new b Sums) before after held held_after
+        → Explains (AreServed source sink port sessions workers old new b Sums) before after held held_after
     summed b Sums is (shown, sums, appended) = record {
       input = explained.input;
       left = explained.left;
@@ -60,7 +60,7 @@ module _ {L : Type 0} (source : Source.Ghosts L) (sink : Sink.Ghosts L) (port se
         begins = explained.means;
         closed = closed;
         counts = counts;
-        served = subst (λ z. HasServedWhole source sink picture.setup port sessions old.count new.count old.still new.still old.returned new.returned
+        served = subst (λ z. HasServedWhole source sink picture.setup port sessions workers old.count new.count old.still new.still old.returned new.returned
             old.faults new.faults z closed counts) is served;
         shown = shown;
         sums = sums;
@@ -69,19 +69,17 @@ module _ {L : Type 0} (source : Source.Ghosts L) (sink : Sink.Ghosts L) (port se
     }
 
     abbrev ServedAs : Bool → (Story → Counts → List ℕ → Type 0) → List ℕ → List ℕ → List ℕ → Type 0
-    ServedAs b Sums = AreServed source sink port sessions old new b Sums
+    ServedAs b Sums = AreServed source sink port sessions workers old new b Sums
 
     abbrev Means : Status → List ℕ → List ℕ → List ℕ → Type 0
-    Means status = ServeMeans source sink port sessions old new f g status
+    Means status = ServeMeans source sink port sessions workers old new f g status
 
     pub closes : (status : Status) → SaysClosing closed counts faulted f g status middle held_after → Explains (Means status) before after held held_after
     closes Done said = summed false IsClosingLine said.0 said.1
     closes DoorFault said = summed true (IsShown f g) said.0 said.1
     closes WriteFault said = explained_as (ServedAs false IsFront) (Means WriteFault) before after held held_after
         (λ input left written means. inr means) (summed false IsFront said.0 said.1)
-    closes Memory said = explained_as (ServedAs faulted IsNothing) (Means Memory) before after held held_after
-        (λ input left written means. inr (inr (faulted, means)))
-        (summed faulted IsNothing refl ([], refl, subst (λ z. Appends middle z []) (sym said) (appends_none middle)))
+    closes Memory none = absurd none
     closes Setup none = absurd none
     closes ReadFault none = absurd none
     closes Spent none = absurd none

@@ -76,7 +76,7 @@ module _ {L : Type 0} (source : Source.Ghosts L) (sink : Sink.Ghosts L) (old new
   TaskMeans (Some Replay) status input left written = ReplayMeans status input left written × (new ≡ old)
   TaskMeans (Some (Load flights number)) status input left written = LoadMeans flights number status input left written × (new ≡ old)
   TaskMeans (Some (Serve port sessions workers)) status input left written =
-      ServeMeans source sink port sessions old new before now status input left written
+      ServeMeans source sink port sessions workers old new before now status input left written
   TaskMeans None status input left written = UsageMeans status input left written × (new ≡ old)
 
   abbrev pub RunMeans : List (List ℕ) → Status → List ℕ → List ℕ → List ℕ → Type 0

@@ -27,17 +27,14 @@ pub record IsClosingLine (closed : Story) (counts : Counts) (line : List ℕ) : 
   pub summed : IsClosing closed counts closing
   pub line_is : line ≡ closing_text closing
 
--- what was written of it: all of it; a front of it; all of it, or a front where the output failed; nothing
+-- what was written of it: all of it; a front of it; all of it, or a front where the output failed
 abbrev pub IsFront : Story → Counts → List ℕ → Type 0
 IsFront closed counts shown = (rest : List ℕ) × IsClosingLine closed counts (shown ++ rest)
 
 abbrev pub IsShown : ℕ → ℕ → Story → Counts → List ℕ → Type 0
 IsShown before now closed counts shown = IsClosingLine closed counts shown ⊎ (Rose before now × IsFront closed counts shown)
 
-abbrev pub IsNothing : Story → Counts → List ℕ → Type 0
-IsNothing closed counts shown = shown ≡ []
-
-module _ {L : Type 0} (source : Source.Ghosts L) (sink : Sink.Ghosts L) (port sessions : ℕ) (old new : Doorway L) where
+module _ {L : Type 0} (source : Source.Ghosts L) (sink : Sink.Ghosts L) (port sessions workers : ℕ) (old new : Doorway L) where
   -- Lines of the input up to the one that begins a picture were answered. Links of the door were served over that picture: one legal history, that
   -- of the closed picture, ties all that each was sent and answered. What sums it up was written behind the answers, as far as `Sums` says.
   pub record AreServed (faulted : Bool) (Sums : Story → Counts → List ℕ → Type 0) (input left written : List ℕ) : Type 0 where
@@ -46,7 +43,7 @@ module _ {L : Type 0} (source : Source.Ghosts L) (sink : Sink.Ghosts L) (port se
     pub begins : Begins input left opened picture
     pub closed : Story
     pub counts : Counts
-    pub served : HasServedWhole source sink picture.setup port sessions old.count new.count old.still new.still old.returned new.returned
+    pub served : HasServedWhole source sink picture.setup port sessions workers old.count new.count old.still new.still old.returned new.returned
         old.faults new.faults faulted closed counts
     pub shown : List ℕ
     pub sums : Sums closed counts shown
@@ -57,13 +54,12 @@ module _ {L : Type 0} (source : Source.Ghosts L) (sink : Sink.Ghosts L) (port se
   AreUnserved input left written = (picture : Story) × Begins input left written picture × (new ≡ old)
 
   -- What a status says of serving, of the input, of what is left of it, and of the bytes written: before the picture has begun it is that of the
-  -- lines so far, and the door wasn't called. `before` and `now` are what the output counts of its faults.
+  -- lines so far, and the door wasn't called; nor was it where memory is wanted. `before` and `now` are what the output counts of its faults.
   abbrev pub ServeMeans : ℕ → ℕ → Status → List ℕ → List ℕ → List ℕ → Type 0
   ServeMeans before now Done input left written = AreServed false IsClosingLine input left written
   ServeMeans before now DoorFault input left written = AreServed true (IsShown before now) input left written
   ServeMeans before now WriteFault input left written = (OpeningMeans WriteFault input left written × (new ≡ old)) ⊎ AreServed false IsFront input left written
-  ServeMeans before now Memory input left written = (OpeningMeans Memory input left written × (new ≡ old))
-      ⊎ AreUnserved input left written ⊎ ((faulted : Bool) × AreServed faulted IsNothing input left written)
+  ServeMeans before now Memory input left written = (OpeningMeans Memory input left written × (new ≡ old)) ⊎ AreUnserved input left written
   ServeMeans before now Setup input left written = OpeningMeans Setup input left written × (new ≡ old)
   ServeMeans before now ReadFault input left written = OpeningMeans ReadFault input left written × (new ≡ old)
   ServeMeans before now Spent input left written = OpeningMeans Spent input left written × (new ≡ old)
@@ -77,7 +73,7 @@ abbrev pub SaysClosing : Story → Counts → Bool → ℕ → ℕ → Status �
 SaysClosing closed counts faulted before now Done held after = (faulted ≡ false) × Appended (IsClosingLine closed counts) held after
 SaysClosing closed counts faulted before now DoorFault held after = (faulted ≡ true) × Appended (IsShown before now closed counts) held after
 SaysClosing closed counts faulted before now WriteFault held after = (faulted ≡ false) × Appended (IsFront closed counts) held after
-SaysClosing closed counts faulted before now Memory held after = after ≡ held
+SaysClosing closed counts faulted before now Memory held after = ⊥
 SaysClosing closed counts faulted before now Setup held after = ⊥
 SaysClosing closed counts faulted before now ReadFault held after = ⊥
 SaysClosing closed counts faulted before now Spent held after = ⊥

@@ -1,5 +1,5 @@
 //! Links served over a picture that lines of the input set up.
-ghost use Rattle.std.specs.Prelude.{◌≡◌, ◌≤◌, ◌+◌, ◌^◌, OnOk};
+ghost use Rattle.std.specs.Prelude.{◌≡◌, ◌≤◌, ◌+◌, ◌^◌, vec_capacity};
 ghost use Rattle.std.specs.Thread.{IsSync};
 ghost use Rattle.mt_io.specs.Causes.{Rose};
 ghost use Rattle.mt_lines.specs.Answering.{Explains};
@@ -8,31 +8,32 @@ ghost use Rattle.mt_top.specs.declared.status.Status.TheVariants.{DoorFault, Rea
 
 use crate::opening::open;
 use crate::status::Status;
-use mt_base::Memory;
 use mt_io::{Door, Gate, Sink, Source, put_all};
 use mt_serve::{Served, put_closing, sum_up};
 use std::alloc::Global;
 use std::sync::Wait;
 use std::thread::Threads;
 
-// Puts the line that sums up what was served into an empty room.
-fn sum_up_in(room: &mut Vec<u8>, served: &Served) -> Result<(), Memory>
-    ensures { OnOk result (IsClosingLine served.now.picture served.now.counts room.new.items) }
+// Puts the line that sums up what was served into the room, which is emptied and takes it all.
+fn sum_up_in(room: &mut Vec<u8>, served: &Served)
+    requires { 65536 ≤ vec_capacity room.old }
+    ensures { IsClosingLine served.now.picture served.now.counts room.new.items }
 {
     room.clear();
-    put_closing(room, &sum_up(served))
+    let Ok(()) = put_closing(room, &sum_up(served)) else {
+        unreachable!()
+    };
 }
 
 // Writes the line that sums up what was served. After a fault of the door that is the status, whatever the output does.
 fn close<K: Sink>(room: &mut Vec<u8>, served: &Served, output: &mut K) -> Status
+    requires room { 65536 ≤ vec_capacity room.old }
     ensures said { SaysClosing served.now.picture served.now.counts served.now.faulted (K.faults output.old) (K.faults output.new) result (K.held output.old) (K.held output.new) }
     ensures write { result ≡ WriteFault → Rose (K.faults output.old) (K.faults output.new) }
     ensures later { K.faults output.old ≤ K.faults output.new }
     ensures writes { K.writes_to output.old output.new }
 {
-    if sum_up_in(room, served).is_err() {
-        return Status::Memory;
-    }
+    sum_up_in(room, served);
     let written = put_all(output, room);
     if served.faulted {
         return Status::DoorFault;
@@ -46,8 +47,8 @@ fn close<K: Sink>(room: &mut Vec<u8>, served: &Served, output: &mut K) -> Status
 /// Answers the lines of the input up to the one that begins the picture, serves so many links of the door over it, with so many workers, and
 /// writes the line that sums up what was served.
 ///
-/// The definition is `ServeMeans`. The room of 65,536 bytes for replies is taken before the first line, and what serving takes before the door
-/// is asked for a link. `Memory` comes then, or where there is none for the summary.
+/// The definition is `ServeMeans`. The room of 65,536 bytes for replies and the summary is taken before the first line, and what serving takes
+/// before the door is called. `Memory` comes then, and at no later time.
 pub(crate) fn serve<R: Threads + Wait + Sync, S: Source, K: Sink, D: Door, G: Gate + Sync>(
     rt: &R,
     alloc: Global,
@@ -61,7 +62,7 @@ pub(crate) fn serve<R: Threads + Wait + Sync, S: Source, K: Sink, D: Door, G: Ga
 ) -> Status
     requires sync { IsSync R.row }
     requires few { sessions + workers ≤ 2 ^ 31 }
-    ensures means { Explains (ServeMeans D.Link.Source D.Link.Sink port sessions
+    ensures means { Explains (ServeMeans D.Link.Source D.Link.Sink port sessions workers
         (record { count = D.count door.old; still = D.still door.old; returned = D.returned door.old; faults = D.faults door.old })
         (record { count = D.count door.new; still = D.still door.new; returned = D.returned door.new; faults = D.faults door.new })
         (K.faults output.old) (K.faults output.new) result)

@@ -46,7 +46,7 @@ loop-done-init g c =
 
 pub loop-done-preserved : goal.loop-done-preserved
 loop-done-preserved g c =
-    let x : Met g.row.D-Link.Denot = record { from = record { link = c.done.inside.given.link.value; seat = c.done.inside.given.seat.value }; link = c.done.inside.back.link; seat = c.done.inside.back.seat; outcome = c.done.inside.back.outcome } in
+    let x : Met g.row.D-Link.Denot = record { from = record { link = c.done.inside.given.link.value; seat = c.done.inside.given.seat.value; has_channel = c.done.inside.given.has_channel }; link = c.done.inside.back.link; seat = c.done.inside.back.seat; outcome = c.done.inside.back.outcome } in
     let was = c.loop-done.invariant in (
       sessions_more g.D.Link.Source g.D.Link.Sink _ _ _ _ _ _ _ _ _ _ _ _ _ _ _ x c.in-Some.done was.0 c.in-Some.ensures.items c.done.view_is c.join_session.ensures.joins c.done.invariant c.join_session.ensures.count c.join_session.ensures.returned c.join_session.ensures.counted,
       c.join_session.ensures.ready,
@@ -74,9 +74,9 @@ join_session-requires-clause-first g c κs within = c.loop-done.invariant.0.join
 
 pub join_session-requires-clause-other : goal.join_session-requires-clause-other
 join_session-requires-clause-other g c κs within =
-    let y : Met g.row.D-Link.Denot = record { from = record { link = c.done.inside.given.link.value; seat = c.done.inside.given.seat.value }; link = c.done.inside.back.link; seat = c.done.inside.back.seat; outcome = c.done.inside.back.outcome } in
+    let y : Met g.row.D-Link.Denot = record { from = record { link = c.done.inside.given.link.value; seat = c.done.inside.given.seat.value; has_channel = c.done.inside.given.has_channel }; link = c.done.inside.back.link; seat = c.done.inside.back.seat; outcome = c.done.inside.back.outcome } in
     let from = all_front (λ (m : Met g.row.D-Link.Denot). IsReady c.args.desk.now m.from.seat) c.in-Some.done _ _ c.loop-done.invariant.0.ready c.in-Some.ensures.items in
-    done_ready g.D.Link.Source g.D.Link.Sink c.args.desk.now y.from.link y.from.seat y.link y.seat y.outcome c.done.invariant
+    done_ready g.D.Link.Source g.D.Link.Sink c.args.desk.now y.from.link y.from.seat y.from.has_channel y.link y.seat y.outcome c.done.invariant
     (subst (λ (m : Met g.row.D-Link.Denot). IsReady c.args.desk.now m.from.seat) (sym c.done.view_is) from)
 
 pub join_session-requires-clause-given : goal.join_session-requires-clause-given

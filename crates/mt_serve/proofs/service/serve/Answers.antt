@@ -16,9 +16,9 @@ settle-requires-clause-split g c κs within =
 
 pub returns-in_default-listen-clause-served : goal.returns-in_default-listen-clause-served
 returns-in_default-listen-clause-served g c =
-    whole g.D.Link.Source g.D.Link.Sink c.in-Ok.desk.fixed c.args.picture.setup _ _ _ _ _ _ _ _ _ _ _ _ c.settle.result.picture c.settle.result.counts
+    whole g.D.Link.Source g.D.Link.Sink c.in-Ok.desk.fixed c.args.picture.setup _ _ _ _ _ _ _ _ _ _ _ _ _ c.settle.result.picture c.settle.result.counts
     c.in_ok-room.room.dones.items c.in-Ok.ensures.fixed c.settle.ensures.faulted c.settle.ensures.setup c.settle.ensures.legal
-    (not_listened g.D.Link.Source g.D.Link.Sink c.in-Ok.desk.fixed c.args.port c.args.sessions (g.D.Door.count c.args.door.now) (g.D.Door.count c.listen.new.self)
+    (not_listened g.D.Link.Source g.D.Link.Sink c.in-Ok.desk.fixed c.args.port c.args.sessions c.args.workers (g.D.Door.count c.args.door.now) (g.D.Door.count c.listen.new.self)
     _ _ _ _ _ _ _ _ _ _ _ c.in_ok-room.room.dones.items c.in_default-listen.ensures.count c.in_default-listen.ensures.links.0
     c.in_default-listen.ensures.links.1 c.in_default-listen.ensures.cause.failed c.in_ok-room.ensures.empty.1
     c.settle.ensures.tied c.settle.ensures.count c.settle.ensures.still c.settle.ensures.returned c.settle.ensures.faults)
@@ -55,11 +55,12 @@ settle-requires-2-clause-few g c κs within =
 
 pub returns-clause-served : goal.returns-clause-served
 returns-clause-served g c =
-    whole g.D.Link.Source g.D.Link.Sink c.in-Ok.desk.fixed c.args.picture.setup _ _ _ _ _ _ _ _ _ _ _ _ c.settle-2.result.picture c.settle-2.result.counts
+    whole g.D.Link.Source g.D.Link.Sink c.in-Ok.desk.fixed c.args.picture.setup _ _ _ _ _ _ _ _ _ _ _ _ _ c.settle-2.result.picture c.settle-2.result.counts
     c.serve_beside-left.result.dones.items c.in-Ok.ensures.fixed c.settle-2.ensures.faulted c.settle-2.ensures.setup c.settle-2.ensures.legal
-    (served_all g.D.Link.Source g.D.Link.Sink c.in-Ok.desk.fixed c.args.port c.args.sessions (g.D.Door.count c.args.door.now) (g.D.Door.count c.listen.new.self)
+    (served_all g.D.Link.Source g.D.Link.Sink c.in-Ok.desk.fixed c.args.port c.args.sessions c.args.workers c.serve_beside-left.result.staff (g.D.Door.count c.args.door.now) (g.D.Door.count c.listen.new.self)
     (g.D.Door.count c.serve_beside-left.new.door) _ _ _ _ _ _ _ _ _ _ _ _ _ _ _ c.serve_beside-left.result.dones.items c.split_all.new.seats.items
     c.serve_beside-left.result.seats.items c.in-Ok-listen.ensures.count c.in-Ok-listen.ensures.links.0 c.in-Ok-listen.ensures.links.1 c.in-Ok-listen.ensures.cause.later
     c.serve_beside-left.ensures.begun c.serve_beside-left.ensures.returned c.serve_beside-left.ensures.faults c.serve_beside-left.ensures.over
-    c.settle-2.ensures.tied c.settle-2.ensures.count c.settle-2.ensures.still c.settle-2.ensures.returned c.settle-2.ensures.faults)
+    c.settle-2.ensures.tied c.settle-2.ensures.count c.settle-2.ensures.still c.settle-2.ensures.returned c.settle-2.ensures.faults
+    (omega (arith, c.serve_beside-left.ensures.staffed, c.split_all-2.ensures.many.1)) c.serve_beside-left.ensures.channels)
     c.settle-2.ensures.counted

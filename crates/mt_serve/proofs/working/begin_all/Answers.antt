@@ -10,4 +10,5 @@ loop-seat-preserved g c =
       all_moved (IsReady c.args.desk.now) c.in-Some.seat c.pop_front.new.self.items c.loop-seat.seats.items was.1 c.in-Some.ensures.items,
       search rules,
       search rules,
+      search rules,
     )

@@ -9,6 +9,7 @@ invariant-loop-seat g l =
     × All (IsReady l.desk) l.seats.items
     × (deque_len l.workings + deque_len l.seats ≤ deque_capacity l.workings)
     × (l.place + deque_len l.seats ≤ deque_len l.fn.seats)
+    × (l.started ≤ l.place)
 
 abbrev pub decreases-loop-seat : goal.decreases-loop-seat
 decreases-loop-seat g l = deque_len l.seats

@@ -6,12 +6,12 @@ use Rattle.mt_serve.specs.declared.counts.Counts.{Counts}
 use Rattle.mt_top.specs.Serve.{IsClosingLine}
 use Rattle.mt_top.proofs.serving.sum_up_in.Goals as goal
 
-line_of : {T E : Type 0} (result : Result T E) (closed : Story) (counts : Counts) (closing : Closing) (empty line : List ℕ) → empty ≡ []
-    → IsClosing closed counts closing → OnOk result (line ≡ empty ++ closing_text closing) → OnOk result (IsClosingLine closed counts line)
-line_of (Ok _) closed counts closing empty line none summed is = record { closing = closing; summed = summed; line_is = rw none at is }
-line_of (Err _) closed counts closing empty line none summed is = is
+line_of : {T E : Type 0} (result : Result T E) (done : T) (closed : Story) (counts : Counts) (closing : Closing) (empty line : List ℕ) → result ≡ Ok done
+    → empty ≡ [] → IsClosing closed counts closing → OnOk result (line ≡ empty ++ closing_text closing) → IsClosingLine closed counts line
+line_of (Ok _) done closed counts closing empty line ok none summed is = record { closing = closing; summed = summed; line_is = rw none at is }
+line_of (Err _) done closed counts closing empty line ok none summed is = cc
 
 pub returns : goal.returns
 returns c =
-    line_of c.put_closing.result c.args.served.now.picture c.args.served.now.counts c.sum_up.result c.clear.new.self.items c.put_closing.new.line.items
-    c.clear.ensures.items c.sum_up.ensures c.put_closing.ensures
+    line_of c.put_closing.result c.in-Ok.field-0 c.args.served.now.picture c.args.served.now.counts c.sum_up.result c.clear.new.self.items
+    c.put_closing.new.line.items c.in-Ok.is c.clear.ensures.items c.sum_up.ensures c.put_closing.ensures.put

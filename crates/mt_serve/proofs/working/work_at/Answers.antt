@@ -1,5 +1,5 @@
 use Rattle.mt_serve.proofs.Renewals.{worked_as}
-use Rattle.mt_serve.proofs.working.work_below.Goals as goal
+use Rattle.mt_serve.proofs.working.work_at.Goals as goal
 
 pub returns : goal.returns
 returns g c =
