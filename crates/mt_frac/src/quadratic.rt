@@ -1,6 +1,6 @@
 //! Quadratics and their signs at fractions.
 
-ghost use Rattle.std.specs.Prelude.{pos, ◌≡◌, ◌↔◌, IsTrue};
+ghost use Rattle.std.specs.Prelude.{ℤ, true, pos, ◌≡◌, ◌≤ℤ◌, ◌↔◌, IsTrue};
 ghost use Rattle.std.specs.Ordering.{int_cmp};
 ghost use Rattle.mt_frac.specs.FractionOrder.{IsBefore};
 ghost use Rattle.mt_frac.specs.Polynomials.{value};
@@ -58,6 +58,14 @@ impl Quad {
             return false;
         }
         self.discriminant() > 0
+    }
+
+    /// Whether the quadratic opens upwards and has no two zeros, so that it is nowhere below 0. Where it says no, nothing is said.
+    pub fn stays_above(self) -> bool
+        requires coefficients { IsBoundedQuad self }
+        ensures { result ≡ true → (n d : ℤ) → pos 0 ≤ℤ value self.a self.b self.c n d }
+    {
+        self.a > 0 && self.discriminant() <= 0
     }
 
     // The denominator times the slope at the fraction.

@@ -59,3 +59,7 @@ IsSpan-of P low high first last least greatest = record {
 -- from the first on there is one
 pub some_from : (P : ℤ → ℤ → Type 0) (low high first : ℕ) → IsLeast (HoldsIn P) low high first → HoldsOver P first high
 some_from P low high first least = record { k = first; begun = le_refl first; ahead = least.ahead; holds = least.is }
+
+-- at the first second of all it is the least
+pub least_first : (P : ℕ → Type 0) (high : ℕ) → 0 < high → P 0 → IsLeast P 0 high 0
+least_first P high some is = record { begun = le_refl 0; ahead = some; is = is; none_before = λ k begun less at. absurd (omega arith) }

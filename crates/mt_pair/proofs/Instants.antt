@@ -1,6 +1,7 @@
 -- What the code asks of two rows at an instant holds exactly where the rows lose separation there.
 use Rattle.std.proofs.Common.{◌≡◌, ◌&&◌, Bool, true, false, ℕ, ◌<◌, ℤ, pos, neg_ℤ, ◌+ℤ◌, ◌-ℤ◌, ◌*ℤ◌, ◌≤ℤ◌, ◌<ℤ◌, ◌↔◌, ◌⊎◌, Option, Some, None, ap₂, arith, refl, true≢false, inl, inr, ⊎_elim}
 use Rattle.std.proofs.lemmas.Int.{ints}
+use Rattle.std.specs.Option.{option_copied}
 use Rattle.std.proofs.Math.Logic.{⊎_map}
 use Rattle.mt_ring.proofs.Ring.{lin, spread}
 use Rattle.mt_ring.proofs.Signs.{contrary, mul_nonneg, nonneg_cancel, weaken}
@@ -195,7 +196,7 @@ loses_by rules level a b seconds gap over under None n d some g o u low during =
       loss.vertical),
   (λ are. ⊎_elim (λ near. record { horizontal = apart_from rules rules.sv a b n d near; vertical = inl (near_from rules rules.sv a b n d near) }) absurd are),
 )
-loses_by rules level a b seconds gap over under (Some high) n d some g o u is during = rw (g, o, u, is.0, is.1, is.2, is.3) (
+loses_by rules level a b seconds gap over under (Some high) n d some g o u is during = rw (g, o, u, is.over, is.under, is.left, is.right) (
   (λ loss. ⊎_map
       (λ near. by_minimum rules rules.sv a b n d loss.horizontal near)
       (λ far.
@@ -227,7 +228,7 @@ high_is_open gap (Some high) = either_open (AreBelowWithAt gap high.over high.un
     (are_open_with gap high.over high.under high.left) (are_open_with gap high.over high.under high.right)
 
 pub loss_is_open : (x : Approach) → IsOpen (IsLoss x)
-loss_is_open x = either_open (AreBelowAt x.gap x.over x.under) (IsHighLoss x.gap x.high) (are_open x.gap x.over x.under) (high_is_open x.gap x.high)
+loss_is_open x = either_open (AreBelowAt x.gap x.over x.under) (IsHighLoss x.gap (option_copied x.high)) (are_open x.gap x.over x.under) (high_is_open x.gap (option_copied x.high))
 
 -- an instant of a second before the `seconds`-th is one of the first `seconds`
 during_of : (seconds k : ℕ) (n d : ℤ) → k < seconds → pos 0 ≤ℤ n → n <ℤ d → IsDuring seconds (n +ℤ pos k *ℤ d) d
@@ -239,13 +240,13 @@ during_of seconds k n d below begun within =
 
 -- In a second after two rows with the same gains: they lose separation there exactly where the cases say so at an instant of it.
 pub loses_in : (rules : Rules) (pa pb : Bool) (a b : Row) (seconds : ℕ) (x : Approach) → 0 < seconds → x.gap ≡ gap_of rules a b
-    → x.over ≡ excess_of rules.sv a b → x.under ≡ excess_of rules.sv b a → IsHighOf rules (level_of (pa && pb)) a b seconds x.high
+    → x.over ≡ excess_of rules.sv a b → x.under ≡ excess_of rules.sv b a → IsHighOf rules (level_of (pa && pb)) a b seconds (option_copied x.high)
     → (k : ℕ) → k < seconds → HoldsIn (IsLoss x) k ↔ LosesIn rules pa pb (row_after a k) (row_after b k)
 loses_in rules pa pb a b seconds x some g o u high k below = (
   (λ at.
       let at_k = at.n +ℤ pos k *ℤ at.d in
       let during = during_of seconds k at.n at.d below at.begun at.within in
-      let by = loses_by rules (level_of (pa && pb)) a b seconds x.gap x.over x.under x.high at_k at.d some g o u high during in
+      let by = loses_by rules (level_of (pa && pb)) a b seconds x.gap x.over x.under (option_copied x.high) at_k at.d some g o u high during in
       record {
         n = at.n;
         d = at.d;
@@ -257,7 +258,7 @@ loses_in rules pa pb a b seconds x some g o u high k below = (
   (λ at.
       let at_k = at.n +ℤ pos k *ℤ at.d in
       let during = during_of seconds k at.n at.d below at.begun at.within in
-      let by = loses_by rules (level_of (pa && pb)) a b seconds x.gap x.over x.under x.high at_k at.d some g o u high during in
+      let by = loses_by rules (level_of (pa && pb)) a b seconds x.gap x.over x.under (option_copied x.high) at_k at.d some g o u high during in
       record {
         n = at.n;
         d = at.d;

@@ -134,12 +134,17 @@ IsConflict-cut rules a b from to begin end (Some span) later sooner covered cut 
       cut.none_outside k h.0 h.1 loss;
 }
 
--- the span of the loss seconds of two rows that keep their gains, counted from the first of these seconds, is that of the seconds themselves
+-- the span of the seconds with a loss of an approach, told in the seconds from which its time is counted
+pub IsSpan-after : (x : Approach) (from to : ℕ) (span : Option (ℕ × ℕ)) → from < to → IsSpan (HoldsIn (IsLoss x)) 0 (to - from) span
+    → IsSpan (λ k. HoldsIn (IsLoss x) (k - from)) from to (shifted from span)
+IsSpan-after x from to span some is =
+    IsSpan-later (HoldsIn (IsLoss x)) (λ k. HoldsIn (IsLoss x) (k - from)) from (to - from) to span (omega arith) (λ k begun. ((λ h. h), (λ h. h))) is
+
+-- and of two rows that keep their gains, where the approach has the cases of these
 pub IsSpan-loss : (rules : Rules) (pa pb : Bool) (a b : Row) (from to : ℕ) (x : Approach) (span : Option (ℕ × ℕ)) → from < to
     → ((k : ℕ) → k < to - from → HoldsIn (IsLoss x) k ↔ LosesIn rules pa pb (row_after a k) (row_after b k))
-    → IsSpan (HoldsIn (IsLoss x)) 0 (to - from) span
-    → IsSpan (λ k. LosesIn rules pa pb (row_after a (k - from)) (row_after b (k - from))) from to (shifted from span)
+    → IsSpan (λ k. HoldsIn (IsLoss x) (k - from)) from to span
+    → IsSpan (λ k. LosesIn rules pa pb (row_after a (k - from)) (row_after b (k - from))) from to span
 IsSpan-loss rules pa pb a b from to x span some same is =
-    IsSpan-later (λ k. LosesIn rules pa pb (row_after a k) (row_after b k)) (λ k. LosesIn rules pa pb (row_after a (k - from)) (row_after b (k - from)))
-    from (to - from) to span (omega arith) (λ k begun. ((λ h. h), (λ h. h)))
-    (IsSpan-same (HoldsIn (IsLoss x)) (λ k. LosesIn rules pa pb (row_after a k) (row_after b k)) 0 (to - from) span (λ k begun ahead. same k ahead) is)
+    IsSpan-same (λ k. HoldsIn (IsLoss x) (k - from)) (λ k. LosesIn rules pa pb (row_after a (k - from)) (row_after b (k - from)))
+    from to span (λ k begun ahead. same (k - from) (omega arith)) is

@@ -1,5 +1,6 @@
 -- What the code asks of two rows: at most three cases, each of one quadratic and two or three lines.
 use Rattle.std.specs.Prelude.{◌≡◌, ℕ, ℤ, ◌⊎◌, Option, Some, None}
+use Rattle.std.specs.Option.{option_copied}
 use Rattle.mt_base.specs.declared.row.Row.{Row}
 use Rattle.mt_base.specs.declared.rules.Rules.{Rules}
 use Rattle.mt_frac.specs.declared.quadratic.Quad.{Quad}
@@ -19,10 +20,16 @@ IsHighLoss gap (Some high) n d = IsHighAt gap high n d
 
 -- by the lesser minimum, or by the greater
 abbrev pub IsLoss : Approach → ℤ → ℤ → Type 0
-IsLoss x n d = AreBelowAt x.gap x.over x.under n d ⊎ IsHighLoss x.gap x.high n d
+IsLoss x n d = AreBelowAt x.gap x.over x.under n d ⊎ IsHighLoss x.gap (option_copied x.high) n d
 
--- the lines of the greater minimum: of two rows for that many seconds, none where neither is above the level in them
+-- the lines of the greater minimum, of two rows
+pub record AreHighOf (rules : Rules) (level : ℤ) (a b : Row) (high : High) : Type 0 where
+  pub over : high.over ≡ excess_of rules.sv2 a b
+  pub under : high.under ≡ excess_of rules.sv2 b a
+  pub left : high.left ≡ above_of level a
+  pub right : high.right ≡ above_of level b
+
+-- for that many seconds: none where neither is above the level in them
 abbrev pub IsHighOf : Rules → ℤ → Row → Row → ℕ → Option High → Type 0
 IsHighOf rules level a b seconds None = AreLow level a b seconds
-IsHighOf rules level a b seconds (Some high) =
-    (high.over ≡ excess_of rules.sv2 a b) × (high.under ≡ excess_of rules.sv2 b a) × (high.left ≡ above_of level a) × (high.right ≡ above_of level b)
+IsHighOf rules level a b seconds (Some high) = AreHighOf rules level a b high

@@ -18,12 +18,17 @@ joined None later = later
 joined (Some span) None = Some span
 joined (Some span) (Some later) = Some (span.0, later.1)
 
--- the least k from low up to high with P, and the greatest
+-- the least k from low up to high with P
 pub record IsLeast (P : ℕ → Type 0) (low high first : ℕ) : Type 0 where
   pub begun : low ≤ first
   pub ahead : first < high
   pub is : P first
   pub none_before : (k : ℕ) → low ≤ k → k < first → ¬ P k
+
+-- the least, or none where no k from low up to high has P
+abbrev pub IsFirst : (ℕ → Type 0) → ℕ → ℕ → Option ℕ → Type 0
+IsFirst P low high (Some first) = IsLeast P low high first
+IsFirst P low high None = (k : ℕ) → low ≤ k → k < high → ¬ P k
 
 pub record IsGreatest (P : ℕ → Type 0) (low high last : ℕ) : Type 0 where
   pub begun : low ≤ last

@@ -3,7 +3,7 @@ ghost use Rattle.mt_frac.specs.Signs.{IsBoundedLine, IsBoundedQuad};
 use crate::horizontal::gap;
 use crate::question::{are_below_inside, are_below_with, whole};
 use crate::turning::{are_quiet, begins_before, lasts_until};
-use crate::vertical::{above, are_low, excess};
+use crate::vertical::{above, excess};
 use mt_base::{Row, Rules, Second, Steps};
 use mt_frac::{Frac, Line, Quad};
 
@@ -26,25 +26,22 @@ impl High {
     ghost use Rattle.mt_base.specs.Bounds.{AreWithinBounds, IsBoundedRow};
     ghost use Rattle.mt_frac.specs.FractionOrder.{IsBefore};
     ghost use Rattle.mt_pair.specs.Below.{HoldsBetween};
-    ghost use Rattle.mt_pair.specs.Cases.{IsHighAt, IsHighOf};
+    ghost use Rattle.mt_pair.specs.Cases.{AreHighOf, IsHighAt};
     ghost use Rattle.mt_pair.specs.High.{level_of};
 
-    /// Those of two rows of one second for so many seconds, by whether both are approved; `None` where neither is high in any of them.
-    fn of(rules: &Rules, approved: bool, a: &Row, b: &Row, seconds: Second) -> Option<High>
+    /// Those of two rows of one second, by whether both are approved.
+    pub(crate) fn of(rules: &Rules, approved: bool, a: &Row, b: &Row) -> High
         requires rules_kept { AreWithinBounds rules.now }
         requires a_kept { IsBoundedRow a.now }
         requires b_kept { IsBoundedRow b.now }
-        ensures { IsHighOf rules.now (level_of approved) a.now b.now seconds result }
+        ensures { AreHighOf rules.now (level_of approved) a.now b.now result }
     {
-        if are_low(approved, a, b, seconds) {
-            return None;
-        }
-        Some(High {
+        High {
             over: excess(&rules.sv2, a, b),
             under: excess(&rules.sv2, b, a),
             left: above(approved, a),
             right: above(approved, b),
-        })
+        }
     }
 
     /// Whether at one fraction strictly between the two there is a loss by the greater minimum.
@@ -64,44 +61,43 @@ impl High {
 /// horizontally, the two lines that are below 0 where they are nearer vertically than the lesser minimum, and those of the greater one, where
 /// one of the two is high. Time is counted in seconds from some row of each.
 #[derive(Clone, Copy)]
-pub(crate) struct Approach {
+pub(crate) struct Approach<'a> {
     gap: Quad,
     over: Line,
     under: Line,
-    high: Option<High>,
+    high: Option<&'a High>,
     ghost gap_bounded: { IsBoundedQuad gap },
     ghost over_bounded: { IsBoundedLine over },
     ghost under_bounded: { IsBoundedLine under },
 }
 
-impl Approach {
+impl<'a> Approach<'a> {
     ghost use Rattle.std.specs.Prelude.{◌≡◌, ◌↔◌, true, None, ◌+◌, ◌<◌, ◌≤◌, pos, ◌≤ℤ◌, IsTrue};
     ghost use Rattle.mt_base.specs.Bounds.{AreWithinBounds, IsBoundedRow};
     ghost use Rattle.mt_base.specs.Tally.{raised};
     ghost use Rattle.mt_frac.specs.FractionOrder.{IsBefore};
     ghost use Rattle.mt_pair.specs.Below.{HoldsIn, HoldsBetween, HoldsOver};
-    ghost use Rattle.mt_pair.specs.Cases.{IsHighOf, IsLoss};
+    ghost use Rattle.mt_pair.specs.Cases.{IsLoss};
     ghost use Rattle.mt_pair.specs.Gap.{excess_of, gap_of};
     ghost use Rattle.mt_pair.specs.Greatest.{AreSizes};
-    ghost use Rattle.mt_pair.specs.High.{level_of};
-    ghost use Rattle.mt_pair.specs.Span.{IsGreatest, IsLeast, IsSpan};
+    ghost use Rattle.mt_pair.specs.Span.{IsFirst, IsGreatest, IsLeast, IsSpan};
 
-    /// That of two rows of one second, for so many seconds, by whether both are approved.
-    pub(crate) fn of(rules: &Rules, approved: bool, a: &Row, b: &Row, seconds: Second) -> Approach
+    /// That of two rows of one second, with the lines of the greater minimum where one of the two is high in the seconds that are asked for.
+    pub(crate) fn of(rules: &Rules, a: &Row, b: &Row, high: Option<&'a High>) -> Approach<'a>
         requires rules_kept { AreWithinBounds rules.now }
         requires a_kept { IsBoundedRow a.now }
         requires b_kept { IsBoundedRow b.now }
         ensures gap { result.gap ≡ gap_of rules.now a.now b.now }
         ensures over { result.over ≡ excess_of rules.now.sv a.now b.now }
         ensures under { result.under ≡ excess_of rules.now.sv b.now a.now }
-        ensures high { IsHighOf rules.now (level_of approved) a.now b.now seconds result.high }
+        ensures high { result.high ≡ high.entry }
         ensures sizes { AreSizes rules.now a.now b.now }
     {
         Approach {
             gap: gap(rules, a, b),
             over: excess(&rules.sv, a, b),
             under: excess(&rules.sv, b, a),
-            high: High::of(rules, approved, a, b, seconds),
+            high,
         }
     }
 
@@ -113,7 +109,7 @@ impl Approach {
         if are_below_inside(self.gap, self.over, self.under, lo, hi) {
             return true;
         }
-        let Some(high) = &self.high else {
+        let Some(high) = self.high else {
             return false;
         };
         high.loses_inside(self.gap, lo, hi)
@@ -136,7 +132,7 @@ impl Approach {
         if self.gap.a < 0 {
             return false;
         }
-        let Some(_) = &self.high else {
+        let Some(_) = self.high else {
             return true;
         };
         false
@@ -226,10 +222,45 @@ impl Approach {
         if !are_quiet(self.gap, self.over, self.under, seconds) {
             return false;
         }
-        let Some(high) = &self.high else {
+        let Some(high) = self.high else {
             return true;
         };
         are_quiet(self.gap, high.over, high.under, seconds)
+    }
+
+    /// Whether there is a loss at the very start by the lesser minimum. Where it says no, nothing is said.
+    fn begins_with_loss(&self) -> bool
+        ensures { result ≡ true → HoldsIn (IsLoss self.now) 0 }
+    {
+        if self.gap.c >= 0 {
+            return false;
+        }
+        if self.over.c >= 0 {
+            return false;
+        }
+        self.under.c < 0
+    }
+
+    /// The first second with a loss before the `seconds`-th; `None` exactly where none has. At most 15 steps.
+    fn first_before(&self, seconds: Second, steps: &mut Steps) -> Option<Second>
+        requires some { 0 < seconds }
+        requires short { seconds ≤ 16384 }
+        ensures is { IsFirst (HoldsIn (IsLoss self.now)) 0 seconds result }
+        ensures counted { steps.new ≤ steps.old + 15 }
+    {
+        if self.begins_with_loss() {
+            return Some(0);
+        }
+        if self.is_quiet(seconds) {
+            return None;
+        }
+        if self.gap.stays_above() {
+            return None;
+        }
+        if !self.loses_over(0, seconds, steps) {
+            return None;
+        }
+        Some(self.first_over(0, seconds, steps))
     }
 
     /// The first and the last second with a loss before the `seconds`-th; `None` exactly where none has. At most 32 steps.
@@ -239,13 +270,9 @@ impl Approach {
         ensures span { IsSpan (HoldsIn (IsLoss self.now)) 0 seconds result }
         ensures counted { steps.new ≤ steps.old + 32 }
     {
-        if self.is_quiet(seconds) {
+        let Some(first) = self.first_before(seconds, steps) else {
             return None;
-        }
-        if !self.loses_over(0, seconds, steps) {
-            return None;
-        }
-        let first = self.first_over(0, seconds, steps);
+        };
         let last = self.last_over(first, seconds, steps);
         Some((first, last))
     }

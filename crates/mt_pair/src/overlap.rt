@@ -4,12 +4,32 @@ ghost use Rattle.mt_base.specs.Conflict.{IsConflict};
 ghost use Rattle.mt_base.specs.Loss.{LosesIn};
 ghost use Rattle.mt_track.specs.Laid.{Covers};
 ghost use Rattle.mt_track.specs.Rows.{row_after};
+ghost use Rattle.mt_pair.specs.Below.{HoldsIn};
+ghost use Rattle.mt_pair.specs.Cases.{IsLoss};
 ghost use Rattle.mt_pair.specs.Span.{IsSpan};
 
-use crate::approach::Approach;
+use crate::approach::{Approach, High};
 use crate::vertical::{are_far, are_low, both};
 use mt_base::{Row, Rules, Second, Steps};
 use mt_track::{Segment, Strand, later};
+
+/// The first and the last second from `from` up to `to` with a loss, where the time of an approach is counted from `from`. At most 32 steps.
+fn span_after(
+    approach: &Approach<'_>,
+    from: Second,
+    to: Second,
+    steps: &mut Steps,
+) -> Option<(Second, Second)>
+    requires some { from < to }
+    requires short { to ≤ from + 14400 }
+    ensures span { IsSpan (λ k. HoldsIn (IsLoss approach.now) (k - from)) from to result }
+    ensures counted { steps.new ≤ steps.old + 32 }
+{
+    let Some((first, last)) = approach.span_before(to - from, steps) else {
+        return None;
+    };
+    Some((from + first, from + last))
+}
 
 /// The first and the last second from `from` up to `to` in which two trajectories with these approvals lose separation that have these rows
 /// at `from` and keep their gains. At most 32 steps.
@@ -32,14 +52,16 @@ fn span_from(
     ensures counted { steps.new ≤ steps.old + 32 }
 {
     let approved = both(a_rvsm, b_rvsm);
-    if are_far(rules, a, b, to - from) && are_low(approved, a, b, to - from) {
+    if !are_low(approved, a, b, to - from) {
+        let high = High::of(rules, approved, a, b);
+        let approach = Approach::of(rules, a, b, Some(&high));
+        return span_after(&approach, from, to, steps);
+    }
+    if are_far(rules, a, b, to - from) {
         return None;
     }
-    let approach = Approach::of(rules, approved, a, b, to - from);
-    let Some((first, last)) = approach.span_before(to - from, steps) else {
-        return None;
-    };
-    Some((from + first, from + last))
+    let approach = Approach::of(rules, a, b, None);
+    span_after(&approach, from, to, steps)
 }
 
 /// The same for two segments that cover these seconds.

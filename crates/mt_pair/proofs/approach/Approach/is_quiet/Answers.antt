@@ -1,6 +1,6 @@
 use Rattle.std.proofs.Common.{arith}
 use Rattle.std.proofs.lemmas.Int.{to_z-of_z}
-use Rattle.mt_pair.proofs.Low.{quiet_high, quiet_low}
+use Rattle.mt_pair.proofs.Low.{copied_some, quiet_high, quiet_low}
 use Rattle.mt_pair.proofs.Wholes.{wide_fits}
 use Rattle.mt_pair.proofs.approach.Approach.is_quiet.Goals as goal
 
@@ -14,4 +14,4 @@ pub returns-in_default : goal.returns-in_default
 returns-in_default c = λ _. quiet_low c.args.self.now 0 c.args.seconds c.in_default.is (c.are_quiet.ensures c.if-not-are_quiet.false)
 
 pub returns : goal.returns
-returns c = λ yes. quiet_high c.args.self.now c.in-Some.high 0 c.args.seconds c.in-Some.is (c.are_quiet.ensures c.if-not-are_quiet.false) (c.are_quiet-2.ensures yes)
+returns c = λ yes. quiet_high c.args.self.now c.in-Some.high.now 0 c.args.seconds (copied_some c.args.self.now c.in-Some.high c.in-Some.is) (c.are_quiet.ensures c.if-not-are_quiet.false) (c.are_quiet-2.ensures yes)
