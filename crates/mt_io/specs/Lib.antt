@@ -1,9 +1,12 @@
 pub mod Causes
+pub mod Calls
 pub mod Door
 pub mod Lines
 pub mod Reading
 pub mod Gathering
 pub mod HasRead
+pub mod MemSource
 pub mod MemSink
 pub mod MemLink
+pub mod MemDoor
 pub mod Writing

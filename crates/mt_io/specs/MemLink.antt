@@ -1,11 +1,27 @@
 -- A link in memory of a fixed room.
 use Rattle.std.specs.Prelude.{ℕ}
+use Rattle.mt_io.specs.Calls.{Calls}
+use Rattle.mt_io.specs.MemSource as sources
 use Rattle.mt_io.specs.MemSink as sinks
 use Rattle.mt_io.specs.declared.mem_link.MemLink.{MemLink}
 
 -- how many bytes it can hold
 abbrev pub room_of : MemLink → ℕ
 room_of link = sinks.room_of link.sink
+
+-- the reads of it, and the writes
+abbrev pub reads_of : MemLink → Calls
+reads_of link = sources.calls_of link.source
+
+abbrev pub writes_of : MemLink → Calls
+writes_of link = sinks.calls_of link.sink
+
+-- how many bytes a read gives at most, and how many a write takes
+abbrev pub most_read : MemLink → ℕ
+most_read link = sources.most_of link.source
+
+abbrev pub most_written : MemLink → ℕ
+most_written link = sinks.most_of link.sink
 
 -- it holds as many bytes as it can
 abbrev pub IsFull : MemLink → Type 0

@@ -1,28 +1,48 @@
 -- A sink in memory of a fixed room.
 use Rattle.std.specs.Prelude.{◌≡◌, ◌<◌, ◌≤◌, ℕ, refl, vec_len}
 use Rattle.std.proofs.Common.{◌∙◌, arith}
+use Rattle.mt_io.specs.Calls.{Calls, GoOn, AreUnlisted, went_none, went_on, unlisted_first, unlisted_others}
 use Rattle.mt_io.specs.declared.mem_sink.MemSink.{MemSink}
 
 -- how many bytes it can hold
 abbrev pub room_of : MemSink → ℕ
 room_of sink = sink.room
 
+-- its calls
+abbrev pub calls_of : MemSink → Calls
+calls_of sink = sink.calls
+
+-- how many bytes a call takes at most
+abbrev pub most_of : MemSink → ℕ
+most_of sink = sink.most
+
 -- it holds as many bytes as it can
 abbrev pub IsFull : MemSink → Type 0
 IsFull sink = vec_len sink.bytes ≡ sink.room
 
--- Writes keep the room and what is held, and while there is room no fault is counted.
+-- Writes keep the room, what is held and how many bytes a call takes, and while there is room they count no fault where none of them is listed.
 pub record HasWritten (old new : MemSink) : Type 0 where
   pub same_room : new.room ≡ old.room
+  pub same_most : new.most ≡ old.most
   pub grows : vec_len old.bytes ≤ vec_len new.bytes
-  pub quiet : vec_len new.bytes < new.room → new.faults ≡ old.faults
+  pub calls : GoOn old.calls new.calls
+  pub quiet : vec_len new.bytes < new.room → AreUnlisted old.calls new.calls → new.calls.failed ≡ old.calls.failed
 
 pub written_none : (sink : MemSink) → HasWritten sink sink
-written_none sink = record { same_room = refl; grows = omega arith; quiet = λ _. refl }
+written_none sink = record {
+  same_room = refl;
+  same_most = refl;
+  grows = omega arith;
+  calls = went_none sink.calls;
+  quiet = λ lt none. refl;
+}
 
 pub written_on : (a b c : MemSink) → HasWritten a b → HasWritten b c → HasWritten a c
 written_on a b c ab bc = record {
   same_room = bc.same_room ∙ ab.same_room;
+  same_most = bc.same_most ∙ ab.same_most;
   grows = omega arith;
-  quiet = λ lt. bc.quiet lt ∙ ab.quiet (omega arith);
+  calls = went_on a.calls b.calls c.calls ab.calls bc.calls;
+  quiet = λ lt none. bc.quiet lt (unlisted_others a.calls b.calls c.calls ab.calls none)
+      ∙ ab.quiet (omega arith) (unlisted_first a.calls b.calls c.calls bc.calls none);
 }

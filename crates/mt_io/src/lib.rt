@@ -3,6 +3,7 @@
 #![tactic(auto)]
 
 mod ahead;
+mod calls;
 mod door;
 mod duplex;
 mod gate;

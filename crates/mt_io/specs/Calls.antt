@@ -1,0 +1,63 @@
+-- The calls on an object in memory, counted from 1.
+use Rattle.std.specs.Prelude.{◌≡◌, ◌<◌, ◌≤◌, ℕ, ◌+◌, ◌-◌, ◌^◌, min, List, Contains, MatchResult, refl}
+use Rattle.std.specs.declared.result.Result.{Result}
+use Rattle.std.proofs.Common.{◌∙◌, arith}
+
+-- those that are to fail, how many were made, and how many failed; both counts stay at their type's end
+pub record Calls : Type 0 where
+  pub listed : List ℕ
+  pub made : ℕ
+  pub failed : ℕ
+
+-- these are to fail, and none was made yet
+abbrev pub listing : List ℕ → Calls
+listing listed = record { listed = listed; made = 0; failed = 0 }
+
+-- the next one is to fail
+abbrev pub IsNextListed : Calls → Type 0
+IsNextListed calls = Contains calls.listed (calls.made + 1)
+
+-- one more, up to the type's end
+abbrev pub raised : ℕ → ℕ
+raised count = min (count + 1) (2 ^ 64 - 1)
+
+-- with one more that was made, with one failure more, with one more that was made and failed
+abbrev pub one_more : Calls → Calls
+one_more calls = record calls { made = raised calls.made }
+
+abbrev pub with_failure : Calls → Calls
+with_failure calls = record calls { failed = raised calls.failed }
+
+abbrev pub one_failed : Calls → Calls
+one_failed calls = with_failure (one_more calls)
+
+-- one more was made, and it counts as a failure where it is one
+abbrev pub Counts : {T E : Type 0} → Calls → Calls → Result T E → Type 0
+Counts old new result = MatchResult result (λ _. new ≡ one_more old) (λ _. new ≡ one_failed old)
+
+-- none of those that were made since is listed
+abbrev pub AreUnlisted : Calls → Calls → Type 0
+AreUnlisted old new = (n : ℕ) → old.made < n → n ≤ new.made → ¬ Contains old.listed n
+
+-- Some were made: the same are to fail, and neither count fell.
+pub record GoOn (old new : Calls) : Type 0 where
+  pub same : new.listed ≡ old.listed
+  pub more : old.made ≤ new.made
+  pub later : old.failed ≤ new.failed
+
+pub went_none : (calls : Calls) → GoOn calls calls
+went_none calls = record { same = refl; more = omega arith; later = omega arith }
+
+pub went_on : (a b c : Calls) → GoOn a b → GoOn b c → GoOn a c
+went_on a b c ab bc = record {
+  same = bc.same ∙ ab.same;
+  more = omega arith;
+  later = omega arith;
+}
+
+-- where none of all is listed, none of the first ones is, and none of the others
+pub unlisted_first : (a b c : Calls) → GoOn b c → AreUnlisted a c → AreUnlisted a b
+unlisted_first a b c bc none n above within = none n above (omega arith)
+
+pub unlisted_others : (a b c : Calls) → GoOn a b → AreUnlisted a c → AreUnlisted b c
+unlisted_others a b c ab none n above within = rw ab.same (none n (omega arith) within)
