@@ -11,8 +11,7 @@ use Rattle.mt_base.specs.declared.conflict.Conflict.{Conflict}
 use Rattle.mt_base.specs.declared.rules.Rules.{Rules}
 use Rattle.mt_base.specs.Bounds.{AreWithinBounds}
 use Rattle.mt_track.specs.declared.roster.Item.{Item}
-use Rattle.std.specs.List.Sorted.{IsStrictlySortedBy}
-use Rattle.mt_base.specs.Picture.{NamedTrajectory, conflict_cmp}
+use Rattle.mt_base.specs.Picture.{NamedTrajectory}
 use Rattle.mt_edges.specs.declared.edge.Edge.{Edge}
 use Rattle.mt_edges.specs.Pairs.{AreApart, touches}
 use Rattle.mt_kept.specs.declared.open_pair.OpenPair.{OpenPair}
@@ -50,7 +49,7 @@ length_slot places slot first second =
     omega arith
 
 -- a place of another slot has what it had
-at_other : (places : List (Option NamedTrajectory)) (slot i : ℕ) (first second : Option NamedTrajectory) → slot_of i ≢ slot
+pub at_other : (places : List (Option NamedTrajectory)) (slot i : ℕ) (first second : Option NamedTrajectory) → slot_of i ≢ slot
     → at (with_slot places slot first second) i ≡ at places i
 at_other places slot i first second other =
     get_or-set_other (set places (2 * slot) first) (2 * slot + 1) i second None (λ e. other (ap slot_of e ∙ odd_half slot))
@@ -118,7 +117,7 @@ kept_put rules places now slot first second edges after finds kept found replace
       record { edge = j.edge; held = (replaced j.edge).1 (inr j.held); ends = j.ends }
 
 -- the open pairs likewise
-avoids_is : (slot : ℕ) (o : OpenPair) → (avoids slot o ≡ true) ↔ AvoidsSlot slot o.edge
+pub avoids_is : (slot : ℕ) (o : OpenPair) → (avoids slot o ≡ true) ↔ AvoidsSlot slot o.edge
 avoids_is slot o = ((λ e. ((λ same. grind (arith, nat_tests)), (λ same. grind (arith, nat_tests)))), (λ h. let p = h.0 in let q = h.1 in grind (arith, nat_tests)))
 
 pub is_open_is : (now : ℕ) (e : Edge) → (is_open now e ≡ true) ↔ IsOpen now e
@@ -175,7 +174,7 @@ map_set (x ∷ xs) zero item = refl
 map_set (x ∷ xs) (suc i) item = ap (λ (rest : List (Option NamedTrajectory)). seen x ∷ rest) (map_set xs i item)
 
 -- an empty slot has no pairs
-at_slot : (places : List (Option NamedTrajectory)) (slot i : ℕ) → 2 * slot + 1 < length places → slot_of i ≡ slot → at (with_slot places slot None None) i ≡ None
+pub at_slot : (places : List (Option NamedTrajectory)) (slot i : ℕ) → 2 * slot + 1 < length places → slot_of i ≡ slot → at (with_slot places slot None None) i ≡ None
 at_slot places slot i below here = ⊎_elim
     (λ even. let other : i ≢ 2 * slot + 1 = λ e. absurd (omega arith) in
     let first = get_or-set_other (set places (2 * slot) None) (2 * slot + 1) i None None other in
@@ -221,12 +220,8 @@ seen_none (suc n) = ap (λ (rest : List (Option NamedTrajectory)). None ∷ rest
 pub ended : (i n : ℕ) → i ≤ n → n ≤ i → i ≡ n
 ended i n below above = omega arith
 
-Shows-nothing : (c : Conflict) → ¬ Shows [] c
+pub Shows-nothing : (c : Conflict) → ¬ Shows [] c
 Shows-nothing c h = Contains-none h.pair h.held
-
-sorted_none : IsStrictlySortedBy conflict_cmp []
-unfolding IsStrictlySortedBy
-sorted_none = tt
 
 -- of empty places nothing is kept
 pub kept_made : (rules : Rules) (places : List (Option NamedTrajectory)) (n : ℕ) (edges : List Edge) (ends : ℕ) (pairs : List OpenPair) (list : List Conflict)
@@ -240,7 +235,7 @@ kept_made rules places n edges ends pairs list bounds few e f all g h = rw (e, f
   kept = kept_none rules n;
   opened = open_none rules n 0;
   exact = λ c. ((λ held. absurd (Contains-none c held)), (λ shown. absurd (Shows-nothing c shown)));
-  sorted = sorted_none;
+  own = λ i j s t s_is t_is same. absurd (at_replicate n i s s_is);
 })
 
 pub map_slot : (places : List (Option Item)) (slot : ℕ) (first second : Option Item)

@@ -7,3 +7,5 @@ pub mod Gathering
 pub mod Joining
 pub mod Again
 pub mod Costs
+pub mod InOrder
+pub mod Shown

@@ -1,13 +1,13 @@
 -- What is kept of the places.
 use Rattle.std.specs.Prelude.{◌≡◌, ℕ, ◌<◌, ◌≤◌, ◌^◌, ◌↔◌, List, length, Contains, Option}
-use Rattle.std.specs.List.Sorted.{IsStrictlySortedBy}
 use Rattle.mt_base.specs.declared.conflict.Conflict.{Conflict}
 use Rattle.mt_base.specs.declared.rules.Rules.{Rules}
 use Rattle.mt_base.specs.Bounds.{AreWithinBounds}
-use Rattle.mt_base.specs.Picture.{NamedTrajectory, conflict_cmp}
+use Rattle.mt_base.specs.Picture.{NamedTrajectory}
 use Rattle.mt_edges.specs.declared.edge.Edge.{Edge}
 use Rattle.mt_kept.specs.declared.open_pair.OpenPair.{OpenPair}
 use Rattle.mt_kept.specs.Losing.{AreKept}
+use Rattle.mt_kept.specs.Places.{HaveOwnSlots}
 use Rattle.mt_kept.specs.Window.{AreOpen, Shows}
 
 -- What callers see: the rules, the moment, what stands in each place, and the conflicts published of them.
@@ -17,7 +17,7 @@ pub record Watched : Type 0 where
   pub places : List (Option NamedTrajectory)
   pub published : List Conflict
 
--- How it is kept: the pairs of the places, those that are open, and published is what these show, each once, in order.
+-- How it is kept: the pairs of the places, those that are open, and published is what these show. Each flight has one slot.
 pub record IsKept (rules : Rules) (now : ℕ) (places : List (Option NamedTrajectory)) (edges : List Edge) (ends : ℕ)
     (open_pairs : List OpenPair) (published : List Conflict) : Type 0 where
   pub bounds : AreWithinBounds rules
@@ -27,4 +27,4 @@ pub record IsKept (rules : Rules) (now : ℕ) (places : List (Option NamedTrajec
   pub kept : AreKept rules places edges
   pub opened : AreOpen rules places now edges open_pairs
   pub exact : (c : Conflict) → Contains published c ↔ Shows open_pairs c
-  pub sorted : IsStrictlySortedBy conflict_cmp published
+  pub own : HaveOwnSlots places

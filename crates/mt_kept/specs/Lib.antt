@@ -1,3 +1,4 @@
+pub mod ConflictList
 pub mod Dropped
 pub mod Finds
 pub mod Kept

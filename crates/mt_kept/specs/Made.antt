@@ -30,12 +30,15 @@ is_open now e = nat_lt e.first (window_end now) && nat_le now e.last
 abbrev pub is_closed : ℕ → Edge → Bool
 is_closed now e = not (is_open now e)
 
--- of an open pair: that it is open, that no end is a place of that slot, that one end is that place
+-- of an open pair: that it is open, that no end is a place of that slot, that some end is, that one end is that place
 abbrev pub opens : ℕ → OpenPair → Bool
 opens now o = is_open now o.edge
 
 abbrev pub avoids : ℕ → OpenPair → Bool
 avoids slot o = not (slot_of o.edge.a == slot) && not (slot_of o.edge.b == slot)
+
+abbrev pub meets : ℕ → OpenPair → Bool
+meets slot o = not (avoids slot o)
 
 abbrev pub touches_place : ℕ → OpenPair → Bool
 touches_place place o = touches place o.edge

@@ -1,5 +1,5 @@
 -- Places, two for each slot, and the trajectories that stand in them.
-use Rattle.std.specs.Prelude.{ℕ, ◌+◌, ◌*◌, ◌/◌, List, set, slice_index_or, Option, None}
+use Rattle.std.specs.Prelude.{◌≡◌, ℕ, ◌+◌, ◌*◌, ◌/◌, List, set, slice_index_or, Option, Some, None}
 use Rattle.std.specs.List.{flat_map}
 use Rattle.std.specs.Option.{option_map, option_to_list}
 use Rattle.mt_base.specs.Picture.{NamedTrajectory}
@@ -29,3 +29,7 @@ slot_of place = place / 2
 -- the places, with these two in those of a slot
 abbrev pub with_slot : List (Option NamedTrajectory) → ℕ → Option NamedTrajectory → Option NamedTrajectory → List (Option NamedTrajectory)
 with_slot places slot first second = set (set places (2 * slot) first) (2 * slot + 1) second
+
+-- What stands in places of different slots is of different flights.
+abbrev pub HaveOwnSlots : List (Option NamedTrajectory) → Type 0
+HaveOwnSlots places = (i j : ℕ) (s t : NamedTrajectory) → at places i ≡ Some s → at places j ≡ Some t → s.call ≡ t.call → slot_of i ≡ slot_of j

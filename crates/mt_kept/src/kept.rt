@@ -8,15 +8,16 @@ ghost use Rattle.mt_kept.specs.Dropped.{WereStepsOf};
 ghost use Rattle.mt_kept.specs.Finds.{Agree, AreCandidates, AreFinds, AreFindsAt, cost};
 ghost use Rattle.mt_kept.specs.Losing.{TouchesSlot};
 ghost use Rattle.mt_kept.specs.Made.{AreReplaced, WereDropped};
-ghost use Rattle.mt_kept.specs.Places.{held, seen, with_slot};
+ghost use Rattle.mt_kept.specs.Places.{HaveOwnSlots, held, seen, with_slot};
 ghost use Rattle.mt_base.specs.Tally.{RoseUpTo};
 ghost use Rattle.mt_kept.specs.Window.{WasTestedOnce};
 
+use crate::conflict_list::ConflictList;
 use crate::finds::{Candidate, gather};
-use crate::lists::{add_closed, add_lasting, add_open, at_place, elsewhere, lasting};
+use crate::lists::{add_closed, add_lasting, add_open, at_place, drop_slot, lasting};
 use crate::open_pair::{OpenPair, WINDOW};
-use crate::showing::{opened, published};
-use mt_base::{Conflict, Conflicts, Memory, Rules, Second, Steps, Tally};
+use crate::showing::{hide_slot, opened, published, show_open};
+use mt_base::{Conflict, Memory, Rules, Second, Steps, Tally};
 use mt_edges::Edges;
 use mt_track::Item;
 use std::alloc::Global;
@@ -31,7 +32,7 @@ pub struct Kept {
     places: Vec<Option<Item>>,
     pairs: Edges,
     open_pairs: Vec<OpenPair>,
-    published: Conflicts,
+    published: ConflictList,
 }
 
 impl Model for Kept {
@@ -41,9 +42,9 @@ impl Model for Kept {
 
     ghost Value = { Watched };
 
-    ghost view = { λ k. record { rules = k.rules; moment = k.moment; places = map seen k.places.items; published = k.published } };
+    ghost view = { λ k. record { rules = k.rules; moment = k.moment; places = map seen k.places.items; published = k.published.conflicts } };
 
-    ghost invariant = { λ k. IsKept k.rules k.moment (map seen k.places.items) k.pairs.edges k.pairs.ends k.open_pairs.items k.published };
+    ghost invariant = { λ k. IsKept k.rules k.moment (map seen k.places.items) k.pairs.edges k.pairs.ends k.open_pairs.items k.published.conflicts };
 }
 
 /// Takes the pairs of a slot out and puts the found ones in. It takes no memory.
@@ -84,7 +85,7 @@ impl Kept {
             places,
             pairs: Edges::make(alloc, count)?,
             open_pairs: Vec::new(alloc),
-            published: Conflicts::make(alloc)?,
+            published: ConflictList::make(alloc),
         })
     }
 
@@ -161,7 +162,6 @@ impl Kept {
     /// forgets it.
     pub fn change(
         &mut self,
-        alloc: Global,
         slot: u32,
         first: Option<Item>,
         second: Option<Item>,
@@ -169,6 +169,7 @@ impl Kept {
         steps: &mut Steps,
     ) -> Result<(), Memory>
         requires slot { 2 * slot + 1 < length self.old.places }
+        requires own { HaveOwnSlots (with_slot self.old.places slot (seen first) (seen second)) }
         requires finds { AreFinds self.old.rules (with_slot self.old.places slot (seen first) (seen second)) self.old.moment slot finds.now }
         ensures rules { self.new.rules ≡ self.old.rules }
         ensures moment { self.new.moment ≡ self.old.moment }
@@ -180,19 +181,27 @@ impl Kept {
             return Err(Memory);
         };
         self.pairs.reserve(count)?;
-        let mut open_pairs = elsewhere(alloc, &self.open_pairs, slot)?;
-        add_open(&mut open_pairs, finds, self.moment)?;
-        let list = published(alloc, &open_pairs)?;
+        self.open_pairs.reserve(finds.len())?;
+        self.published.reserve(finds.len())?;
         replace_pairs(&mut self.pairs, slot, finds, steps);
+        hide_slot(&mut self.published, &self.open_pairs, slot);
+        drop_slot(&mut self.open_pairs, slot);
+        add_open(&mut self.open_pairs, finds, self.moment);
+        show_open(&mut self.published, finds, self.moment);
         self.places[2 * slot as usize] = first;
         self.places[2 * slot as usize + 1] = second;
-        self.open_pairs = open_pairs;
-        self.published = list;
         Ok(())
     }
 
+    // Says of the places what is always kept of them.
+    fn has_own_slots(&self)
+        ensures { HaveOwnSlots self.now.places }
+    {
+        let _moment = self.moment;
+    }
+
     /// Empties a slot, as `change` does. It makes no test.
-    pub fn remove(&mut self, alloc: Global, slot: u32, steps: &mut Steps) -> Result<(), Memory>
+    pub fn remove(&mut self, slot: u32, steps: &mut Steps) -> Result<(), Memory>
         requires slot { 2 * slot + 1 < length self.old.places }
         ensures rules { self.new.rules ≡ self.old.rules }
         ensures moment { self.new.moment ≡ self.old.moment }
@@ -200,7 +209,8 @@ impl Kept {
         ensures err { OnErr result (self.new ≡ self.old) }
         ensures steps { WereStepsOf self.old.rules self.old.places slot steps.old steps.new }
     {
-        self.change(alloc, slot, None, None, &[], steps)
+        self.has_own_slots();
+        self.change(slot, None, None, &[], steps)
     }
 
     /// Moves the window to a later moment, or to the same. Of the pairs it tests only those that straddle an edge of the new window, each

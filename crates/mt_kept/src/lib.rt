@@ -2,6 +2,7 @@
 //! seconds, those that are open, and what is published. It knows nothing of commands.
 #![tactic(auto)]
 
+mod conflict_list;
 mod finds;
 mod kept;
 mod laws;

@@ -1,5 +1,5 @@
 //! Which pairs a change and a move keep.
-ghost use Rattle.std.specs.Prelude.{◌≡◌, ◌++◌, ◌≤◌, map, filter, IfOk, OnOk};
+ghost use Rattle.std.specs.Prelude.{◌≡◌, ◌++◌, ◌+◌, ◌≤◌, length, map, filter, IfOk, OnOk, vec_len, vec_capacity};
 ghost use Rattle.mt_kept.specs.Made.{avoids, is_closed, is_lasting, opens, quiet, touches_place};
 ghost use Rattle.mt_kept.specs.Window.{edge_of};
 
@@ -33,38 +33,33 @@ pub(crate) fn add_lasting(edges: &mut Vec<Edge>, others: &[Edge], now: Second) -
     Ok(())
 }
 
-/// The open pairs of which no end is a place of that slot.
-pub(crate) fn elsewhere(
-    alloc: Global,
-    pairs: &[OpenPair],
-    slot: u32,
-) -> Result<Vec<OpenPair>, Memory>
-    ensures { IfOk result (λ rest. rest.items ≡ filter (avoids slot) pairs.now) }
+/// Whether no end of an open pair is a place of that slot.
+pub(crate) fn is_elsewhere(pair: &OpenPair, slot: u32) -> bool
+    ensures { result ≡ avoids slot pair.now }
 {
-    let mut rest = Vec::new(alloc);
-    for pair in pairs {
-        if pair.edge.a / 2 != slot && pair.edge.b / 2 != slot {
-            rest.push(*pair)?;
-        }
-    }
-    Ok(rest)
+    pair.edge.a / 2 != slot && pair.edge.b / 2 != slot
 }
 
-/// Puts behind some open pairs those of others that are open.
-pub(crate) fn add_open(
-    pairs: &mut Vec<OpenPair>,
-    others: &[OpenPair],
-    now: Second,
-) -> Result<(), Memory>
-    requires { now ≤ 10000000 }
-    ensures { OnOk result (pairs.new.items ≡ pairs.old.items ++ filter (opens now) others.now) }
+/// Drops the open pairs of which an end is a place of that slot.
+pub(crate) fn drop_slot(pairs: &mut Vec<OpenPair>, slot: u32)
+    ensures rest { pairs.new.items ≡ filter (avoids slot) pairs.old.items }
+    ensures len { vec_len pairs.new ≤ vec_len pairs.old }
+    ensures capacity { vec_capacity pairs.new ≡ vec_capacity pairs.old }
+{
+    pairs.retain(|pair| is_elsewhere(pair, slot));
+}
+
+/// Puts behind some open pairs those of others that are open. There is room for all of these.
+pub(crate) fn add_open(pairs: &mut Vec<OpenPair>, others: &[OpenPair], now: Second)
+    requires early { now ≤ 10000000 }
+    requires room { vec_len pairs.old + length others.now ≤ vec_capacity pairs.old }
+    ensures { pairs.new.items ≡ pairs.old.items ++ filter (opens now) others.now }
 {
     for pair in others {
         if is_open(&pair.edge, now) {
-            pairs.push(*pair)?;
+            pairs.push_reserved(*pair);
         }
     }
-    Ok(())
 }
 
 /// The open pairs of which one end is that place.

@@ -1,19 +1,19 @@
 //! What pairs show in the window.
-ghost use Rattle.std.specs.Prelude.{◌≡◌, ◌≢◌, ◌≤◌, ◌↔◌, ◌⊎◌, map, All, Contains, IfOk, if◌then◌else◌};
-ghost use Rattle.std.specs.List.Sorted.{IsStrictlySortedBy};
+ghost use Rattle.std.specs.Prelude.{◌≡◌, ◌≢◌, ◌+◌, ◌<◌, ◌≤◌, ◌↔◌, ◌⊎◌, length, map, filter, All, Contains, IfOk, Some, if◌then◌else◌};
 ghost use Rattle.mt_base.specs.declared.conflict.Conflict.{Conflict};
 ghost use Rattle.mt_base.specs.Bounds.{AreWithinBounds};
 ghost use Rattle.mt_base.specs.Conflict.{IsSpanOfLoss};
-ghost use Rattle.mt_base.specs.Picture.{conflict_cmp};
 ghost use Rattle.mt_track.specs.Named.{named};
 ghost use Rattle.mt_kept.specs.Losing.{IsPair};
-ghost use Rattle.mt_kept.specs.Made.{IsInOrder, WereTested, conflict_of};
+ghost use Rattle.mt_kept.specs.Made.{IsInOrder, WereTested, conflict_of, meets, opens};
 ghost use Rattle.mt_kept.specs.Places.{horizon, seen};
 ghost use Rattle.mt_base.specs.Tally.{raised_by};
 ghost use Rattle.mt_kept.specs.Window.{IsFoundOf, IsOpen, IsShown, Shows, edge_of, straddles};
 
-use crate::open_pair::{OpenPair, WINDOW, is_straddling};
-use mt_base::{Conflict, Conflicts, Memory, Rules, Second, Tally};
+use crate::conflict_list::ConflictList;
+use crate::lists::is_elsewhere;
+use crate::open_pair::{OpenPair, WINDOW, is_open, is_straddling};
+use mt_base::{Conflict, Memory, Rules, Second, Tally};
 use mt_edges::Edge;
 use mt_pair::lose;
 use mt_track::Item;
@@ -122,17 +122,63 @@ pub(crate) fn opened(
     Ok(pairs)
 }
 
-/// What the open pairs show, each conflict once, in the order of publishing.
-pub(crate) fn published(alloc: Global, pairs: &[OpenPair]) -> Result<Conflicts, Memory>
-    ensures exact { IfOk result (λ list. (c : Conflict) → Contains list c ↔ Shows pairs.now c) }
-    ensures sorted { IfOk result (λ list. IsStrictlySortedBy conflict_cmp list) }
+/// What the open pairs show.
+pub(crate) fn published(alloc: Global, pairs: &[OpenPair]) -> Result<ConflictList, Memory>
+    ensures { IfOk result (λ list. (c : Conflict) → Contains list.conflicts c ↔ Shows pairs.now c) }
 {
-    let mut list = Conflicts::make(alloc)?;
+    let mut list = Vec::new(alloc);
     for pair in pairs {
         if let Some(conflict) = pair.conflict {
             list.push(conflict)?;
         }
     }
-    list.order();
-    Ok(list)
+    Ok(ConflictList::of(list))
+}
+
+/// Takes out what a pair shows.
+fn hide(list: &mut ConflictList, pair: &OpenPair)
+    ensures exact { (c : Conflict) → Contains list.new.conflicts c ↔ (Contains list.old.conflicts c × (pair.now.conflict ≢ Some c)) }
+    ensures spare { list.old.spare ≤ list.new.spare }
+{
+    if let Some(conflict) = pair.conflict {
+        list.remove(&conflict);
+    }
+}
+
+/// Takes out what the open pairs of a slot show.
+pub(crate) fn hide_slot(list: &mut ConflictList, pairs: &[OpenPair], slot: u32)
+    ensures exact { (c : Conflict) → Contains list.new.conflicts c
+        ↔ (Contains list.old.conflicts c × (¬ Shows (filter (meets slot) pairs.now) c)) }
+    ensures spare { list.old.spare ≤ list.new.spare }
+{
+    for pair in pairs {
+        if !is_elsewhere(pair, slot) {
+            hide(list, pair);
+        }
+    }
+}
+
+/// Puts in what a pair shows. It takes no memory.
+fn show(list: &mut ConflictList, pair: &OpenPair)
+    requires { 0 < list.old.spare }
+    ensures exact { (c : Conflict) → Contains list.new.conflicts c ↔ (Contains list.old.conflicts c ⊎ (pair.now.conflict ≡ Some c)) }
+    ensures spare { list.old.spare ≤ list.new.spare + 1 }
+{
+    if let Some(conflict) = pair.conflict {
+        list.insert(conflict);
+    }
+}
+
+/// Puts in what those of these pairs show that are open. It takes no memory.
+pub(crate) fn show_open(list: &mut ConflictList, finds: &[OpenPair], now: Second)
+    requires early { now ≤ 10000000 }
+    requires room { length finds.now ≤ list.old.spare }
+    ensures { (c : Conflict) → Contains list.new.conflicts c
+        ↔ (Contains list.old.conflicts c ⊎ Shows (filter (opens now) finds.now) c) }
+{
+    for find in finds {
+        if is_open(&find.edge, now) {
+            show(list, find);
+        }
+    }
 }

@@ -13,6 +13,7 @@ pub mod Looked
 pub mod Making
 pub mod Moved
 pub mod Opening
+pub mod Owning
 pub mod Passing
 pub mod Published
 pub mod Remade

@@ -174,7 +174,7 @@ fn enter_plain(
             let Some(slot) = held.snapshot.find(*call) else {
                 unreachable!()
             };
-            remove(held, alloc, slot, who, *call)
+            remove(held, slot, who, *call)
         }
         _ => enter_card(held, alloc, who, command),
     }

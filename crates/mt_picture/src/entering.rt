@@ -83,7 +83,7 @@ fn put_made(
     if first.is_some() {
         return Ok(first);
     }
-    put_change(held, alloc, slot, flight, entry, change)?;
+    put_change(held, slot, flight, entry, change)?;
     Ok(None)
 }
 
@@ -376,5 +376,5 @@ pub(crate) fn withdraw(
     flight.mark = None;
     let entry = entry_of(alloc, &held.snapshot, who, command)?;
     let change = change_bare(alloc, &held.kept, &held.snapshot, slot, &flight)?;
-    put_change(held, alloc, slot, flight, entry, change)
+    put_change(held, slot, flight, entry, change)
 }

@@ -30,7 +30,6 @@ pub(crate) struct Held {
 /// Enters a command that leaves this flight in a slot, with the change of the kept conflicts for it.
 pub(crate) fn put_change(
     held: &mut Held,
-    alloc: Global,
     slot: u32,
     flight: Flight,
     entry: Entry,
@@ -59,8 +58,7 @@ pub(crate) fn put_change(
     let _next = snapshot.version();
     held.history.reserve(1)?;
     let mut steps = Steps::new();
-    held.kept
-        .change(alloc, slot, first, second, &finds, &mut steps)?;
+    held.kept.change(slot, first, second, &finds, &mut steps)?;
     held.snapshot = snapshot;
     held.history.push_reserved(entry);
     Ok(())
@@ -125,13 +123,7 @@ pub(crate) fn tick(
 }
 
 /// Enters a drop of the flight in a slot.
-pub(crate) fn remove(
-    held: &mut Held,
-    alloc: Global,
-    slot: u32,
-    who: u32,
-    call: Callsign,
-) -> Result<(), Memory>
+pub(crate) fn remove(held: &mut Held, slot: u32, who: u32, call: Callsign) -> Result<(), Memory>
     requires held { IsPicture held.old.snapshot held.old.history.items held.old.kept }
     requires counted { held.old.snapshot.version < 2 ^ 40 }
     requires there { option_map (λ f. f.card.call) (flight_at held.old.snapshot slot) ≡ Some call }
@@ -146,7 +138,7 @@ pub(crate) fn remove(
     let _next = snapshot.version();
     held.history.reserve(1)?;
     let mut steps = Steps::new();
-    held.kept.remove(alloc, slot, &mut steps)?;
+    held.kept.remove(slot, &mut steps)?;
     held.snapshot = snapshot;
     held.history.push_reserved(Entry {
         who,

@@ -1,4 +1,4 @@
-use Rattle.std.proofs.Common.{take, subst, List, ◌∙◌, Contains, ◌↔◌}
+use Rattle.std.proofs.Common.{take, subst, refl, List, Contains, ◌↔◌}
 use Rattle.std.proofs.lemmas.List.{take_all}
 use Rattle.mt_base.specs.declared.conflict.Conflict.{Conflict}
 use Rattle.mt_kept.specs.declared.open_pair.OpenPair.{OpenPair}
@@ -13,12 +13,12 @@ loop-pair-preserved c =
     let before = take c.loop-pair.pair-index c.args.pairs.now in
     let more = take_push c.args.pairs.now c.loop-pair.pair-index c.pair-item.result c.loop-pair-test.true c.pair-item.is in
     rw more (elim c.match-pair.branch [
-      | in-Some+in_ok-push w ↦ list_more before c.pair-item.result c.loop-pair.list c.match-pair.list w.in-Some.conflict c.loop-pair.invariant w.in-Some.is (w.list-is ∙ w.in_ok-push.ensures.ok)
-      | in_default w ↦ list_same before c.pair-item.result c.loop-pair.list c.match-pair.list c.loop-pair.invariant w.in_default.is w.list-is
+      | in-Some+in_ok-push w ↦ list_more before c.pair-item.result c.loop-pair.list.items c.match-pair.list.items w.in-Some.conflict c.loop-pair.invariant w.in-Some.is (rw (w.list-is, w.in_ok-push.ensures.items) refl)
+      | in_default w ↦ list_same before c.pair-item.result c.loop-pair.list.items c.match-pair.list.items c.loop-pair.invariant w.in_default.is (rw w.list-is refl)
     ])
 
-pub returns-clause-exact : goal.returns-clause-exact
-returns-clause-exact c =
+pub returns : goal.returns
+returns c =
     let all = take_all c.loop-pair.pair-index c.args.pairs.now c.loop-pair-test.false in
-    let whole = subst (λ (pairs : List OpenPair). (d : Conflict) → Contains c.loop-pair.list d ↔ Shows pairs d) all c.loop-pair.invariant in
-    λ d. ((λ held. (whole d).0 ((c.order.ensures.same d).0 held)), (λ h. (c.order.ensures.same d).1 ((whole d).1 h)))
+    let whole = subst (λ (pairs : List OpenPair). (d : Conflict) → Contains c.loop-pair.list.items d ↔ Shows pairs d) all c.loop-pair.invariant in
+    λ d. ((λ held. (whole d).0 ((c.of.ensures d).0 held)), (λ h. (c.of.ensures d).1 ((whole d).1 h)))

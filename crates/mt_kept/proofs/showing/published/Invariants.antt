@@ -4,4 +4,4 @@ use Rattle.mt_kept.specs.Window.{Shows}
 use Rattle.mt_kept.proofs.showing.published.Given as goal
 
 abbrev pub invariant-loop-pair : goal.invariant-loop-pair
-invariant-loop-pair l = (c : Conflict) → Contains l.list c ↔ Shows (take l.pair-index l.pairs) c
+invariant-loop-pair l = (c : Conflict) → Contains l.list.items c ↔ Shows (take l.pair-index l.pairs) c

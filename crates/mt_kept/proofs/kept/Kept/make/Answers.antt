@@ -1,4 +1,4 @@
-use Rattle.std.proofs.Common.{◌≡◌, ◌*◌, [], arith, map, replicate, None, ℕ, List, Option, ◌∙◌, ap}
+use Rattle.std.proofs.Common.{◌≡◌, ◌*◌, arith, map, replicate, None, ℕ, List, Option, ◌∙◌, ap}
 use Rattle.mt_base.specs.declared.conflict.Conflict.{Conflict}
 use Rattle.mt_base.specs.Picture.{NamedTrajectory}
 use Rattle.mt_edges.specs.Pairs.{Pairs}
@@ -11,13 +11,12 @@ invariant_of-result c =
     let n = ended c.loop.counter (2 * c.args.slots) c.loop.auto.counter-end c.loop-test.false in
     let places : map seen c.loop.places.items ≡ replicate (2 * c.args.slots) None = ap (map seen) (c.loop.invariant ∙ ap (λ (k : ℕ). replicate k None) n) ∙ seen_none (2 * c.args.slots) in
     kept_made c.args.rules.now (map seen c.loop.places.items) (2 * c.args.slots) c.in_ok-make.field-0.edges c.in_ok-make.field-0.ends c.new.result.items
-    c.in_ok-make-2.field-0 c.requires.bounds (let few = c.requires.few in omega arith) places (ap (λ (p : Pairs). p.edges) c.in_ok-make.ensures)
-    (ap (λ (p : Pairs). p.ends) c.in_ok-make.ensures) c.new.ensures.items (let e = c.in_ok-make-2.ensures in cc)
+    c.make-2.result.conflicts c.requires.bounds (let few = c.requires.few in omega arith) places (ap (λ (p : Pairs). p.edges) c.in_ok-make.ensures)
+    (ap (λ (p : Pairs). p.ends) c.in_ok-make.ensures) c.new.ensures.items c.make-2.ensures
 
 pub returns : goal.returns
 returns c =
     let n = ended c.loop.counter (2 * c.args.slots) c.loop.auto.counter-end c.loop-test.false in
     let places : map seen c.loop.places.items ≡ replicate (2 * c.args.slots) None = ap (map seen) (c.loop.invariant ∙ ap (λ (k : ℕ). replicate k None) n) ∙ seen_none (2 * c.args.slots) in
-    let none : c.in_ok-make-2.field-0 ≡ [] = let e = c.in_ok-make-2.ensures in cc in
-    ap (λ (p : List (Option NamedTrajectory)). record { rules = c.args.rules.now; moment = 0; places = p; published = c.in_ok-make-2.field-0 }) places
-    ∙ ap (λ (cs : List Conflict). record { rules = c.args.rules.now; moment = 0; places = replicate (2 * c.args.slots) None; published = cs }) none
+    ap (λ (p : List (Option NamedTrajectory)). record { rules = c.args.rules.now; moment = 0; places = p; published = c.make-2.result.conflicts }) places
+    ∙ ap (λ (cs : List Conflict). record { rules = c.args.rules.now; moment = 0; places = replicate (2 * c.args.slots) None; published = cs }) c.make-2.ensures

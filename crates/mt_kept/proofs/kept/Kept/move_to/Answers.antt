@@ -72,6 +72,6 @@ invariant_of-self c =
       kept = k.kept;
       opened = open_moved c.self.inside.rules places c.self.inside.moment c.args.now c.self.inside.pairs.edges due pairs c.in_ok-opened_pairs.opened_pairs.items later k.opened
           c.in_ok-due.ensures (c.in_ok-opened_pairs.ensures.same ∙ all) shown;
-      exact = rw c.deref-5.ensures.value at c.in_ok-listed.ensures.exact;
-      sorted = c.in_ok-listed.ensures.sorted;
+      exact = rw c.deref-5.ensures.value at c.in_ok-listed.ensures;
+      own = k.own;
     }
