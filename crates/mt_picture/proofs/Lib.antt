@@ -2,7 +2,6 @@ pub mod Asking
 pub mod Bounding
 pub mod Completed
 pub mod Counted
-pub mod Counting
 pub mod Entered
 pub mod FirstHit
 pub mod Following

@@ -1,10 +1,8 @@
 -- Commands by what they do to the flight that they name. No public contract cites these.
-use Rattle.std.specs.Prelude.{◌≡◌, ℕ, ◌<◌, List, length, get_or, Option, Some, None, Bool, true, false, ⊤}
+use Rattle.std.specs.Prelude.{Bool, true, false, ⊤}
 use Rattle.mt_base.specs.declared.command.Command.{Command}
 use Rattle.mt_base.specs.declared.command.Command.TheVariants.{Plan, External, Renew, Clear, Accept, Tentative, Withdraw, Commit}
 use Rattle.mt_base.specs.declared.command.Command.TheVariants as commands
-use Rattle.mt_probe.specs.declared.flight.Flight.{Flight}
-use Rattle.mt_probe.specs.Shot.{records_in}
 
 -- it files a flight
 abbrev pub IsFiling : Command → Type 0
@@ -20,11 +18,6 @@ IsRemaking (Accept call clearance eff probed) = ⊤
 IsRemaking (Tentative call clearance eff) = ⊤
 IsRemaking (Commit call) = ⊤
 IsRemaking command = ⊥
-
--- a slot that is empty; or there is none
-abbrev pub IsFreeIn : List (Option Flight) → Option ℕ → Type 0
-IsFreeIn slots (Some i) = (i < length slots) × (get_or slots i None ≡ None)
-IsFreeIn slots None = length (records_in slots) ≡ length slots
 
 -- it is a report; it withdraws a tentative clearance; it accepts what was probed
 abbrev pub IsReport : Command → Type 0

@@ -1,46 +1,18 @@
 //! What is decided of a command on a snapshot.
-ghost use Rattle.std.specs.Prelude.{◌≡◌, length, option_copied, option_map};
+ghost use Rattle.std.specs.Prelude.{◌≡◌, option_copied, option_map};
 ghost use Rattle.std.specs.Arc.{arc_value};
 ghost use Rattle.mt_base.specs.Bounds.{IsBoundedCommand};
 ghost use Rattle.mt_base.specs.Checks.{judged};
 ghost use Rattle.mt_base.specs.History.{checks, look_at, verdict_in};
 ghost use Rattle.mt_predict.specs.Looking.{HasStrand, look_of};
-ghost use Rattle.mt_probe.specs.Shot.{flight_at, records_in};
+ghost use Rattle.mt_probe.specs.Shot.{flight_at};
 ghost use Rattle.mt_probe.specs.Shot.{state_of as state_in};
-ghost use Rattle.mt_picture.specs.Entries.{IsFreeIn};
 
 use mt_base::{Command, Kind, Path, Refusal, Verdict};
 use mt_predict::{Looked, judge};
 use mt_probe::Snapshot;
 use mt_track::Strand;
 use mt_watch::verdict;
-
-/// How many flights there are.
-pub(crate) fn flights(snapshot: &Snapshot) -> u32
-    ensures { result ≡ length (records_in snapshot.now.slots) }
-{
-    let mut held: u32 = 0;
-    let count = snapshot.slots();
-    for slot in 0..count {
-        if let Some(_card) = snapshot.flight(slot) {
-            held += 1;
-        }
-    }
-    held
-}
-
-/// An empty slot; `None` exactly where each is filled.
-pub(crate) fn free_slot(snapshot: &Snapshot) -> Option<u32>
-    ensures { IsFreeIn snapshot.now.slots result }
-{
-    let count = snapshot.slots();
-    for slot in 0..count {
-        let Some(_card) = snapshot.flight(slot) else {
-            return Some(slot);
-        };
-    }
-    None
-}
 
 /// The trajectory that the flight in a slot flies.
 pub(crate) fn strand_at(snapshot: &Snapshot, slot: u32) -> Option<&Strand>
@@ -57,7 +29,7 @@ fn look<'a>(snapshot: &'a Snapshot, command: &Command) -> Looked<'a>
 {
     let _version = snapshot.version();
     let now = snapshot.now();
-    let held = flights(snapshot);
+    let held = snapshot.flights();
     let entries = snapshot.version();
     let Some(call) = command.call() else {
         return Looked {

@@ -15,7 +15,6 @@ ghost use Rattle.mt_picture.specs.Putting.{history_after};
 ghost use Rattle.mt_picture.specs.Stamps.{HaveStood, IsPicture};
 ghost use Rattle.mt_picture.specs.Story.{IsGivenFor, IsPrepFor};
 
-use crate::deciding::free_slot;
 use crate::entering::{file, remake, report, withdraw};
 use crate::held::{Held, remove, tick};
 use crate::usable::is_usable;
@@ -64,7 +63,7 @@ fn enter_filing(
     ensures counted { WasAskedFor held.old.snapshot prep.now known who command.now tests.old tests.new }
 {
     let _version = held.snapshot.version();
-    let Some(slot) = free_slot(&held.snapshot) else {
+    let Some(slot) = held.snapshot.free() else {
         unreachable!()
     };
     file(held, alloc, slot, who, command, card, prep, known, tests)

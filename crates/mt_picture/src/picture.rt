@@ -9,7 +9,7 @@ ghost use Rattle.mt_probe.specs.Shot.{state_of as state_in};
 ghost use Rattle.mt_picture.specs.Asked.{IsWithinBound};
 ghost use Rattle.mt_picture.specs.Story.{IsEntered, IsGivenFor, IsRefused};
 
-use crate::deciding::{decide, flights, verdict_on};
+use crate::deciding::{decide, verdict_on};
 use crate::enter::enter;
 use crate::held::Held;
 use mt_base::{Command, Conflict, Entered, Entry, Memory, Refusal, Rules, Second, Tally};
@@ -70,11 +70,11 @@ impl Picture {
         self.held.snapshot.version()
     }
 
-    /// How many flights there are. It looks at each slot once.
+    /// How many flights there are.
     pub fn flights(&self) -> u32
         ensures { result ≡ length (state_of self.now.setup self.now.history).records }
     {
-        flights(&self.held.snapshot)
+        self.held.snapshot.flights()
     }
 
     /// The moment.

@@ -3,6 +3,7 @@ pub mod Covered
 pub mod Filing
 pub mod Gathered
 pub mod HitsFound
+pub mod Indexing
 pub mod Left
 pub mod Looking
 pub mod Nearby

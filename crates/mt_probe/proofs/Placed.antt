@@ -207,7 +207,7 @@ opening_sound setup n version rules places = record {
   early = omega arith;
 }
 
-none_placed : (n : ℕ) → flights_in (replicate n None) ≡ []
+pub none_placed : (n : ℕ) → flights_in (replicate n None) ≡ []
 none_placed zero = refl
 none_placed (suc n) = none_placed n
 

@@ -10,6 +10,7 @@ use Rattle.mt_grid.specs.declared.placed.Placed.{Placed}
 use Rattle.mt_grid.specs.Lists.{IsPutBy, list_at, with_stays, without_stays}
 use Rattle.mt_track.specs.Laid.{IsStrand}
 use Rattle.mt_probe.specs.declared.flight.Flight.{Flight}
+use Rattle.mt_probe.specs.Indexed.{Indexed, IsIndexOf}
 use Rattle.mt_probe.specs.Items.{path_of, stays_at}
 use Rattle.mt_probe.specs.Shot.{Shot, kept_of}
 use Rattle.mt_probe.specs.Standing.{IsSoundShot}
@@ -19,10 +20,11 @@ pub record Holds (grid : List (List Placed)) (stays : ℕ → List Stay) : Type 
   pub cells : length grid ≡ 4096
   pub held : (cell : ℕ) (p : Placed) → Contains (list_at grid cell) p ↔ IsPutBy p.item (stays p.item) cell p
 
--- a snapshot is sound, and its grid holds the covers of its trajectories
-pub record IsKept (shot : Shot) (grid : List (List Placed)) : Type 0 where
+-- a snapshot is sound, its grid holds the covers of its trajectories, and its index tells who is there
+pub record IsKept (shot : Shot) (grid : List (List Placed)) (index : Indexed) : Type 0 where
   pub sound : IsSoundShot shot
   pub holds : Holds grid (stays_at shot.setup.rules shot.slots)
+  pub indexed : IsIndexOf shot.slots index
 
 -- the grid with the cover of a trajectory that may be there, and without it
 abbrev pub with_path : Rules → ℕ → Option Trajectory → List (List Placed) → List (List Placed)

@@ -3,6 +3,7 @@ pub mod Filing
 pub mod Finds
 pub mod Gridded
 pub mod Hits
+pub mod Indexed
 pub mod Items
 pub mod Narrow
 pub mod Prepared

@@ -1,5 +1,5 @@
 -- A snapshot as contracts see it, and the state that it stands for.
-use Rattle.std.specs.Prelude.{ℕ, List, [], ◌∷◌, Option, Some, None, map, get_or, nat_lt, option_map, if◌then◌else◌}
+use Rattle.std.specs.Prelude.{◌≡◌, ℕ, ◌<◌, List, [], ◌∷◌, Option, Some, None, length, map, get_or, nat_lt, option_map, if◌then◌else◌}
 use Rattle.std.specs.Arc.{arc_value}
 use Rattle.mt_base.specs.declared.conflict.Kind.{Kind}
 use Rattle.mt_base.specs.declared.conflict.Kind.TheVariants.{Actual, Tentative}
@@ -45,6 +45,11 @@ in_order (f ∷ fs) = filed_among f (in_order fs)
 -- what is known of the flights of some places, in the order of filing
 unfoldable pub records_in : List (Option Flight) → List Record
 records_in slots = map (λ f. f.card) (in_order (flights_in slots))
+
+-- a place that is free; or none is
+abbrev pub IsFreeIn : List (Option Flight) → Option ℕ → Type 0
+IsFreeIn slots (Some slot) = (slot < length slots) × (get_or slots slot None ≡ None)
+IsFreeIn slots None = length (records_in slots) ≡ length slots
 
 -- the state that a snapshot stands for
 abbrev pub state_of : Shot → State

@@ -4,6 +4,7 @@
 mod altering;
 mod finding;
 mod flight;
+mod index;
 mod laws;
 mod narrow;
 mod placing;

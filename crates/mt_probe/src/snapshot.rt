@@ -9,10 +9,11 @@ ghost use Rattle.mt_probe.specs.Body.{shot_of};
 ghost use Rattle.mt_probe.specs.Gridded.{IsKept};
 ghost use Rattle.mt_probe.specs.Items.{AreNearItems, path_of};
 ghost use Rattle.mt_probe.specs.Putting.{Fits, records_put, with_flight, with_moment};
-ghost use Rattle.mt_probe.specs.Shot.{flight_at, made_of, state_of};
+ghost use Rattle.mt_probe.specs.Shot.{IsFreeIn, flight_at, made_of, records_in, state_of};
 ghost use Rattle.mt_probe.specs.Standing.{IsSoundShot};
 
 use crate::flight::{Flight, Made};
+use crate::index::Index;
 use crate::placing::moved;
 use mt_base::{Callsign, Kind, Memory, Record, Rules, Second};
 use mt_cover::Cover;
@@ -34,6 +35,7 @@ pub struct Body {
     moment: Second,
     slots: Paged<Flight>,
     grid: Grid,
+    index: Index,
 }
 
 /// A picture as it was at one version.
@@ -52,7 +54,7 @@ impl Model for Snapshot {
 
     ghost view = { λ s. shot_of (arc_value s.body) };
 
-    ghost invariant = { λ s. IsKept (shot_of (arc_value s.body)) (arc_value s.body).grid };
+    ghost invariant = { λ s. IsKept (shot_of (arc_value s.body)) (arc_value s.body).grid (arc_value s.body).index };
 }
 
 impl Snapshot {
@@ -79,6 +81,7 @@ impl Snapshot {
                     moment: 0,
                     slots: Paged::make(alloc, count)?,
                     grid: Grid::make(alloc)?,
+                    index: Index::make(alloc)?,
                 },
             )?,
         })
@@ -207,21 +210,28 @@ impl Snapshot {
         Some(&self.made(slot, kind)?.strand)
     }
 
-    /// The place of the flight of that callsign; `None` exactly where there is none.
+    /// The place of the flight of that callsign, found by halving; `None` exactly where there is none.
     pub fn find(&self, call: Callsign) -> Option<u32>
         ensures there { IfSome result (λ slot. is_some (flight_at self.now slot) ≡ true) }
         ensures flight { flight_of (state_of self.now).records call ≡ option_map (λ f. f.card) (option_and_then (flight_at self.now) result) }
     {
         let _version = self.version();
-        let count = self.slots();
-        for slot in 0..count {
-            if let Some(card) = self.flight(slot)
-                && card.call == call
-            {
-                return Some(slot);
-            }
-        }
-        None
+        self.body.index.find(call)
+    }
+
+    /// How many flights there are.
+    pub fn flights(&self) -> u32
+        ensures { result ≡ length (records_in self.now.slots) }
+    {
+        self.body.index.held()
+    }
+
+    /// A place that is free; `None` exactly where each has a flight.
+    pub fn free(&self) -> Option<u32>
+        ensures { IsFreeIn self.now.slots result }
+    {
+        let _version = self.version();
+        self.body.index.free(&self.body.slots, self.slots())
     }
 
     /// The items whose trajectories are near a cover, rising, each once: they share a cell with it, with a second in common. The trajectory
@@ -256,8 +266,9 @@ impl Snapshot {
             old,
             flight.as_ref(),
         )?;
+        let index = body.index.put(body.alloc, &body.slots, self.slots(), slot, flight.as_ref())?;
         let slots = body.slots.set(slot, shared(body.alloc, flight)?)?;
-        changed(body, body.moment, slots, grid)
+        changed(body, body.moment, slots, grid, index)
     }
 
     /// The picture at that moment, one version later. This snapshot stays as it is. It asks that the version is below 2^40.
@@ -267,7 +278,13 @@ impl Snapshot {
         ensures { IfOk result (λ shot. shot ≡ with_moment self.now now) }
     {
         let body = &*self.body;
-        changed(body, now, body.slots.share()?, body.grid.share()?)
+        changed(
+            body,
+            now,
+            body.slots.share()?,
+            body.grid.share()?,
+            body.index.share()?,
+        )
     }
 }
 
@@ -295,9 +312,10 @@ fn changed(
     moment: Second,
     slots: Paged<Flight>,
     grid: Grid,
+    index: Index,
 ) -> Result<Snapshot, Memory>
     requires counted { body.now.version < 2 ^ 40 }
-    requires kept { IsKept (record (shot_of body.now) { version = body.now.version + 1; now = moment; slots = slots }) grid }
+    requires kept { IsKept (record (shot_of body.now) { version = body.now.version + 1; now = moment; slots = slots }) grid index }
     ensures { IfOk result (λ shot. shot ≡ record (shot_of body.now) { version = body.now.version + 1; now = moment; slots = slots }) }
 {
     Ok(Snapshot {
@@ -311,6 +329,7 @@ fn changed(
                 moment,
                 slots,
                 grid,
+                index,
             },
         )?,
     })

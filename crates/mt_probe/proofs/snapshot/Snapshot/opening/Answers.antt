@@ -12,6 +12,7 @@ invariant_of-result c =
     rw (c.in_ok-new.ensures.ok, c.in_ok-make.ensures, c.in_ok-make-2.ensures) (record {
       sound = opening_sound setup c.places-count.result 0 c.requires c.places-count.ensures;
       holds = opening_holds c.args.rules 4096 c.places-count.result refl;
+      indexed = c.in_ok-make-3.ensures c.places-count.result;
     })
 
 pub returns-clause-state : goal.returns-clause-state

@@ -5,6 +5,7 @@ use Rattle.mt_probe.specs.Body.{shot_of}
 use Rattle.mt_probe.specs.Putting.{Fits, records_put}
 use Rattle.mt_probe.specs.Shot.{Shot, flight_at, records_in}
 use Rattle.mt_probe.proofs.Covered.{moved_holds}
+use Rattle.mt_probe.proofs.Indexing.{can_be}
 use Rattle.mt_probe.proofs.Placed.{put_records, put_sound}
 use Rattle.mt_probe.proofs.snapshot.Snapshot.put.Goals as goal
 
@@ -20,7 +21,15 @@ changed-requires-clause-kept c =
       sound = put_sound shot c.args.slot inside c.self.invariant.sound c.args.flight (shot.version + 1) fits laid;
       holds = moved_holds shot.setup.rules shot.slots c.args.slot (arc_value c.self.inside.body).grid (flight_at shot c.args.slot) c.args.flight inside refl
           c.self.invariant.holds;
+      indexed = rw (c.as_ref-2.ensures.value, c.deref-body.ensures) at c.in_ok-index.ensures;
     })
+
+pub put-requires-clause-can : goal.put-requires-clause-can
+put-requires-clause-can c =
+    let shot : Shot = shot_of (arc_value c.self.inside.body) in
+    let fits = subst (λ (s : Shot). IfSome c.args.flight (Fits s c.args.slot)) (sym c.self.view_is) c.requires.fits in
+    let inside = subst (λ (s : Shot). c.args.slot < length s.slots) (sym c.self.view_is) c.requires.place in
+    rw (c.as_ref-2.ensures.value, c.deref-body.ensures) (can_be shot c.args.slot c.args.flight inside c.self.invariant.sound fits)
 
 pub returns-clause-records : goal.returns-clause-records
 returns-clause-records c =

@@ -1,0 +1,57 @@
+-- Callsigns in order, each with the place of its flight.
+use Rattle.std.specs.Prelude.{◌≡◌, ◌≢◌, ◌<◌, ◌≤◌, ◌↔◌, ℕ, ◌+◌, List, Option, Some, None, AllPairs, Contains, get_or, length, take, drop, slice_index_or, slice_set, ⊤}
+use Rattle.std.specs.Cmp.Lexicographic.{slice_cmp}
+use Rattle.std.specs.Ordering.{nat_cmp}
+use Rattle.std.specs.declared.cmp.Ordering.TheVariants.{Less}
+use Rattle.mt_names.specs.declared.names.Named.{Named}
+
+-- a callsign is before another, in the order of their bytes
+abbrev pub IsBefore : List ℕ → Named → Type 0
+IsBefore call n = slice_cmp nat_cmp n.call call ≡ Less
+
+abbrev pub IsNotBefore : List ℕ → Named → Type 0
+IsNotBefore call n = slice_cmp nat_cmp n.call call ≢ Less
+
+-- callsigns in strictly rising order
+abbrev pub AreRising : List Named → Type 0
+AreRising names = AllPairs (λ a b. IsBefore b.call a) names
+
+-- where the places before a callsign end, and where those behind it begin: between the two stands only its own
+pub record IsSplit (names : List Named) (call : List ℕ) (span : ℕ × ℕ) : Type 0 where
+  pub first : span.0 ≤ span.1
+  pub inside : span.1 ≤ length names
+  pub one : span.1 ≤ span.0 + 1
+  pub below : (n : Named) → Contains (take span.0 names) n → IsBefore call n
+  pub same : (d : Named) → span.0 < span.1 → (slice_index_or names span.0 d).call ≡ call
+  pub above : (n : Named) → Contains (drop span.1 names) n → slice_cmp nat_cmp call n.call ≡ Less
+
+-- it is listed, and has another callsign
+pub record IsOther (names : List Named) (call : List ℕ) (n : Named) : Type 0 where
+  pub listed : Contains names n
+  pub other : n.call ≢ call
+
+-- the place that is listed for a callsign; or it isn't listed
+abbrev pub IsPlaceOf : List Named → List ℕ → Option ℕ → Type 0
+IsPlaceOf names call (Some slot) = Contains names (record { call = call; slot = slot })
+IsPlaceOf names call None = (n : Named) → Contains names n → n.call ≢ call
+
+-- a callsign is listed with a place exactly where it stands there
+abbrev pub AreNamed : List Named → List (Option (List ℕ)) → Type 0
+AreNamed names calls = (n : Named) → Contains names n ↔ (get_or calls n.slot None ≡ Some n.call)
+
+-- no other place has that callsign
+abbrev pub IsOnlyAt : List (Option (List ℕ)) → ℕ → Option (List ℕ) → Type 0
+IsOnlyAt calls slot None = ⊤
+IsOnlyAt calls slot (Some call) = (i : ℕ) → i ≢ slot → get_or calls i None ≢ Some call
+
+-- One callsign, or none, stands at a place, and another, or none, can stand there in its stead: no other place has either.
+pub record CanStand (calls : List (Option (List ℕ))) (slot : ℕ) (old new : Option (List ℕ)) : Type 0 where
+  pub inside : slot < length calls
+  pub was : get_or calls slot None ≡ old
+  pub old_only : IsOnlyAt calls slot old
+  pub new_only : IsOnlyAt calls slot new
+
+-- whatever stands at the places, what was listed of it becomes what is listed once another callsign, or none, stands at a place
+abbrev pub IsRenaming : List Named → ℕ → Option (List ℕ) → Option (List ℕ) → List Named → Type 0
+IsRenaming names slot old new after = (calls : List (Option (List ℕ))) → CanStand calls slot old new → AreNamed names calls
+    → AreNamed after (slice_set calls slot new)

@@ -1,9 +1,0 @@
-use Rattle.std.proofs.Common.{◌≡◌, ◌≤◌, length, take}
-use Rattle.mt_probe.specs.Shot.{flights_in}
-use Rattle.mt_picture.proofs.deciding.flights.Given as goal
-
-abbrev pub invariant-loop-slot : goal.invariant-loop-slot
-invariant-loop-slot l = record {
-  few : l.held ≤ l.slot;
-  is : l.held ≡ length (flights_in (take l.slot l.snapshot.slots));
-}
