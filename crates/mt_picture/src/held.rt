@@ -83,7 +83,7 @@ pub(crate) fn put_card(
     ensures err { OnErr result (held.new.history.items ≡ held.old.history.items) }
 {
     let _version = held.snapshot.version();
-    let snapshot = held.snapshot.put(slot, Some(flight))?;
+    let snapshot = held.snapshot.put_again(slot, flight)?;
     let _next = snapshot.version();
     held.history.reserve(1)?;
     held.snapshot = snapshot;

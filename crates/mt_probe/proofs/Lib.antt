@@ -1,3 +1,4 @@
+pub mod Again
 pub mod Aside
 pub mod Covered
 pub mod Filing

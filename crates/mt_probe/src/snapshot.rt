@@ -1,5 +1,5 @@
 //! A picture as it was at one version.
-ghost use Rattle.std.specs.Prelude.{◌≡◌, ◌<◌, ◌≤◌, ◌^◌, ◌+◌, None, Ok, pos, length, replicate, IfOk, IfSome, is_some, true, option_copied, option_map, option_and_then};
+ghost use Rattle.std.specs.Prelude.{◌≡◌, ◌<◌, ◌≤◌, ◌^◌, ◌+◌, None, Ok, Some, pos, length, replicate, IfOk, IfSome, is_some, true, option_copied, option_map, option_and_then};
 ghost use Rattle.std.specs.Arc.{arc_value};
 ghost use Rattle.mt_base.specs.Bounds.{AreWithinBounds};
 ghost use Rattle.mt_base.specs.Picture.{flight_of, opening};
@@ -9,7 +9,7 @@ ghost use Rattle.mt_probe.specs.Body.{shot_of};
 ghost use Rattle.mt_probe.specs.Gridded.{IsKept};
 ghost use Rattle.mt_probe.specs.Items.{AreNearItems, path_of};
 ghost use Rattle.mt_probe.specs.Putting.{Fits, records_put, with_flight, with_moment};
-ghost use Rattle.mt_probe.specs.Shot.{IsFreeIn, flight_at, made_of, records_in, state_of};
+ghost use Rattle.mt_probe.specs.Shot.{IsFreeIn, flight_at, kept_of, made_of, records_in, state_of};
 ghost use Rattle.mt_probe.specs.Standing.{IsSoundShot};
 
 use crate::flight::{Flight, Made};
@@ -268,6 +268,25 @@ impl Snapshot {
         )?;
         let index = body.index.put(body.alloc, &body.slots, self.slots(), slot, flight.as_ref())?;
         let slots = body.slots.set(slot, shared(body.alloc, flight)?)?;
+        changed(body, body.moment, slots, grid, index)
+    }
+
+    /// The picture with a flight at a place that has its callsign and its trajectories already, one version later. This snapshot stays as it is,
+    /// and shares with it all that is kept of trajectories and callsigns.
+    ///
+    /// It asks that the version is below 2^40. The flight must be sound, and its trajectories its own; it keeps its filing.
+    pub fn put_again(&self, slot: u32, flight: Flight) -> Result<Snapshot, Memory>
+        requires counted { self.now.version < 2 ^ 40 }
+        requires fits { Fits self.now slot flight }
+        requires same { option_map kept_of (flight_at self.now slot) ≡ Some (kept_of flight) }
+        ensures value { IfOk result (λ shot. shot ≡ with_flight self.now slot (Some flight)) }
+        ensures records { IfOk result (λ shot.
+            (state_of shot).records ≡ records_put (flight_at self.now slot) (Some flight) (state_of self.now).records) }
+    {
+        let body = &*self.body;
+        let shared = Arc::new(body.alloc, flight)?;
+        let slots = body.slots.set(slot, Some(shared))?;
+        let (grid, index) = (body.grid.share()?, body.index.share()?);
         changed(body, body.moment, slots, grid, index)
     }
 

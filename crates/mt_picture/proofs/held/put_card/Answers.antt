@@ -1,9 +1,15 @@
 use Rattle.std.proofs.Common.{◌≡◌, ◌++◌, ◌∷◌, [], Some, ◌∙◌, List, subst, sym, refl}
 use Rattle.mt_base.specs.declared.command.Entry.{Entry}
+use Rattle.mt_probe.specs.Shot.{flight_at}
 use Rattle.mt_picture.specs.Stamps.{IsPicture}
+use Rattle.mt_picture.proofs.Again.{kept_same}
 use Rattle.mt_picture.proofs.Slotted.{places_same}
 use Rattle.mt_picture.proofs.Standing.{picture_put}
 use Rattle.mt_picture.proofs.held.put_card.Goals as goal
+
+pub put_again-requires-clause-same : goal.put_again-requires-clause-same
+put_again-requires-clause-same c =
+    kept_same c.args.flight (flight_at c.args.held.now.snapshot c.args.slot) c.requires.first c.requires.second
 
 pub returns-clause-held : goal.returns-clause-held
 returns-clause-held c =
