@@ -1,4 +1,4 @@
-"""What the scripts of this folder share: numbers by a fixed rule, and runs of a built program over lines of JSON."""
+"""What the scripts of this folder share: numbers and planned flights by a fixed rule, and runs of a built program over lines of JSON."""
 
 import json
 import os
@@ -22,6 +22,40 @@ def draws(seed=1):
 def text(lines):
     """The bytes of a script."""
     return b"".join(json.dumps(line).encode() + b"\n" for line in lines)
+
+
+def tables():
+    """64 fixes, 32 nautical miles apart, a type, and the line that begins."""
+    fixes = [
+        {"do": "fix", "name": "F%02d" % place, "x": -403_200 + 115_200 * (place // 8), "y": -403_200 + 115_200 * (place % 8)}
+        for place in range(64)
+    ]
+    return fixes + [{"do": "type", "name": "JA1", "bands": [[245, 400, 2000, 2000], [410, 480, 2100, 2100]]}, {"do": "begin"}]
+
+
+def route(fixes, draw):
+    """So many fixes, no two neighbours the same."""
+    places = [next(draw) % 64]
+    while len(places) < fixes:
+        place = next(draw) % 64
+        if place != places[-1]:
+            places.append(place)
+    return ["F%02d" % place for place in places]
+
+
+def plans(count, fixes, climb, asked=()):
+    """Planned flights over so many fixes each, in level flight or with a climb of 100 flight levels."""
+    draw = draws()
+    lines = tables()
+    setup = len(lines)
+    for number in range(count):
+        names = route(fixes, draw)
+        level = 300 + 10 * (next(draw) % 10)
+        lines.append({
+            "do": "plan", "call": "L%04d" % number, "type": "JA1", "route": names,
+            "at": next(draw) % 1200, "from": level - 100 if climb else level, "level": level,
+        })
+    return text(lines + list(asked)), len(lines) - setup
 
 
 def build():
