@@ -4,6 +4,7 @@ use crate::bytes::push_escaped;
 use crate::script::{Script, Step, read_scripts};
 use anyhow::{Context, Result, bail};
 use std::alloc::Global;
+use std::num::NonZeroU32;
 
 /// Room for what the program writes, and for what a link is answered, in bytes.
 const STREAM_ROOM: u32 = 1 << 20;
@@ -18,22 +19,27 @@ pub struct Reply {
 }
 
 /// What one end sends, and the lines out that it wants: the two streams of the program, or a link of its door. There is room for so many
-/// bytes of lines out.
+/// bytes of lines out. The reads and writes with these numbers fail, each counted from 1, and each of the others moves at most so many bytes.
 #[derive(Drop)]
 pub struct End {
     pub input: Vec<u8>,
     pub replies: Vec<Reply>,
     pub room: u32,
+    pub reads: Vec<u64>,
+    pub writes: Vec<u64>,
+    pub most: NonZeroU32,
     pub is_served: bool,
 }
 
-/// A case: its name, the words of the command line, its streams, the links of its door in order, and the exit status.
+/// A case: its name, the words of the command line, its streams, the links of its door in order, the numbers of the door's calls that fail,
+/// and the exit status.
 #[derive(Drop)]
 pub struct Case<'a> {
     pub name: &'a str,
     pub words: &'a str,
     pub streams: End,
     pub links: Vec<End>,
+    pub door_calls: Vec<u64>,
     pub status: u8,
 }
 
@@ -65,6 +71,7 @@ impl<'a> Case<'a> {
             words: "replay",
             streams: End::of(alloc, STREAM_ROOM, true),
             links: Vec::new(alloc),
+            door_calls: Vec::new(alloc),
             status: 0,
         };
         for step in &script.steps {
@@ -73,13 +80,14 @@ impl<'a> Case<'a> {
         Ok(case)
     }
 
-    // Takes a line of the script. What goes in and out behind a link is that link's.
+    // Takes a line of the script. What stands behind a link is that link's.
     fn take(&mut self, alloc: Global, step: &Step<'a>) -> Result<()> {
         match step.mark {
             "$" => self.words = step.text,
             "?" => self.status = step.text.parse()?,
             "@" => self.links.push(End::of(alloc, room_of(step.text)?, true))?,
             "@-" => self.links.push(End::of(alloc, LINK_ROOM, false))?,
+            "!@" => self.door_calls = numbers_of(alloc, step.text)?,
             _ => match self.links.last_mut() {
                 Some(link) => link.take(alloc, step)?,
                 None => self.streams.take(alloc, step)?,
@@ -95,16 +103,22 @@ impl End {
             input: Vec::new(alloc),
             replies: Vec::new(alloc),
             room,
+            reads: Vec::new(alloc),
+            writes: Vec::new(alloc),
+            most: NonZeroU32::MAX,
             is_served,
         }
     }
 
-    // Takes a line in or out.
+    // Takes a line in or out, or what is said of the calls.
     fn take(&mut self, alloc: Global, step: &Step<'_>) -> Result<()> {
         match step.mark {
             ">" | ">-" => self.input.extend_from_slice(step.text.as_bytes())?,
             ">>" => push_escaped(&mut self.input, step.text)?,
             "<" | "<-" | "<<" => self.replies.push(reply_of(alloc, step)?)?,
+            "!>" => self.reads = numbers_of(alloc, step.text)?,
+            "!<" => self.writes = numbers_of(alloc, step.text)?,
+            "%" => self.most = NonZeroU32::new(step.text.parse()?).context("no byte a call")?,
             _ => bail!("no mark of a line"),
         }
         if step.mark == ">" || step.mark == ">>" {
@@ -112,6 +126,15 @@ impl End {
         }
         Ok(())
     }
+}
+
+// The numbers of a text.
+fn numbers_of(alloc: Global, text: &str) -> Result<Vec<u64>> {
+    let mut numbers = Vec::new(alloc);
+    for word in text.split_whitespace() {
+        numbers.push(word.parse()?)?;
+    }
+    Ok(numbers)
 }
 
 // The room of a link for its lines out.

@@ -16,6 +16,9 @@
 //! | `>-`, `<-` | a line in, or out, without its end, the last one |
 //! | `@` | a link of the door begins: the lines in and out behind it are its own. It has room for so many bytes out, or for 65,536 |
 //! | `@-` | the same, but the link isn't served |
+//! | `!>`, `!<` | numbers: the reads and the writes that fail, counted from 1. Behind a link they are that link's |
+//! | `%` | a number: how many bytes a read or a write moves at most. Behind a link it is that link's |
+//! | `!@` | numbers: the calls of the door that fail, of which asking it to listen is the first |
 //! | `$` | the words of the command line, where they aren't `replay` |
 //! | `?` | the exit status, where it isn't 0 |
 //!

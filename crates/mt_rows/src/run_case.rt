@@ -19,10 +19,9 @@ pub fn tell_differences<R: Print + AllocGlobal + Threads + Wait + Sync>(
     requires sync { IsSync R.row }
 {
     let words = words_of(rt.alloc(), case.words)?;
-    let mut source = MemSource::of(case.streams.input.clone()?);
-    let room = case.streams.room;
-    let mut sink = MemSink::make(rt.alloc(), room).map_err(|_| anyhow!("memory"))?;
-    let mut door = door_of(rt.alloc(), &case.links)?;
+    let mut source = source_of(&case.streams)?;
+    let mut sink = sink_of(rt.alloc(), &case.streams)?;
+    let mut door = door_of(rt.alloc(), case)?;
     let status = run(
         rt,
         rt.alloc(),
@@ -44,17 +43,32 @@ pub fn tell_differences<R: Print + AllocGlobal + Threads + Wait + Sync>(
     Ok(())
 }
 
-// A door with these links.
-fn door_of(alloc: Global, ends: &[End]) -> Result<MemDoor> {
+// The input of the program.
+fn source_of(end: &End) -> Result<MemSource> {
+    let source = MemSource::of(end.input.clone()?);
+    Ok(source.failing(end.reads.clone()?, end.most.get()))
+}
+
+// Its output, with nothing written.
+fn sink_of(alloc: Global, end: &End) -> Result<MemSink> {
+    let sink = MemSink::make(alloc, end.room).map_err(|_| anyhow!("memory"))?;
+    Ok(sink.failing(end.writes.clone()?, end.most.get()))
+}
+
+// A door with the links of the case.
+fn door_of(alloc: Global, case: &Case<'_>) -> Result<MemDoor> {
     let mut links = Vec::new(alloc);
-    for end in ends {
+    for end in &case.links {
         links.push(link_of(alloc, end)?)?;
     }
-    MemDoor::make(alloc, links).map_err(|_| anyhow!("memory"))
+    let door = MemDoor::make(alloc, links).map_err(|_| anyhow!("memory"))?;
+    Ok(door.failing(case.door_calls.clone()?))
 }
 
 fn link_of(alloc: Global, end: &End) -> Result<MemLink> {
-    MemLink::make(alloc, end.input.clone()?, end.room).map_err(|_| anyhow!("memory"))
+    let link = MemLink::make(alloc, end.input.clone()?, end.room).map_err(|_| anyhow!("memory"))?;
+    let (reads, writes) = (end.reads.clone()?, end.writes.clone()?);
+    Ok(link.failing(reads, writes, end.most.get()))
 }
 
 // The words of a command line.
