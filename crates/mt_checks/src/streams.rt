@@ -1,99 +1,27 @@
 //! Lines of small sources, a fault in mid-stream, whole writes, and the standard streams.
-ghost use Rattle.std.specs.Prelude.{◌≡◌, ◌<◌, ◌≤◌, ◌+◌, None, vec_len};
+ghost use Rattle.std.specs.Prelude.{◌<◌};
 
 use crate::cases::assert_number;
 use mt_io::{
-    Failed, Line, LineFault, LineReader, MemSink, MemSource, Sink, Source, StdIn, StdOut,
-    laws_of_lines, put_all,
+    Line, LineFault, LineReader, MemSink, MemSource, Sink, Source, StdIn, StdOut, laws_of_lines,
+    put_all,
 };
 use std::process::Abort;
 
-/// Gives at most `most` bytes a call. The call with the number `failing`, from 1, fails.
-#[derive(Drop)]
-struct Dripping {
-    bytes: Vec<u8>,
-    at: usize,
-    most: usize,
-    calls: u64,
-    failing: u64,
-    faults: u64,
-    ghost within: { at ≤ vec_len bytes },
-    ghost some: { 0 < most },
+/// The numbers of calls from one to another.
+fn calls_from(rt: &(impl AllocGlobal + Abort), first: u64, last: u64) -> Vec<u64> {
+    let mut calls = Vec::new(rt.alloc());
+    for call in first..=last {
+        calls.push(call).expect(rt, "memory");
+    }
+    calls
 }
 
-impl Source for Dripping {
-    ghost left = { λ _. None };
-
-    ghost faults = { λ s. s.faults };
-
-    ghost reads_to = { λ a b. Unit {0} };
-
-    fn read_faults(&self) -> u64 {
-        self.faults
-    }
-
-    fn read_some(&mut self, buf: &mut [u8]) -> Result<usize, Failed> {
-        self.calls = self.calls.saturating_add(1);
-        if self.calls == self.failing {
-            self.faults = self.faults.saturating_add(1);
-            return Err(Failed);
-        }
-        let count = buf.len().min(self.most).min(self.bytes.len() - self.at);
-        buf[..count].copy_from_slice(&self.bytes[self.at..self.at + count]);
-        self.at += count;
-        Ok(count)
-    }
-
-    ghost reads_to_itself = { λ s. tt };
-
-    ghost reads_on = { λ a b c ab bc. tt };
-}
-
-/// Takes one byte a call. The call with the number `failing`, from 1, fails.
-#[derive(Drop)]
-struct Trickling {
-    bytes: Vec<u8>,
-    calls: u64,
-    failing: u64,
-    faults: u64,
-}
-
-impl Sink for Trickling {
-    ghost held = { λ _. None };
-
-    ghost faults = { λ s. s.faults };
-
-    ghost writes_to = { λ a b. Unit {0} };
-
-    fn write_faults(&self) -> u64 {
-        self.faults
-    }
-
-    fn write_some(&mut self, piece: &[u8]) -> Result<usize, Failed> {
-        self.calls = self.calls.saturating_add(1);
-        if self.calls != self.failing && self.bytes.push(piece[0]).is_ok() {
-            return Ok(1);
-        }
-        self.faults = self.faults.saturating_add(1);
-        Err(Failed)
-    }
-
-    ghost writes_to_itself = { λ s. tt };
-
-    ghost writes_on = { λ a b c ab bc. tt };
-}
-
-fn source_of(bytes: Vec<u8>, most: usize, failing: u64) -> Dripping
+/// A source that gives so many bytes a call at most.
+fn dripping(rt: &(impl AllocGlobal + Abort), bytes: Vec<u8>, most: u32) -> MemSource
     requires { 0 < most }
 {
-    Dripping {
-        bytes,
-        at: 0,
-        most,
-        calls: 0,
-        failing,
-        faults: 0,
-    }
+    MemSource::of(bytes).failing(Vec::new(rt.alloc()), most)
 }
 
 /// Whether the next line is that text.
@@ -121,11 +49,11 @@ fn gives<S: Source>(rt: &(impl AllocGlobal + Abort), source: &mut S, want: &[&[u
 }
 
 /// The lines of an input, of which each call gives so many bytes at most.
-fn check_dripping(rt: &(impl AllocGlobal + Abort), input: &[u8], most: usize, want: &[&[u8]])
+fn check_dripping(rt: &(impl AllocGlobal + Abort), input: &[u8], most: u32, want: &[&[u8]])
     requires { 0 < most }
 {
     let bytes = input.to_vec(rt.alloc()).expect(rt, "memory");
-    gives(rt, &mut source_of(bytes, most, 0), want);
+    gives(rt, &mut dripping(rt, bytes, most), want);
 }
 
 /// The lines of an input, however many bytes a call gives.
@@ -163,7 +91,12 @@ fn long_line(rt: &(impl AllocGlobal + Abort), count: usize, behind: &[u8]) -> Ve
 }
 
 /// Whether the next line is given, which has so many bytes; one that is not is too long.
-fn is_given(rt: &impl Abort, reader: &mut LineReader, source: &mut Dripping, count: usize) -> bool {
+fn is_given(
+    rt: &impl Abort,
+    reader: &mut LineReader,
+    source: &mut MemSource,
+    count: usize,
+) -> bool {
     match reader.next(source) {
         Ok(Line::Text(text)) => {
             assert!(rt; text.len() == count);
@@ -175,11 +108,11 @@ fn is_given(rt: &impl Abort, reader: &mut LineReader, source: &mut Dripping, cou
 }
 
 /// A line of so many bytes is given or not, and so is what follows it, of which each call gives so many bytes at most.
-fn check_long(rt: &(impl AllocGlobal + Abort), count: usize, more: bool, given: bool, most: usize)
+fn check_long(rt: &(impl AllocGlobal + Abort), count: usize, more: bool, given: bool, most: u32)
     requires { 0 < most }
 {
     let behind = if more { b"\nyz".as_slice() } else { b"" };
-    let mut source = source_of(long_line(rt, count, behind), most, 0);
+    let mut source = dripping(rt, long_line(rt, count, behind), most);
     let mut reader = LineReader::make(rt.alloc()).expect(rt, "memory");
     let is_as_wanted = is_given(rt, &mut reader, &mut source, count) == given;
     assert_number(rt, is_as_wanted, "line", count as u64);
@@ -203,11 +136,10 @@ fn the_longest_line(rt: HostRuntime) {
     check_longest(&rt, 131_072, true, false);
 }
 
-/// Reading fails, as it did before, and no further call is made.
-fn check_fault(rt: &impl Abort, reader: &mut LineReader, source: &mut Dripping) {
+/// Reading fails, as it did before, and no further call is made, which would fail too.
+fn check_fault(rt: &impl Abort, reader: &mut LineReader, source: &mut MemSource) {
     assert!(rt; matches!(reader.next(source), Err(LineFault::ReadFault)));
     assert!(rt; source.read_faults() == 1);
-    assert!(rt; source.calls == 3);
     assert!(rt; reader.lines() == 1);
 }
 
@@ -215,7 +147,7 @@ fn check_fault(rt: &impl Abort, reader: &mut LineReader, source: &mut Dripping) 
 fn a_fault_in_mid_stream(rt: HostRuntime) {
     // the third read fails, when "ab", 0x0A and "c" were given
     let bytes = b"ab\ncd\n".to_vec(rt.alloc()).expect(&rt, "memory");
-    let mut source = source_of(bytes, 2, 3);
+    let mut source = MemSource::of(bytes).failing(calls_from(&rt, 3, 9), 2);
     let mut reader = LineReader::make(rt.alloc()).expect(&rt, "memory");
     assert!(rt; is_next(&mut reader, &mut source, b"ab"));
     check_fault(&rt, &mut reader, &mut source);
@@ -223,18 +155,14 @@ fn a_fault_in_mid_stream(rt: HostRuntime) {
     check_fault(&rt, &mut reader, &mut source);
 }
 
-/// What a sink holds whose call of that number fails, and how many faults it counted.
-fn check_write(rt: &(impl AllocGlobal + Abort), failing: u64, held: &[u8], faults: u64) {
-    let mut sink = Trickling {
-        bytes: Vec::new(rt.alloc()),
-        calls: 0,
-        failing,
-        faults: 0,
-    };
+/// What a sink holds that takes one byte a call, whose call of that number fails, and how many faults it counted.
+fn check_write(rt: &(impl AllocGlobal + Abort), number: u64, held: &[u8], faults: u64) {
+    let sink = MemSink::make(rt.alloc(), 8).expect(rt, "memory");
+    let mut sink = sink.failing(calls_from(rt, number, number), 1);
     let is_whole = put_all(&mut sink, b"abc").is_ok();
-    assert_number(rt, is_whole == (faults == 0), "outcome", failing);
-    assert_number(rt, sink.bytes.as_slice() == held, "bytes", failing);
-    assert_number(rt, sink.write_faults() == faults, "faults", failing);
+    assert_number(rt, is_whole == (faults == 0), "outcome", number);
+    assert_number(rt, sink.held() == held, "bytes", number);
+    assert_number(rt, sink.write_faults() == faults, "faults", number);
 }
 
 /// What a sink with so much room holds after two writes, and how many faults it counted.

@@ -1,9 +1,8 @@
 //! The whole program over streams that fail: a source that fails after each byte, and a sink that is full after each byte.
-ghost use Rattle.std.specs.Prelude.{◌≤◌, None, vec_len};
 ghost use Rattle.std.specs.Thread.{IsSync};
 
 use super::scene::{AMPLE, run_over, source_of};
-use mt_io::{Failed, MemDoor, MemSink, OpenGate, Source};
+use mt_io::{MemDoor, MemSink, MemSource, OpenGate, Source};
 use mt_top::Status;
 use std::alloc::Global;
 use std::process::Abort;
@@ -26,42 +25,6 @@ const OUTPUT: &str = r#"{"done":"begin"}
 {"entered":2}
 {"conflicts":[{"first":131,"kinds":"aa","last":168,"pair":["AAA1","BBB1"]}],"version":2}
 "#;
-
-/// Gives its bytes, at most 7 a call, and then fails in place of its end.
-#[derive(Drop)]
-struct Torn {
-    bytes: Vec<u8>,
-    at: usize,
-    faults: u64,
-    ghost within: { at ≤ vec_len bytes },
-}
-
-impl Source for Torn {
-    ghost left = { λ _. None };
-
-    ghost faults = { λ s. s.faults };
-
-    ghost reads_to = { λ a b. Unit {0} };
-
-    fn read_faults(&self) -> u64 {
-        self.faults
-    }
-
-    fn read_some(&mut self, buf: &mut [u8]) -> Result<usize, Failed> {
-        let count = buf.len().min(7).min(self.bytes.len() - self.at);
-        if count == 0 {
-            self.faults = self.faults.saturating_add(1);
-            return Err(Failed);
-        }
-        buf[..count].copy_from_slice(&self.bytes[self.at..self.at + count]);
-        self.at += count;
-        Ok(count)
-    }
-
-    ghost reads_to_itself = { λ s. tt };
-
-    ghost reads_on = { λ a b c ab bc. tt };
-}
 
 // The first lines of a text, as many as the count says, with their ends.
 fn first_lines(text: &str, count: usize) -> &str {
@@ -105,16 +68,24 @@ fn ended<R: Abort + Threads + Wait + Sync, S: Source>(
     run_over(rt, alloc, words, input, room, &mut door, &OpenGate)
 }
 
-// Whether an input that fails behind these bytes is answered up to its last whole line.
-fn is_answered<R: Abort + Threads + Wait + Sync>(rt: &R, alloc: Global, given: &[u8]) -> bool
+// The input, of which each read gives a byte, and the one behind so many bytes fails.
+fn torn_behind(rt: &impl Abort, alloc: Global, given: usize) -> MemSource {
+    let bytes = INPUT.as_bytes().to_vec(alloc).expect(rt, "memory");
+    let mut calls = Vec::new(alloc);
+    calls
+        .push((given as u64).saturating_add(1))
+        .expect(rt, "memory");
+    MemSource::of(bytes).failing(calls, 1)
+}
+
+// Whether an input that fails behind so many bytes is answered up to its last whole line.
+fn is_answered<R: Abort + Threads + Wait + Sync>(rt: &R, alloc: Global, given: usize) -> bool
     requires sync { IsSync R.row }
 {
-    let bytes = given.to_vec(alloc).expect(rt, "memory");
-    let (at, faults) = (0, 0);
-    let mut source = Torn { bytes, at, faults };
+    let mut source = torn_behind(rt, alloc, given);
     let (ended, sink) = ended(rt, alloc, "replay", &mut source, AMPLE);
-    let wanted = first_lines(OUTPUT, count_lines(given));
-    ended == Status::ReadFault && sink.held() == wanted.as_bytes()
+    let whole = count_lines(&INPUT.as_bytes()[..given.min(INPUT.len())]);
+    ended == Status::ReadFault && sink.held() == first_lines(OUTPUT, whole).as_bytes()
 }
 
 // Whether an output with room for this many bytes takes these, and then fails.
@@ -136,8 +107,8 @@ fn is_full<R: Abort + Threads + Wait + Sync>(
 fn check_torn<R: Abort + Threads + Wait + Sync>(rt: &R, alloc: Global)
     requires sync { IsSync R.row }
 {
-    for given in 0..INPUT.len() {
-        let is_answered = is_answered(rt, alloc, &INPUT.as_bytes()[..given]);
+    for given in 0..=INPUT.len() {
+        let is_answered = is_answered(rt, alloc, given);
         assert!(rt; is_answered, "{given}");
     }
 }
