@@ -7,7 +7,6 @@ use Rattle.std.proofs.lemmas.List.Kept.{AllPairs-filter}
 use Rattle.std.proofs.lemmas.Slice.Eq.{bytes_eq-Decides}
 use Rattle.std.specs.List.{filter, sum_by}
 use Rattle.std.specs.Str.{bytes_eq}
-use Rattle.mt_base.specs.declared.conflict.Kind.TheVariants.{Actual, Tentative}
 use Rattle.mt_base.specs.declared.rules.Rules.{Rules}
 use Rattle.mt_base.specs.History.{state_of}
 use Rattle.mt_base.specs.Picture.{NamedTrajectory, State, trajectories}
@@ -16,20 +15,17 @@ use Rattle.mt_cover.specs.declared.stays.Stay.{Stay}
 use Rattle.mt_kept.specs.declared.finds.Candidate.{Candidate}
 use Rattle.mt_kept.specs.declared.finds.Verdict.{Verdict}
 use Rattle.mt_kept.specs.declared.finds.Verdict.TheVariants.{Known, Unknown}
-use Rattle.mt_kept.specs.Finds.{IsRight, asks_one, asks_two, cost, is_crossing, is_listed, is_other, is_unknown, place_of}
+use Rattle.mt_kept.specs.Finds.{IsRight, asks_one, asks_two, cost, is_crossing, is_listed, is_other, is_unknown}
 use Rattle.mt_kept.specs.Places.{at}
 use Rattle.mt_base.specs.Tally.{RoseUpTo}
 use Rattle.mt_kept.specs.Window.{is_straddling}
 use Rattle.mt_kept.proofs.Costs.{cost_sum}
-use Rattle.mt_base.proofs.Members.{All-from_held, Contains-filter, Contains-map, Contains-map_cases, distinct_append, distinct_held, distinct_map}
-use Rattle.mt_kept.proofs.Gathering.{rising_once}
-use Rattle.mt_kept.proofs.Keeping.{halves}
+use Rattle.mt_base.proofs.Members.{All-from_held, Contains-filter, Contains-map_cases, distinct_append, distinct_held, distinct_map}
 use Rattle.mt_probe.specs.Items.{kind_at}
 use Rattle.mt_probe.specs.Prepared.{Prepared}
 use Rattle.mt_probe.specs.Shot.{Shot}
 use Rattle.mt_probe.specs.Shot.{state_of as state_in}
 use Rattle.mt_probe.specs.Standing.{IsSoundShot}
-use Rattle.mt_probe.proofs.Covered.{even_kind, odd_kind}
 use Rattle.mt_probe.proofs.Gathered.{at_kept}
 use Rattle.mt_picture.specs.Asked.{AreNearby, IsCrossingNow, IsLaterNow, IsNearNow, WasTestedAgain, WasTestedAnew}
 use Rattle.mt_picture.specs.Places.{all_places, made_of_kind}
@@ -38,19 +34,7 @@ use Rattle.mt_picture.specs.Story.{Story}
 use Rattle.mt_picture.specs.Verdicts.{AreNear, IsPreps}
 use Rattle.mt_picture.proofs.HitsHere.{both_true}
 use Rattle.mt_picture.proofs.Knowing.{kept_made, stands_at, stays_there}
-
--- a place is that of its slot and its kind
-same_place : (i j : ℕ) → i / 2 ≡ j / 2 → kind_at i ≡ kind_at j → i ≡ j
-same_place i j half kind = ⊎_elim
-    (λ i_even. ⊎_elim
-    (λ j_even. i_even ∙ ap (λ (k : ℕ). 2 * k) half ∙ sym j_even)
-    (λ j_odd. absurd (let both : Actual ≡ Tentative = sym (even_kind (i / 2)) ∙ sym (ap kind_at i_even) ∙ kind ∙ ap kind_at j_odd ∙ odd_kind (j / 2) in cc))
-    (halves j (j / 2) refl))
-    (λ i_odd. ⊎_elim
-    (λ j_even. absurd (let both : Tentative ≡ Actual = sym (odd_kind (i / 2)) ∙ sym (ap kind_at i_odd) ∙ kind ∙ ap kind_at j_even ∙ even_kind (j / 2) in cc))
-    (λ j_odd. i_odd ∙ ap (λ (k : ℕ). 2 * k + 1) half ∙ sym j_odd)
-    (halves j (j / 2) refl))
-    (halves i (i / 2) refl)
+use Rattle.mt_picture.proofs.Standings.{same_place}
 
 -- two places of a sound snapshot have different trajectories
 pub one_place : (shot : Shot) (i j : ℕ) (t : NamedTrajectory) → IsSoundShot shot → at (all_places shot.slots) i ≡ Some t → at (all_places shot.slots) j ≡ Some t → i ≡ j
@@ -116,7 +100,7 @@ module _ (story : Story) (shot : Shot) (p : Prepared) (known : Bool) (place : �
       let there : Contains (trajectories shot.setup (state_in shot)) t =
       subst (Contains (trajectories shot.setup (state_in shot))) s.is
       (at_kept shot (x.place / 2) s.flight (made_of_kind s.flight (kind_at x.place) s.made) sound s.at_is (kept_made s.flight (kind_at x.place) s.made s.made_is)) in
-      let item = (near.near.same x.place).0 (Contains-map place_of xs x held) in
+      let item = near.near x held in
       record {
         stands = subst (λ (q : State). Contains (trajectories story.setup q) t) stands
             (subst (λ (u : Setup). Contains (trajectories u (state_in shot)) t) setup_is there);
@@ -186,7 +170,7 @@ module _ (story : Story) (shot : Shot) (p : Prepared) (known : Bool) (place : �
       differ (one_place shot x.place y.place y_there.other sound (x_there.is ∙ ap Some both) y_there.is)) once)
 
   once_of : (q : Candidate → Bool) → AllPairs (λ x y. x.place ≢ y.place) (filter q xs)
-  once_of q = AllPairs-filter (λ (x y : Candidate). x.place ≢ y.place) q xs (rising_once xs near.near.rising)
+  once_of q = AllPairs-filter (λ (x y : Candidate). x.place ≢ y.place) q xs near.once
 
   each_seen : (P : NamedTrajectory → Type 0) (q : Candidate → Bool) → ((x : Candidate) → q x ≡ true → is_listed places place mine.call x ≡ true)
       → ((x : Candidate) (t : NamedTrajectory) → Contains xs x → q x ≡ true → at places x.place ≡ Some t → t.call ≢ mine.call → P t) → All P (map seen (filter q xs))
@@ -214,7 +198,7 @@ module _ (story : Story) (shot : Shot) (p : Prepared) (known : Bool) (place : �
   apart_known x y x_in y_in same =
       let x_is = (Contains-filter two xs x).0 x_in in
       let y_is = (Contains-filter one xs y).0 y_in in
-      let same_one : x ≡ y = one_at_place xs x y (rising_once xs near.near.rising) x_is.0 y_is.0 same in
+      let same_one : x ≡ y = one_at_place xs x y near.once x_is.0 y_is.0 same in
       let unknown = unknown_is x.verdict (both_true (some x) (is_unknown x.verdict) x_is.1).1 in
       let crossing : is_crossing shot.now y.verdict ≡ true = (both_true (some y) (is_crossing shot.now y.verdict) y_is.1).1 in
       let none : is_crossing shot.now y.verdict ≡ false =

@@ -1,9 +1,7 @@
 -- What a prep says of the trajectories that stand now is right, and so the near ones are candidates.
-use Rattle.std.proofs.Common.{◌≡◌, ◌≢◌, ℕ, suc, ◌+◌, ◌/◌, ◌<◌, ◌≤◌, ⊎_elim, Bool, true, List, [], ◌∷◌, ◌++◌, length, map, take, Option, Some, None, Contains, get_or, option_map, refl, sym, ◌∙◌, ap, subst, arith}
+use Rattle.std.proofs.Common.{◌≡◌, ◌≢◌, ℕ, suc, ◌/◌, ◌≤◌, ⊎_elim, Bool, true, List, [], Option, Some, None, Contains, get_or, option_map, refl, sym, ◌∙◌, ap, subst, arith}
 use Rattle.std.specs.Prelude.{option_and_then}
 use Rattle.std.specs.Arc.{arc_value}
-use Rattle.std.proofs.lemmas.List.{map-append, take_more}
-use Rattle.std.proofs.lemmas.List.Elements.{Contains-push_cases}
 use Rattle.mt_base.specs.declared.conflict.Kind.{Kind}
 use Rattle.mt_base.specs.declared.conflict.Kind.TheVariants.{Actual, Tentative}
 use Rattle.mt_base.specs.declared.flight.Record.{Record}
@@ -12,11 +10,9 @@ use Rattle.mt_base.specs.Conflict.{IsConflict}
 use Rattle.mt_base.specs.Picture.{NamedTrajectory}
 use Rattle.mt_base.specs.Trajectory.{Trajectory}
 use Rattle.mt_cover.specs.Cells.{cover_of}
-use Rattle.mt_track.specs.Laid.{IsStrand}
 use Rattle.mt_kept.specs.declared.finds.Candidate.{Candidate}
-use Rattle.mt_kept.specs.Finds.{AreCandidates, IsRight, place_of}
+use Rattle.mt_kept.specs.Finds.{AreCandidates, IsRight}
 use Rattle.mt_kept.specs.Places.{at, horizon, slot_of}
-use Rattle.mt_kept.proofs.Gathering.{rising_once}
 use Rattle.mt_kept.proofs.Keeping.{halves}
 use Rattle.mt_probe.specs.declared.finding.Found.{Found}
 use Rattle.mt_probe.specs.declared.flight.Flight.{Flight}
@@ -25,13 +21,11 @@ use Rattle.mt_probe.specs.Finds.{IsFoundOrQuiet, IsOfAnother}
 use Rattle.mt_probe.specs.Items.{kind_at, stays_at, stays_by, stays_of}
 use Rattle.mt_probe.specs.Prepared.{Prepared}
 use Rattle.mt_probe.specs.Shot.{Shot, flight_at, kept_of, made_named, made_of}
-use Rattle.mt_probe.specs.Standing.{IsSoundShot}
 use Rattle.mt_probe.proofs.Covered.{even_kind, odd_kind}
 use Rattle.mt_base.proofs.Members.{Contains-head}
-use Rattle.mt_probe.proofs.Nearby.{near_by_loss}
 use Rattle.mt_picture.specs.Places.{all_places, first_of, made_of_kind, second_of}
 use Rattle.mt_picture.specs.Stamps.{HaveStood}
-use Rattle.mt_picture.specs.Verdicts.{AreNear, IsEarlierAt, IsKnown, IsPreps}
+use Rattle.mt_picture.specs.Verdicts.{AreNear, IsEarlierAt, IsPreps}
 use Rattle.mt_picture.proofs.Slotted.{at_first, at_second}
 
 -- what is found says the conflict over all seconds
@@ -136,31 +130,16 @@ stays_there rules slots j t s =
     ∙ ap (λ (u : NamedTrajectory). cover_of rules u.path) s.is
 
 -- the near ones are candidates
-pub candidates_right : (shot : Shot) (place : ℕ) (mine : NamedTrajectory) (p : Prepared) (known : Bool) (xs : List Candidate) → IsSoundShot shot → IsStrand mine.path
+pub candidates_right : (shot : Shot) (place : ℕ) (mine : NamedTrajectory) (p : Prepared) (known : Bool) (xs : List Candidate)
     → p.setup.rules ≡ shot.setup.rules → mine.call ≡ p.card.call → IsPreps p known mine.path → AreNear shot mine.path p known xs
     → AreCandidates shot.setup.rules (all_places shot.slots) place mine xs
-candidates_right shot place mine p known xs sound laid rules_are own preps near = record {
+candidates_right shot place mine p known xs rules_are own preps near = record {
   right = λ x other held is.
       let s = stands_at shot.slots x.place other is.is in
       let apart : s.flight.card.call ≢ p.card.call = λ same. is.apart (own ∙ sym same ∙ ap (λ (u : NamedTrajectory). u.call) s.is) in
       let right = (near.known_is x held).right s.flight s.made mine s.at_is s.made_is apart preps in
       subst (λ (rules : Rules). IsRight rules mine other x.verdict) rules_are
       (subst (λ (u : NamedTrajectory). IsRight p.setup.rules mine u x.verdict) s.is right);
-  complete = λ j k other is early loss.
-      let s = stands_at shot.slots j other is.is in
-      let kept : Contains (kept_of s.flight) other = subst (Contains (kept_of s.flight)) s.is (kept_made s.flight (kind_at j) s.made s.made_is) in
-      (near.near.same j).1 (near_by_loss shot mine.path other.path j k sound.rules laid (sound.laid (j / 2) s.flight other s.at_is kept) loss
-      (stays_there shot.setup.rules shot.slots j other s));
-  once = rising_once xs near.near.rising;
+  complete = λ j k other is early loss. near.complete j k other is.is (λ same. is.apart (own ∙ sym same)) early loss;
+  once = near.once;
 }
-
--- one candidate more
-pub known_more : (p : Prepared) (known : Bool) (slots : List (Option Flight)) (xs : List Candidate) (x : Candidate)
-    → ((y : Candidate) → Contains xs y → IsKnown p known slots y) → IsKnown p known slots x
-    → (y : Candidate) → Contains (xs ++ x ∷ []) y → IsKnown p known slots y
-known_more p known slots xs x so_far one y held = ⊎_elim (λ before. so_far y before) (λ same. subst (IsKnown p known slots) same one) (Contains-push_cases xs x y held)
-
-pub places_more : (xs : List Candidate) (x : Candidate) (items : List ℕ) (i : ℕ) → i < length items → x.place ≡ get_or items i x.place
-    → map place_of xs ≡ take i items → map place_of (xs ++ x ∷ []) ≡ take (i + 1) items
-places_more xs x items i below is so_far =
-    map-append place_of xs (x ∷ []) ∙ ap (λ (ps : List ℕ). ps ++ x.place ∷ []) so_far ∙ ap (λ (k : ℕ). take i items ++ k ∷ []) is ∙ sym (take_more items i x.place below)

@@ -1,6 +1,8 @@
 pub mod Again
 pub mod Asking
 pub mod Bounding
+pub mod Candidacy
+pub mod Choosing
 pub mod Completed
 pub mod Counted
 pub mod Entered
@@ -9,8 +11,10 @@ pub mod Following
 pub mod Given
 pub mod HitsHere
 pub mod Knowing
+pub mod Leaving
 pub mod Looked
 pub mod Making
+pub mod Meeting
 pub mod Moved
 pub mod Opening
 pub mod Owning
@@ -21,4 +25,5 @@ pub mod Since
 pub mod Slotted
 pub mod Stale
 pub mod Standing
+pub mod Standings
 pub mod Ticking

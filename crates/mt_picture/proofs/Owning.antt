@@ -1,5 +1,5 @@
 -- Each flight of a snapshot has one slot.
-use Rattle.std.proofs.Common.{◌≡◌, ◌/◌, ⊎_elim, List, Option, Some, set, sym, ◌∙◌, ap, subst}
+use Rattle.std.proofs.Common.{◌≡◌, ◌/◌, ⊎_elim, sym, ◌∙◌, ap}
 use Rattle.std.proofs.lemmas.Bool.{cases_eq}
 use Rattle.mt_base.specs.Picture.{NamedTrajectory}
 use Rattle.mt_kept.specs.Places.{HaveOwnSlots}

@@ -1,5 +1,6 @@
 pub mod Asked
 pub mod Asking
+pub mod Candidates
 pub mod Entries
 pub mod Finding
 pub mod Hits

@@ -1,6 +1,7 @@
 -- What a prep says of the trajectories of a snapshot. No public contract cites these.
-use Rattle.std.specs.Prelude.{◌≡◌, ◌≢◌, ◌<◌, ◌≤◌, ◌/◌, ℕ, List, Bool, true, Option, Some, None, Contains, get_or, map}
+use Rattle.std.specs.Prelude.{◌≡◌, ◌≢◌, ◌<◌, ◌≤◌, ◌/◌, ℕ, List, Bool, true, Option, Some, None, AllPairs, Contains, get_or, map}
 use Rattle.mt_base.specs.declared.conflict.Kind.{Kind}
+use Rattle.mt_base.specs.Conflict.{IsLossSecond}
 use Rattle.mt_base.specs.Picture.{NamedTrajectory}
 use Rattle.mt_base.specs.Trajectory.{Trajectory}
 use Rattle.mt_cover.specs.Cells.{cover_of}
@@ -8,12 +9,13 @@ use Rattle.mt_kept.specs.declared.finds.Candidate.{Candidate}
 use Rattle.mt_kept.specs.declared.finds.Verdict.{Verdict}
 use Rattle.mt_kept.specs.declared.finds.Verdict.TheVariants.{Known, Unknown}
 use Rattle.mt_kept.specs.Finds.{IsRight, place_of}
+use Rattle.mt_kept.specs.Places.{at, horizon}
 use Rattle.mt_probe.specs.declared.flight.Flight.{Flight}
 use Rattle.mt_probe.specs.declared.flight.Made.{Made}
-use Rattle.mt_probe.specs.Items.{AreNearItems, kind_at}
+use Rattle.mt_probe.specs.Items.{IsNearItem, kind_at}
 use Rattle.mt_probe.specs.Prepared.{Prepared}
 use Rattle.mt_probe.specs.Shot.{Shot, made_of}
-use Rattle.mt_picture.specs.Places.{made_of_kind}
+use Rattle.mt_picture.specs.Places.{all_places, made_of_kind}
 
 -- A new trajectory is the prep's, where the prep is known to be of use.
 abbrev pub IsPreps : Prepared → Bool → Trajectory → Type 0
@@ -39,7 +41,11 @@ pub record IsKnown (p : Prepared) (known : Bool) (slots : List (Option Flight)) 
   pub earlier : (span : Option (ℕ × ℕ)) → x.verdict ≡ Known span → IsEarlierAt p (get_or slots (x.place / 2) None) (kind_at x.place)
   pub later : known ≡ true → x.verdict ≡ Unknown → IsLaterAt p (get_or slots (x.place / 2) None) (kind_at x.place)
 
--- The candidates of a trajectory: the trajectories that are near it, with what is known of them.
+-- The candidates of a trajectory: each is near it and is listed once, with what is known of it. What stands of another flight and has a loss second
+-- with it is one.
 pub record AreNear (shot : Shot) (t : Trajectory) (p : Prepared) (known : Bool) (xs : List Candidate) : Type 0 where
-  pub near : AreNearItems shot (cover_of shot.setup.rules t) (map place_of xs)
+  pub near : (x : Candidate) → Contains xs x → IsNearItem shot (cover_of shot.setup.rules t) x.place
   pub known_is : (x : Candidate) → Contains xs x → IsKnown p known shot.slots x
+  pub complete : (j k : ℕ) (other : NamedTrajectory) → at (all_places shot.slots) j ≡ Some other → other.call ≢ p.card.call → k < horizon
+      → IsLossSecond shot.setup.rules t other.path k → Contains (map place_of xs) j
+  pub once : AllPairs (λ x y. x.place ≢ y.place) xs

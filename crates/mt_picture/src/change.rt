@@ -9,11 +9,11 @@ ghost use Rattle.mt_probe.specs.Shot.{flight_at};
 ghost use Rattle.mt_picture.specs.Asking.{WasAsked, WasAskedOf};
 ghost use Rattle.mt_picture.specs.Finding.{AreFindsFor};
 ghost use Rattle.mt_picture.specs.Places.{all_places, first_of, made_of_kind, place_kind, place_other, second_of};
-ghost use Rattle.mt_picture.specs.Stamps.{HaveStood};
+ghost use Rattle.mt_picture.specs.Stamps.{AreStamped, HaveStood};
 ghost use Rattle.mt_picture.specs.Verdicts.{IsPreps};
 
 use crate::verdicts::candidates;
-use mt_base::{Kind, Memory, Tally};
+use mt_base::{Entry, Kind, Memory, Tally};
 use mt_kept::{Kept, OpenPair};
 use mt_probe::{Flight, Prep, Snapshot};
 use mt_track::Item;
@@ -81,6 +81,7 @@ fn new_finds(
     alloc: Global,
     kept: &Kept,
     snapshot: &Snapshot,
+    history: &[Entry],
     place: u32,
     item: &Option<Item>,
     prep: &Prep,
@@ -93,6 +94,7 @@ fn new_finds(
     requires setup { prep.now.setup ≡ snapshot.now.setup }
     requires call { (m : NamedTrajectory) → seen item.now ≡ Some m → m.call ≡ prep.now.card.call }
     requires known { (m : NamedTrajectory) → seen item.now ≡ Some m → IsPreps prep.now known m.path }
+    requires stamped { AreStamped snapshot.now.setup history.now snapshot.now.slots }
     requires stood { HaveStood snapshot.now prep.now }
     ensures counted { (m : NamedTrajectory) → seen item.now ≡ Some m → WasAsked snapshot.now prep.now known place m tests.old tests.new }
     ensures finds { IfOk result (λ finds. AreFindsFor kept.now.rules kept.now.places kept.now.moment place (seen item.now) finds.items) }
@@ -100,9 +102,7 @@ fn new_finds(
     let Some(item) = item else {
         return Ok(Vec::new(alloc));
     };
-    let _version = snapshot.version();
-    let _end = item.strand.end();
-    let candidates = candidates(alloc, snapshot, &item.strand, prep, known)?;
+    let candidates = candidates(alloc, snapshot, history, &item.strand, prep, known)?;
     kept.gather(alloc, place, item, &candidates, tests)
 }
 
@@ -142,6 +142,7 @@ fn change_actual(
     alloc: Global,
     kept: &Kept,
     snapshot: &Snapshot,
+    history: &[Entry],
     slot: u32,
     flight: &Flight,
     prep: &Prep,
@@ -156,6 +157,7 @@ fn change_actual(
     requires call { flight.now.card.call ≡ prep.now.card.call }
     requires new { (m : NamedTrajectory) → first_of (Some flight.now) ≡ Some m → IsPreps prep.now known m.path }
     requires other { (m : NamedTrajectory) → second_of (Some flight.now) ≡ Some m → second_of (flight_at snapshot.now slot) ≡ Some m }
+    requires stamped { AreStamped snapshot.now.setup history.now snapshot.now.slots }
     requires stood { HaveStood snapshot.now prep.now }
     requires was { (g : Flight) → flight_at snapshot.now slot ≡ Some g → g.card.call ≡ flight.now.card.call }
     ensures first { IfOk result (λ change. seen change.first ≡ first_of (Some flight.now)) }
@@ -167,7 +169,17 @@ fn change_actual(
     let _version = snapshot.version();
     let first = first_item(flight)?;
     let second = second_item(flight)?;
-    let finds = new_finds(alloc, kept, snapshot, 2 * slot, &first, prep, known, tests)?;
+    let finds = new_finds(
+        alloc,
+        kept,
+        snapshot,
+        history,
+        2 * slot,
+        &first,
+        prep,
+        known,
+        tests,
+    )?;
     let others = kept_finds(alloc, kept, 2 * slot + 1, &second)?;
     joined(first, second, finds, others)
 }
@@ -177,6 +189,7 @@ fn change_mark(
     alloc: Global,
     kept: &Kept,
     snapshot: &Snapshot,
+    history: &[Entry],
     slot: u32,
     flight: &Flight,
     prep: &Prep,
@@ -191,6 +204,7 @@ fn change_mark(
     requires call { flight.now.card.call ≡ prep.now.card.call }
     requires new { (m : NamedTrajectory) → second_of (Some flight.now) ≡ Some m → IsPreps prep.now known m.path }
     requires other { (m : NamedTrajectory) → first_of (Some flight.now) ≡ Some m → first_of (flight_at snapshot.now slot) ≡ Some m }
+    requires stamped { AreStamped snapshot.now.setup history.now snapshot.now.slots }
     requires stood { HaveStood snapshot.now prep.now }
     requires was { (g : Flight) → flight_at snapshot.now slot ≡ Some g → g.card.call ≡ flight.now.card.call }
     ensures first { IfOk result (λ change. seen change.first ≡ first_of (Some flight.now)) }
@@ -207,6 +221,7 @@ fn change_mark(
         alloc,
         kept,
         snapshot,
+        history,
         2 * slot + 1,
         &second,
         prep,
@@ -222,6 +237,7 @@ pub(crate) fn change_for(
     alloc: Global,
     kept: &Kept,
     snapshot: &Snapshot,
+    history: &[Entry],
     slot: u32,
     flight: &Flight,
     kind: Kind,
@@ -237,6 +253,7 @@ pub(crate) fn change_for(
     requires call { flight.now.card.call ≡ prep.now.card.call }
     requires new { (m : NamedTrajectory) → place_kind kind (Some flight.now) ≡ Some m → IsPreps prep.now known m.path }
     requires other { (m : NamedTrajectory) → place_other kind (Some flight.now) ≡ Some m → place_other kind (flight_at snapshot.now slot) ≡ Some m }
+    requires stamped { AreStamped snapshot.now.setup history.now snapshot.now.slots }
     requires stood { HaveStood snapshot.now prep.now }
     requires was { (g : Flight) → flight_at snapshot.now slot ≡ Some g → g.card.call ≡ flight.now.card.call }
     ensures first { IfOk result (λ change. seen change.first ≡ first_of (Some flight.now)) }
@@ -246,8 +263,12 @@ pub(crate) fn change_for(
     ensures counted { (m : NamedTrajectory) → place_kind kind (Some flight.now) ≡ Some m → WasAskedOf snapshot.now prep.now known m tests.old tests.new }
 {
     match kind {
-        Kind::Actual => change_actual(alloc, kept, snapshot, slot, flight, prep, known, tests),
-        Kind::Tentative => change_mark(alloc, kept, snapshot, slot, flight, prep, known, tests),
+        Kind::Actual => change_actual(
+            alloc, kept, snapshot, history, slot, flight, prep, known, tests,
+        ),
+        Kind::Tentative => change_mark(
+            alloc, kept, snapshot, history, slot, flight, prep, known, tests,
+        ),
     }
 }
 

@@ -81,6 +81,30 @@ fn slot_of(snapshot: &Snapshot, who: u32, command: &Command, card: &Record) -> u
     slot
 }
 
+// The flight as the entry of a command leaves it. A prep of this version has it.
+fn card_left(
+    held: &Held,
+    alloc: Global,
+    who: u32,
+    command: &Command,
+    prep: &Prep,
+) -> Result<Record, Memory>
+    requires held { IsPicture held.now.snapshot held.now.history.items held.now.kept }
+    requires passed { judged (checks held.now.snapshot.setup (look_at (state_in held.now.snapshot) command.now) who command.now) (tt {0}) ≡ Ok (tt {0}) }
+    requires bounded { IsBoundedCommand command.now }
+    requires prepared { IsPrepFor (record { setup = held.now.snapshot.setup; history = held.now.history.items }) who command.now prep.now }
+    ensures { IfOk result (IsLeft held.now.snapshot.setup (state_in held.now.snapshot) who command.now) }
+{
+    let version = held.snapshot.version();
+    if prep.version() == version {
+        return prep.card().copy(alloc);
+    }
+    let Ok(card) = left_of(alloc, &held.snapshot, who, command)? else {
+        unreachable!()
+    };
+    Ok(card)
+}
+
 // Enters a command that makes a trajectory.
 fn enter_strand(
     held: &mut Held,
@@ -104,9 +128,7 @@ fn enter_strand(
 {
     let _version = held.snapshot.version();
     let _prepared = prep.version();
-    let Ok(card) = left_of(alloc, &held.snapshot, who, command)? else {
-        unreachable!()
-    };
+    let card = card_left(held, alloc, who, command, prep)?;
     let known = is_usable(&held.snapshot, &held.history, who, command, prep);
     if is_filing(command) {
         return enter_filing(held, alloc, who, command, card, prep, known, tests);

@@ -71,6 +71,7 @@ fn put_made(
         alloc,
         &held.kept,
         &held.snapshot,
+        &held.history,
         slot,
         &flight,
         kind,

@@ -7,8 +7,11 @@ mod enter;
 mod entering;
 mod held;
 mod hits;
+mod later;
 mod laws;
+mod near;
 mod picture;
+mod places;
 mod usable;
 mod verdicts;
 

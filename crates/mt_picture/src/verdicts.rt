@@ -1,73 +1,100 @@
-//! What a prep says of the trajectories that stand now.
-ghost use Rattle.std.specs.Prelude.{◌≡◌, ℕ, Option, IfOk, true};
-ghost use Rattle.mt_kept.specs.declared.finds.Verdict.TheVariants.{Known, Unknown};
-ghost use Rattle.mt_probe.specs.Items.{kind_at};
-ghost use Rattle.mt_probe.specs.Shot.{flight_at};
-ghost use Rattle.mt_picture.specs.Stamps.{HaveStood};
-ghost use Rattle.mt_picture.specs.Verdicts.{AreNear, IsEarlierAt, IsLaterAt, IsRightAt};
+//! The candidates of a new trajectory, and what a prep says of them.
+ghost use Rattle.std.specs.Prelude.{◌≡◌, ◌≤◌, ◌++◌, ℕ, IfOk, IfSome, IsSomeAnd, OnOk, map};
+ghost use Rattle.mt_cover.specs.Cells.{cover_of};
+ghost use Rattle.mt_picture.specs.Candidates.{AreAllNear, AreStill, IsStill, Stands, unknown_at};
+ghost use Rattle.mt_picture.specs.Stamps.{AreStamped, HaveStood};
+ghost use Rattle.mt_picture.specs.Verdicts.{AreNear, IsPreps};
 
-use mt_base::{Kind, Memory};
+use crate::later::later_places;
+use crate::near::near_ones;
+use crate::places::find_trajectory;
+use mt_base::{Entry, Memory};
 use mt_cover::cover;
 use mt_kept::{Candidate, Verdict};
-use mt_probe::{Prep, Snapshot};
+use mt_probe::{Found, Prep, Snapshot};
 use mt_track::Strand;
 use std::alloc::Global;
 
-// What a prep says of the trajectory of a kind of the flight at a place: nothing, where it isn't known to be of use, or where that
-// trajectory was made after it.
-fn verdict(snapshot: &Snapshot, slot: u32, kind: Kind, prep: &Prep, known: bool) -> Verdict
-    requires stood { HaveStood snapshot.now prep.now }
-    ensures right { IsRightAt prep.now known (flight_at snapshot.now slot) kind result }
-    ensures earlier { (span : Option (ℕ × ℕ)) → result ≡ Known span → IsEarlierAt prep.now (flight_at snapshot.now slot) kind }
-    ensures later { known ≡ true → result ≡ Unknown → IsLaterAt prep.now (flight_at snapshot.now slot) kind }
+// What was found with a trajectory, as a candidate in its place; `None` exactly where it stands nowhere, or was made after that version.
+fn still(snapshot: &Snapshot, found: &Found, version: u64) -> Option<Candidate>
+    ensures there { IfSome result (IsStill snapshot.now.slots version found.now) }
+    ensures only { (place stamp : ℕ) → Stands snapshot.now.slots place found.now.call found.now.kind stamp → stamp ≤ version
+        → IsSomeAnd result (λ x. x.place ≡ place) }
 {
-    let Some(stamp) = snapshot.stamp(slot, kind) else {
-        return Verdict::Unknown;
-    };
-    let Some(card) = snapshot.flight(slot) else {
-        return Verdict::Unknown;
-    };
-    if !known {
-        return Verdict::Unknown;
+    let it = find_trajectory(snapshot, found.call, found.kind)?;
+    if version < it.stamp {
+        return None;
     }
-    if prep.version() < stamp {
-        return Verdict::Unknown;
-    }
-    match prep.found(card.call, kind) {
-        Some(found) => Verdict::Known(found.whole),
-        None => Verdict::Known(None),
-    }
+    Some(Candidate {
+        place: it.place,
+        verdict: Verdict::Known(found.whole),
+    })
 }
 
-// The kind of trajectory that an item names.
-fn kind_of(item: u32) -> Kind
-    ensures { result ≡ kind_at item }
+// What a prep found, as far as it stands and was made by the prep's version.
+fn still_ones(alloc: Global, snapshot: &Snapshot, prep: &Prep) -> Result<Vec<Candidate>, Memory>
+    ensures { IfOk result (λ list. AreStill snapshot.now.slots prep.now.state.version prep.now.finds list.items) }
 {
-    if item.is_multiple_of(2) {
-        Kind::Actual
-    } else {
-        Kind::Tentative
+    let version = prep.version();
+    let mut list = Vec::new(alloc);
+    for found in prep.finds() {
+        if let Some(candidate) = still(snapshot, found, version) {
+            list.push(candidate)?;
+        }
     }
+    Ok(list)
 }
 
-/// The trajectories that are near a new one, with what the prep says of them where it is known to be of use.
-pub(crate) fn candidates(
-    alloc: Global,
-    snapshot: &Snapshot,
-    strand: &Strand,
-    prep: &Prep,
-    known: bool,
-) -> Result<Vec<Candidate>, Memory>
-    requires stood { HaveStood snapshot.now prep.now }
-    ensures { IfOk result (λ list. AreNear snapshot.now strand.now prep.now known list.items) }
+// Puts candidates of which nothing is known behind others.
+fn add_unknown(list: &mut Vec<Candidate>, places: &[u32]) -> Result<(), Memory>
+    ensures { OnOk result (list.new.items ≡ list.old.items ++ map unknown_at places.now) }
+{
+    for place in places {
+        list.push(Candidate {
+            place: *place,
+            verdict: Verdict::Unknown,
+        })?;
+    }
+    Ok(())
+}
+
+// All trajectories that are near a new one.
+fn all_near(alloc: Global, snapshot: &Snapshot, strand: &Strand) -> Result<Vec<Candidate>, Memory>
+    ensures { IfOk result (λ list. AreAllNear snapshot.now (cover_of snapshot.now.setup.rules strand.now) list.items) }
 {
     let cover = cover(alloc, strand, snapshot.rules())?;
     let items = snapshot.near(&cover)?;
     let mut list = Vec::new(alloc);
-    for item in &items {
-        let place = *item;
-        let verdict = verdict(snapshot, place / 2, kind_of(place), prep, known);
-        list.push(Candidate { place, verdict })?;
+    add_unknown(&mut list, &items)?;
+    Ok(list)
+}
+
+/// The candidates of a new trajectory. Where the prep is known to be of use, they are what it found, as far as that stands, and of the
+/// flights that the entries since name the trajectories that were made since and are near. Else they are all that are near, and nothing is
+/// known of them.
+pub(crate) fn candidates(
+    alloc: Global,
+    snapshot: &Snapshot,
+    history: &[Entry],
+    strand: &Strand,
+    prep: &Prep,
+    known: bool,
+) -> Result<Vec<Candidate>, Memory>
+    requires setup { prep.now.setup ≡ snapshot.now.setup }
+    requires preps { IsPreps prep.now known strand.now }
+    requires stamped { AreStamped snapshot.now.setup history.now snapshot.now.slots }
+    requires stood { HaveStood snapshot.now prep.now }
+    ensures { IfOk result (λ list. AreNear snapshot.now strand.now prep.now known list.items) }
+{
+    let _version = snapshot.version();
+    let _end = strand.end();
+    if !known {
+        return all_near(alloc, snapshot, strand);
     }
+    let version = prep.version();
+    let mut list = still_ones(alloc, snapshot, prep)?;
+    let later = later_places(alloc, snapshot, history, version)?;
+    let near = near_ones(alloc, snapshot, strand, &later)?;
+    add_unknown(&mut list, &near)?;
     Ok(list)
 }

@@ -8,15 +8,17 @@ use Rattle.mt_kept.specs.Places.{seen}
 use Rattle.mt_picture.proofs.Knowing.{candidates_right}
 use Rattle.mt_picture.proofs.change.new_finds.Goals as goal
 
+pub candidates-requires-clause-preps : goal.candidates-requires-clause-preps
+candidates-requires-clause-preps c = rw c.deref.ensures (c.requires.known (named c.in-Some.item) (ap seen c.in-Some.is))
+
 pub gather-requires : goal.gather-requires
 gather-requires c =
     let s = c.args.snapshot.now in
     let mine = named c.in-Some.item in
     let is = ap seen c.in-Some.is in
-    let laid = rw c.deref.ensures at c.end-end.ensures.kept in
-    let near = rw c.deref-2.ensures at c.in_ok-candidates.ensures in
-    rw (c.requires.rules, c.requires.places, c.deref-3.ensures.value)
-    (candidates_right s c.args.place mine c.args.prep.now c.args.known c.in_ok-candidates.candidates.items c.version-version.ensures.kept laid
+    let near = rw c.deref.ensures at c.in_ok-candidates.ensures in
+    rw (c.requires.rules, c.requires.places, c.deref-2.ensures.value)
+    (candidates_right s c.args.place mine c.args.prep.now c.args.known c.in_ok-candidates.candidates.items
     (ap (λ (u : Setup). u.rules) c.requires.setup) (c.requires.call mine is) (c.requires.known mine is) near)
 
 pub returns-clause-finds : goal.returns-clause-finds
@@ -36,7 +38,7 @@ pub returns-clause-counted : goal.returns-clause-counted
 returns-clause-counted c = λ m is.
     let s = c.args.snapshot.now in
     let own : named c.in-Some.item ≡ m = (let both = sym (ap seen c.in-Some.is) ∙ is in cc) in
-    let near = rw c.deref-2.ensures at c.in_ok-candidates.ensures in
-    let rose = rw (c.requires.places, c.requires.moment, c.deref-3.ensures.value) at c.gather.ensures.counted in
+    let near = rw c.deref.ensures at c.in_ok-candidates.ensures in
+    let rose = rw (c.requires.places, c.requires.moment, c.deref-2.ensures.value) at c.gather.ensures.counted in
     subst (λ (u : NamedTrajectory). WasAsked s c.args.prep.now c.args.known c.args.place u c.args.tests.now c.gather.new.tests) own
     (inr (record { xs = c.in_ok-candidates.candidates.items; near = near; rose = rose }))

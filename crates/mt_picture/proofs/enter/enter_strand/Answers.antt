@@ -1,43 +1,28 @@
-use Rattle.std.proofs.Common.{◌≡◌, ◌∙◌, sym, Some, subst, refl}
+use Rattle.std.proofs.Common.{◌≡◌, sym, Some, subst, refl}
 use Rattle.mt_base.specs.Picture.{State}
 use Rattle.mt_probe.specs.Prepared.{IsLeft, left_made}
 use Rattle.mt_probe.specs.Shot.{state_of as state_in}
-use Rattle.mt_change.proofs.Filling.{bounded_besides}
 use Rattle.mt_picture.specs.Story.{Story}
 use Rattle.mt_picture.proofs.Bounding.{none_preps, within_both, within_preps}
-use Rattle.mt_picture.proofs.Passing.{aside_passes, few_entries}
+use Rattle.mt_picture.proofs.Passing.{few_entries}
 use Rattle.mt_picture.proofs.Remade.{remaking_alters}
 use Rattle.mt_picture.proofs.Stale.{prep_call, remakes, usable_card}
 use Rattle.mt_picture.proofs.Standing.{have_stood}
 use Rattle.mt_picture.proofs.enter.enter_strand.Goals as goal
 
-pub left_of-requires-clause-makes : goal.left_of-requires-clause-makes
-left_of-requires-clause-makes c = c.requires.prepared.makes
-
-pub left_of-requires-clause-bounded : goal.left_of-requires-clause-bounded
-left_of-requires-clause-bounded c = bounded_besides c.args.command.now c.requires.bounded
-
-pub unreachable-requires : goal.unreachable-requires
-unreachable-requires c =
-    let shot = c.args.held.now.snapshot in
-    let passes = aside_passes shot.setup (state_in shot) c.args.who c.version-version.ensures.kept.rules c.args.command.now c.requires.passed in
-    let refused = rw c.in_default.is at c.in_ok-card.ensures in
-    let both = sym refused ∙ passes in
-    cc
-
 pub enter_filing-requires-clause-of : goal.enter_filing-requires-clause-of
 enter_filing-requires-clause-of c =
     let shot = c.args.held.now.snapshot in
     let story : Story = record { setup = shot.setup; history = c.args.held.now.history.items } in
-    let left : IsLeft shot.setup (state_in shot) c.args.who c.args.command.now c.in-Ok.card = rw c.in-Ok.is at c.in_ok-card.ensures in
-    prep_call story c.args.who c.args.command.now c.args.prep.now c.in-Ok.card.call c.requires.prepared c.version-prepared.ensures.kept left.call_is
+    let left : IsLeft shot.setup (state_in shot) c.args.who c.args.command.now c.in_ok-card.card = c.in_ok-card.ensures in
+    prep_call story c.args.who c.args.command.now c.args.prep.now c.in_ok-card.card.call c.requires.prepared c.version-prepared.ensures.kept left.call_is
 
 pub enter_filing-requires-clause-known : goal.enter_filing-requires-clause-known
 enter_filing-requires-clause-known c = λ is.
     let shot = c.args.held.now.snapshot in
-    let left : IsLeft shot.setup (state_in shot) c.args.who c.args.command.now c.in-Ok.card = rw c.in-Ok.is at c.in_ok-card.ensures in
+    let left : IsLeft shot.setup (state_in shot) c.args.who c.args.command.now c.in_ok-card.card = c.in_ok-card.ensures in
     let usable = rw c.deref.ensures.value at (c.is_usable-known.ensures.usable is) in
-    usable_card shot c.args.held.now.history.items c.args.who c.args.command.now c.args.prep.now c.in-Ok.card c.version-version.ensures.kept c.requires.held.stands
+    usable_card shot c.args.held.now.history.items c.args.who c.args.command.now c.args.prep.now c.in_ok-card.card c.version-version.ensures.kept c.requires.held.stands
     c.requires.prepared c.version-prepared.ensures.kept usable left
 
 pub enter_filing-requires-clause-stood : goal.enter_filing-requires-clause-stood
@@ -61,15 +46,15 @@ pub remake-requires-clause-of : goal.remake-requires-clause-of
 remake-requires-clause-of c =
     let shot = c.args.held.now.snapshot in
     let story : Story = record { setup = shot.setup; history = c.args.held.now.history.items } in
-    let left : IsLeft shot.setup (state_in shot) c.args.who c.args.command.now c.in-Ok.card = rw c.in-Ok.is at c.in_ok-card.ensures in
-    prep_call story c.args.who c.args.command.now c.args.prep.now c.in-Ok.card.call c.requires.prepared c.version-prepared.ensures.kept left.call_is
+    let left : IsLeft shot.setup (state_in shot) c.args.who c.args.command.now c.in_ok-card.card = c.in_ok-card.ensures in
+    prep_call story c.args.who c.args.command.now c.args.prep.now c.in_ok-card.card.call c.requires.prepared c.version-prepared.ensures.kept left.call_is
 
 pub remake-requires-clause-known : goal.remake-requires-clause-known
 remake-requires-clause-known c = λ is.
     let shot = c.args.held.now.snapshot in
-    let left : IsLeft shot.setup (state_in shot) c.args.who c.args.command.now c.in-Ok.card = rw c.in-Ok.is at c.in_ok-card.ensures in
+    let left : IsLeft shot.setup (state_in shot) c.args.who c.args.command.now c.in_ok-card.card = c.in_ok-card.ensures in
     let usable = rw c.deref.ensures.value at (c.is_usable-known.ensures.usable is) in
-    usable_card shot c.args.held.now.history.items c.args.who c.args.command.now c.args.prep.now c.in-Ok.card c.version-version.ensures.kept c.requires.held.stands
+    usable_card shot c.args.held.now.history.items c.args.who c.args.command.now c.args.prep.now c.in_ok-card.card c.version-version.ensures.kept c.requires.held.stands
     c.requires.prepared c.version-prepared.ensures.kept usable left
 
 pub remake-requires-clause-stood : goal.remake-requires-clause-stood
@@ -87,16 +72,16 @@ returns-then-is_filing-clause-counted c =
     let shot = c.args.held.now.snapshot in
     let story : Story = record { setup = shot.setup; history = c.args.held.now.history.items } in
     let p = c.args.prep.now in
-    let left : IsLeft shot.setup (state_in shot) c.args.who c.args.command.now c.in-Ok.card = rw c.in-Ok.is at c.in_ok-card.ensures in
+    let left : IsLeft shot.setup (state_in shot) c.args.who c.args.command.now c.in_ok-card.card = c.in_ok-card.ensures in
     let kept = c.version-prepared.ensures.kept in
     let stood = have_stood shot c.args.held.now.history.items p c.requires.held.stamped c.requires.prepared.setup_is c.requires.prepared.within c.requires.prepared.state_is in
-    within_preps story c.args.who c.args.command.now p c.in-Ok.card _ _
-    (subst (λ (s : State). IsLeft shot.setup s c.args.who c.args.command.now c.in-Ok.card) c.requires.held.stands left) (λ mine made.
+    within_preps story c.args.who c.args.command.now p c.in_ok-card.card _ _
+    (subst (λ (s : State). IsLeft shot.setup s c.args.who c.args.command.now c.in_ok-card.card) c.requires.held.stands left) (λ mine made.
     let here = subst (λ (s : State). left_made shot.setup s c.args.who c.args.command.now ≡ Some mine) (sym c.requires.held.stands) made in
-    within_both story shot c.args.who c.args.command.now p c.is_usable-known.result c.in-Ok.card mine _ _ c.version-version.ensures.kept refl c.requires.held.stands
+    within_both story shot c.args.who c.args.command.now p c.is_usable-known.result c.in_ok-card.card mine _ _ c.version-version.ensures.kept refl c.requires.held.stands
     c.requires.held.stamped c.requires.prepared kept left
-    (prep_call story c.args.who c.args.command.now p c.in-Ok.card.call c.requires.prepared kept left.call_is)
-    (λ is. usable_card shot c.args.held.now.history.items c.args.who c.args.command.now p c.in-Ok.card c.version-version.ensures.kept c.requires.held.stands
+    (prep_call story c.args.who c.args.command.now p c.in_ok-card.card.call c.requires.prepared kept left.call_is)
+    (λ is. usable_card shot c.args.held.now.history.items c.args.who c.args.command.now p c.in_ok-card.card c.version-version.ensures.kept c.requires.held.stands
     c.requires.prepared kept (rw c.deref.ensures.value at (c.is_usable-known.ensures.usable is)) left)
     (rw c.deref.ensures.value at c.is_usable-known.ensures.unusable) stood here (c.enter_filing.ensures.counted mine here))
 
@@ -105,15 +90,15 @@ returns-clause-counted c =
     let shot = c.args.held.now.snapshot in
     let story : Story = record { setup = shot.setup; history = c.args.held.now.history.items } in
     let p = c.args.prep.now in
-    let left : IsLeft shot.setup (state_in shot) c.args.who c.args.command.now c.in-Ok.card = rw c.in-Ok.is at c.in_ok-card.ensures in
+    let left : IsLeft shot.setup (state_in shot) c.args.who c.args.command.now c.in_ok-card.card = c.in_ok-card.ensures in
     let kept = c.version-prepared.ensures.kept in
     let stood = have_stood shot c.args.held.now.history.items p c.requires.held.stamped c.requires.prepared.setup_is c.requires.prepared.within c.requires.prepared.state_is in
-    within_preps story c.args.who c.args.command.now p c.in-Ok.card _ _
-    (subst (λ (s : State). IsLeft shot.setup s c.args.who c.args.command.now c.in-Ok.card) c.requires.held.stands left) (λ mine made.
+    within_preps story c.args.who c.args.command.now p c.in_ok-card.card _ _
+    (subst (λ (s : State). IsLeft shot.setup s c.args.who c.args.command.now c.in_ok-card.card) c.requires.held.stands left) (λ mine made.
     let here = subst (λ (s : State). left_made shot.setup s c.args.who c.args.command.now ≡ Some mine) (sym c.requires.held.stands) made in
-    within_both story shot c.args.who c.args.command.now p c.is_usable-known.result c.in-Ok.card mine _ _ c.version-version.ensures.kept refl c.requires.held.stands
+    within_both story shot c.args.who c.args.command.now p c.is_usable-known.result c.in_ok-card.card mine _ _ c.version-version.ensures.kept refl c.requires.held.stands
     c.requires.held.stamped c.requires.prepared kept left
-    (prep_call story c.args.who c.args.command.now p c.in-Ok.card.call c.requires.prepared kept left.call_is)
-    (λ is. usable_card shot c.args.held.now.history.items c.args.who c.args.command.now p c.in-Ok.card c.version-version.ensures.kept c.requires.held.stands
+    (prep_call story c.args.who c.args.command.now p c.in_ok-card.card.call c.requires.prepared kept left.call_is)
+    (λ is. usable_card shot c.args.held.now.history.items c.args.who c.args.command.now p c.in_ok-card.card c.version-version.ensures.kept c.requires.held.stands
     c.requires.prepared kept (rw c.deref.ensures.value at (c.is_usable-known.ensures.usable is)) left)
     (rw c.deref.ensures.value at c.is_usable-known.ensures.unusable) stood here (c.remake.ensures.counted mine here))

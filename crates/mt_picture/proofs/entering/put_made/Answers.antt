@@ -13,7 +13,7 @@ returns-then-is_some-clause-hits c = λ probed.
       ← places_set shot.slots c.args.slot (Some c.args.flight) c.requires.put.inside,
     ) at c.in_ok-change.ensures.finds in
     first_here shot c.args.slot c.args.flight c.in_ok-change.change.finds.items c.in_ok-first.first c.version-version.ensures.kept c.requires.put.inside finds
-    c.requires.put.was (rw (c.deref.ensures.value, c.now-now.ensures.now, c.callsign-call.ensures) at (c.in_ok-first.ensures.probed probed))
+    c.requires.put.was (rw (c.deref-2.ensures.value, c.now-now.ensures.now, c.callsign-call.ensures) at (c.in_ok-first.ensures.probed probed))
 
 pub returns-clause-hits : goal.returns-clause-hits
 returns-clause-hits c = λ probed.
@@ -26,7 +26,7 @@ returns-clause-hits c = λ probed.
       ← places_set shot.slots c.args.slot (Some c.args.flight) c.requires.put.inside,
     ) at c.in_ok-change.ensures.finds in
     first_here shot c.args.slot c.args.flight c.in_ok-change.change.finds.items None c.version-version.ensures.kept c.requires.put.inside finds c.requires.put.was
-    (rw (c.deref.ensures.value, c.now-now.ensures.now, none, c.callsign-call.ensures) at (c.in_ok-first.ensures.probed probed))
+    (rw (c.deref-2.ensures.value, c.now-now.ensures.now, none, c.callsign-call.ensures) at (c.in_ok-first.ensures.probed probed))
 
 pub returns-then-is_some-clause-free : goal.returns-then-is_some-clause-free
 returns-then-is_some-clause-free c = c.in_ok-first.ensures.free

@@ -1,0 +1,6 @@
+use Rattle.std.proofs.Common.{take}
+use Rattle.mt_picture.specs.Candidates.{AreStill}
+use Rattle.mt_picture.proofs.verdicts.still_ones.Given as goal
+
+abbrev pub invariant-loop-found : goal.invariant-loop-found
+invariant-loop-found l = AreStill l.snapshot.slots l.version (take l.found-index l.found-items) l.list.items

@@ -1,0 +1,51 @@
+//! Where trajectories stand.
+ghost use Rattle.std.specs.Prelude.{◌≡◌, ◌/◌, ◌<◌, ℕ, IfSome, Some};
+ghost use Rattle.mt_probe.specs.Items.{kind_at};
+ghost use Rattle.mt_picture.specs.Candidates.{Stands};
+
+use mt_base::{Callsign, Kind};
+use mt_probe::Snapshot;
+
+/// A place where a trajectory stands, and the version at which that was made.
+#[derive(Clone, Copy)]
+pub(crate) struct Standing {
+    /// The place.
+    pub(crate) place: u32,
+    /// The version.
+    pub(crate) stamp: u64,
+}
+
+/// The kind of trajectory that stands in a place.
+pub(crate) fn kind_of(place: u32) -> Kind
+    ensures { result ≡ kind_at place }
+{
+    if place.is_multiple_of(2) {
+        Kind::Actual
+    } else {
+        Kind::Tentative
+    }
+}
+
+// The place of a kind of trajectory of the flight in a slot.
+fn place_of(slot: u32, kind: Kind) -> u32
+    requires { slot < 2147483648 }
+    ensures slot { result / 2 ≡ slot }
+    ensures kind { kind_at result ≡ kind }
+{
+    match kind {
+        Kind::Actual => 2 * slot,
+        Kind::Tentative => 2 * slot + 1,
+    }
+}
+
+/// Where the trajectory of a kind of the flight of that callsign stands; `None` exactly where it stands nowhere.
+pub(crate) fn find_trajectory(snapshot: &Snapshot, call: Callsign, kind: Kind) -> Option<Standing>
+    ensures there { IfSome result (λ it. Stands snapshot.now.slots it.place call kind it.stamp) }
+    ensures only { (place stamp : ℕ) → Stands snapshot.now.slots place call kind stamp → result ≡ Some (record { place = place; stamp = stamp }) }
+{
+    let _version = snapshot.version();
+    let slot = snapshot.find(call)?;
+    let stamp = snapshot.stamp(slot, kind)?;
+    let place = place_of(slot, kind);
+    Some(Standing { place, stamp })
+}
