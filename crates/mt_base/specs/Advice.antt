@@ -11,12 +11,11 @@ use Rattle.mt_base.specs.declared.flight.Base.{Base}
 use Rattle.mt_base.specs.declared.flight.Course.{Course}
 use Rattle.mt_base.specs.declared.flight.Path.TheVariants.{Planned}
 use Rattle.mt_base.specs.declared.flight.Record.{Record}
-use Rattle.mt_base.specs.declared.hit.Hit.{Hit}
 use Rattle.mt_base.specs.Checks.{judged}
 use Rattle.mt_base.specs.Cleared.{base_from}
 use Rattle.mt_base.specs.Picture.{State, flight_of, trajectory_of}
 use Rattle.mt_base.specs.Tables.{Setup, Tables, bands_of, ceiling_of}
-use Rattle.mt_base.specs.WhatIf.{IsWhatIf, course_in}
+use Rattle.mt_base.specs.WhatIf.{IsConflicting, IsWhatIf, course_in}
 
 -- a level, where it isn't above the ceiling
 abbrev pub level_up_to : ℕ → ℕ → List Clearance
@@ -63,25 +62,25 @@ candidates_for setup now course = option_map_or (candidates setup.tables course)
 abbrev pub candidates_in : Setup → State → List ℕ → List Clearance
 candidates_in setup s call = option_map_or (candidates_for setup s.now) (course_in (flight_of s.records call)) []
 
--- A clearance that was tried, and its hits.
+-- A clearance that was tried, and whether it was found free.
 pub record Tried : Type 0 where
   pub clearance : Clearance
-  pub hits : List Hit
+  pub free : Bool
 
--- whether there are none
-abbrev pub has_none : List Hit → Bool
-has_none [] = true
-has_none (h ∷ hs) = false
+-- It is free where nothing would follow from it from the moment on; else something would.
+abbrev pub WasFound : Setup → State → List ℕ → Clearance → Bool → Type 0
+WasFound setup s call clearance true = IsWhatIf setup s call clearance None (Ok [])
+WasFound setup s call clearance false = IsConflicting setup s call clearance None
 
 -- the clearances that were found free, in order
 abbrev pub free_of : List Tried → List Clearance
-free_of tried = map (λ t. t.clearance) (filter (λ t. has_none t.hits) tried)
+free_of tried = map (λ t. t.clearance) (filter (λ t. t.free) tried)
 
--- Each candidate was tried, and has these hits; those without any are advised, in order.
+-- Each candidate was tried, and was found so; those that are free are advised, in order.
 pub record AreAdvised (setup : Setup) (s : State) (call : List ℕ) (advised : List Clearance) : Type 0 where
   pub tried : List Tried
   pub all : map (λ t. t.clearance) tried ≡ candidates_in setup s call
-  pub each : All (λ t. IsWhatIf setup s call t.clearance None (Ok t.hits)) tried
+  pub each : All (λ t. WasFound setup s call t.clearance t.free) tried
   pub free : advised ≡ free_of tried
 
 -- The advice for a flight: its first refusal, or the candidates whose what-if is empty.

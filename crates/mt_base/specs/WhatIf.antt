@@ -72,6 +72,11 @@ pub record AreHitsOf (setup : Setup) (s : State) (call : List ℕ) (t : Trajecto
   pub exact : (h : Hit) → Contains hits h ↔ IsHit setup s call t h
   pub sorted : IsStrictlySortedBy hit_cmp hits
 
+-- it has some hit
+pub record HasHit (setup : Setup) (s : State) (call : List ℕ) (t : Trajectory) : Type 0 where
+  pub hit : Hit
+  pub is : IsHit setup s call t hit
+
 -- the hits of a clearance of a flight
 abbrev pub AreHits : Setup → State → List ℕ → Clearance → ℕ → List Hit → Type 0
 AreHits setup s call clearance eff hits =
@@ -84,3 +89,10 @@ IsWhatIf setup s call clearance eff (Err refusal) =
 IsWhatIf setup s call clearance eff (Ok hits) =
     (judged (what_if_checks setup s.now (flight_of s.records call) call clearance (unwrap_or eff s.now)) (tt {0}) ≡ Ok (tt {0}))
     × AreHits setup s call clearance (unwrap_or eff s.now) hits
+
+-- Something would follow from a clearance of a flight that holds from second `eff` on, by default the moment: no check refuses it, and the
+-- trajectory that it would leave has some hit.
+abbrev pub IsConflicting : Setup → State → List ℕ → Clearance → Option ℕ → Type 0
+IsConflicting setup s call clearance eff =
+    (judged (what_if_checks setup s.now (flight_of s.records call) call clearance (unwrap_or eff s.now)) (tt {0}) ≡ Ok (tt {0}))
+    × IfSome (course_in (flight_of s.records call)) (λ course. HasHit setup s call (trajectory_cleared setup course clearance (unwrap_or eff s.now)))
