@@ -2,7 +2,7 @@
 use Rattle.std.proofs.Common.{◌≡◌, ℕ, ◌*◌, ◌<◌, ℤ, pos, neg_ℤ, ◌+ℤ◌, ◌-ℤ◌, ◌*ℤ◌, ◌<ℤ◌, ◌≤ℤ◌, ⊎_elim, arith, lit<}
 use Rattle.std.proofs.lemmas.Int.{ints}
 use Rattle.mt_ring.proofs.Ring.{lin, spread}
-use Rattle.mt_ring.proofs.Signs.{cases_ℤ, mul_nonneg, mul_pos}
+use Rattle.mt_ring.proofs.Signs.{cases_ℤ, mul_nonneg, mul_pos, weaken}
 use Rattle.mt_base.specs.declared.area.Area.{Area}
 use Rattle.mt_base.specs.declared.row.Row.{Row}
 use Rattle.mt_base.specs.Area.{IsBoundedArea, IsInsideAt, corner}
@@ -11,8 +11,9 @@ use Rattle.mt_base.specs.Instant.{value_at}
 use Rattle.mt_track.specs.Rows.{row_after}
 use Rattle.mt_area.specs.declared.reach.Extent.{Extent}
 use Rattle.mt_area.specs.declared.reach.Reach.{Reach}
+use Rattle.mt_area.specs.Lines.{IsDuring}
 use Rattle.mt_area.specs.Reach.{AreHeightsApart, AreSouthOrNorth, AreWestOrEast, Holds, HoldsAt, HoldsRow, HoldsRowAt, IsPlaced, IsWider, IsWiderReach, LieApart}
-use Rattle.mt_area.proofs.Instants.{moved}
+use Rattle.mt_area.proofs.Instants.{during, moved}
 use Rattle.mt_area.proofs.Rounds.{along, none_beyond}
 use Rattle.mt_area.proofs.Sides.{in_64, plane_size, read_64}
 
@@ -41,34 +42,21 @@ not_above h z v e n d d+ begun within first last = ⊎_elim
     omega (arith, lin, simp spread at p, simp spread at q))
     (cases_ℤ v)
 
--- an instant of one of some seconds, counted from the first of them
-record IsOver (e n d : ℤ) : Type 0 where
-  positive : pos 0 ≤ℤ d
-  begun : pos 0 ≤ℤ n
-  within : n ≤ℤ (e *ℤ d)
-
-counted : (k e n d : ℤ) → pos 0 ≤ℤ k → (k +ℤ pos 1) ≤ℤ e → pos 0 ≤ℤ n → n <ℤ d → IsOver e (n +ℤ k *ℤ d) d
-counted k e n d begun ahead n+ within =
-    let d+ : pos 0 ≤ℤ d = omega (arith, lin) in
-    let p = mul_nonneg k d begun d+ in
-    let q = mul_nonneg (e -ℤ k -ℤ pos 1) d (omega (arith, lin)) d+ in
-    record { positive = d+; begun = omega (arith, lin, p); within = omega (arith, lin, simp spread at q) }
-
-HoldsAt-between : (r : Extent) (z v k e n d : ℤ) → IsOver e (n +ℤ k *ℤ d) d → Holds r z → Holds r (z +ℤ v *ℤ e) → HoldsAt r (z +ℤ v *ℤ k) v n d
-HoldsAt-between r z v k e n d at first last = record {
-  low = rw (moved z v k n d) (not_below r.low z v e (n +ℤ k *ℤ d) d at.positive at.begun at.within first.low last.low);
-  high = rw (moved z v k n d) (not_above r.high z v e (n +ℤ k *ℤ d) d at.positive at.begun at.within first.high last.high);
+HoldsAt-between : (r : Extent) (z v k : ℤ) (seconds : ℕ) (n d : ℤ) → IsDuring seconds (n +ℤ k *ℤ d) d → Holds r z → Holds r (z +ℤ v *ℤ pos seconds) → HoldsAt r (z +ℤ v *ℤ k) v n d
+HoldsAt-between r z v k seconds n d at first last = record {
+  low = rw (moved z v k n d) (not_below r.low z v (pos seconds) (n +ℤ k *ℤ d) d (weaken at.positive) at.begun at.within first.low last.low);
+  high = rw (moved z v k n d) (not_above r.high z v (pos seconds) (n +ℤ k *ℤ d) d (weaken at.positive) at.begun at.within first.high last.high);
 }
 
 -- what holds the first row of some seconds with the same gains and the row behind their last one holds every instant of them
 pub HoldsRowAt-between : (reach : Reach) (row : Row) (seconds k : ℕ) → HoldsRow reach row → HoldsRow reach (row_after row seconds) → k < seconds
     → (n d : ℤ) → pos 0 ≤ℤ n → n <ℤ d → HoldsRowAt reach (row_after row k) n d
 HoldsRowAt-between reach row seconds k first last ahead n d n+ within =
-    let at = counted (pos k) (pos seconds) n d (omega (arith, ints)) (omega (arith, ints)) n+ within in
+    let at = during seconds k n d ahead n+ within in
     record {
-      x = HoldsAt-between reach.x row.x row.vx (pos k) (pos seconds) n d at first.x last.x;
-      y = HoldsAt-between reach.y row.y row.vy (pos k) (pos seconds) n d at first.y last.y;
-      z = HoldsAt-between reach.z row.z row.vz (pos k) (pos seconds) n d at first.z last.z;
+      x = HoldsAt-between reach.x row.x row.vx (pos k) seconds n d at first.x last.x;
+      y = HoldsAt-between reach.y row.y row.vy (pos k) seconds n d at first.y last.y;
+      z = HoldsAt-between reach.z row.z row.vz (pos k) seconds n d at first.z last.z;
     }
 
 -- a number that an extent holds by its bits, and a row that keeps its bounds for some seconds

@@ -1,19 +1,17 @@
 -- What the lines of an area say, and how great the numbers on the way to them are.
-use Rattle.std.proofs.Common.{◌≡◌, ◌≢◌, ⊎_elim, List, length, slice_set, negsuc, ℕ, ◌+◌, ◌*◌, ◌<◌, ◌≤◌, ℤ, pos, neg_ℤ, ◌+ℤ◌, ◌-ℤ◌, ◌*ℤ◌, ◌<ℤ◌, ◌↔◌, ◌^◌, ◌∙◌, ap₂, refl, FitsSigned, unsigned_abs, to_z, of_z, w64, arith, lit<}
+use Rattle.std.proofs.Common.{◌≡◌, ◌≢◌, List, length, negsuc, ℕ, ◌+◌, ◌*◌, ◌<◌, ◌≤◌, ℤ, pos, neg_ℤ, ◌+ℤ◌, ◌-ℤ◌, ◌*ℤ◌, ◌<ℤ◌, ◌↔◌, ◌^◌, ◌∙◌, ap₂, refl, FitsSigned, unsigned_abs, to_z, of_z, w64, arith, lit<}
 use Rattle.std.proofs.lemmas.Int.{ints, to_z-of_z}
-use Rattle.std.proofs.lemmas.Bool.{cases_lt}
-use Rattle.std.proofs.lemmas.List.{get_or-set_other, get_or-set_same}
 use Rattle.std.specs.Prelude.{slice_index_or}
 use mir.Syntax.{w128}
 use Rattle.mt_ring.proofs.Ring.{lin, spread}
-use Rattle.mt_ring.proofs.Sizes.{Abs, abs_mul, abs_sub, abs_to, fits_64, fits_128}
+use Rattle.mt_ring.proofs.Sizes.{Abs, abs_add, abs_mul, abs_sub, abs_to, fits_64, fits_128}
 use Rattle.mt_base.specs.declared.area.Area.{Area}
-use Rattle.mt_base.specs.Area.{IsBoundedArea, IsInsideAt, IsLeft, corner, cross, place_after}
+use Rattle.mt_base.specs.Area.{IsBoundedArea, IsLeft, corner, cross, place_after}
 use Rattle.mt_base.specs.Bounds.{IsBoundedRow, IsInPlane, IsWithin}
 use Rattle.mt_base.specs.Instant.{value_at}
 use Rattle.mt_base.specs.declared.row.Row.{Row}
 use Rattle.mt_frac.specs.declared.linear.Line.{Line}
-use Rattle.mt_frac.specs.Meeting.{AreBelow, IsBoundedSide}
+use Rattle.mt_frac.specs.Meeting.{IsBoundedSide}
 use Rattle.mt_frac.specs.Polynomials.{line_value}
 use Rattle.mt_area.specs.Lines.{IsLineOf, ceiling_of, floor_of, side_of}
 
@@ -188,29 +186,30 @@ nothing_says area row cs i same past not_floor not_ceiling = λ n d d+.
       (λ says. always_below n d d+),
     )
 
--- and what all of them say together
-pub all_says : (area : Area) (row : Row) (lines : List Line) → length lines ≡ 18 → ((k : ℕ) (d : Line) → k < 18 → IsLineOf area row k (slice_index_or lines k d))
-    → IsBoundedArea area → (n d : ℤ) → pos 0 <ℤ d → AreBelow lines n d ↔ IsInsideAt area row n d
-all_says area row lines len each kept n d d+ = (
-  (λ low.
-      let says = λ (k : ℕ) (less : k < 18). (each k blank less n d d+).0 (low k blank (omega arith)) in
-      record {
-        above = (says 16 (omega arith)).above refl;
-        below = (says 17 (omega arith)).below refl;
-        left = λ i place. (says i (omega (arith, kept.few))).left place;
-      }),
-  (λ at k dflt less. (each k dflt (omega arith) n d d+).1 (record { left = λ place. at.left k place; above = λ e. at.above; below = λ e. at.below })),
-) where
-  blank : Line
-  blank = record { b = pos 0; c = pos 0 }
+-- the value of a line after some seconds fits 128 bits
+pub record AfterFits (b c : ℤ) (seconds : ℕ) : Type 0 where
+  pub fits_b : FitsSigned w128 b
+  pub fits_c : FitsSigned w128 c
+  pub fits_seconds : FitsSigned w128 (pos seconds)
+  pub fits_product : FitsSigned w128 (b *ℤ pos seconds)
+  pub fits_all : FitsSigned w128 (b *ℤ pos seconds +ℤ c)
 
--- a line more
-pub each_more : (P : ℕ → Line → Type 0) (lines : List Line) (i : ℕ) (line : Line) → i < length lines → ((k : ℕ) (d : Line) → k < i → P k (slice_index_or lines k d))
-    → P i line → (k : ℕ) (d : Line) → k < i + 1 → P k (slice_index_or (slice_set lines i line) k d)
-each_more P lines i line below each one k d less = ⊎_elim
-    (λ before. rw (get_or-set_other lines i k line d (omega arith)) (each k d before))
-    (λ at. let same : k ≡ i = omega arith in rw (same, get_or-set_same lines i line d below) one)
-    (cases_lt k i)
+at_most : {m : ℕ} (z : ℤ) → unsigned_abs z < m → Abs m z
+at_most {m} (pos n) below = record { low = omega (arith, ints); high = omega (arith, ints) }
+at_most {m} (negsuc n) below = record { low = omega (arith, ints); high = omega (arith, ints) }
+
+pub after_fits : (line : Line) (seconds : ℕ) → IsBoundedSide line → seconds ≤ 14400 → AfterFits line.b line.c seconds
+after_fits line seconds bounded short =
+    let kb : Abs (2 ^ 40) line.b = at_most line.b bounded.b_bounded in
+    let kc : Abs (2 ^ 50) line.c = at_most line.c bounded.c_bounded in
+    let ks : Abs 14400 (pos seconds) = record { low = omega (arith, ints); high = omega (arith, ints) } in
+    record {
+      fits_b = fits_128 kb (lit< tt);
+      fits_c = fits_128 kc (lit< tt);
+      fits_seconds = fits_128 ks (lit< tt);
+      fits_product = fits_128 (abs_mul kb ks) (lit< tt);
+      fits_all = fits_128 (abs_add (abs_mul kb ks) kc) (lit< tt);
+    }
 
 -- the test of a corner, as the code makes it
 one_times : (a : ℤ) → pos 1 *ℤ a ≡ a

@@ -3,8 +3,8 @@
 //! While a trajectory keeps its gains, each side of an area and each of its levels is a line in time that is below 0 while the position is on
 //! the inner side of it. So some instant of some seconds is inside exactly where these lines are below 0 together somewhere in between.
 //!
-//! Two tests go before that question, which cost a few comparisons: the seconds are cut to the area's hours, and what lies with its box apart
-//! from the area's box has no instant inside. Both boxes are exact, so nothing is missed.
+//! Three tests go before that question, and cost little: the seconds are cut to the area's hours; what lies with its box apart from the area's box
+//! has no instant inside; and of the lines those alone are asked that cross 0 in these seconds. Each test is exact, so nothing is missed.
 #![tactic(auto)]
 
 mod area_no;

@@ -5,7 +5,8 @@ use Rattle.mt_track.specs.Named.{named}
 use Rattle.mt_area.specs.Telling.{Adds, IsPiercedByOne}
 use Rattle.mt_base.specs.Area.{IsBoundedArea}
 use Rattle.mt_area.proofs.Reaching.{none_pierced}
-use Rattle.mt_area.proofs.Tellings.{Adds-more, Adds-none, from_nothing, none_told, one_area_more, take_push}
+use Rattle.mt_area.proofs.Tellings.{Adds-more, Adds-none, from_nothing, none_told, one_area_more}
+use Rattle.mt_base.proofs.Members.{take_push}
 use Rattle.mt_area.proofs.passages.passages.Goals as goal
 
 pub loop-area-preserved-then-lie_apart : goal.loop-area-preserved-then-lie_apart
