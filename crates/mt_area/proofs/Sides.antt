@@ -44,7 +44,7 @@ pub ceiling_below : (row : Row) (level : ℕ) (n d : ℤ) → (line_value (ceili
     ↔ (value_at row.z row.vz n d <ℤ (pos (6000 * level) *ℤ d))
 ceiling_below row level n d = below_is _ _ _ (ceiling_value row.z row.vz (pos (6000 * level)) n d)
 
--- the parts of a cross product fit 128 bits
+-- the parts of a cross product fit 64 bits
 abbrev pub IsPlain : ℤ → Type 0
 IsPlain z = IsWithin (neg_ℤ (pos 7372800)) (pos 7372800) z
 
@@ -56,9 +56,13 @@ pub record CrossFits (x y u v : ℤ) : Type 0 where
   pub fits_y : FitsSigned w128 y
   pub fits_u : FitsSigned w128 u
   pub fits_v : FitsSigned w128 v
-  pub fits_xv : FitsSigned w128 (x *ℤ v)
-  pub fits_yu : FitsSigned w128 (y *ℤ u)
-  pub fits_all : FitsSigned w128 (x *ℤ v -ℤ y *ℤ u)
+  pub small_x : FitsSigned w64 x
+  pub small_y : FitsSigned w64 y
+  pub small_u : FitsSigned w64 u
+  pub small_v : FitsSigned w64 v
+  pub fits_xv : FitsSigned w64 (x *ℤ v)
+  pub fits_yu : FitsSigned w64 (y *ℤ u)
+  pub fits_all : FitsSigned w64 (x *ℤ v -ℤ y *ℤ u)
 
 pub cross_fits : (x y u v : ℤ) → IsPlain x → IsPlain y → IsPlain u → IsPlain v → CrossFits x y u v
 cross_fits x y u v hx hy hu hv =
@@ -71,9 +75,13 @@ cross_fits x y u v hx hy hu hv =
       fits_y = fits_128 ky (lit< tt);
       fits_u = fits_128 ku (lit< tt);
       fits_v = fits_128 kv (lit< tt);
-      fits_xv = fits_128 (abs_mul kx kv) (lit< tt);
-      fits_yu = fits_128 (abs_mul ky ku) (lit< tt);
-      fits_all = fits_128 (abs_sub (abs_mul kx kv) (abs_mul ky ku)) (lit< tt);
+      small_x = fits_64 kx (lit< tt);
+      small_y = fits_64 ky (lit< tt);
+      small_u = fits_64 ku (lit< tt);
+      small_v = fits_64 kv (lit< tt);
+      fits_xv = fits_64 (abs_mul kx kv) (lit< tt);
+      fits_yu = fits_64 (abs_mul ky ku) (lit< tt);
+      fits_all = fits_64 (abs_sub (abs_mul kx kv) (abs_mul ky ku)) (lit< tt);
     }
 
 -- numbers by their bits
@@ -186,13 +194,15 @@ nothing_says area row cs i same past not_floor not_ceiling = λ n d d+.
       (λ says. always_below n d d+),
     )
 
--- the value of a line after some seconds fits 128 bits
+-- the value of a line after some seconds fits 64 bits
 pub record AfterFits (b c : ℤ) (seconds : ℕ) : Type 0 where
   pub fits_b : FitsSigned w128 b
   pub fits_c : FitsSigned w128 c
-  pub fits_seconds : FitsSigned w128 (pos seconds)
-  pub fits_product : FitsSigned w128 (b *ℤ pos seconds)
-  pub fits_all : FitsSigned w128 (b *ℤ pos seconds +ℤ c)
+  pub small_b : FitsSigned w64 b
+  pub small_c : FitsSigned w64 c
+  pub fits_seconds : FitsSigned w64 (pos seconds)
+  pub fits_product : FitsSigned w64 (b *ℤ pos seconds)
+  pub fits_all : FitsSigned w64 (b *ℤ pos seconds +ℤ c)
 
 at_most : {m : ℕ} (z : ℤ) → unsigned_abs z < m → Abs m z
 at_most {m} (pos n) below = record { low = omega (arith, ints); high = omega (arith, ints) }
@@ -206,9 +216,11 @@ after_fits line seconds bounded short =
     record {
       fits_b = fits_128 kb (lit< tt);
       fits_c = fits_128 kc (lit< tt);
-      fits_seconds = fits_128 ks (lit< tt);
-      fits_product = fits_128 (abs_mul kb ks) (lit< tt);
-      fits_all = fits_128 (abs_add (abs_mul kb ks) kc) (lit< tt);
+      small_b = fits_64 kb (lit< tt);
+      small_c = fits_64 kc (lit< tt);
+      fits_seconds = fits_64 ks (lit< tt);
+      fits_product = fits_64 (abs_mul kb ks) (lit< tt);
+      fits_all = fits_64 (abs_add (abs_mul kb ks) kc) (lit< tt);
     }
 
 -- the test of a corner, as the code makes it

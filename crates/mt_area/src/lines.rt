@@ -84,7 +84,8 @@ fn value_after(line: Line, seconds: Second) -> i128
     requires short { seconds ≤ 14400 }
     ensures { result ≡ value_after line seconds }
 {
-    line.b * i128::from(seconds) + line.c
+    let after = line.b as i64 * i64::from(seconds) + line.c as i64;
+    i128::from(after)
 }
 
 /// Whether a line is below 0 at both ends of some seconds, and so at each instant of them.
