@@ -5,7 +5,7 @@ use Rattle.std.specs.Cmp.Lexicographic.{pointwise, bytes_decides}
 use Rattle.std.specs.Prelude.{nat_eq}
 use Rattle.mt_base.specs.declared.area.Area.{Area}
 use Rattle.mt_area.specs.Adding.{IsTaken}
-use Rattle.mt_area.proofs.Tellings.{take_push}
+use Rattle.mt_base.proofs.Members.{take_push}
 
 pub not_taken_more : (areas : List Area) (i : ℕ) (area : Area) (name : List ℕ) → i < length areas → area ≡ get_or areas i area → false ≡ pointwise nat_eq area.name name
     → ¬ IsTaken (take i areas) name → ¬ IsTaken (take (i + 1) areas) name

@@ -1,19 +1,17 @@
 -- What the lines of an area say, and how great the numbers on the way to them are.
-use Rattle.std.proofs.Common.{◌≡◌, ◌≢◌, ⊎_elim, List, length, slice_set, negsuc, ℕ, ◌+◌, ◌*◌, ◌<◌, ◌≤◌, ℤ, pos, neg_ℤ, ◌+ℤ◌, ◌-ℤ◌, ◌*ℤ◌, ◌<ℤ◌, ◌↔◌, ◌^◌, ◌∙◌, ap₂, refl, FitsSigned, unsigned_abs, to_z, of_z, w64, arith, lit<}
+use Rattle.std.proofs.Common.{◌≡◌, ◌≢◌, List, length, negsuc, ℕ, ◌+◌, ◌*◌, ◌<◌, ◌≤◌, ℤ, pos, neg_ℤ, ◌+ℤ◌, ◌-ℤ◌, ◌*ℤ◌, ◌<ℤ◌, ◌↔◌, ◌^◌, ◌∙◌, ap₂, refl, FitsSigned, unsigned_abs, to_z, of_z, w64, arith, lit<}
 use Rattle.std.proofs.lemmas.Int.{ints, to_z-of_z}
-use Rattle.std.proofs.lemmas.Bool.{cases_lt}
-use Rattle.std.proofs.lemmas.List.{get_or-set_other, get_or-set_same}
 use Rattle.std.specs.Prelude.{slice_index_or}
 use mir.Syntax.{w128}
 use Rattle.mt_ring.proofs.Ring.{lin, spread}
-use Rattle.mt_ring.proofs.Sizes.{Abs, abs_mul, abs_sub, abs_to, fits_64, fits_128}
+use Rattle.mt_ring.proofs.Sizes.{Abs, abs_add, abs_mul, abs_sub, abs_to, fits_64, fits_128}
 use Rattle.mt_base.specs.declared.area.Area.{Area}
-use Rattle.mt_base.specs.Area.{IsBoundedArea, IsInsideAt, IsLeft, corner, cross, place_after}
+use Rattle.mt_base.specs.Area.{IsBoundedArea, IsLeft, corner, cross, place_after}
 use Rattle.mt_base.specs.Bounds.{IsBoundedRow, IsInPlane, IsWithin}
 use Rattle.mt_base.specs.Instant.{value_at}
 use Rattle.mt_base.specs.declared.row.Row.{Row}
 use Rattle.mt_frac.specs.declared.linear.Line.{Line}
-use Rattle.mt_frac.specs.Meeting.{AreBelow, IsBoundedSide}
+use Rattle.mt_frac.specs.Meeting.{IsBoundedSide}
 use Rattle.mt_frac.specs.Polynomials.{line_value}
 use Rattle.mt_area.specs.Lines.{IsLineOf, ceiling_of, floor_of, side_of}
 
@@ -46,7 +44,7 @@ pub ceiling_below : (row : Row) (level : ℕ) (n d : ℤ) → (line_value (ceili
     ↔ (value_at row.z row.vz n d <ℤ (pos (6000 * level) *ℤ d))
 ceiling_below row level n d = below_is _ _ _ (ceiling_value row.z row.vz (pos (6000 * level)) n d)
 
--- the parts of a cross product fit 128 bits
+-- the parts of a cross product fit 64 bits
 abbrev pub IsPlain : ℤ → Type 0
 IsPlain z = IsWithin (neg_ℤ (pos 7372800)) (pos 7372800) z
 
@@ -58,9 +56,13 @@ pub record CrossFits (x y u v : ℤ) : Type 0 where
   pub fits_y : FitsSigned w128 y
   pub fits_u : FitsSigned w128 u
   pub fits_v : FitsSigned w128 v
-  pub fits_xv : FitsSigned w128 (x *ℤ v)
-  pub fits_yu : FitsSigned w128 (y *ℤ u)
-  pub fits_all : FitsSigned w128 (x *ℤ v -ℤ y *ℤ u)
+  pub small_x : FitsSigned w64 x
+  pub small_y : FitsSigned w64 y
+  pub small_u : FitsSigned w64 u
+  pub small_v : FitsSigned w64 v
+  pub fits_xv : FitsSigned w64 (x *ℤ v)
+  pub fits_yu : FitsSigned w64 (y *ℤ u)
+  pub fits_all : FitsSigned w64 (x *ℤ v -ℤ y *ℤ u)
 
 pub cross_fits : (x y u v : ℤ) → IsPlain x → IsPlain y → IsPlain u → IsPlain v → CrossFits x y u v
 cross_fits x y u v hx hy hu hv =
@@ -73,9 +75,13 @@ cross_fits x y u v hx hy hu hv =
       fits_y = fits_128 ky (lit< tt);
       fits_u = fits_128 ku (lit< tt);
       fits_v = fits_128 kv (lit< tt);
-      fits_xv = fits_128 (abs_mul kx kv) (lit< tt);
-      fits_yu = fits_128 (abs_mul ky ku) (lit< tt);
-      fits_all = fits_128 (abs_sub (abs_mul kx kv) (abs_mul ky ku)) (lit< tt);
+      small_x = fits_64 kx (lit< tt);
+      small_y = fits_64 ky (lit< tt);
+      small_u = fits_64 ku (lit< tt);
+      small_v = fits_64 kv (lit< tt);
+      fits_xv = fits_64 (abs_mul kx kv) (lit< tt);
+      fits_yu = fits_64 (abs_mul ky ku) (lit< tt);
+      fits_all = fits_64 (abs_sub (abs_mul kx kv) (abs_mul ky ku)) (lit< tt);
     }
 
 -- numbers by their bits
@@ -85,7 +91,7 @@ in_64 z = to_z w64 (of_z w64 z)
 abbrev pub in_128 : ℤ → ℤ
 in_128 z = to_z w128 (of_z w128 z)
 
-read_64 : {m : ℕ} (z : ℤ) → Abs m z → m < 2 ^ 63 → in_64 z ≡ z
+pub read_64 : {m : ℕ} (z : ℤ) → Abs m z → m < 2 ^ 63 → in_64 z ≡ z
 read_64 {m} z size small = to_z-of_z w64 z (fits_64 size small)
 
 -- the term v of the code is read as the number z, at most m in size
@@ -99,7 +105,7 @@ read_128 {m} v z e size small = record { is = rw e (to_z-of_z w128 z (fits_128 s
 abbrev IsInside64 : ℤ → Type 0
 IsInside64 z = IsWithin (neg_ℤ (pos 3686400)) (pos 3686400) z
 
-plane_size : (z : ℤ) → IsInside64 z → Abs 3686400 z
+pub plane_size : (z : ℤ) → IsInside64 z → Abs 3686400 z
 plane_size z kept = record { low = kept.least; high = kept.most }
 
 difference : (v a b : ℤ) → IsInside64 a → IsInside64 b → v ≡ in_64 b -ℤ in_64 a → IsRead 7372800 v (b -ℤ a)
@@ -188,29 +194,34 @@ nothing_says area row cs i same past not_floor not_ceiling = λ n d d+.
       (λ says. always_below n d d+),
     )
 
--- and what all of them say together
-pub all_says : (area : Area) (row : Row) (lines : List Line) → length lines ≡ 18 → ((k : ℕ) (d : Line) → k < 18 → IsLineOf area row k (slice_index_or lines k d))
-    → IsBoundedArea area → (n d : ℤ) → pos 0 <ℤ d → AreBelow lines n d ↔ IsInsideAt area row n d
-all_says area row lines len each kept n d d+ = (
-  (λ low.
-      let says = λ (k : ℕ) (less : k < 18). (each k blank less n d d+).0 (low k blank (omega arith)) in
-      record {
-        above = (says 16 (omega arith)).above refl;
-        below = (says 17 (omega arith)).below refl;
-        left = λ i place. (says i (omega (arith, kept.few))).left place;
-      }),
-  (λ at k dflt less. (each k dflt (omega arith) n d d+).1 (record { left = λ place. at.left k place; above = λ e. at.above; below = λ e. at.below })),
-) where
-  blank : Line
-  blank = record { b = pos 0; c = pos 0 }
+-- the value of a line after some seconds fits 64 bits
+pub record AfterFits (b c : ℤ) (seconds : ℕ) : Type 0 where
+  pub fits_b : FitsSigned w128 b
+  pub fits_c : FitsSigned w128 c
+  pub small_b : FitsSigned w64 b
+  pub small_c : FitsSigned w64 c
+  pub fits_seconds : FitsSigned w64 (pos seconds)
+  pub fits_product : FitsSigned w64 (b *ℤ pos seconds)
+  pub fits_all : FitsSigned w64 (b *ℤ pos seconds +ℤ c)
 
--- a line more
-pub each_more : (P : ℕ → Line → Type 0) (lines : List Line) (i : ℕ) (line : Line) → i < length lines → ((k : ℕ) (d : Line) → k < i → P k (slice_index_or lines k d))
-    → P i line → (k : ℕ) (d : Line) → k < i + 1 → P k (slice_index_or (slice_set lines i line) k d)
-each_more P lines i line below each one k d less = ⊎_elim
-    (λ before. rw (get_or-set_other lines i k line d (omega arith)) (each k d before))
-    (λ at. let same : k ≡ i = omega arith in rw (same, get_or-set_same lines i line d below) one)
-    (cases_lt k i)
+at_most : {m : ℕ} (z : ℤ) → unsigned_abs z < m → Abs m z
+at_most {m} (pos n) below = record { low = omega (arith, ints); high = omega (arith, ints) }
+at_most {m} (negsuc n) below = record { low = omega (arith, ints); high = omega (arith, ints) }
+
+pub after_fits : (line : Line) (seconds : ℕ) → IsBoundedSide line → seconds ≤ 14400 → AfterFits line.b line.c seconds
+after_fits line seconds bounded short =
+    let kb : Abs (2 ^ 40) line.b = at_most line.b bounded.b_bounded in
+    let kc : Abs (2 ^ 50) line.c = at_most line.c bounded.c_bounded in
+    let ks : Abs 14400 (pos seconds) = record { low = omega (arith, ints); high = omega (arith, ints) } in
+    record {
+      fits_b = fits_128 kb (lit< tt);
+      fits_c = fits_128 kc (lit< tt);
+      small_b = fits_64 kb (lit< tt);
+      small_c = fits_64 kc (lit< tt);
+      fits_seconds = fits_64 ks (lit< tt);
+      fits_product = fits_64 (abs_mul kb ks) (lit< tt);
+      fits_all = fits_64 (abs_add (abs_mul kb ks) kc) (lit< tt);
+    }
 
 -- the test of a corner, as the code makes it
 one_times : (a : ℤ) → pos 1 *ℤ a ≡ a

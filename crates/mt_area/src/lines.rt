@@ -1,16 +1,14 @@
-ghost use Rattle.std.specs.Prelude.{◌≡◌, ◌↔◌, ◌<◌, ◌≤◌, ℤ, pos, neg_ℤ, ◌-ℤ◌, ◌<ℤ◌, length, All};
+ghost use Rattle.std.specs.Prelude.{◌≡◌, ◌↔◌, ◌<◌, ◌≤◌, ℤ, pos, neg_ℤ, ◌-ℤ◌, ◌<ℤ◌, length, take, All, IfSome, IsNone, IsTrue};
 ghost use Rattle.mt_base.specs.Area.{IsBoundedArea, IsInsideAt, cross, place_after};
 ghost use Rattle.mt_base.specs.Bounds.{IsBoundedRow, IsInPlane, IsWithin};
-ghost use Rattle.mt_frac.specs.Meeting.{AreBelow, IsBoundedSide};
+ghost use Rattle.mt_frac.specs.Meeting.{IsBoundedSide};
 ghost use Rattle.mt_frac.specs.Polynomials.{line_value};
-ghost use Rattle.mt_area.specs.Lines.{IsLineOf, ceiling_of, floor_of, side_of};
+ghost use Rattle.mt_area.specs.Lines.{AreCrossed, IsDuring, IsLineOf, StaysAbove, StaysBelow, ceiling_of, floor_of, side_of, value_after};
 
 use crate::crossing::{apart, cross, place_after};
-use mt_base::{Area, Row};
+use crate::levels::height_of;
+use mt_base::{Area, Row, Second};
 use mt_frac::Line;
-
-/// How many units of height, each 1/60 of a foot, a flight level has.
-const LEVEL: i128 = 6_000;
 
 /// The most sides of an area. The lines of its bottom and its top stand behind those of its sides.
 const SIDES: usize = 16;
@@ -43,7 +41,7 @@ fn floor(row: &Row, level: u32) -> Line
 {
     Line {
         b: -i128::from(row.vz),
-        c: LEVEL * i128::from(level) - i128::from(row.z),
+        c: i128::from(height_of(level) - row.z),
     }
 }
 
@@ -55,7 +53,7 @@ fn ceiling(row: &Row, level: u32) -> Line
 {
     Line {
         b: i128::from(row.vz),
-        c: i128::from(row.z) - LEVEL * i128::from(level),
+        c: i128::from(row.z - height_of(level)),
     }
 }
 
@@ -80,16 +78,55 @@ fn line_at(area: &Area, row: &Row, i: usize) -> Line
     Line { b: 0, c: -1 }
 }
 
-/// Lines over the time since the row's second that are all below 0 exactly where the position is strictly inside the area.
-pub(crate) fn lines(area: &Area, row: &Row) -> [Line; LINES]
+/// The value of a line that many seconds later.
+fn value_after(line: Line, seconds: Second) -> i128
+    requires bounded { IsBoundedSide line }
+    requires short { seconds ≤ 14400 }
+    ensures { result ≡ value_after line seconds }
+{
+    let after = line.b as i64 * i64::from(seconds) + line.c as i64;
+    i128::from(after)
+}
+
+/// Whether a line is below 0 at both ends of some seconds, and so at each instant of them.
+fn stays_below(line: Line, seconds: Second) -> bool
+    requires bounded { IsBoundedSide line }
+    requires short { seconds ≤ 14400 }
+    ensures { IsTrue result ↔ StaysBelow line seconds }
+{
+    line.c < 0 && value_after(line, seconds) < 0
+}
+
+/// Whether a line is below 0 at neither end, and so at no instant.
+fn stays_above(line: Line, seconds: Second) -> bool
+    requires bounded { IsBoundedSide line }
+    requires short { seconds ≤ 14400 }
+    ensures { IsTrue result ↔ StaysAbove line seconds }
+{
+    line.c >= 0 && value_after(line, seconds) >= 0
+}
+
+/// The lines that cross 0 in the first `seconds` seconds from a row on, and how many they are: these are all below 0 exactly where the position is
+/// strictly inside the area. `None` where it is nowhere inside, since one line isn't below 0 in all of that time.
+pub(crate) fn crossed(area: &Area, row: &Row, seconds: Second) -> Option<([Line; LINES], usize)>
     requires area_kept { IsBoundedArea area.now }
     requires row_kept { IsBoundedRow row.now }
-    ensures inside { (n d : ℤ) → pos 0 <ℤ d → AreBelow result n d ↔ IsInsideAt area.now row.now n d }
-    ensures bounded { All IsBoundedSide result }
+    requires short { seconds ≤ 14400 }
+    ensures some { IfSome result (λ found. (found.1 ≤ 18) × AreCrossed area.now row.now seconds (take found.1 found.0)) }
+    ensures none { IsNone result → (n d : ℤ) → IsDuring seconds n d → ¬ IsInsideAt area.now row.now n d }
 {
     let mut lines = [Line { b: 0, c: -1 }; LINES];
+    let mut count = 0;
     for i in 0..LINES {
-        lines[i] = line_at(area, row, i);
+        let line = line_at(area, row, i);
+        if stays_below(line, seconds) {
+            continue;
+        }
+        if stays_above(line, seconds) {
+            return None;
+        }
+        lines[count] = line;
+        count += 1;
     }
-    lines
+    Some((lines, count))
 }

@@ -2,7 +2,8 @@ use Rattle.std.proofs.Common.{List, Contains, subst, take}
 use Rattle.std.proofs.lemmas.List.{take_all}
 use Rattle.mt_base.specs.declared.area.Pierced.{Pierced}
 use Rattle.mt_area.specs.Telling.{Adds}
-use Rattle.mt_area.proofs.Tellings.{Adds-more, Adds-pushed, one_held_more, take_push}
+use Rattle.mt_area.proofs.Tellings.{Adds-more, Adds-pushed, one_held_more}
+use Rattle.mt_base.proofs.Members.{take_push}
 use Rattle.mt_area.proofs.telling.add_all.Goals as goal
 
 pub loop-told-preserved : goal.loop-told-preserved
