@@ -14,6 +14,11 @@ use Rattle.mt_base.proofs.CheckLemmas.{all_passed}
 use Rattle.mt_base.proofs.Members.{Contains-head, Contains-none}
 use Rattle.mt_base.specs.Advice.{AreAdvised, Tried, WasFound, free_of}
 
+-- whether there are no hits
+abbrev pub has_none : List Hit → Bool
+has_none [] = true
+has_none (h ∷ hs) = false
+
 module _ (setup : Setup) (s : State) (call : List ℕ) where
   abbrev cleared_by : Clearance → Option ℕ → Course → Trajectory
   cleared_by c eff course = trajectory_cleared setup course c (unwrap_or eff s.now)
@@ -37,10 +42,6 @@ module _ (setup : Setup) (s : State) (call : List ℕ) where
     by_course (Some course) some are clear = no_hits (cleared_by c eff course) hits are clear
 
   -- what was found of a clearance whose hits are known
-  abbrev pub has_none : List Hit → Bool
-  has_none [] = true
-  has_none (h ∷ hs) = false
-
   pub found_by : (c : Clearance) (hits : List Hit) → IsWhatIf setup s call c None (Ok hits) → WasFound setup s call c (has_none hits)
   found_by c [] follows = follows
   found_by c (h ∷ hs) follows = (follows.0, by_course (course_in (flight_of s.records call)) follows.1) where
