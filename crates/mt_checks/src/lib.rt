@@ -41,4 +41,6 @@ mod tables;
 #[cfg(test)]
 mod trajectories;
 #[cfg(test)]
+mod web_sockets;
+#[cfg(test)]
 mod wire;
