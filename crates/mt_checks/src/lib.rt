@@ -43,4 +43,6 @@ mod tables;
 #[cfg(test)]
 mod trajectories;
 #[cfg(test)]
+mod web_sockets;
+#[cfg(test)]
 mod wire;

@@ -4,4 +4,5 @@ mod faults;
 mod holding;
 mod loopback;
 mod scene;
+mod web_sockets;
 mod workers;

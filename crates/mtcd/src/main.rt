@@ -2,8 +2,9 @@
 #![tactic(auto)]
 
 use mt_base::{Memory, Words};
-use mt_io::{OpenGate, StdIn, StdOut, TcpDoor};
+use mt_io::{OpenGate, StdIn, StdOut};
 use mt_top::{Status, run};
+use mt_ws::AnyDoor;
 use std::env;
 use std::io::ErrorKind;
 use std::process::ExitCode;
@@ -29,7 +30,7 @@ fn main(rt: HostRuntime) -> ExitCode {
     };
     let mut input = StdIn::of(rt.stdin());
     let mut output = StdOut::of(rt.stdout());
-    let mut door = TcpDoor::of(&rt);
+    let mut door = AnyDoor::of(rt.alloc(), &rt);
     let status = run(
         &rt,
         rt.alloc(),

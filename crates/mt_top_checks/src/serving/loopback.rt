@@ -28,10 +28,13 @@ const ANSWERED: &[u8] = b"{\"role\":\"feed\"}\n{\"entered\":1}\n{\"done\":\"bye\
 const WRITTEN: &[u8] =
     b"{\"done\":\"begin\"}\n{\"conflicts\":0,\"entries\":1,\"faulted\":0,\"flights\":1,\"sessions\":1,\"starved\":0}\n";
 
-/// A connection to the port, as soon as it is served.
-fn connection<N: Net<Listener = TcpListener, Stream = TcpStream>>(net: &N) -> Option<TcpStream> {
+/// A connection to a port, as soon as it is served.
+pub fn connection<N: Net<Listener = TcpListener, Stream = TcpStream>>(
+    net: &N,
+    port: u16,
+) -> Option<TcpStream> {
     for _ in 0..1_000_000u32 {
-        if let Ok(stream) = TcpStream::connect(net, (Ipv4Addr::LOCALHOST, PORT)) {
+        if let Ok(stream) = TcpStream::connect(net, (Ipv4Addr::LOCALHOST, port)) {
             return Some(stream);
         }
         thread::yield_now();
@@ -41,7 +44,7 @@ fn connection<N: Net<Listener = TcpListener, Stream = TcpStream>>(net: &N) -> Op
 
 /// Whether a client is answered as it should.
 fn speak<N: Net<Listener = TcpListener, Stream = TcpStream>>(net: &N) -> bool {
-    let Some(mut stream) = connection(net) else {
+    let Some(mut stream) = connection(net, PORT) else {
         return false;
     };
     let mut answered = [0u8; 45];

@@ -1,0 +1,5 @@
+mod Beats
+mod Faults
+mod Giving
+mod Opened
+mod Cutting

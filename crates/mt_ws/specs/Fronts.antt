@@ -1,0 +1,8 @@
+-- A stream with its first byte put back.
+use Rattle.std.specs.Prelude.{ℕ, List, ◌∷◌, Option, None, Some}
+
+-- what is left: the byte that was put back, if one was, and then what the stream has left, where that is told
+abbrev pub put_back : Option ℕ → Option (List ℕ) → Option (List ℕ)
+put_back None left = left
+put_back (Some first) None = None
+put_back (Some first) (Some rest) = Some (first ∷ rest)

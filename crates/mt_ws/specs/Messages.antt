@@ -1,0 +1,56 @@
+-- What a message is to a reader of lines, and a line to a peer.
+use Rattle.std.specs.Prelude.{⊤, ℕ, ◌==◌, ◌-◌, Bool, true, false, not, ◌||◌, if◌then◌else◌, Option, None, Some, List, [], ◌++◌, length, slice_index}
+use Rattle.std.specs.Str.{is_utf8}
+use Rattle.tungstenite.specs.Content.{Content, text, binary}
+use Rattle.tungstenite.specs.declared.message.Message.{Message}
+use Rattle.tungstenite.specs.declared.message.Message.TheVariants as Kind
+use Rattle.tungstenite.specs.declared.error.Error.{Error}
+use Rattle.tungstenite.specs.declared.error.Error.TheVariants.{ConnectionClosed, OutOfMemory}
+use Rattle.mt_io.specs.Gathering.{ending_of}
+
+-- a text or binary message's bytes
+abbrev pub payload_of : Message → List ℕ
+payload_of (Kind.Text bytes) = bytes
+payload_of (Kind.Binary bytes) = bytes
+payload_of (Kind.Ping bytes) = []
+payload_of (Kind.Pong bytes) = []
+payload_of (Kind.Close frame) = []
+
+-- the same of a message that may be there
+abbrev pub bytes_in : Option Message → List ℕ
+bytes_in None = []
+bytes_in (Some message) = payload_of message
+
+abbrev pub IsData : Message → Type 0
+IsData (Kind.Text bytes) = ⊤
+IsData (Kind.Binary bytes) = ⊤
+IsData (Kind.Ping bytes) = ⊥
+IsData (Kind.Pong bytes) = ⊥
+IsData (Kind.Close frame) = ⊥
+
+abbrev pub is_beat : Message → Bool
+is_beat (Kind.Ping bytes) = true
+is_beat (Kind.Pong bytes) = true
+is_beat m = false
+
+-- no 0x0A stands at the end
+abbrev pub is_open : List ℕ → Bool
+is_open bytes = (length bytes == 0) || not (slice_index bytes (length bytes - 1) == 10)
+
+-- a message's bytes with their ending: 0x0A is added unless they end with one
+abbrev pub with_ending : List ℕ → List ℕ
+with_ending bytes = bytes ++ ending_of (is_open bytes)
+
+-- the message of a line: text where it is UTF-8, and else binary
+abbrev pub line_content : List ℕ → Content
+line_content line = if is_utf8 line then text line else binary line
+
+-- no memory
+abbrev pub is_memory : Error → Bool
+is_memory OutOfMemory = true
+is_memory e = false
+
+-- what comes after a close
+abbrev pub is_closed : Error → Bool
+is_closed ConnectionClosed = true
+is_closed e = false

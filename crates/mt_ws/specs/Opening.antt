@@ -1,0 +1,65 @@
+-- What the first byte of a stream makes of it, and what a call on that does.
+use Rattle.std.specs.Prelude.{◌≡◌, ◌≢◌, ⊤, ℕ, List, [], ◌∷◌, Option, Some, None, Result, Ok, IsErr, MatchOption}
+use Rattle.std.specs.Io.KnownBytes.{Consumes, IsAtEnd, ReadConsumes, WriteAppends}
+use Rattle.mt_io.specs.declared.source.Failed.{Failed}
+use Rattle.mt_ws.specs.declared.front.Front.{Front}
+use Rattle.mt_ws.specs.declared.opening.Kind.{Kind}
+use Rattle.mt_ws.specs.declared.opening.Kind.TheVariants.{Lines, Web, Over, Broken}
+use Rattle.mt_ws.specs.declared.opening.Opening.{Opening}
+use Rattle.mt_ws.specs.declared.ws_link.WsLink.{WsLink}
+use Rattle.mt_ws.specs.Fronts.{put_back}
+use Rattle.mt_ws.specs.Linking.{ReadsLink, WritesLink}
+use Rattle.mt_ws.specs.Accepted.{IsAccepted}
+
+-- a stream of which nothing was read
+abbrev pub IsFresh : {S : Type 0} → S → Opening S → Type 0
+IsFresh stream opening = (opening.fresh ≡ Some stream) × (opening.kind ≡ Broken)
+
+-- what a first byte says: 71 is `G`
+abbrev pub IsKindBy : {S : Type 0} → ℕ → S → Kind S → Type 0
+IsKindBy first stream (Lines front) = (first ≢ 71) × (front ≡ record { first = Some first; stream = stream })
+IsKindBy first stream (Web link) = (first ≡ 71) × IsAccepted link
+IsKindBy first stream Over = ⊥
+IsKindBy first stream Broken = first ≡ 71
+
+module _ {S : Type 0} (remaining contents : S → Option (List ℕ)) where
+  -- A stream was opened. A line session still has the byte that was read; of a WebSocket's handshake nothing is told.
+  abbrev pub Begins : S → Kind S → Type 0
+  Begins stream (Lines front) = (first : ℕ) × (first ≢ 71) × (front.first ≡ Some first) × Consumes (remaining stream) (remaining front.stream) (first ∷ [])
+  Begins stream (Web link) = ((rest : Option (List ℕ)) × Consumes (remaining stream) rest (71 ∷ [])) × IsAccepted link
+  Begins stream Over = IsAtEnd (remaining stream)
+  Begins stream Broken = ⊤
+
+  -- where nothing was read yet, the stream is opened
+  abbrev pub Opens : Opening S → Opening S → Type 0
+  Opens old new = MatchOption old.fresh (new ≡ old) (λ stream. (new.fresh ≡ None) × Begins stream new.kind)
+
+  -- what a read does
+  abbrev pub ReadsKind : Kind S → Kind S → List ℕ → Result ℕ Failed → Type 0
+  ReadsKind (Lines front) new buf result =
+      (after : Front S) × (new ≡ Lines after) × ReadConsumes (put_back front.first (remaining front.stream)) (put_back after.first (remaining after.stream)) result buf
+  ReadsKind (Web link) new buf result =
+      (after : WsLink (Front S)) × (new ≡ Web after)
+      × ReadsLink (λ f. put_back f.first (remaining f.stream)) (λ f. contents f.stream) link after buf result
+  ReadsKind Over new buf result = (new ≡ Over) × (result ≡ Ok 0)
+  ReadsKind Broken new buf result = (new ≡ Broken) × IsErr result
+
+  pub record ReadsOpening (old new : Opening S) (buf : List ℕ) (result : Result ℕ Failed) : Type 0 where
+    pub middle : Opening S
+    pub opens : Opens old middle
+    pub opened : new.fresh ≡ None
+    pub reads : ReadsKind middle.kind new.kind buf result
+
+  -- what a write does
+  abbrev pub WritesKind : Kind S → Kind S → List ℕ → Result ℕ Failed → Type 0
+  WritesKind (Lines front) new piece result =
+      (after : Front S) × (new ≡ Lines after) × (after.first ≡ front.first) × WriteAppends (contents front.stream) (contents after.stream) result piece
+  WritesKind (Web link) new piece result =
+      (after : WsLink (Front S)) × (new ≡ Web after)
+      × WritesLink (λ f. put_back f.first (remaining f.stream)) (λ f. contents f.stream) link after piece result
+  WritesKind Over new piece result = (new ≡ Over) × IsErr result
+  WritesKind Broken new piece result = (new ≡ Broken) × IsErr result
+
+  -- no write opens a stream
+  abbrev pub WritesOpening : Opening S → Opening S → List ℕ → Result ℕ Failed → Type 0
+  WritesOpening old new piece result = WritesKind old.kind new.kind piece result × (new.fresh ≡ old.fresh)
