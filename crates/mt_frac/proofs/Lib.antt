@@ -1,7 +1,10 @@
 pub mod Fractions
 pub mod Values
 pub mod Openness
+pub mod Seconds
 mod Overflow
 mod Convexity
+mod Cuts
+mod Meets
 mod Parts
 mod Comparisons

@@ -5,6 +5,8 @@ use mir.Syntax.{w128}
 use Rattle.mt_frac.specs.declared.fraction.Frac.{Frac}
 use Rattle.mt_frac.specs.declared.quadratic.Quad.{Quad}
 use Rattle.mt_frac.specs.declared.linear.Line.{Line}
+use Rattle.mt_frac.specs.declared.end.End.{End}
+use Rattle.mt_frac.specs.Meeting.{IsBoundedSide}
 use Rattle.mt_frac.specs.Signs.{IsBoundedQuad, IsBoundedLine}
 use Rattle.mt_ring.proofs.Sizes.{Abs, abs_from, abs_lit, abs_add, abs_sub, abs_mul, fits_128}
 
@@ -128,6 +130,23 @@ line_fits line at bounds =
     let kc = at_most (2 ^ 32) line.c bounds.c_bounded in
     let kn = at_most (2 ^ 32) at.num at.num_bounded in
     let kd = within (2 ^ 18) at.den at.den_positive at.den_bounded in
+    record {
+      fits_b = fits_128 kb (lit< tt);
+      fits_c = fits_128 kc (lit< tt);
+      fits_n = fits_128 kn (lit< tt);
+      fits_d = fits_128 kd (lit< tt);
+      fits_bn = fits_128 (abs_mul kb kn) (lit< tt);
+      fits_cd = fits_128 (abs_mul kc kd) (lit< tt);
+      fits_all = fits_128 (abs_add (abs_mul kb kn) (abs_mul kc kd)) (lit< tt);
+    }
+
+-- the same for a line of greater numbers, at an end of an interval
+pub side_fits : (line : Line) (at : End) → IsBoundedSide line → LineFits line.b line.c at.num at.den
+side_fits line at bounds =
+    let kb = at_most (2 ^ 40) line.b bounds.b_bounded in
+    let kc = at_most (2 ^ 50) line.c bounds.c_bounded in
+    let kn = at_most (2 ^ 50) at.num at.num_bounded in
+    let kd = within (2 ^ 40) at.den at.den_positive at.den_bounded in
     record {
       fits_b = fits_128 kb (lit< tt);
       fits_c = fits_128 kc (lit< tt);

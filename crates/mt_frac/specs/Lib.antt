@@ -1,4 +1,6 @@
 pub mod FractionOrder
+pub mod Instants
+pub mod Meeting
 pub mod Polynomials
 pub mod Signs
 pub mod Vertex

@@ -9,7 +9,7 @@ use crate::fraction::Frac;
 
 /// The line `b s + c`. Either coefficient may be 0.
 ///
-/// `below_in` asks that `b` and `c` are below 2^18 and 2^32 in size.
+/// `below_in` asks that `b` and `c` are below 2^18 and 2^32 in size, `meet` that they are below 2^40 and 2^50.
 #[derive(Clone, Copy)]
 pub struct Line {
     pub b: i128,
