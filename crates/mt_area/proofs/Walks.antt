@@ -1,0 +1,113 @@
+-- What a segment of a strand says of the seconds that it holds.
+use Rattle.std.proofs.Common.{◌≡◌, ℕ, zero, suc, ◌+◌, ◌-◌, ◌<◌, ◌≤◌, ◌↔◌, List, [], ◌∷◌, length, get_or, pos, Option, Some, None, subst, refl, ⊎_elim, arith}
+use Rattle.std.proofs.lemmas.Bool.{cases_lt, le-ltb, lt-ltb}
+use Rattle.std.proofs.lemmas.Option.{slice_get_within}
+use Rattle.std.specs.Prelude.{slice_index_or}
+use Rattle.mt_base.specs.declared.area.Area.{Area}
+use Rattle.mt_base.specs.declared.row.Row.{Row}
+use Rattle.mt_base.specs.Area.{IsInside, IsInsideSecond, IsPierce}
+use Rattle.mt_base.specs.Span.{IsSpan}
+use Rattle.mt_base.specs.Trajectory.{Trajectory, row_at}
+use Rattle.mt_track.specs.declared.segment.Segment.{Segment}
+use Rattle.mt_track.specs.Laid.{Adjoin, AreSegmentsOf, Holds, IsLaid, IsStrand, edge}
+use Rattle.mt_track.specs.Rows.{row_after}
+use Rattle.mt_track.proofs.Apart.{few_segments}
+use Rattle.mt_track.proofs.Segments.{edge_from, lies_at}
+use Rattle.mt_track.proofs.Strands.{found}
+use Rattle.mt_base.specs.Span.{joined}
+use Rattle.mt_base.proofs.Spans.{IsSpan-joined, IsSpan-same}
+
+-- what the code reads where a list has no such place
+abbrev pub blank : Segment
+blank = record { from = 0; to = 0; first = record { x = pos 0; y = pos 0; z = pos 0; r = pos 0; w = pos 0; vx = pos 0; vy = pos 0; vz = pos 0; gr = pos 0; gw = pos 0; leg = 0 } }
+
+-- a place of a list of segments, as the code reads it
+at_place : (ss : List Segment) (i : ℕ) (d : Segment) → i < length ss → slice_index_or ss i d ≡ get_or ss i (slice_index_or ss i d)
+at_place [] i d below = absurd (omega arith)
+at_place (s ∷ ss) zero d below = refl
+at_place (s ∷ ss) (suc i) d below = at_place ss i d (omega arith)
+
+-- no segment ends behind the end
+edge_to : (from to : ℕ) (ss : List Segment) (i : ℕ) → Adjoin from ss to → i ≤ length ss → edge from ss i ≤ to
+edge_to from to ss zero lie below = let h = few_segments from to ss lie in omega (arith, h)
+edge_to from to [] (suc i) lie below = absurd (omega arith)
+edge_to from to (s ∷ ss) (suc i) lie below = edge_to s.to to ss i lie.2 (omega arith)
+
+pub edge_end : (from to : ℕ) (ss : List Segment) (i : ℕ) → Adjoin from ss to → length ss ≤ i → i ≤ length ss → edge from ss i ≡ to
+edge_end from to [] zero lie done within = lie
+edge_end from to [] (suc i) lie done within = absurd (omega arith)
+edge_end from to (s ∷ ss) zero lie done within = absurd (omega arith)
+edge_end from to (s ∷ ss) (suc i) lie done within = edge_end s.to to ss i lie.2 (omega arith) (omega arith)
+
+-- the segment at a place, from its edge to the next
+pub record Reads (t : Trajectory) (ss : List Segment) (i : ℕ) (s : Segment) : Type 0 where
+  pub from : s.from ≡ edge t.start ss i
+  pub to : s.to ≡ edge t.start ss (i + 1)
+  pub last : s.to ≤ t.start + length t.rows
+  pub first : t.start ≤ s.from
+  pub holds : (k : ℕ) → s.from ≤ k → k < s.to → Holds t k s
+
+pub reads : (t : Trajectory) (ss : List Segment) (i : ℕ) → IsStrand t → AreSegmentsOf t ss → i < length ss → Reads t ss i (slice_index_or ss i blank)
+reads t ss i kept are below =
+    let is = at_place ss i blank below in
+    let all : IsLaid t.start (t.start + length t.rows) ss = record { adjoin = are.adjoin; apart = are.apart; kept = rw are.rows kept } in
+    let lies = lies_at t.start (t.start + length t.rows) ss i (slice_index_or ss i blank) are.adjoin below is in
+    let first = edge_from t.start (t.start + length t.rows) ss i are.adjoin in
+    let last = edge_to t.start (t.start + length t.rows) ss (suc i) are.adjoin (omega arith) in
+    let one : i + 1 ≡ suc i = omega arith in
+    record {
+      from = lies.from;
+      to = rw one lies.to;
+      last = omega (arith, lies.to, last);
+      first = omega (arith, lies.from, first);
+      holds = λ k later sooner.
+          subst (λ (rows : List Row). Holds (record t { rows = rows }) k (slice_index_or ss i blank)) are.rows
+          (found t.start (t.start + length t.rows) t.rvsm ss i (suc i) k (slice_index_or ss i blank) all (omega arith) (omega arith) (omega arith)
+          (omega (arith, first, lies.from, later)) (omega (arith, lies.from, later)) (omega (arith, lies.to, sooner)) is);
+    }
+
+-- a second in the area's hours is inside exactly where its row is
+inside_by : (t : Trajectory) (area : Area) (k : ℕ) (row : Row) → row_at t k ≡ Some row → area.from ≤ k → k < area.to → IsInside area row ↔ IsInsideSecond t area k
+inside_by t area k row at opened closed = (
+  (λ inside. record { row = row; row_is = at; hours = (opened, closed); inside = inside }),
+  (λ second. let same : second.row ≡ row = cc (second.row_is, at) in subst (IsInside area) same second.inside),
+)
+
+-- one segment more
+pub pierce_joined : (t : Trajectory) (area : Area) (s : Segment) (from reached until : ℕ) (span more : Option (ℕ × ℕ)) → from ≤ reached → reached ≤ until
+    → area.from ≤ from → until ≤ area.to → s.from ≤ reached → until ≤ s.to → ((k : ℕ) → s.from ≤ k → k < s.to → Holds t k s)
+    → IsPierce t area from reached span → IsSpan (λ k. IsInside area (row_after s.first (k - s.from))) reached until more → IsPierce t area from until (joined span more)
+pierce_joined t area s from reached until span more ordered longer opened closed begun ahead holds is next =
+    IsSpan-joined (IsInsideSecond t area) from reached until span more ordered longer is
+    (IsSpan-same (λ k. IsInside area (row_after s.first (k - s.from))) (IsInsideSecond t area) reached until more
+    (λ k after before. inside_by t area k (row_after s.first (k - s.from)) (holds k (omega arith) (omega arith)).row (omega arith) (omega arith)) next)
+
+-- a second inside is covered by the trajectory and held by the area's hours
+pub record IsHeld (t : Trajectory) (area : Area) (k : ℕ) : Type 0 where
+  pub begun : t.start ≤ k
+  pub within : k < t.start + length t.rows
+  pub opened : area.from ≤ k
+  pub closed : k < area.to
+
+pub held : (t : Trajectory) (area : Area) (k : ℕ) → IsInsideSecond t area k → IsHeld t area k
+held t area k second = ⊎_elim
+    (λ early. let none : row_at t k ≡ None = rw (lt-ltb k t.start early) refl in let is = second.row_is in cc)
+    (λ begun.
+    let within = slice_get_within t.rows (k - t.start) second.row (rw (le-ltb k t.start begun) at second.row_is) in
+    record { begun = begun; within = omega arith; opened = second.hours.0; closed = second.hours.1 })
+    (cases_lt k t.start)
+
+-- a range that leaves out only seconds that are not held
+pub IsPierce-cut : (t : Trajectory) (area : Area) (from to begin end : ℕ) (span : Option (ℕ × ℕ)) → from ≤ begin → end ≤ to
+    → ((k : ℕ) → from ≤ k → k < to → IsHeld t area k → (begin ≤ k) × (k < end)) → IsPierce t area begin end span → IsPierce t area from to span
+IsPierce-cut t area from to begin end None later sooner covered cut = λ k low high second.
+    let h = covered k low high (held t area k second) in
+    cut k h.0 h.1 second
+IsPierce-cut t area from to begin end (Some span) later sooner covered cut = record {
+  inside = (omega (arith, cut.inside.0), cut.inside.1, omega (arith, cut.inside.2));
+  first_is = cut.first_is;
+  last_is = cut.last_is;
+  none_outside = λ k low high second.
+      let h = covered k low high (held t area k second) in
+      cut.none_outside k h.0 h.1 second;
+}
