@@ -1,5 +1,5 @@
 -- There is one answer to the adding of an area, but that memory may be wanting.
-use Rattle.std.proofs.Common.{◌≡◌, ◌<◌, ◌≤◌, ℕ, List, length, Result, Ok, Err, refl, arith}
+use Rattle.std.proofs.Common.{◌≡◌, List, Result, Ok, Err, refl, arith}
 use Rattle.std.specs.Bool.{⊤}
 use Rattle.mt_base.specs.declared.area.Area.{Area}
 use Rattle.mt_area.specs.declared.area_no.AreaNo.{AreaNo}

@@ -85,7 +85,7 @@ in_64 z = to_z w64 (of_z w64 z)
 abbrev pub in_128 : ℤ → ℤ
 in_128 z = to_z w128 (of_z w128 z)
 
-read_64 : {m : ℕ} (z : ℤ) → Abs m z → m < 2 ^ 63 → in_64 z ≡ z
+pub read_64 : {m : ℕ} (z : ℤ) → Abs m z → m < 2 ^ 63 → in_64 z ≡ z
 read_64 {m} z size small = to_z-of_z w64 z (fits_64 size small)
 
 -- the term v of the code is read as the number z, at most m in size
@@ -99,7 +99,7 @@ read_128 {m} v z e size small = record { is = rw e (to_z-of_z w128 z (fits_128 s
 abbrev IsInside64 : ℤ → Type 0
 IsInside64 z = IsWithin (neg_ℤ (pos 3686400)) (pos 3686400) z
 
-plane_size : (z : ℤ) → IsInside64 z → Abs 3686400 z
+pub plane_size : (z : ℤ) → IsInside64 z → Abs 3686400 z
 plane_size z kept = record { low = kept.least; high = kept.most }
 
 difference : (v a b : ℤ) → IsInside64 a → IsInside64 b → v ≡ in_64 b -ℤ in_64 a → IsRead 7372800 v (b -ℤ a)

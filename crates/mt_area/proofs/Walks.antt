@@ -7,11 +7,13 @@ use Rattle.mt_base.specs.declared.area.Area.{Area}
 use Rattle.mt_base.specs.declared.row.Row.{Row}
 use Rattle.mt_base.specs.Area.{IsInside, IsInsideSecond, IsPierce}
 use Rattle.mt_base.specs.Span.{IsSpan}
+use Rattle.mt_base.specs.Bounds.{IsBoundedOver}
 use Rattle.mt_base.specs.Trajectory.{Trajectory, row_at}
 use Rattle.mt_track.specs.declared.segment.Segment.{Segment}
 use Rattle.mt_track.specs.Laid.{Adjoin, AreSegmentsOf, Holds, IsLaid, IsStrand, edge}
 use Rattle.mt_track.specs.Rows.{row_after}
 use Rattle.mt_track.proofs.Apart.{few_segments}
+use Rattle.mt_track.proofs.Joined.{IsBoundedOver-segment}
 use Rattle.mt_track.proofs.Segments.{edge_from, lies_at}
 use Rattle.mt_track.proofs.Strands.{found}
 use Rattle.mt_base.specs.Span.{joined}
@@ -46,6 +48,7 @@ pub record Reads (t : Trajectory) (ss : List Segment) (i : ℕ) (s : Segment) : 
   pub last : s.to ≤ t.start + length t.rows
   pub first : t.start ≤ s.from
   pub holds : (k : ℕ) → s.from ≤ k → k < s.to → Holds t k s
+  pub kept : (k : ℕ) → s.from ≤ k → k ≤ s.to → IsBoundedOver s.first (k - s.from)
 
 pub reads : (t : Trajectory) (ss : List Segment) (i : ℕ) → IsStrand t → AreSegmentsOf t ss → i < length ss → Reads t ss i (slice_index_or ss i blank)
 reads t ss i kept are below =
@@ -55,15 +58,23 @@ reads t ss i kept are below =
     let first = edge_from t.start (t.start + length t.rows) ss i are.adjoin in
     let last = edge_to t.start (t.start + length t.rows) ss (suc i) are.adjoin (omega arith) in
     let one : i + 1 ≡ suc i = omega arith in
+    let s = slice_index_or ss i blank in
+    let holds : (k : ℕ) → s.from ≤ k → k < s.to → Holds t k s = λ k later sooner.
+    subst (λ (rows : List Row). Holds (record t { rows = rows }) k s) are.rows
+    (found t.start (t.start + length t.rows) t.rvsm ss i (suc i) k s all (omega arith) (omega arith) (omega arith)
+    (omega (arith, first, lies.from, later)) (omega (arith, lies.from, later)) (omega (arith, lies.to, sooner)) is) in
     record {
       from = lies.from;
       to = rw one lies.to;
       last = omega (arith, lies.to, last);
       first = omega (arith, lies.from, first);
-      holds = λ k later sooner.
-          subst (λ (rows : List Row). Holds (record t { rows = rows }) k (slice_index_or ss i blank)) are.rows
-          (found t.start (t.start + length t.rows) t.rvsm ss i (suc i) k (slice_index_or ss i blank) all (omega arith) (omega arith) (omega arith)
-          (omega (arith, first, lies.from, later)) (omega (arith, lies.from, later)) (omega (arith, lies.to, sooner)) is);
+      holds = holds;
+      kept = λ k begun within. ⊎_elim
+          (λ sooner. (holds k begun sooner).kept)
+          (λ past.
+          let whole = IsBoundedOver-segment t.start (t.start + length t.rows) ss i s all below is in
+          subst (λ (e : ℕ). IsBoundedOver s.first (e - s.from)) (omega (arith, within, past)) whole)
+          (cases_lt k s.to);
     }
 
 -- a second in the area's hours is inside exactly where its row is

@@ -3,12 +3,12 @@ ghost use Rattle.mt_area.specs.declared.area_no.AreaNo.TheVariants as no;
 
 use std::alloc::AllocFailed;
 
-/// Why an area is not added.
+/// Why an area isn't added. Of several reasons it is the first.
 #[derive(Clone, Copy, PartialEq, Eq)]
 pub enum AreaNo {
     /// One of that name stands.
     Taken,
-    /// Its shape is not right.
+    /// Its shape isn't right.
     Shape,
     /// 256 areas stand.
     Full,

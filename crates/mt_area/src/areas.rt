@@ -11,7 +11,7 @@ use std::marker::Model;
 /// How many areas there may be.
 const MOST: usize = 256;
 
-/// Restricted areas, seen as their list. Each has 3 to 16 corners and keeps within the bounds of its numbers.
+/// Restricted areas, seen as their list in the order in which they were added. Each has 3 to 16 corners, and its numbers are within their bounds.
 #[derive(Drop)]
 pub struct Areas {
     areas: Vec<Area>,
@@ -30,7 +30,7 @@ impl Model for Areas {
 }
 
 impl Areas {
-    /// No area.
+    /// No area. It takes no memory; what is added later comes from `alloc`.
     pub fn make(alloc: Global) -> Result<Areas, Memory>
         ensures { OnOk result (result ≡ Ok []) }
     {
@@ -39,10 +39,12 @@ impl Areas {
         })
     }
 
-    /// Puts an area behind the others. `Taken` where one of that name stands, `Shape` where its shape is not right, and `Full` where 256 areas
-    /// stand, in this order. On an error the areas stay as they were.
+    /// Puts an area behind the others. `Taken` exactly where one of that name stands, else `Shape` exactly where its shape isn't right, else
+    /// `Full` exactly where 256 areas stand, else `Memory` where an allocation was refused. On an error the areas stay as they were.
     ///
-    /// It asks that the area has 3 to 16 corners and its numbers are within their bounds.
+    /// The shape is right where the bottom is below the top, the hours have a second, and the corners go round counterclockwise with no three on
+    /// one line and none inside the others. It asks that the area has 3 to 16 corners in the plane, levels up to 600, and hours from by second
+    /// 10,000,000 to by 10,014,400.
     pub fn add(&mut self, area: Area) -> Result<(), AreaNo>
         requires { IsBoundedArea area }
         ensures answer { IsAnswer self.old area result }
@@ -54,7 +56,7 @@ impl Areas {
         Ok(())
     }
 
-    // Whether an area may be added.
+    // Whether an area may be added, and if not, why.
     fn check(&self, area: &Area) -> Result<(), AreaNo>
         requires { IsBoundedArea area.now }
         ensures { IsAnswer self.now area.now result }
@@ -71,7 +73,7 @@ impl Areas {
         Ok(())
     }
 
-    /// The areas, in the order in which they were added. What each keeps is said here too.
+    /// The areas, in the order in which they were added. That the numbers of each are within their bounds is said here too.
     pub fn items(&self) -> &[Area]
         ensures items { result.now ≡ self.now }
         ensures kept { All IsBoundedArea self.now }

@@ -1,16 +1,21 @@
-//! Restricted areas: which seconds of a trajectory pass through one, over all instants of each second; and what is told of all.
+//! Restricted areas: in which seconds a trajectory is inside one, over all instants of each second, and what is told of many of both.
 //!
 //! While a trajectory keeps its gains, each side of an area and each of its levels is a line in time that is below 0 while the position is on
-//! the inner side of it. So whether some instant of some seconds is inside is whether these lines are below 0 together somewhere in between.
+//! the inner side of it. So some instant of some seconds is inside exactly where these lines are below 0 together somewhere in between.
+//!
+//! Two tests go before that question, which cost a few comparisons: the seconds are cut to the area's hours, and what lies with its box apart
+//! from the area's box has no instant inside. Both boxes are exact, so nothing is missed.
 #![tactic(auto)]
 
 mod area_no;
 mod areas;
 mod crossing;
 mod laws;
+mod levels;
 mod lines;
 mod passages;
 mod piercing;
+mod reach;
 mod seconds;
 mod segment;
 mod shape;

@@ -6,11 +6,9 @@ ghost use Rattle.mt_frac.specs.Polynomials.{line_value};
 ghost use Rattle.mt_area.specs.Lines.{IsLineOf, ceiling_of, floor_of, side_of};
 
 use crate::crossing::{apart, cross, place_after};
+use crate::levels::height_of;
 use mt_base::{Area, Row};
 use mt_frac::Line;
-
-/// How many units of height, each 1/60 of a foot, a flight level has.
-const LEVEL: i128 = 6_000;
 
 /// The most sides of an area. The lines of its bottom and its top stand behind those of its sides.
 const SIDES: usize = 16;
@@ -43,7 +41,7 @@ fn floor(row: &Row, level: u32) -> Line
 {
     Line {
         b: -i128::from(row.vz),
-        c: LEVEL * i128::from(level) - i128::from(row.z),
+        c: i128::from(height_of(level) - row.z),
     }
 }
 
@@ -55,7 +53,7 @@ fn ceiling(row: &Row, level: u32) -> Line
 {
     Line {
         b: i128::from(row.vz),
-        c: i128::from(row.z) - LEVEL * i128::from(level),
+        c: i128::from(row.z - height_of(level)),
     }
 }
 

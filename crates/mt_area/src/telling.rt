@@ -90,8 +90,9 @@ fn gathered(alloc: Global, tries: Vec<Result<Pierces, Memory>>) -> Result<Pierce
     Ok(found)
 }
 
-/// What is told of these trajectories and areas in the window of 1,200 seconds from `now`: each passage of one of the trajectories through one
-/// of the areas, and no other, once, by its first second, then the callsign, then the kind, then the area's name.
+/// What is told of these trajectories and areas in the window, the seconds from `now` up to `now + 1200`: for each trajectory, actual or tentative,
+/// and each area the pierce in these seconds, where there is one; by first second, then callsign, then kind with actual first, then area name.
+/// The only error is want of memory.
 ///
 /// The trajectories are looked at on at most four threads, and the answer is that of one thread, whichever of them is done first. It asks that
 /// `now` is at most 10,000,000.

@@ -1,4 +1,4 @@
-use Rattle.std.proofs.Common.{◌≡◌, ◌*◌, pos, ◌-ℤ◌, ◌*ℤ◌, to_z, of_z, arith}
+use Rattle.std.proofs.Common.{◌≡◌, ◌*◌, pos, ◌-ℤ◌, to_z, of_z, arith}
 use Rattle.std.proofs.lemmas.Int.{ints}
 use mir.Syntax.{w128}
 use Rattle.mt_area.proofs.lines.ceiling.Goals as goal
@@ -7,7 +7,6 @@ pub returns-clause-is : goal.returns-clause-is
 returns-clause-is c =
     let z = c.requires.row_kept.z in
     let b : to_z w128 (of_z w128 c.from.result) ≡ c.args.row.now.vz = omega (arith, ints, z.growth.least, z.growth.most) in
-    let d : to_z w128 (of_z w128 (to_z w128 (of_z w128 c.from-2.result) -ℤ to_z w128 (of_z w128 (pos 6000 *ℤ to_z w128 (of_z w128 c.from-3.result)))))
-    ≡ c.args.row.now.z -ℤ pos (6000 * c.args.level) =
+    let d : to_z w128 (of_z w128 c.from-2.result) ≡ c.args.row.now.z -ℤ pos (6000 * c.args.level) =
     omega (arith, ints, z.value.least, z.value.most) in
     λ i. record { b = b i; c = d i }

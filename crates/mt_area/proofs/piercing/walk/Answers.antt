@@ -34,6 +34,12 @@ pierce_segment-requires-clause-bounded c =
     let ahead = c.loop-segment.invariant.ahead (omega (arith, c.if-until-reached.false, c.min-until.ensures)) in
     (at.holds c.loop-segment.reached (omega (arith, at.from, ahead)) (omega (arith, c.if-until-reached.false, c.min-until.ensures))).bounded
 
+pub pierce_segment-requires-clause-end_kept : goal.pierce_segment-requires-clause-end_kept
+pierce_segment-requires-clause-end_kept c =
+    let at = reads c.args.strand.now c.segments-segments.result.now c.loop-segment.segment-index c.segments-segments.ensures.kept c.segments-segments.ensures.are c.loop-segment-test.true in
+    let ahead = c.loop-segment.invariant.ahead (omega (arith, c.if-until-reached.false, c.min-until.ensures)) in
+    at.kept c.min-until.result (omega (arith, at.from, ahead, c.if-until-reached.false)) (omega (arith, c.min-until.ensures))
+
 pub loop-segment-preserved : goal.loop-segment-preserved
 loop-segment-preserved c =
     let at = reads c.args.strand.now c.segments-segments.result.now c.loop-segment.segment-index c.segments-segments.ensures.kept c.segments-segments.ensures.are c.loop-segment-test.true in
