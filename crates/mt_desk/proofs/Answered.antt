@@ -37,7 +37,7 @@ use Rattle.mt_probe.specs.Prepared.{IsPrepOf, IsRefusedOn, MakesStrand, Prepared
 use Rattle.mt_probe.specs.Shot.{Shot}
 use Rattle.mt_probe.specs.Shot.{state_of as state_in}
 use Rattle.mt_probe.proofs.Aside.{aside_refused}
-use Rattle.mt_snapshot_advice.specs.Advised.{IsAdvisedOn, IsFreeProbe, IsNotAdvisedOn}
+use Rattle.mt_snapshot_advice.specs.Advised.{IsAdvisedOn, IsFreeFor, IsNotAdvisedOn}
 use Rattle.mt_desk.specs.Desk.{Hand, seat_of}
 use Rattle.mt_desk.specs.Taken.{StandsFor}
 
@@ -155,7 +155,7 @@ advised_taken s t shot call eff version probes seen for is = record {
 pasts_advised : (t : Seat) (shot : Shot) (call : List ℕ) (eff version : ℕ) (probes : List Tried) → StandsFor t shot
     → IsAdvisedOn shot call eff version probes → All (λ p. IsPast t p.prep.setup p.prep.state (told_of p).version) probes
 pasts_advised t shot call eff version probes for is =
-    All-weaker (IsFreeProbe shot call) (λ p. IsPast t p.prep.setup p.prep.state (told_of p).version)
+    All-weaker (IsFreeFor shot call) (λ p. IsPast t p.prep.setup p.prep.state (told_of p).version)
     (λ p free. past_probed t shot call p.clearance None p for free.probe) probes is.each
 
 unadvised_taken : (s t : Seat) (shot : Shot) (call : List ℕ) (denied : No) → HasSeen s t (length t.seen) → StandsFor t shot

@@ -10,7 +10,7 @@ use Rattle.mt_base.specs.declared.command.Command.TheVariants.{Tick}
 use Rattle.mt_base.specs.declared.command.Entry.{Entry}
 use Rattle.mt_base.specs.declared.command.Refusal.{Refusal}
 use Rattle.mt_base.specs.declared.flight.Record.{Record}
-use Rattle.mt_base.specs.Advice.{AreAdvised, IsAdvice, Tried, candidates_in, has_none}
+use Rattle.mt_base.specs.Advice.{AreAdvised, IsAdvice, Tried, candidates_in}
 use Rattle.mt_base.specs.Picture.{State, flight_of}
 use Rattle.mt_base.specs.Tables.{Setup, Tables}
 use Rattle.mt_base.specs.Tally.{raised}
@@ -137,8 +137,8 @@ numbered count (c ∷ cs) small =
 
 few_advised : (setup : Setup) (s : State) (call : List ℕ) (advised : List Clearance) → AreAdvised setup s call advised → length advised ≤ 16
 few_advised setup s call advised are =
-    let kept = filter (λ (t : Tried). has_none t.hits) are.tried in
-    let few = few_filtered (λ (t : Tried). has_none t.hits) are.tried in
+    let kept = filter (λ (t : Tried). t.free) are.tried in
+    let few = few_filtered (λ (t : Tried). t.free) are.tried in
     let sixteen = few_in setup s call in
     let all : length are.tried ≡ length (candidates_in setup s call) =
     sym (length-map are.tried (λ (t : Tried). t.clearance)) ∙ ap (λ (cs : List Clearance). length cs) are.all in

@@ -5,80 +5,68 @@ use Rattle.std.proofs.lemmas.List.Elements.{All-from_recursion, All-push, filter
 use Rattle.std.specs.List.{AllByRecursion, filter}
 use Rattle.mt_advise.specs.Trying.{CanBeTried}
 use Rattle.mt_base.specs.declared.clearance.Clearance.{Clearance}
-use Rattle.mt_base.specs.declared.hit.Hit.{Hit}
-use Rattle.mt_base.specs.Advice.{IsAdvice, Tried, candidates_in, free_of, has_none}
+use Rattle.mt_base.specs.Advice.{IsAdvice, Tried, WasFound, candidates_in, free_of}
 use Rattle.mt_base.specs.Picture.{State}
 use Rattle.mt_base.specs.Tables.{Setup}
-use Rattle.mt_base.specs.WhatIf.{IsWhatIf}
 use Rattle.mt_base.proofs.FewAdvised.{few_filtered, few_in}
-use Rattle.mt_machine.specs.Advising.{AreAsked, AreFreeAmong, IsFree, WasTried}
+use Rattle.mt_machine.specs.Advising.{AreAsked, AreFreeAmong, IsFree}
 
 module _ (setup : Setup) (s : State) (call : List ℕ) where
-  abbrev Follows : Tried → Type 0
-  Follows t = IsWhatIf setup s call t.clearance None (Ok t.hits)
+  abbrev IsFound : Tried → Type 0
+  IsFound t = WasFound setup s call t.clearance t.free
 
   abbrev Among : List Clearance → List Clearance → Type 0
   Among clearances free = AreFreeAmong setup s call clearances free
 
   -- one more that is tried
-  one_more : (clearances free : List Clearance) (c : Clearance) (hits : List Hit) (b : Bool) → Among clearances free
-      → IsWhatIf setup s call c None (Ok hits) → has_none hits ≡ b → Among (clearances ++ c ∷ []) (if b then free ++ c ∷ [] else free)
-  one_more clearances free c hits b among follows none = record {
-    tried = among.tried ++ one ∷ [];
-    all = map-append (λ (t : Tried). t.clearance) among.tried (one ∷ []) ∙ ap (λ (cs : List Clearance). cs ++ c ∷ []) among.all;
-    each = All-push Follows among.tried one among.each follows;
-    free_is = by_test b none;
+  one_more : (clearances free : List Clearance) (c : Clearance) (b : Bool) → Among clearances free → WasFound setup s call c b
+      → Among (clearances ++ c ∷ []) (if b then free ++ c ∷ [] else free)
+  one_more clearances free c b among found = record {
+    tried = among.tried ++ one b ∷ [];
+    all = map-append (λ (t : Tried). t.clearance) among.tried (one b ∷ []) ∙ ap (λ (cs : List Clearance). cs ++ c ∷ []) among.all;
+    each = All-push IsFound among.tried (one b) among.each found;
+    free_is = by_test b;
   } where
-    one : Tried
-    one = record { clearance = c; hits = hits }
+    one : Bool → Tried
+    one b = record { clearance = c; free = b }
 
-    behind : free_of (among.tried ++ one ∷ []) ≡ free_of among.tried ++ free_of (one ∷ [])
-    behind = ap (map (λ (t : Tried). t.clearance)) (filter-append (λ (t : Tried). has_none t.hits) among.tried (one ∷ []))
-        ∙ map-append (λ (t : Tried). t.clearance) (filter (λ (t : Tried). has_none t.hits) among.tried) (filter (λ (t : Tried). has_none t.hits) (one ∷ []))
+    behind : (b : Bool) → free_of (among.tried ++ one b ∷ []) ≡ free_of among.tried ++ free_of (one b ∷ [])
+    behind b = ap (map (λ (t : Tried). t.clearance)) (filter-append (λ (t : Tried). t.free) among.tried (one b ∷ []))
+        ∙ map-append (λ (t : Tried). t.clearance) (filter (λ (t : Tried). t.free) among.tried) (filter (λ (t : Tried). t.free) (one b ∷ []))
 
-    by_test : (b : Bool) → has_none hits ≡ b → (if b then free ++ c ∷ [] else free) ≡ free_of (among.tried ++ one ∷ [])
-    by_test true none = rw (behind, none, among.free_is) refl
-    by_test false none = rw (behind, none, among.free_is) (sym (append-nil (free_of among.tried)))
+    by_test : (b : Bool) → (if b then free ++ c ∷ [] else free) ≡ free_of (among.tried ++ one b ∷ [])
+    by_test true = rw (behind true, among.free_is) refl
+    by_test false = rw (behind false, among.free_is) (sym (append-nil (free_of among.tried)))
 
   pub tried_more : (all free : List Clearance) (i : ℕ) (c : Clearance) (b : Bool) → i < length all → c ≡ get_or all i c → Among (take i all) free
-      → WasTried setup s call c b → Among (take (i + 1) all) (if b then free ++ c ∷ [] else free)
-  tried_more all free i c b below is among was =
+      → WasFound setup s call c b → Among (take (i + 1) all) (if b then free ++ c ∷ [] else free)
+  tried_more all free i c b below is among found =
       let more : take (i + 1) all ≡ take i all ++ c ∷ [] = take_more all i c below ∙ ap (λ (x : Clearance). take i all ++ x ∷ []) (sym is) in
-      rw more (one_more (take i all) free c was.hits b among was.follows (sym was.free_is))
+      rw more (one_more (take i all) free c b among found)
 
   -- the advice
   pub advice_is : (tried free : List Clearance) → AreAsked setup s call (Ok tried) → Among tried free → IsAdvice setup s call (Ok free)
   advice_is tried free asked among =
       (asked.0, record { tried = among.tried; all = among.all ∙ asked.1; each = among.each; free = among.free_is })
 
-  none_is : (hits : List Hit) → has_none hits ≡ true → hits ≡ []
-  none_is [] none = refl
-  none_is (h ∷ hs) none = cc
-
-  free_each : (ts : List Tried) → AllByRecursion Follows ts → AllByRecursion (CanBeTried setup s call) (map (λ (t : Tried). t.clearance) ts)
+  free_each : (ts : List Tried) → AllByRecursion IsFound ts → AllByRecursion (CanBeTried setup s call) (map (λ (t : Tried). t.clearance) ts)
       → AllByRecursion (IsFree setup s call) (free_of ts)
-  free_each [] follows can = tt
-  free_each (t ∷ ts) follows can = by_test (has_none t.hits) refl (free_each ts follows.1 can.1) where
-    by_test : (b : Bool) → has_none t.hits ≡ b → AllByRecursion (IsFree setup s call) (free_of ts)
-        → AllByRecursion (IsFree setup s call) (map (λ (u : Tried). u.clearance) (if b then t ∷ filter (λ u. has_none u.hits) ts else filter (λ u. has_none u.hits) ts))
-    by_test true e rest = (
-      record {
-        bounded = can.0.bounded;
-        follows = subst (λ (hits : List Hit). IsWhatIf setup s call t.clearance None (Ok hits)) (none_is t.hits e) follows.0;
-      },
-      rest,
-    )
-    by_test false e rest = rest
+  free_each [] found can = tt
+  free_each (t ∷ ts) found can = by_test t.free found.0 (free_each ts found.1 can.1) where
+    by_test : (b : Bool) → WasFound setup s call t.clearance b → AllByRecursion (IsFree setup s call) (free_of ts)
+        → AllByRecursion (IsFree setup s call) (map (λ (u : Tried). u.clearance) (if b then t ∷ filter (λ u. u.free) ts else filter (λ u. u.free) ts))
+    by_test true follows rest = (record { bounded = can.0.bounded; follows = follows }, rest)
+    by_test false found rest = rest
 
   pub each_free : (tried free : List Clearance) → AreAsked setup s call (Ok tried) → Among tried free → All (IsFree setup s call) free
   each_free tried free asked among = rw among.free_is (All-from_recursion (IsFree setup s call) (free_of among.tried)
-      (free_each among.tried (recursion_from_All Follows among.tried among.each)
+      (free_each among.tried (recursion_from_All IsFound among.tried among.each)
       (rw among.all (recursion_from_All (CanBeTried setup s call) tried asked.2))))
 
   pub few_free : (tried free : List Clearance) → AreAsked setup s call (Ok tried) → Among tried free → length free ≤ 16
   few_free tried free asked among =
-      let kept = filter (λ (t : Tried). has_none t.hits) among.tried in
-      let few = few_filtered (λ (t : Tried). has_none t.hits) among.tried in
+      let kept = filter (λ (t : Tried). t.free) among.tried in
+      let few = few_filtered (λ (t : Tried). t.free) among.tried in
       let sixteen = few_in setup s call in
       let all : length among.tried ≡ length (candidates_in setup s call) =
       sym (length-map among.tried (λ (t : Tried). t.clearance)) ∙ ap (λ (cs : List Clearance). length cs) (among.all ∙ asked.1) in

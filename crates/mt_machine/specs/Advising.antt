@@ -1,10 +1,9 @@
 -- How an advice is found. Public contracts cite `IsFree` alone.
-use Rattle.std.specs.Prelude.{◌≡◌, ℕ, Bool, List, [], All, map, None, Result, Ok, Err}
+use Rattle.std.specs.Prelude.{◌≡◌, ℕ, List, [], All, map, None, Result, Ok, Err}
 use Rattle.mt_advise.specs.Trying.{CanBeTried}
 use Rattle.mt_base.specs.declared.clearance.Clearance.{Clearance}
 use Rattle.mt_base.specs.declared.command.Refusal.{Refusal}
-use Rattle.mt_base.specs.declared.hit.Hit.{Hit}
-use Rattle.mt_base.specs.Advice.{Tried, advice_checks, candidates_in, free_of, has_none}
+use Rattle.mt_base.specs.Advice.{Tried, WasFound, advice_checks, candidates_in, free_of}
 use Rattle.mt_base.specs.Bounds.{IsBoundedClearance}
 use Rattle.mt_base.specs.Checks.{judged}
 use Rattle.mt_base.specs.Picture.{State, flight_of}
@@ -24,15 +23,9 @@ AreAsked setup s call (Ok tried) =
     × (tried ≡ candidates_in setup s call)
     × All (CanBeTried setup s call) tried
 
--- A clearance was tried, and this says whether it has no hit.
-pub record WasTried (setup : Setup) (s : State) (call : List ℕ) (clearance : Clearance) (free : Bool) : Type 0 where
-  pub hits : List Hit
-  pub follows : IsWhatIf setup s call clearance None (Ok hits)
-  pub free_is : free ≡ has_none hits
-
--- Each of some clearances was tried, and these are those without a hit, in order.
+-- Each of some clearances was tried and found free or not, and these are the free ones, in order.
 pub record AreFreeAmong (setup : Setup) (s : State) (call : List ℕ) (clearances free : List Clearance) : Type 0 where
   pub tried : List Tried
   pub all : map (λ t. t.clearance) tried ≡ clearances
-  pub each : All (λ t. IsWhatIf setup s call t.clearance None (Ok t.hits)) tried
+  pub each : All (λ t. WasFound setup s call t.clearance t.free) tried
   pub free_is : free ≡ free_of tried

@@ -1,10 +1,10 @@
 //! Which clearances are advised to a flight.
 ghost use Rattle.std.specs.Prelude.{◌≡◌, ◌≤◌, All, None, Ok, length, IfOk};
 ghost use Rattle.mt_advise.specs.Trying.{CanBeTried};
-ghost use Rattle.mt_base.specs.Advice.{IsAdvice};
+ghost use Rattle.mt_base.specs.Advice.{IsAdvice, WasFound};
 ghost use Rattle.mt_base.specs.Bounds.{AreWithinBounds};
 ghost use Rattle.mt_base.specs.Tables.{setup_with};
-ghost use Rattle.mt_machine.specs.Advising.{AreAsked, AreFreeAmong, IsFree, WasTried};
+ghost use Rattle.mt_machine.specs.Advising.{AreAsked, AreFreeAmong, IsFree};
 ghost use Rattle.mt_change.specs.Sound.{IsSoundState};
 
 use crate::plain::Plain;
@@ -55,7 +55,7 @@ fn is_free<R: Threads + Sync>(
     requires rules { AreWithinBounds rules.now }
     requires sound { IsSoundState (setup_with rules.now tables.now) plain.now }
     requires can { CanBeTried (setup_with rules.now tables.now) plain.now call clearance }
-    ensures { IfOk result (WasTried (setup_with rules.now tables.now) plain.now call clearance) }
+    ensures { IfOk result (WasFound (setup_with rules.now tables.now) plain.now call clearance) }
 {
     let Ok(found) = hits(rt, alloc, tables, rules, plain, call, clearance, None)? else {
         unreachable!()

@@ -1,5 +1,6 @@
 pub mod Again
 pub mod Aside
+pub mod Clearing
 pub mod Covered
 pub mod Filing
 pub mod Gathered

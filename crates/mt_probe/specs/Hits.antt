@@ -1,12 +1,12 @@
 -- A probe, and its hits among what was found.
-use Rattle.std.specs.Prelude.{◌≡◌, ◌≤◌, ℕ, List, Contains, Option, Some, None, Ok, Err, ⊤, unwrap_or}
+use Rattle.std.specs.Prelude.{◌≡◌, ◌≤◌, ℕ, List, [], Contains, Option, Some, None, Ok, Err, ⊤, unwrap_or}
 use Rattle.mt_base.specs.declared.clearance.Clearance.{Clearance}
 use Rattle.mt_base.specs.declared.command.Command.TheVariants.{Accept}
 use Rattle.mt_base.specs.declared.conflict.Kind.{Kind}
 use Rattle.mt_base.specs.declared.conflict.Kind.TheVariants.{Actual, Tentative}
 use Rattle.mt_base.specs.declared.hit.Hit.{Hit}
 use Rattle.mt_base.specs.Bounds.{IsBoundedClearance}
-use Rattle.mt_base.specs.WhatIf.{IsWhatIf}
+use Rattle.mt_base.specs.WhatIf.{IsConflicting, IsWhatIf}
 use Rattle.mt_board.specs.declared.no.No.{No}
 use Rattle.mt_board.specs.declared.no.No.TheVariants as nos
 use Rattle.mt_board.specs.Probing.{Probe}
@@ -65,3 +65,13 @@ abbrev pub IsUnprobed : Shot → List ℕ → Clearance → Option ℕ → No �
 IsUnprobed shot call clearance eff (nos.Refused refusal version) =
     IsWhatIf shot.setup (state_of shot) call clearance eff (Err refusal) × (version ≡ shot.version)
 IsUnprobed shot call clearance eff nos.Memory = ⊤
+
+-- The probe of a clearance that has no hit.
+pub record IsFreeProbe (shot : Shot) (call : List ℕ) (clearance : Clearance) (eff : Option ℕ) (p : Tried) : Type 0 where
+  pub probe : IsProbe shot call clearance eff p
+  pub free : p.hits ≡ []
+
+-- What is answered where only a free clearance is asked for: its probe, or none, and then something would follow from it.
+abbrev pub IsFreeOrConflicting : Shot → List ℕ → Clearance → Option ℕ → Option Tried → Type 0
+IsFreeOrConflicting shot call clearance eff (Some p) = IsFreeProbe shot call clearance eff p
+IsFreeOrConflicting shot call clearance eff None = IsConflicting shot.setup (state_of shot) call clearance eff

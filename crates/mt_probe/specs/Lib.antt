@@ -1,4 +1,5 @@
 pub mod Body
+pub mod Clear
 pub mod Filing
 pub mod Finds
 pub mod Gridded

@@ -17,7 +17,7 @@ use mt_track::Strand;
 use std::alloc::Global;
 
 /// The seconds of the window.
-const WINDOW: Second = 1200;
+pub(crate) const WINDOW: Second = 1200;
 
 /// The second behind the last one of any trajectory.
 const ALL_END: Second = 10_014_400;

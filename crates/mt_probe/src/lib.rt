@@ -4,6 +4,7 @@
 mod altering;
 mod finding;
 mod flight;
+mod hitting;
 mod index;
 mod laws;
 mod narrow;
@@ -24,4 +25,4 @@ pub use prep::Prep;
 pub use preparing::{left_of, makes_strand, prepare, strand_of};
 pub use probe::Probe;
 pub use snapshot::Snapshot;
-pub use trying::what_if;
+pub use trying::{probe_if_free, what_if};

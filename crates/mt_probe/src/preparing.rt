@@ -153,6 +153,35 @@ fn kind_made(command: &Command) -> Kind
     }
 }
 
+// What is prepared for a command that leaves this of the flight that it names, and makes that trajectory of it.
+pub(crate) fn prep_with(
+    alloc: Global,
+    snapshot: &Snapshot,
+    who: u32,
+    command: Command,
+    card: Record,
+    strand: Arc<Strand>,
+    tests: &mut Tally,
+) -> Result<Prep, Memory>
+    requires left { IsLeft snapshot.now.setup (state_of snapshot.now) who command card }
+    requires made { path_made snapshot.now.setup card (kind_made command) ≡ Some (arc_value strand) }
+    ensures prep { IfOk result (IsPrepOf snapshot.now who command) }
+    ensures counted { WasTestedNear snapshot.now card.call (arc_value strand) tests.old tests.new }
+{
+    let _version = snapshot.version();
+    let _now = snapshot.now();
+    let _end = strand.end();
+    let finds = find_all(alloc, snapshot, card.call, &strand, tests)?;
+    Ok(Prep {
+        snapshot: snapshot.share()?,
+        who,
+        command,
+        card,
+        strand,
+        finds,
+    })
+}
+
 // What is prepared for a command that leaves this of the flight that it names.
 fn prep_of(
     alloc: Global,
@@ -168,18 +197,8 @@ fn prep_of(
         → WasTestedNear snapshot.now card.call t tests.old tests.new }
 {
     let _version = snapshot.version();
-    let _now = snapshot.now();
     let strand = strand_of(alloc, snapshot, &card, kind_made(&command))?;
-    let _end = strand.end();
-    let finds = find_all(alloc, snapshot, card.call, &strand, tests)?;
-    Ok(Prep {
-        snapshot: snapshot.share()?,
-        who,
-        command,
-        card,
-        strand,
-        finds,
-    })
+    prep_with(alloc, snapshot, who, command, card, strand, tests)
 }
 
 /// What is prepared on a snapshot for a command that makes a trajectory: the flight as the entry leaves it, that trajectory, and what is found

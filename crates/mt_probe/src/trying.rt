@@ -1,24 +1,32 @@
 //! What would follow from a clearance.
-ghost use Rattle.std.specs.Prelude.{◌≡◌, ◌≤◌, ◌↔◌, All, Contains, IfOk, IfErr, IfSome, true, unwrap_or};
+ghost use Rattle.std.specs.Prelude.{◌≡◌, ◌≤◌, ◌↔◌, All, Contains, Some, IfOk, IfErr, IfSome, true, unwrap_or};
+ghost use Rattle.std.specs.Arc.{arc_value};
 ghost use Rattle.std.specs.List.Sorted.{IsStrictlySortedBy};
 ghost use Rattle.mt_base.specs.declared.command.Command.TheVariants.{Accept};
+ghost use Rattle.mt_base.specs.declared.conflict.Kind.TheVariants.{Actual};
 ghost use Rattle.mt_base.specs.declared.hit.Hit.{Hit};
 ghost use Rattle.mt_base.specs.Bounds.{IsBoundedClearance};
 ghost use Rattle.mt_base.specs.Name.{is_name};
 ghost use Rattle.mt_base.specs.Tables.{setup_with};
 ghost use Rattle.mt_base.specs.WhatIf.{hit_cmp};
-ghost use Rattle.mt_probe.specs.Hits.{IsHitOfOne, IsProbe, IsUnprobed, hit_of};
-ghost use Rattle.mt_probe.specs.Prepared.{WasTestedFor};
+ghost use Rattle.mt_probe.specs.Hits.{IsFreeOrConflicting, IsHitOfOne, IsProbe, IsUnprobed, hit_of};
+ghost use Rattle.mt_probe.specs.Prepared.{IsLeft, IsRefusedOn, WasTestedFor, path_made};
+ghost use Rattle.mt_probe.specs.Shot.{state_of};
 
 use crate::finding::Found;
+use crate::hitting::has_hit;
 use crate::prep::Prep;
-use crate::preparing::prepare;
+use crate::preparing::{left_of, prep_with, prepare, strand_of};
 use crate::probe::Probe;
 use crate::snapshot::Snapshot;
-use mt_base::{Callsign, Clearance, Command, Hit, Hits, Kind, Memory, Rules, Second, Tally};
+use mt_base::{
+    Callsign, Clearance, Command, Hit, Hits, Kind, Memory, Record, Rules, Second, Tally,
+};
 use mt_board::No;
 use mt_tables::Tables;
+use mt_track::Strand;
 use std::alloc::Global;
+use std::sync::Arc;
 
 // The hit with a trajectory that is flown, where it has a conflict in the window.
 fn hit_of(found: &Found) -> Option<Hit>
@@ -119,6 +127,101 @@ pub fn what_if(
     let command = acceptance(call, clearance, eff, version);
     match prepare(alloc, snapshot, tables, rules, 0, &command, tests) {
         Ok(prep) => Ok(tried(alloc, prep, call, clearance, eff)?),
+        Err(no) => Err(no),
+    }
+}
+
+// The probe of a clearance that holds from second `eff` on, of the flight that its acceptance leaves and the trajectory that it then flies.
+fn probe_of(
+    alloc: Global,
+    snapshot: &Snapshot,
+    call: Callsign,
+    clearance: Clearance,
+    eff: Second,
+    card: Record,
+    strand: Arc<Strand>,
+    tests: &mut Tally,
+) -> Result<Probe, Memory>
+    requires clearance { IsBoundedClearance clearance }
+    requires early { eff ≤ 10000000 }
+    requires left { IsLeft snapshot.now.setup (state_of snapshot.now) 0 (Accept call clearance eff snapshot.now.version) card }
+    requires made { path_made snapshot.now.setup card Actual ≡ Some (arc_value strand) }
+    ensures { IfOk result (IsProbe snapshot.now call clearance (Some eff)) }
+{
+    let command = acceptance(call, clearance, eff, snapshot.version());
+    let prep = prep_with(alloc, snapshot, 0, command, card, strand, tests)?;
+    Ok(tried(alloc, prep, call, clearance, eff)?)
+}
+
+// The flight that the acceptance of a clearance leaves, or the first refusal of the clearance, at the snapshot's version.
+fn accepted(
+    alloc: Global,
+    snapshot: &Snapshot,
+    call: Callsign,
+    clearance: Clearance,
+    eff: Second,
+) -> Result<Record, No>
+    requires clearance { IsBoundedClearance clearance }
+    requires early { eff ≤ 10000000 }
+    ensures left { IfOk result (IsLeft snapshot.now.setup (state_of snapshot.now) 0 (Accept call clearance eff snapshot.now.version)) }
+    ensures refused { IfErr result (IsRefusedOn snapshot.now 0 (Accept call clearance eff snapshot.now.version)) }
+{
+    let version = snapshot.version();
+    let command = acceptance(call, clearance, eff, version);
+    match left_of(alloc, snapshot, 0, &command)? {
+        Ok(card) => Ok(card),
+        Err(refusal) => Err(No::Refused { refusal, version }),
+    }
+}
+
+// The probe of a clearance that holds from second `eff` on, of the flight that its acceptance leaves, where nothing hits the trajectory that it
+// then flies.
+fn free_probe(
+    alloc: Global,
+    snapshot: &Snapshot,
+    call: Callsign,
+    clearance: Clearance,
+    eff: Second,
+    card: Record,
+    tests: &mut Tally,
+) -> Result<Option<Probe>, Memory>
+    requires clearance { IsBoundedClearance clearance }
+    requires early { eff ≤ 10000000 }
+    requires left { IsLeft snapshot.now.setup (state_of snapshot.now) 0 (Accept call clearance eff snapshot.now.version) card }
+    ensures { IfOk result (IsFreeOrConflicting snapshot.now call clearance (Some eff)) }
+{
+    let _version = snapshot.version();
+    let strand = strand_of(alloc, snapshot, &card, Kind::Actual)?;
+    if has_hit(snapshot, card.call, &strand, tests) {
+        return Ok(None);
+    }
+    let probe = probe_of(alloc, snapshot, call, clearance, eff, card, strand, tests)?;
+    Ok(Some(probe))
+}
+
+/// The probe of a clearance of a flight that holds from second `eff` on, by default the moment, where nothing would follow from it; `None`
+/// exactly where something would, as `what_if` finds it; or the first refusal, at the snapshot's version. What is prepared for its acceptance is
+/// made only of one that is free.
+///
+/// It asks that a level is at most 600, and `eff` at most 10,000,000. The trajectory that the clearance would leave is tested in the window alone,
+/// with one flight after the other, up to the first with a conflict.
+pub fn probe_if_free(
+    alloc: Global,
+    snapshot: &Snapshot,
+    call: Callsign,
+    clearance: Clearance,
+    eff: Option<Second>,
+    tests: &mut Tally,
+) -> Result<Option<Probe>, No>
+    requires clearance { IsBoundedClearance clearance }
+    requires early { IfSome eff (λ second. second ≤ 10000000) }
+    ensures found { IfOk result (IsFreeOrConflicting snapshot.now call clearance eff) }
+    ensures refused { IfErr result (IsUnprobed snapshot.now call clearance eff) }
+{
+    let _version = snapshot.version();
+    let eff = eff.unwrap_or(snapshot.now());
+    match accepted(alloc, snapshot, call, clearance, eff) {
+        Ok(card) => Ok(free_probe(alloc, snapshot, call, clearance, eff, card, tests)?),
         Err(no) => Err(no),
     }
 }

@@ -1,138 +1,145 @@
--- The advice, from the probes of all candidates.
-use Rattle.std.proofs.Common.{◌≡◌, Bool, true, false, ℕ, suc, ◌<◌, ◌≤◌, List, [], ◌∷◌, ◌++◌, All, None, Ok, Result, IfOk, length, map, refl, sym, ◌∙◌, ap, subst, arith, if◌then◌else◌, slice_index_or}
-use Rattle.std.proofs.lemmas.List.{append-nil, length-map, map-append}
-use Rattle.std.proofs.lemmas.Simd.{map-map}
-use Rattle.std.proofs.lemmas.List.Elements.{All-filter, All-from_recursion, filter-append, filter_passes, recursion_from_All}
-use Rattle.std.specs.List.{AllByRecursion, filter}
+-- The advice, from what was found of all candidates.
+use Rattle.std.proofs.Common.{◌≡◌, ℕ, suc, ◌<◌, ◌≤◌, List, [], ◌∷◌, ◌++◌, Option, Some, None, Ok, Result, IfOk, length, map, refl, sym, ◌∙◌, ap, subst, arith, slice_index_or}
+use Rattle.std.proofs.lemmas.List.{length-map, map-append}
+use Rattle.std.proofs.lemmas.List.Elements.{All-from_recursion}
+use Rattle.std.specs.List.{AllByRecursion}
+use Rattle.std.specs.Prelude.{is_some, ⊤}
 use Rattle.mt_memory.specs.declared.Memory.{Memory}
 use Rattle.mt_base.specs.declared.clearance.Clearance.{Clearance}
 use Rattle.mt_base.specs.declared.hit.Hit.{Hit}
-use Rattle.mt_base.specs.Advice.{AreAdvised, candidates_in, free_of, has_none}
+use Rattle.mt_base.specs.Advice.{AreAdvised, WasFound, candidates_in, free_of}
 use Rattle.mt_base.specs.Advice.{Tried as TriedClearance}
 use Rattle.mt_base.specs.WhatIf.{IsWhatIf}
-use Rattle.mt_base.proofs.FewAdvised.{few_filtered, few_in}
+use Rattle.mt_base.proofs.FewAdvised.{few_in}
 use Rattle.mt_board.specs.Probing.{free_probe}
-use Rattle.mt_probe.specs.Hits.{IsProbe, Tried, told_of}
+use Rattle.mt_probe.specs.Hits.{IsFreeOrConflicting, Tried, told_of}
 use Rattle.mt_probe.specs.Shot.{Shot, state_of}
-use Rattle.mt_snapshot_advice.specs.Advised.{IsAdvisedOn, IsFreeProbe}
+use Rattle.mt_snapshot_advice.specs.Advised.{IsAdvisedOn, IsFreeFor}
 use Rattle.mt_snapshot_advice.specs.Trying.{AreAsked, AreFreeOf, free_among}
 
-abbrev tries_of : List Tried → List (Result Tried Memory)
-tries_of ps = map Ok ps
-
--- a probe, as the advice speaks of it
-abbrev tried_by : Tried → TriedClearance
-tried_by p = record { clearance = p.clearance; hits = p.hits }
+abbrev tries_of : List (Option Tried) → List (Result (Option Tried) Memory)
+tries_of found = map Ok found
 
 abbrev clearances_of : List Tried → List Clearance
 clearances_of ps = map (λ (p : Tried). p.clearance) ps
 
+-- some clearances, each with what was found of it, as the advice speaks of them
+abbrev tried_by : List Clearance → List (Option Tried) → List TriedClearance
+tried_by [] found = []
+tried_by (c ∷ cs) [] = []
+tried_by (c ∷ cs) (f ∷ found) = record { clearance = c; free = is_some f } ∷ tried_by cs found
+
+few_probes : (found : List (Option Tried)) → length (free_among found) ≤ length found
+few_probes [] = omega arith
+few_probes (None ∷ found) = let rest = few_probes found in omega (arith, rest)
+few_probes (Some p ∷ found) = let rest = few_probes found in omega (arith, rest)
+
 module _ (shot : Shot) (call : List ℕ) where
-  abbrev IsOwnProbe : Tried → Type 0
-  IsOwnProbe p = IsProbe shot call p.clearance None p
+  -- what was found of some clearances, one for each
+  abbrev AreFoundOf : List Clearance → List (Option Tried) → Type 0
+  AreFoundOf [] [] = ⊤
+  AreFoundOf [] (f ∷ found) = ⊥
+  AreFoundOf (c ∷ cs) [] = ⊥
+  AreFoundOf (c ∷ cs) (f ∷ found) = IsFreeOrConflicting shot call c None f × AreFoundOf cs found
 
-  -- the probes of some clearances, one for each
-  record AreProbesOf (cs : List Clearance) (ps : List Tried) : Type 0 where
-    clearances_are : clearances_of ps ≡ cs
-    each : AllByRecursion IsOwnProbe ps
-
-  -- one more
-  one_more : (c : Clearance) (cs : List Clearance) (p : Tried) (ps : List Tried) → IsProbe shot call c None p → AreProbesOf cs ps
-      → AreProbesOf (c ∷ cs) (p ∷ ps)
-  one_more c cs p ps one rest = record {
-    clearances_are = rw (one.clearance_is, rest.clearances_are) refl;
-    each = (subst (λ (x : Clearance). IsProbe shot call x None p) (sym one.clearance_is) one, rest.each);
-  }
-
-  probes_of : (cs : List Clearance) (ps : List Tried) → length (tries_of ps) ≡ length cs
-      → ((i : ℕ) (t : Result Tried Memory) (d : Clearance) → i < length cs → IfOk (slice_index_or (tries_of ps) i t) (IsProbe shot call (slice_index_or cs i d) None))
-      → AreProbesOf cs ps
-  probes_of [] [] len each = record { clearances_are = refl; each = tt }
-  probes_of [] (p ∷ ps) len each = absurd (omega (arith, len))
-  probes_of (c ∷ cs) [] len each = absurd (omega (arith, len))
-  probes_of (c ∷ cs) (p ∷ ps) len each =
-      one_more c cs p ps (each 0 (Ok p) c (omega arith)) (probes_of cs ps (omega (arith, len)) (λ i t d below. each (suc i) t d (omega (arith, below))))
+  found_of : (cs : List Clearance) (found : List (Option Tried)) → length (tries_of found) ≡ length cs
+      → ((i : ℕ) (t : Result (Option Tried) Memory) (d : Clearance) → i < length cs
+      → IfOk (slice_index_or (tries_of found) i t) (IsFreeOrConflicting shot call (slice_index_or cs i d) None)) → AreFoundOf cs found
+  found_of [] [] len each = tt
+  found_of [] (f ∷ found) len each = absurd (omega (arith, len))
+  found_of (c ∷ cs) [] len each = absurd (omega (arith, len))
+  found_of (c ∷ cs) (f ∷ found) len each =
+      (each 0 (Ok f) c (omega arith), found_of cs found (omega (arith, len)) (λ i t d below. each (suc i) t d (omega (arith, below))))
 
   -- what the advice says of them
-  each_tried : (ps : List Tried) → AllByRecursion IsOwnProbe ps
-      → AllByRecursion (λ (t : TriedClearance). IsWhatIf shot.setup (state_of shot) call t.clearance None (Ok t.hits)) (map tried_by ps)
-  each_tried [] are = tt
-  each_tried (p ∷ ps) are = (are.0.hits_are, each_tried ps are.1)
+  all_clearances : (cs : List Clearance) (found : List (Option Tried)) → AreFoundOf cs found
+      → map (λ (t : TriedClearance). t.clearance) (tried_by cs found) ≡ cs
+  all_clearances [] found are = refl
+  all_clearances (c ∷ cs) [] are = absurd are
+  all_clearances (c ∷ cs) (f ∷ found) are = ap (λ (ds : List Clearance). c ∷ ds) (all_clearances cs found are.1)
 
-  free_clearances : (ps : List Tried) → clearances_of (free_among ps) ≡ free_of (map tried_by ps)
-  free_clearances [] = refl
-  free_clearances (p ∷ ps) = by_test (has_none p.hits) (free_clearances ps) where
-    by_test : (b : Bool) → clearances_of (free_among ps) ≡ free_of (map tried_by ps)
-        → clearances_of (if b then p ∷ free_among ps else free_among ps)
-        ≡ map (λ (t : TriedClearance). t.clearance) (if b then tried_by p ∷ filter (λ t. has_none t.hits) (map tried_by ps) else filter (λ t. has_none t.hits) (map tried_by ps))
-    by_test true rest = ap (λ (cs : List Clearance). p.clearance ∷ cs) rest
-    by_test false rest = rest
+  was_found : (c : Clearance) (f : Option Tried) → IsFreeOrConflicting shot call c None f → WasFound shot.setup (state_of shot) call c (is_some f)
+  was_found c None conflicts = conflicts
+  was_found c (Some p) free =
+      subst (λ (hits : List Hit). IsWhatIf shot.setup (state_of shot) call c None (Ok hits)) free.free free.probe.hits_are
 
-  advised : (cs : List Clearance) (ps : List Tried) → cs ≡ candidates_in shot.setup (state_of shot) call → AreProbesOf cs ps
-      → AreAdvised shot.setup (state_of shot) call (clearances_of (free_among ps))
-  advised cs ps asked are = record {
-    tried = map tried_by ps;
-    all = map-map (λ (t : TriedClearance). t.clearance) tried_by ps ∙ are.clearances_are ∙ asked;
-    each = All-from_recursion (λ (t : TriedClearance). IsWhatIf shot.setup (state_of shot) call t.clearance None (Ok t.hits)) (map tried_by ps) (each_tried ps are.each);
-    free = free_clearances ps;
+  each_tried : (cs : List Clearance) (found : List (Option Tried)) → AreFoundOf cs found
+      → AllByRecursion (λ (t : TriedClearance). WasFound shot.setup (state_of shot) call t.clearance t.free) (tried_by cs found)
+  each_tried [] found are = tt
+  each_tried (c ∷ cs) [] are = absurd are
+  each_tried (c ∷ cs) (f ∷ found) are = (was_found c f are.0, each_tried cs found are.1)
+
+  free_clearances : (cs : List Clearance) (found : List (Option Tried)) → AreFoundOf cs found → clearances_of (free_among found) ≡ free_of (tried_by cs found)
+  free_clearances [] [] are = refl
+  free_clearances [] (f ∷ found) are = absurd are
+  free_clearances (c ∷ cs) [] are = absurd are
+  free_clearances (c ∷ cs) (None ∷ found) are = free_clearances cs found are.1
+  free_clearances (c ∷ cs) (Some p ∷ found) are = rw (are.0.probe.clearance_is, free_clearances cs found are.1) refl
+
+  advised : (cs : List Clearance) (found : List (Option Tried)) → cs ≡ candidates_in shot.setup (state_of shot) call → AreFoundOf cs found
+      → AreAdvised shot.setup (state_of shot) call (clearances_of (free_among found))
+  advised cs found asked are = record {
+    tried = tried_by cs found;
+    all = all_clearances cs found are ∙ asked;
+    each = All-from_recursion (λ (t : TriedClearance). WasFound shot.setup (state_of shot) call t.clearance t.free) (tried_by cs found) (each_tried cs found are);
+    free = free_clearances cs found are;
   }
 
   -- the free ones
-  none_is : (hits : List Hit) → has_none hits ≡ true → hits ≡ []
-  none_is [] none = refl
-  none_is (h ∷ hs) none = cc
+  each_free : (cs : List Clearance) (found : List (Option Tried)) → AreFoundOf cs found → AllByRecursion (IsFreeFor shot call) (free_among found)
+  each_free [] [] are = tt
+  each_free [] (f ∷ found) are = absurd are
+  each_free (c ∷ cs) [] are = absurd are
+  each_free (c ∷ cs) (None ∷ found) are = each_free cs found are.1
+  each_free (c ∷ cs) (Some p ∷ found) are =
+      (subst (λ (x : Clearance). IsFreeOrConflicting shot call x None (Some p)) (sym are.0.probe.clearance_is) are.0, each_free cs found are.1)
 
-  each_free : (ps : List Tried) → AllByRecursion IsOwnProbe ps → All (IsFreeProbe shot call) (free_among ps)
-  each_free ps are =
-      let probes = All-filter (λ (p : Tried). has_none p.hits) IsOwnProbe ps (All-from_recursion IsOwnProbe ps are) in
-      let passes = filter_passes (λ (p : Tried). has_none p.hits) ps in
-      λ k d below. record { probe = probes k d below; free = none_is _ (passes k d below) }
-
-  told_free : (p : Tried) → IsFreeProbe shot call p → told_of p ≡ free_probe call shot.now shot.version p.clearance
+  told_free : (p : Tried) → IsFreeFor shot call p → told_of p ≡ free_probe call shot.now shot.version p.clearance
   told_free p free = rw (free.probe.call_is, free.probe.eff_is, free.probe.prep_of.state_is, free.free) refl
 
-  all_told : (ps : List Tried) → AllByRecursion (IsFreeProbe shot call) ps
-      → map told_of ps ≡ map (free_probe call shot.now shot.version) (clearances_of ps)
+  all_told : (ps : List Tried) → AllByRecursion (IsFreeFor shot call) ps → map told_of ps ≡ map (free_probe call shot.now shot.version) (clearances_of ps)
   all_told [] free = refl
   all_told (p ∷ ps) free = rw (told_free p free.0, all_told ps free.1) refl
 
-  few_free : (cs : List Clearance) (ps : List Tried) → cs ≡ candidates_in shot.setup (state_of shot) call → AreProbesOf cs ps → length (free_among ps) ≤ 16
-  few_free cs ps asked are =
-      let all : length (clearances_of ps) ≡ length (candidates_in shot.setup (state_of shot) call) =
-      ap (λ (ds : List Clearance). length ds) (are.clearances_are ∙ asked) in
-      let some = few_filtered (λ (p : Tried). has_none p.hits) ps in
+  few_free : (cs : List Clearance) (found : List (Option Tried)) → cs ≡ candidates_in shot.setup (state_of shot) call
+      → length (tries_of found) ≡ length cs → length (free_among found) ≤ 16
+  few_free cs found asked len =
+      let all : length cs ≡ length (candidates_in shot.setup (state_of shot) call) = ap (λ (ds : List Clearance). length ds) asked in
+      let some = few_probes found in
       let sixteen = few_in shot.setup (state_of shot) call in
-      omega (arith, all, some, sixteen, length-map ps (λ (p : Tried). p.clearance))
+      let tries : length (tries_of found) ≡ length found = length-map {B = Result (Option Tried) Memory} found Ok in
+      omega (arith, all, some, sixteen, len, tries)
 
   -- the advice
-  pub advised_on : (cs : List Clearance) (tries : List (Result Tried Memory)) (free : List Tried) → AreAsked shot call cs → length tries ≡ length cs
-      → ((i : ℕ) (t : Result Tried Memory) (d : Clearance) → i < length cs → IfOk (slice_index_or tries i t) (IsProbe shot call (slice_index_or cs i d) None))
+  pub advised_on : (cs : List Clearance) (tries : List (Result (Option Tried) Memory)) (free : List Tried) → AreAsked shot call cs → length tries ≡ length cs
+      → ((i : ℕ) (t : Result (Option Tried) Memory) (d : Clearance) → i < length cs
+      → IfOk (slice_index_or tries i t) (IsFreeOrConflicting shot call (slice_index_or cs i d) None))
       → AreFreeOf tries free → IsAdvisedOn shot call shot.now shot.version free
   advised_on cs tries free asked len each of = record {
     eff_is = refl;
     version_is = refl;
     clearances = clearances_of free;
-    advice = (asked.passed, rw of.are (advised cs of.probes asked.are are));
-    told = all_told free (recursion_from_All (IsFreeProbe shot call) free all_free);
-    each = all_free;
-    few = rw of.are (few_free cs of.probes asked.are are);
+    advice = (asked.passed, rw of.are (advised cs of.found asked.are are));
+    told = all_told free all_free;
+    each = All-from_recursion (IsFreeFor shot call) free all_free;
+    few = rw of.are (few_free cs of.found asked.are (rw of.all at len));
   } where
-    are : AreProbesOf cs of.probes
-    are = probes_of cs of.probes (rw of.all at len) (rw of.all at each)
+    are : AreFoundOf cs of.found
+    are = found_of cs of.found (rw of.all at len) (rw of.all at each)
 
-    all_free : All (IsFreeProbe shot call) free
-    all_free = rw of.are (each_free of.probes are.each)
+    all_free : AllByRecursion (IsFreeFor shot call) free
+    all_free = rw of.are (each_free cs of.found are)
+
+free_more : (found : List (Option Tried)) (f : Option Tried) → free_among (found ++ f ∷ []) ≡ free_among found ++ free_among (f ∷ [])
+free_more [] f = refl
+free_more (None ∷ found) f = free_more found f
+free_more (Some p ∷ found) f = ap (λ (ps : List Tried). p ∷ ps) (free_more found f)
 
 -- one try more
-pub one_try : (tries : List (Result Tried Memory)) (t : Result Tried Memory) (free new : List Tried) (p : Tried) → AreFreeOf tries free → t ≡ Ok p
-    → (b : Bool) → has_none p.hits ≡ b → new ≡ (if b then free ++ p ∷ [] else free) → AreFreeOf (tries ++ t ∷ []) new
-one_try tries t free new p of gives true none is = record {
-  probes = of.probes ++ p ∷ [];
-  all = rw (of.all, gives) (sym (map-append Ok of.probes (p ∷ [])));
-  are = rw (is, of.are) (sym (filter-append (λ (q : Tried). has_none q.hits) of.probes (p ∷ []) ∙ rw none refl));
-}
-one_try tries t free new p of gives false none is = record {
-  probes = of.probes ++ p ∷ [];
-  all = rw (of.all, gives) (sym (map-append Ok of.probes (p ∷ [])));
-  are = rw (is, of.are) (sym (filter-append (λ (q : Tried). has_none q.hits) of.probes (p ∷ []) ∙ rw none (append-nil (free_among of.probes))));
+pub one_try : (tries : List (Result (Option Tried) Memory)) (t : Result (Option Tried) Memory) (free new : List Tried) (f : Option Tried) → AreFreeOf tries free
+    → t ≡ Ok f → new ≡ free ++ free_among (f ∷ []) → AreFreeOf (tries ++ t ∷ []) new
+one_try tries t free new f of gives is = record {
+  found = of.found ++ f ∷ [];
+  all = rw (of.all, gives) (sym (map-append Ok of.found (f ∷ [])));
+  are = rw (is, of.are) (sym (free_more of.found f));
 }

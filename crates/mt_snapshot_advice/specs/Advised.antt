@@ -1,17 +1,16 @@
 -- What is answered where advice is asked for on a snapshot.
-use Rattle.std.specs.Prelude.{◌≡◌, ◌≤◌, ℕ, List, [], All, length, map, None, Ok, Err, ⊤}
+use Rattle.std.specs.Prelude.{◌≡◌, ◌≤◌, ℕ, List, All, length, map, None, Ok, Err, ⊤}
 use Rattle.mt_base.specs.declared.clearance.Clearance.{Clearance}
 use Rattle.mt_base.specs.Advice.{IsAdvice}
 use Rattle.mt_board.specs.declared.no.No.{No}
 use Rattle.mt_board.specs.declared.no.No.TheVariants as nos
 use Rattle.mt_board.specs.Probing.{free_probe}
-use Rattle.mt_probe.specs.Hits.{IsProbe, Tried, told_of}
+use Rattle.mt_probe.specs.Hits.{IsFreeProbe, Tried, told_of}
 use Rattle.mt_probe.specs.Shot.{Shot, state_of}
 
 -- It is the probe of its clearance on a snapshot, from the moment on, and has no hit.
-pub record IsFreeProbe (shot : Shot) (call : List ℕ) (p : Tried) : Type 0 where
-  pub probe : IsProbe shot call p.clearance None p
-  pub free : p.hits ≡ []
+abbrev pub IsFreeFor : Shot → List ℕ → Tried → Type 0
+IsFreeFor shot call p = IsFreeProbe shot call p.clearance None p
 
 -- These probes, at most sixteen, are the clearances that are advised on the snapshot's state, in order, each tried on it from its moment on
 -- and without hits.
@@ -21,7 +20,7 @@ pub record IsAdvisedOn (shot : Shot) (call : List ℕ) (eff version : ℕ) (prob
   pub clearances : List Clearance
   pub advice : IsAdvice shot.setup (state_of shot) call (Ok clearances)
   pub told : map told_of probes ≡ map (free_probe call eff version) clearances
-  pub each : All (IsFreeProbe shot call) probes
+  pub each : All (IsFreeFor shot call) probes
   pub few : length probes ≤ 16
 
 -- it is refused as on the snapshot's state, at the snapshot's version

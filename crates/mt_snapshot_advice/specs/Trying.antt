@@ -1,9 +1,9 @@
 -- How an advice is found. No public contract cites these.
-use Rattle.std.specs.Prelude.{◌≡◌, ℕ, List, All, filter, map, Result, Ok}
+use Rattle.std.specs.Prelude.{◌≡◌, ℕ, List, [], ◌∷◌, All, map, Option, Some, None, Result, Ok}
 use Rattle.mt_memory.specs.declared.Memory.{Memory}
 use Rattle.mt_advise.specs.Trying.{CanBeTried}
 use Rattle.mt_base.specs.declared.clearance.Clearance.{Clearance}
-use Rattle.mt_base.specs.Advice.{advice_checks, candidates_in, has_none}
+use Rattle.mt_base.specs.Advice.{advice_checks, candidates_in}
 use Rattle.mt_base.specs.Checks.{judged}
 use Rattle.mt_base.specs.Picture.{flight_of}
 use Rattle.mt_probe.specs.Hits.{Tried}
@@ -15,12 +15,14 @@ pub record AreAsked (shot : Shot) (call : List ℕ) (list : List Clearance) : Ty
   pub are : list ≡ candidates_in shot.setup (state_of shot) call
   pub can : All (CanBeTried shot.setup (state_of shot) call) list
 
--- those of some probes that have no hit, in order
-abbrev pub free_among : List Tried → List Tried
-free_among probes = filter (λ p. has_none p.hits) probes
+-- the probes among what was found
+abbrev pub free_among : List (Option Tried) → List Tried
+free_among [] = []
+free_among (None ∷ found) = free_among found
+free_among (Some p ∷ found) = p ∷ free_among found
 
--- Each try gave a probe, and these are those without a hit.
-pub record AreFreeOf (tries : List (Result Tried Memory)) (free : List Tried) : Type 0 where
-  pub probes : List Tried
-  pub all : tries ≡ map Ok probes
-  pub are : free ≡ free_among probes
+-- Each try found a probe or none, and these are the probes, in order.
+pub record AreFreeOf (tries : List (Result (Option Tried) Memory)) (free : List Tried) : Type 0 where
+  pub found : List (Option Tried)
+  pub all : tries ≡ map Ok found
+  pub are : free ≡ free_among found

@@ -1,5 +1,5 @@
 use Rattle.mt_snapshot_advice.specs.Trying.{AreFreeOf}
 use Rattle.mt_snapshot_advice.proofs.trying.free_of.Given as goal
 
-abbrev pub invariant-loop-probe : goal.invariant-loop-probe
-invariant-loop-probe l = AreFreeOf l.yielded l.free.items
+abbrev pub invariant-loop-found : goal.invariant-loop-found
+invariant-loop-found l = AreFreeOf l.yielded l.free.items

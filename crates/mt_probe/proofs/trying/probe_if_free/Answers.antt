@@ -1,0 +1,11 @@
+use Rattle.mt_probe.proofs.Tried.{early_from, unprobed}
+use Rattle.mt_probe.proofs.trying.probe_if_free.Goals as goal
+
+pub accepted-requires-clause-early : goal.accepted-requires-clause-early
+accepted-requires-clause-early c =
+    rw c.unwrap_or-eff.ensures (early_from c.args.eff c.now.result c.requires.early c.now.ensures.early)
+
+pub returns-in-Err-clause-refused : goal.returns-in-Err-clause-refused
+returns-in-Err-clause-refused c =
+    let refused = rw (c.unwrap_or-eff.ensures, c.now.ensures.now) at c.in-Err.ensures.refused in
+    unprobed c.args.snapshot.now c.args.call c.args.clearance c.args.eff c.in-Err.no c.version-version.ensures.kept.rules refused
