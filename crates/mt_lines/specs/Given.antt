@@ -15,6 +15,7 @@ is_brief (replies.List conflicts version) = false
 is_brief (replies.Flight view) = false
 is_brief (replies.Due calls version) = false
 is_brief (replies.History entries version) = false
+is_brief (replies.Areas areas version) = false
 is_brief (replies.Form name) = false
 is_brief (replies.Range name) = false
 is_brief (replies.TakenFix name) = false

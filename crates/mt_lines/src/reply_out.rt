@@ -73,7 +73,9 @@ fn is_brief(reply: &Reply) -> bool
         Reply::Settled { left, version } => are_short(left.items(), *version),
         Reply::Json | Reply::Long | Reply::Begun | Reply::Unbegun => true,
         Reply::Bands | Reply::TablesFull | Reply::Memory => true,
+        Reply::Shape | Reply::AreasFull => true,
         Reply::List { .. } | Reply::Flight(_) | Reply::Due { .. } | Reply::History { .. } => false,
+        Reply::Areas { .. } => false,
         Reply::Form(_) | Reply::Range(_) | Reply::TakenFix(_) | Reply::TakenType(_) => false,
         Reply::Refused { .. } => false,
     }

@@ -1,5 +1,5 @@
 -- A line that is read has its numbers within their bounds.
-use Rattle.std.proofs.Common.{◌≡◌, ℕ, ℤ, pos, negsuc, ◌+◌, ◌-◌, ◌<◌, ◌≤◌, ◌^◌, Bool, true, false, cond, List, [], ◌∷◌, Result, Ok, Err, IsOk, refl, sym, ap, subst, arith, unsigned_abs}
+use Rattle.std.proofs.Common.{◌≡◌, ℕ, ℤ, pos, negsuc, neg_ℤ, ◌+◌, ◌-◌, ◌<◌, ◌≤◌, ◌^◌, Bool, true, false, cond, List, [], ◌∷◌, Result, Ok, Err, IsOk, refl, sym, ap, subst, length, arith, unsigned_abs}
 use Rattle.std.specs.Bool.{⊤}
 use Rattle.std.specs.Prelude.{◌&&◌, int_le, Option, Some, None, is_some, option_and_then, option_map, unwrap_or, IfOk, IfSome, All}
 use Rattle.std.specs.List.{AllByRecursion}
@@ -12,6 +12,7 @@ use Rattle.mt_base.specs.declared.rules.RuleName.{RuleName}
 use Rattle.mt_base.specs.declared.rules.Rules.{Rules}
 use Rattle.mt_base.specs.declared.band.Band.{Band}
 use Rattle.mt_base.specs.declared.command.Command.{Command}
+use Rattle.mt_base.specs.Area.{IsBoundedArea}
 use Rattle.mt_base.specs.Bounds.{AreBoundedBands, AreWithinBounds, IsAskedFor, IsBoundedBand, IsBoundedClearance, IsBoundedCommand, IsBoundedReport, IsBoundedStretch, IsInPlane, IsWithin}
 use Rattle.mt_base.specs.Checks.{judged}
 use Rattle.mt_base.proofs.CheckLemmas.{all_passed, answer_is}
@@ -33,13 +34,14 @@ use Rattle.mt_read.specs.declared.word.EntryWord.TheVariants as entries
 use Rattle.mt_read.specs.declared.word.Word.{Word}
 use Rattle.mt_read.specs.declared.word.Word.TheVariants as word
 use Rattle.mt_read.specs.Bands.{Four, are_few, as_band, as_bands, as_four, band, band_of}
+use Rattle.mt_read.specs.Corners.{Pair, are_enough, as_corner, as_corners, as_pair, corner, corner_of}
 use Rattle.mt_read.specs.Bounded.{IsBounded, IsBoundedRequest, IsSpan}
 use Rattle.mt_read.specs.Field.{as_fix, as_list_of, count, count_if_there, each_of, number, read_at}
 use Rattle.mt_read.specs.Key.{key_text}
 use Rattle.mt_read.specs.Line.{◌>>=◌, Gives, checked, decoded, keys_of, kinds, least_other, line, named, of_word, read_layout, read_members, read_object, read_value, standing, unless_other, who_bounds, who_fields, who_in, word_in, word_text}
 use Rattle.mt_read.specs.Entry.{held_in, of_entry_word}
 use Rattle.mt_read.specs.Rules.{rule_bounds, rules_with, set_in}
-use Rattle.mt_read.specs.Table.{Layout, accepted_bounds, change_layout, clearance_bounds, clearance_in, clearance_to, entry_layout, external_bounds, layout_of, plan_bounds, plan_in, report_bounds, report_in, straight_in}
+use Rattle.mt_read.specs.Table.{Layout, accepted_bounds, area_bounds, area_in, change_layout, clearance_bounds, clearance_in, clearance_to, entry_layout, external_bounds, layout_of, plan_bounds, plan_in, report_bounds, report_in, straight_in}
 use Rattle.mt_read.specs.Words.{entry_word_of}
 use Rattle.mt_read.proofs.StepLemmas.{judged_rules, ruled}
 
@@ -150,11 +152,72 @@ type_read (Some d) e = bands_bounded (as_list_of as_band d) (list_bounded (as_ar
 type_bounded : (ms : Members) → AllByRecursion (λ c. c.1 ≡ true) ((layout_of word.TypeLine).bounds ms) → AreBoundedBands (unwrap_or (read_at key.Bands as_bands ms) [])
 type_bounded ms passed = type_read (get_member (key_text key.Bands) ms) passed.0
 
+-- the corners of an area
+abbrev IsCorner : ℤ × ℤ → Type 0
+IsCorner c = IsInPlane c.0 c.1
+
+corner_bounded : (east north : Option ℤ) (c : ℤ × ℤ) → ((z : ℤ) → east ≡ Some z → IsWithin (neg_ℤ (pos 3686400)) (pos 3686400) z)
+    → ((z : ℤ) → north ≡ Some z → IsWithin (neg_ℤ (pos 3686400)) (pos 3686400) z) → corner east north ≡ Some c → IsCorner c
+corner_bounded (Some x) (Some y) c east north e = let is : (x, y) ≡ c = cc in subst IsCorner is (east x refl, north y refl)
+corner_bounded None n c east north e = cc
+corner_bounded (Some x) None c east north e = cc
+
+pair_bounded : (o : Option Pair) (c : ℤ × ℤ) → option_and_then corner_of o ≡ Some c → IsCorner c
+pair_bounded None c e = cc
+pair_bounded (Some p) c e =
+    corner_bounded _ _ c (number_bounded (neg_ℤ (pos 3686400)) (pos 3686400) (as_whole p.east)) (number_bounded (neg_ℤ (pos 3686400)) (pos 3686400) (as_whole p.north)) e
+
+each_corner : (ds : Items) (cs : List (ℤ × ℤ)) → each_of as_corner ds ≡ Some cs → All IsCorner cs
+each_corner no_items cs e = let is : [] ≡ cs = cc in subst (All IsCorner) is (All-nil IsCorner)
+each_corner (item d ds) cs e =
+    let was = first_and_others (as_corner d) (each_of as_corner ds) cs e in
+    subst (All IsCorner) was.list_is (All-cons IsCorner was.y was.ys (pair_bounded (as_pair d) was.y was.first_is) (each_corner ds was.ys was.others_are))
+
+list_corners : (o : Option Items) (cs : List (ℤ × ℤ)) → option_and_then (each_of as_corner) o ≡ Some cs → All IsCorner cs
+list_corners None cs e = cc
+list_corners (Some ds) cs e = each_corner ds cs e
+
+record AreCorners (cs : List (ℤ × ℤ)) : Type 0 where
+  some : 3 ≤ length cs
+  few : length cs ≤ 16
+  each : All IsCorner cs
+
+counted_corners : (cs : List (ℤ × ℤ)) → All IsCorner cs → are_enough cs ≡ true → AreCorners cs
+counted_corners cs each test = record { some = grind (arith, nat_tests); few = grind (arith, nat_tests); each = each }
+
+enough_bounded : (b : Bool) (cs : List (ℤ × ℤ)) → (b ≡ true → AreCorners cs) → is_some (cond b (Some cs) None) ≡ true → AreCorners (unwrap_or (cond b (Some cs) None) [])
+enough_bounded true cs h e = h refl
+enough_bounded false cs h e = cc
+
+corners_bounded : (o : Option (List (ℤ × ℤ))) → ((cs : List (ℤ × ℤ)) → o ≡ Some cs → All IsCorner cs)
+    → is_some (option_and_then (λ cs. cond (are_enough cs) (Some cs) None) o) ≡ true
+    → AreCorners (unwrap_or (option_and_then (λ cs. cond (are_enough cs) (Some cs) None) o) [])
+corners_bounded None each e = cc
+corners_bounded (Some cs) each e = enough_bounded (are_enough cs) cs (counted_corners cs (each cs refl)) e
+
+corners_read : (o : Option Data) → is_some (option_and_then as_corners o) ≡ true → AreCorners (unwrap_or (option_and_then as_corners o) [])
+corners_read None e = cc
+corners_read (Some d) e = corners_bounded (as_list_of as_corner d) (list_corners (as_array d)) e
+
 -- a number, or another where there is none
 either_bounded : (high n : ℕ) (o : Option ℤ) → (int_le (pos 0) (unwrap_or o (pos 0)) && int_le (unwrap_or o (pos 0)) (pos high)) ≡ true → n ≤ high
     → unwrap_or (option_map unsigned_abs o) n ≤ high
 either_bounded high n None test h = h
 either_bounded high n (Some z) test h = (counted 0 high z test).1
+
+area_bounded : (ms : Members) → AllByRecursion (λ c. c.1 ≡ true) (area_bounds ms) → IsBoundedArea (area_in ms)
+area_bounded ms passed =
+    let (corners, (bottom, (top, (from, (to, _))))) = passed in
+    let are = corners_read (get_member (key_text key.Corners) ms) corners in
+    record {
+      some = are.some;
+      few = are.few;
+      each = are.each;
+      bottom = (counted 0 600 (number key.Bottom ms) bottom).1;
+      top = (counted 0 600 (number key.Top ms) top).1;
+      begins = (counted 0 10000000 (number key.From ms) from).1;
+      ends = either_bounded 10014400 10014400 (read_at key.To as_whole ms) to (omega arith);
+    }
 
 some_bounded : (high : ℕ) (o : Option ℤ) → (int_le (pos 0) (unwrap_or o (pos 0)) && int_le (unwrap_or o (pos 0)) (pos high)) ≡ true
     → IfSome (option_map unsigned_abs o) (λ n. n ≤ high)
@@ -221,6 +284,7 @@ request_bounded : (rules : Rules) (w : Word) (ms : Members) → IsOk (judged ((l
     → IsOk (judged (standing w rules ms) (tt {0})) → IsBoundedRequest rules ((layout_of w).asks ms)
 request_bounded rules word.Fix ms passed stands = fix_bounded ms (all_passed ((layout_of word.Fix).bounds ms) (tt {0}) passed)
 request_bounded rules word.TypeLine ms passed stands = type_bounded ms (all_passed ((layout_of word.TypeLine).bounds ms) (tt {0}) passed)
+request_bounded rules word.Area ms passed stands = area_bounded ms (all_passed (area_bounds ms) (tt {0}) passed)
 request_bounded rules word.Rule ms passed stands = rules_bounded (rules_with (set_in ms) rules) stands
 request_bounded rules (word.Change c) ms passed stands = change_bounded c ms passed
 request_bounded rules word.Probe ms passed stands = clear_bounded ms (all_passed (clearance_bounds ms) (tt {0}) passed)

@@ -1,6 +1,7 @@
 -- What a line asks for has its numbers within their bounds.
 use Rattle.std.specs.Prelude.{ℕ, ◌+◌, ◌<◌, ◌≤◌, ◌^◌, IfSome, ⊤}
 use Rattle.mt_base.specs.declared.rules.Rules.{Rules}
+use Rattle.mt_base.specs.Area.{IsBoundedArea}
 use Rattle.mt_base.specs.Bounds.{AreBoundedBands, AreWithinBounds, IsAskedFor, IsBoundedClearance, IsBoundedCommand, IsInPlane}
 use Rattle.mt_read.specs.declared.request.Request.{Request}
 use Rattle.mt_read.specs.declared.request.Request.TheVariants as request
@@ -12,11 +13,12 @@ pub record IsSpan (from to : ℕ) : Type 0 where
   pub forward : from ≤ to
   pub short : to ≤ from + 64
 
--- A fix, the bands of a type, a change that is asked for by itself, a second, a stretch of the history, a clearance, the number of a probe,
+-- A fix, the bands of a type, an area, a change that is asked for by itself, a second, a stretch of the history, a clearance, the number of a probe,
 -- and the rules as they would stand once they are set.
 abbrev pub IsBoundedRequest : Rules → Request → Type 0
 IsBoundedRequest rules (request.Fix name x y) = IsInPlane x y
 IsBoundedRequest rules (request.TypeLine name bands) = AreBoundedBands bands
+IsBoundedRequest rules (request.Area area) = IsBoundedArea area
 IsBoundedRequest rules (request.Rule set) = AreWithinBounds (rules_with set rules)
 IsBoundedRequest rules (request.Change command) = IsBoundedCommand command × IsAskedFor command
 IsBoundedRequest rules (request.Probe call clearance eff) = IsBoundedClearance clearance × IfSome eff (λ second. second ≤ 10000000)

@@ -1,5 +1,6 @@
 pub mod Bands
 pub mod Bounded
+pub mod Corners
 pub mod Entry
 pub mod Field
 pub mod Key

@@ -2,6 +2,7 @@
 use Rattle.std.specs.Prelude.{ℕ, pos, neg_ℤ, ◌+◌, ◌-◌, ◌^◌, ◌+ℤ◌, ◌*ℤ◌, Bool, true, false, List, [], ◌∷◌, ◌++◌, map, codes, Option, Some, None, is_some, unwrap_or}
 use Rattle.serde_json.specs.Data.{Members}
 use Rattle.serde_json.specs.Find.{as_bool}
+use Rattle.mt_base.specs.declared.area.Area.{Area}
 use Rattle.mt_base.specs.declared.clearance.Clearance.{Clearance}
 use Rattle.mt_base.specs.declared.clearance.Clearance.TheVariants.{Level, Direct}
 use Rattle.mt_base.specs.declared.command.Command.{Command}
@@ -26,6 +27,8 @@ use Rattle.mt_read.specs.declared.word.Group.TheVariants as group
 use Rattle.mt_read.specs.declared.word.Word.{Word}
 use Rattle.mt_read.specs.declared.word.Word.TheVariants as word
 use Rattle.mt_read.specs.Bands.{as_bands, as_numbers}
+use Rattle.mt_read.specs.Corners.{as_corners}
+use Rattle.mt_read.specs.Corners.{as_numbers as as_pair_of_numbers}
 use Rattle.mt_read.specs.Field.{Field, as_call, as_fix, as_list_of, as_role, as_type, bound, count, count_if_there, first_of_two, free, may, must, number, read_at, second_of_two}
 use Rattle.mt_read.specs.Rules.{rule_bound, rule_names, set_in}
 
@@ -195,6 +198,35 @@ accepted_fields = clearance_fields ++ must key.Probed as_whole ∷ []
 abbrev pub accepted_bounds : Members → List (Fault × Bool)
 accepted_bounds ms = clearance_bounds ms ++ bound key.Probed (pos 0) (pos 4194304) (number key.Probed ms) ∷ []
 
+-- ---- restricted areas, whose hours are by default all
+
+abbrev pub area_fields : List Field
+area_fields =
+    must key.Name as_fix ∷
+    must key.Corners (as_list_of as_pair_of_numbers) ∷
+    must key.Bottom as_whole ∷
+    must key.Top as_whole ∷
+    may key.From as_whole ∷
+    may key.To as_whole ∷ []
+
+abbrev pub area_bounds : Members → List (Fault × Bool)
+area_bounds ms =
+    (Range key.Corners, is_some (read_at key.Corners as_corners ms)) ∷
+    level_bound key.Bottom ms ∷
+    level_bound key.Top ms ∷
+    second_bound key.From ms ∷
+    bound key.To (pos 0) (pos 10014400) (number key.To ms) ∷ []
+
+abbrev pub area_in : Members → Area
+area_in ms = record {
+  name = unwrap_or (read_at key.Name as_fix ms) [];
+  corners = unwrap_or (read_at key.Corners as_corners ms) [];
+  bottom = count key.Bottom ms;
+  top = count key.Top ms;
+  from = count key.From ms;
+  to = unwrap_or (count_if_there key.To ms) 10014400;
+}
+
 -- ---- rows that several commands share: no field, a callsign alone, a clearance
 
 abbrev pub bare_layout : List ℕ → Group → Request → Layout Request
@@ -239,11 +271,13 @@ layout_of word.TypeLine =
     layout (codes "type") group.Script (must key.Name as_type ∷ must key.Bands (as_list_of as_numbers) ∷ [])
     (λ ms. (Range key.Bands, is_some (read_at key.Bands as_bands ms)) ∷ [])
     (λ ms. request.TypeLine (unwrap_or (read_at key.Name as_type ms) []) (unwrap_or (read_at key.Bands as_bands ms) []))
+layout_of word.Area = layout (codes "area") group.Script area_fields area_bounds (λ ms. request.Area (area_in ms))
 layout_of word.Rule =
     layout (codes "rule") group.Script (map (λ name. may (key.Rule name) as_whole) rule_names) (λ ms. map (rule_bound ms) rule_names)
     (λ ms. request.Rule (set_in ms))
 layout_of word.Begin = bare_layout (codes "begin") group.Script request.Begin
 layout_of word.Take = bare_layout (codes "take") group.Script request.Take
+layout_of word.Areas = bare_layout (codes "areas") group.Script request.Areas
 layout_of (word.Change c) = as_request (change_layout c)
 layout_of word.Probe = clearance_layout (codes "probe") group.Position request.Probe
 layout_of word.Accept =

@@ -26,7 +26,7 @@ changes =
 -- the commands of a line that are no change by themselves
 abbrev pub own_words : List Word
 own_words =
-    word.Fix ∷ word.TypeLine ∷ word.Rule ∷ word.Begin ∷ word.Take ∷ word.Probe ∷ word.Accept ∷ word.Advise ∷ word.Hello ∷ word.List ∷
+    word.Fix ∷ word.TypeLine ∷ word.Area ∷ word.Rule ∷ word.Begin ∷ word.Take ∷ word.Areas ∷ word.Probe ∷ word.Accept ∷ word.Advise ∷ word.Hello ∷ word.List ∷
     word.Check ∷ word.Due ∷ word.Flight ∷ word.History ∷ word.Settle ∷ word.Bye ∷ []
 
 unfoldable pub own_word_of : List ℕ → Option Word

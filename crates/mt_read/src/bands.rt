@@ -46,7 +46,7 @@ fn four(value: &Value) -> Option<FourValues<'_>>
 }
 
 // Whether a value is a whole number.
-fn is_whole(value: &Value) -> bool
+pub(crate) fn is_whole(value: &Value) -> bool
     ensures { result ≡ is_some (as_whole (view value.now)) }
 {
     match value.as_number() {
@@ -62,7 +62,7 @@ fn are_whole(four: &FourValues<'_>) -> bool
 }
 
 // The whole number that a value is, from `low` to `high`.
-fn bounded(value: &Value, low: i64, high: i64) -> Option<i64>
+pub(crate) fn bounded(value: &Value, low: i64, high: i64) -> Option<i64>
     ensures { result ≡ as_bounded low high (view value.now) }
 {
     match value.as_number()?.as_i64() {

@@ -5,9 +5,11 @@
 #![tactic(auto)]
 
 mod actor;
+mod areas;
 mod bands;
 mod change;
 mod clearance;
+mod corners;
 mod entry;
 mod feed;
 mod field;

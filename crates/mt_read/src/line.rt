@@ -7,6 +7,7 @@ ghost use Rattle.mt_read.specs.Line.{Gives, checked, line, read_members, standin
 ghost use Rattle.mt_read.specs.Table.{as_request, change_layout, layout_of};
 ghost use Rattle.mt_read.specs.declared.origin.Origin.TheVariants.{Line};
 
+use crate::areas::{area_line, areas_line};
 use crate::change::change_of;
 use crate::clearance::{accept_line, probe_line};
 use crate::object::{form, named, no_other, value_of};
@@ -64,9 +65,11 @@ fn checked(
     match word {
         Word::Fix => Ok(fix_line(fields, origin)?),
         Word::TypeLine => type_line(alloc, fields, origin),
+        Word::Area => area_line(alloc, fields, origin),
         Word::Rule => Ok(rule_line(fields, origin, rules)?),
         Word::Begin => Ok(begin_line(fields, origin)?),
         Word::Take => Ok(take_line(fields, origin)?),
+        Word::Areas => Ok(areas_line(fields, origin)?),
         Word::Change(change) => change_line(alloc, fields, origin, change),
         Word::Probe => Ok(probe_line(fields, origin)?),
         Word::Accept => Ok(accept_line(fields, origin)?),

@@ -1,7 +1,7 @@
 ghost use Rattle.std.specs.Prelude.{◌≡◌, unwrap_or};
 
 use mt_base::{
-    Bands, Callsign, Clearance, Command, FieldName, FixName, Role, Rules, Second, TypeName,
+    Area, Bands, Callsign, Clearance, Command, FieldName, FixName, Role, Rules, Second, TypeName,
 };
 
 /// The rules that a line sets; the others stay as they stand.
@@ -92,6 +92,8 @@ pub enum Request {
         /// Its bands, 1 to 8; their tops need not rise.
         bands: Bands,
     },
+    /// Set a restricted area, before the picture begins.
+    Area(Area),
     /// Set rules, before the picture begins.
     Rule(RuleSet),
     /// Begin the picture.
@@ -143,6 +145,8 @@ pub enum Request {
     Settle,
     /// End.
     Bye,
+    /// Tell which trajectories pass through which areas.
+    Areas,
     /// Take the version now, so that clearances are tried on it.
     Take,
 }

@@ -27,9 +27,11 @@ pub(crate) enum Change {
 pub(crate) enum Word {
     Fix,
     TypeLine,
+    Area,
     Rule,
     Begin,
     Take,
+    Areas,
     Change(Change),
     Probe,
     Accept,
@@ -73,9 +75,11 @@ fn own_word_of(text: &str) -> Option<Word>
     match text {
         "fix" => Some(Word::Fix),
         "type" => Some(Word::TypeLine),
+        "area" => Some(Word::Area),
         "rule" => Some(Word::Rule),
         "begin" => Some(Word::Begin),
         "take" => Some(Word::Take),
+        "areas" => Some(Word::Areas),
         "probe" => Some(Word::Probe),
         "accept" => Some(Word::Accept),
         "advise" => Some(Word::Advise),
@@ -151,7 +155,8 @@ fn group_of(word: Word) -> Group
     ensures { result ≡ (layout_of word).group }
 {
     match word {
-        Word::Fix | Word::TypeLine | Word::Rule | Word::Begin | Word::Take => Group::Script,
+        Word::Fix | Word::TypeLine | Word::Area | Word::Rule => Group::Script,
+        Word::Begin | Word::Take | Word::Areas => Group::Script,
         Word::Change(change) => group_of_change(change),
         Word::Probe | Word::Accept | Word::Advise => Group::Position,
         Word::Hello
@@ -223,9 +228,11 @@ fn script_keys(word: Word) -> &'static str
         | Word::Due
         | Word::Settle
         | Word::Bye
-        | Word::Take => "do who ",
+        | Word::Take
+        | Word::Areas => "do who ",
         Word::Fix => "do name x y who ",
         Word::TypeLine => "do name bands who ",
+        Word::Area => "do name corners bottom top from to who ",
         Word::Rule => "do sh sv r0 gh rmax w0 gv wmax tc ta tv flights history sv2 who ",
         Word::Change(change) => change_keys(change),
         Word::Flight => "do call sec who ",
@@ -262,9 +269,11 @@ fn session_keys(word: Word) -> &'static str
         | Word::Due
         | Word::Settle
         | Word::Bye
-        | Word::Take => "do ",
+        | Word::Take
+        | Word::Areas => "do ",
         Word::Fix => "do name x y ",
         Word::TypeLine => "do name bands ",
+        Word::Area => "do name corners bottom top from to ",
         Word::Rule => "do sh sv r0 gh rmax w0 gv wmax tc ta tv flights history sv2 ",
         Word::Change(change) => session_change_keys(change),
         Word::Flight => "do call sec ",

@@ -89,6 +89,8 @@ served_idle s (requests.TypeLine name bands) reply next b g = given_idle s _ rep
 served_idle s (requests.Rule set) reply next b g = given_idle s _ reply next g
 served_idle s requests.Begin reply next b g = given_idle s _ reply next g
 served_idle s requests.Take reply next b g = given_idle s _ reply next g
+served_idle s (requests.Area area) reply next b g = given_idle s _ reply next g
+served_idle s requests.Areas reply next b g = given_idle s _ reply next g
 
 answered_idle : (s : Session) (a : Result (ℕ × Request) Reply) (reply : Reply) (next : Session) → is_brief reply ≡ false → IsAnswered s a reply next → IsIdle s next
 answered_idle s (Ok a) reply next b served = served_idle s a.1 reply next b served

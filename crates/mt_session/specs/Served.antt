@@ -154,6 +154,8 @@ IsServed s (requests.TypeLine name bands) reply next = IsForeign s reply next
 IsServed s (requests.Rule set) reply next = IsForeign s reply next
 IsServed s requests.Begin reply next = IsForeign s reply next
 IsServed s requests.Take reply next = IsForeign s reply next
+IsServed s (requests.Area area) reply next = IsForeign s reply next
+IsServed s requests.Areas reply next = IsForeign s reply next
 
 -- it asks for no change
 abbrev pub IsNoChange : Request → Type 0

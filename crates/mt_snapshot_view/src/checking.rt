@@ -44,8 +44,8 @@ fn add_flight(snapshot: &Snapshot, place: u32, roster: &mut Roster) -> Result<()
     add_strand(snapshot, place, flight.call, Kind::Tentative, roster)
 }
 
-// All trajectories of a snapshot.
-fn roster_of(alloc: Global, snapshot: &Snapshot) -> Result<Roster, Memory>
+/// All trajectories of a snapshot, in the order of filing, each flight's actual one before its tentative one.
+pub fn roster_of(alloc: Global, snapshot: &Snapshot) -> Result<Roster, Memory>
     ensures { IfOk result (λ roster. roster ≡ trajectories snapshot.now.setup (state_of snapshot.now)) }
 {
     let _version = snapshot.version();

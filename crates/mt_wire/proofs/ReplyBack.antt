@@ -4,6 +4,7 @@ use Rattle.json.specs.Tree as tree
 use Rattle.serde_json.specs.Data.{Data, string, object}
 use Rattle.serde_json.specs.Read.{of_json, read}
 use Rattle.serde_json.specs.Written.{compact_text, outline}
+use Rattle.mt_base.specs.declared.area.Pierced.{Pierced}
 use Rattle.mt_base.specs.declared.clearance.Clearance.{Clearance}
 use Rattle.mt_base.specs.declared.clearance.Clearance.TheVariants.{Level, Direct}
 use Rattle.mt_base.specs.declared.command.Refusal.{Refusal}
@@ -18,7 +19,7 @@ use Rattle.mt_write.specs.declared.reply.Reply.{Reply}
 use Rattle.mt_write.specs.declared.reply.Reply.TheVariants as reply
 use Rattle.mt_write.specs.Entry.{entry_value, whole}
 use Rattle.mt_write.specs.Flight.{flight_value, or_null, row_value, tent_value}
-use Rattle.mt_write.specs.Reply.{advised_members, advised_value, conflict_value, flags, hit_value, holding, refusal_members, reply_value}
+use Rattle.mt_write.specs.Reply.{advised_members, advised_value, conflict_value, flags, hit_value, holding, pierced_value, refusal_members, reply_value}
 use Rattle.mt_wire.specs.Held.{HoldsWhole}
 use Rattle.mt_wire.proofs.EntryBack.{entry_depth, entry_read, names_depth}
 use Rattle.mt_wire.proofs.ReadBack.{items_depth, items_read, numbered, numbered_value, read_back}
@@ -28,6 +29,9 @@ conflict_read c h = rw (numbered (pos c.first) h.0, numbered (pos c.last) h.1.1.
 
 hit_read : (hit : Hit) → HoldsWhole (hit_value hit) → of_json (outline (hit_value hit)) ≡ Some (hit_value hit)
 hit_read hit h = rw (numbered (pos hit.first) h.0, numbered (pos hit.last) h.1.0) refl
+
+pierced_read : (p : Pierced) → HoldsWhole (pierced_value p) → of_json (outline (pierced_value p)) ≡ Some (pierced_value p)
+pierced_read p h = rw (numbered (pos p.first) h.1.1.0, numbered (pos p.last) h.1.1.1.1.0) refl
 
 -- ---- what is told of a flight
 
@@ -111,6 +115,7 @@ reply_read (reply.Flight view) h = flight_read view h
 reply_read (reply.Due calls version) h = rw (items_read string (λ call _. refl) calls h.0, numbered (pos version) h.1.0) refl
 reply_read (reply.Settled left version) h = rw (items_read string (λ call _. refl) left h.0, numbered (pos version) h.1.0) refl
 reply_read (reply.History entries version) h = rw (items_read entry_value (λ e. entry_read e.who e.command) entries h.0, numbered (pos version) h.1.0) refl
+reply_read (reply.Areas areas version) h = rw (items_read pierced_value pierced_read areas h.0, numbered (pos version) h.1.0) refl
 reply_read (reply.Refused (refusal.UnknownCall call) version) h = rw (numbered (pos version) h.1.1.0) refl
 reply_read (reply.Refused (refusal.UnknownType name) version) h = rw (numbered (pos version) h.1.1.0) refl
 reply_read (reply.Refused (refusal.UnknownFix name) version) h = rw (numbered (pos version) h.1.1.0) refl
@@ -128,6 +133,7 @@ reply_depth (reply.Flight view) = flight_depth view
 reply_depth (reply.Due calls version) = omega (arith, names_depth calls)
 reply_depth (reply.Settled left version) = omega (arith, names_depth left)
 reply_depth (reply.History entries version) = omega (arith, items_depth entry_value (λ e. omega (arith, entry_depth e.who e.command)) entries)
+reply_depth (reply.Areas areas version) = omega (arith, items_depth pierced_value (λ p. omega arith) areas)
 reply_depth (reply.Refused cause version) = refused_depth version cause
 reply_depth r = omega arith
 

@@ -96,7 +96,7 @@ pub published_is : (story after : Story) (actors : List Actor) (who : ℕ) (c : 
     → IsChanged (seen story actors) who c (entered_reply result) (seen after actors)
     ⊎ IsRefused (seen story actors) replies.Memory (entered_reply result) (seen after actors)
 published_is story after actors who c result entered denied unchanged = changed_is (seen story actors) (seen after actors) who c result
-    (λ i. record { rules = (same i).rules; tables = (same i).tables; begun = true; history = after.history; actors = map shown actors })
+    (λ i. record { rules = (same i).rules; tables = (same i).tables; areas = []; begun = true; history = after.history; actors = map shown actors })
     entered denied (seen_unchanged result unchanged) where
       same : after.setup ≡ story.setup
       same = same_setup story after who c result entered unchanged

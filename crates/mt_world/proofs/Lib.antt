@@ -1,5 +1,7 @@
 pub mod Accepting
 pub mod Advice
+pub mod Areas
+pub mod Beside
 pub mod BriefHits
 pub mod Entering
 pub mod OneAnswer

@@ -1,6 +1,11 @@
 -- A request of a world has one reply.
 use Rattle.std.proofs.Common.{◌≡◌, ℕ, List, length, Option, Some, None, Result, Ok, Err, sym, subst, ◌∙◌, ap}
 use Rattle.std.specs.Prelude.{unwrap_or, ⊤}
+use Rattle.mt_area.specs.declared.area_no.AreaNo.{AreaNo}
+use Rattle.mt_area.specs.declared.area_no.AreaNo.TheVariants as area_no
+use Rattle.mt_area.proofs.OneAnswer.{IsNoWant, one_answer}
+use Rattle.mt_base.specs.declared.area.Area.{Area}
+use Rattle.mt_base.specs.declared.area.Pierced.{Pierced}
 use Rattle.mt_base.specs.declared.command.Command.{Command}
 use Rattle.mt_base.specs.declared.command.Entry.{Entry}
 use Rattle.mt_base.specs.declared.command.Refusal.{Refusal}
@@ -14,16 +19,17 @@ use Rattle.mt_base.specs.Settled.{due_calls}
 use Rattle.mt_base.specs.Tables.{Tables}
 use Rattle.mt_base.proofs.ConflictOrder.{total}
 use Rattle.mt_base.proofs.OneOrder.{one_order}
+use Rattle.mt_base.proofs.PiercedOrder as pierced_order
 use Rattle.mt_read.specs.declared.request.Request.{Request}
 use Rattle.mt_read.specs.declared.request.Request.TheVariants as requests
 use Rattle.mt_tables.specs.declared.add_no.AddNo.{AddNo}
 use Rattle.mt_machine.specs.Book.{probe_at}
 use Rattle.mt_write.specs.declared.reply.DoneWord.{DoneWord}
 use Rattle.mt_write.specs.declared.reply.Reply.{Reply}
-use Rattle.mt_write.specs.declared.reply.Reply.TheVariants.{List as listed, Settled as settled}
+use Rattle.mt_write.specs.declared.reply.Reply.TheVariants.{Areas as areas_told, List as listed, Settled as settled}
 use Rattle.mt_board.specs.Probing.{Probe}
 use Rattle.mt_base.proofs.Cases.{on_both}
-use Rattle.mt_world.specs.World.{IsAcceptedOf, IsAdded, IsAdvised, IsAdvisedAs, IsChanged, IsGiven, IsListed, IsOutcome, IsProbed, IsRefused, IsServed, IsSettling, IsTold, IsTried, World, actor_of, is_empty, picture_of, picture_taken, setup_of}
+use Rattle.mt_world.specs.World.{AreAreasTold, IsAcceptedOf, IsAdded, IsAdvised, IsAdvisedAs, IsAreaAdded, IsAreaGiven, IsChanged, IsGiven, IsListed, IsOutcome, IsProbed, IsRefused, IsServed, IsSettling, IsTold, IsTried, World, actor_of, is_empty, picture_of, picture_taken, setup_of}
 use Rattle.mt_world.proofs.OneSolution.{one_advised, one_decision, one_renewal, one_what_if}
 
 -- the same reply, and the same world after it
@@ -46,6 +52,34 @@ one_added : (w : World) (checked : Result ⊤ AddNo) (word : DoneWord) (taken : 
     → IsAdded w checked word taken tables r next → IsAdded w checked word taken tables s other → AreOne r s next other
 one_added w (Ok _) word taken tables r s next other x y = one_given _ _ r s next other x y
 one_added w (Err refusal) word taken tables r s next other x y = one_refused w _ r s next other x y
+
+one_area_given : (w : World) (area : Area) (result : Result ⊤ AreaNo) (r s : Reply) (next other : World) → IsAreaGiven w area result r next
+    → IsAreaGiven w area result s other → AreOne r s next other
+one_area_given w area (Ok _) r s next other x y = one_given _ _ r s next other x y
+one_area_given w area (Err area_no.Taken) r s next other x y = one_refused w _ r s next other x y
+one_area_given w area (Err area_no.Shape) r s next other x y = one_refused w _ r s next other x y
+one_area_given w area (Err area_no.Full) r s next other x y = one_refused w _ r s next other x y
+one_area_given w area (Err area_no.Memory) r s next other x y = absurd x
+
+no_want : (w : World) (area : Area) (result : Result ⊤ AreaNo) (reply : Reply) (next : World) → IsAreaGiven w area result reply next → IsNoWant result
+no_want w area (Ok _) reply next given = tt
+no_want w area (Err area_no.Taken) reply next given = tt
+no_want w area (Err area_no.Shape) reply next given = tt
+no_want w area (Err area_no.Full) reply next given = tt
+no_want w area (Err area_no.Memory) reply next given = absurd given
+
+one_area_added : (w : World) (area : Area) (r s : Reply) (next other : World) → IsAreaAdded w area r next → IsAreaAdded w area s other
+    → AreOne r s next other
+one_area_added w area r s next other x y =
+    let same : y.result ≡ x.result = one_answer w.areas area y.result x.result y.answer x.answer
+    (no_want w area y.result s other y.given) (no_want w area x.result r next x.given) in
+    one_area_given w area x.result r s next other x.given (subst (λ (result : Result ⊤ AreaNo). IsAreaGiven w area result s other) same y.given)
+
+one_areas_told : (w : World) (r s : Reply) (next other : World) → AreAreasTold w r next → AreAreasTold w s other → AreOne r s next other
+one_areas_told w r s next other x y =
+    let told : x.told ≡ y.told = one_order pierced_order.total x.told y.told x.are.sorted y.are.sorted
+    (λ p h. (y.are.exact p).1 ((x.are.exact p).0 h)) (λ p h. (x.are.exact p).1 ((y.are.exact p).0 h)) in
+    (x.reply_is ∙ ap (λ (ps : List Pierced). areas_told ps (length w.history)) told ∙ sym y.reply_is, x.same ∙ sym y.same)
 
 one_outcome : (w : World) (d : Result Entry Refusal) (r s : Reply) (next other : World) → IsOutcome w d r next → IsOutcome w d s other
     → AreOne r s next other
@@ -104,6 +138,8 @@ one_served w who (requests.Fix name a b) r s next other x y =
     on_both w.begun _ _ _ _ _ (one_refused w _ r s next other) (one_added w _ _ _ _ r s next other) x y
 one_served w who (requests.TypeLine name bands) r s next other x y =
     on_both w.begun _ _ _ _ _ (one_refused w _ r s next other) (one_added w _ _ _ _ r s next other) x y
+one_served w who (requests.Area area) r s next other x y =
+    on_both w.begun _ _ _ _ _ (one_refused w _ r s next other) (one_area_added w area r s next other) x y
 one_served w who (requests.Rule set) r s next other x y = on_both w.begun _ _ _ _ _ (one_refused w _ r s next other) (one_given _ _ r s next other) x y
 one_served w who requests.Begin r s next other x y = on_both w.begun _ _ _ _ _ (one_refused w _ r s next other) (one_given _ _ r s next other) x y
 one_served w who (requests.Hello role) r s next other x y = one_given _ _ r s next other x y
@@ -128,3 +164,5 @@ one_served w who (requests.Advise call) r s next other x y =
     on_both w.begun _ _ _ _ _ (one_advice_told w who call r s next other) (one_refused w _ r s next other) x y
 one_served w who requests.Due r s next other x y = on_both w.begun _ _ _ _ _ (one_given _ _ r s next other) (one_refused w _ r s next other) x y
 one_served w who requests.Settle r s next other x y = on_both w.begun _ _ _ _ _ (one_settled w who r s next other) (one_refused w _ r s next other) x y
+one_served w who requests.Areas r s next other x y =
+    on_both w.begun _ _ _ _ _ (one_areas_told w r s next other) (one_refused w _ r s next other) x y

@@ -1,5 +1,5 @@
 -- What is tried on the snapshot that an actor has taken.
-use Rattle.std.proofs.Common.{◌≡◌, ◌⊎◌, inl, inr, ℕ, ◌<◌, true, List, length, map, take, get_or, Option, Some, Result, Ok, Err, IfOk, refl, subst, sym, ◌∙◌, ap}
+use Rattle.std.proofs.Common.{◌≡◌, ◌⊎◌, inl, inr, ℕ, ◌<◌, true, List, [], length, map, take, get_or, Option, Some, Result, Ok, Err, IfOk, refl, subst, sym, ◌∙◌, ap}
 use Rattle.mt_base.specs.declared.clearance.Clearance.{Clearance}
 use Rattle.mt_base.specs.declared.hit.Hit.{Hit}
 use Rattle.mt_base.specs.Advice.{IsAdvice}
@@ -29,7 +29,7 @@ use Rattle.mt_world.proofs.WorldLemmas.{actor_is, actor_sound}
 
 -- a world as its fields show it
 abbrev pub seen : Story → List Actor → World
-seen story actors = record { rules = story.setup.rules; tables = story.setup.tables; begun = true; history = story.history; actors = map shown actors }
+seen story actors = record { rules = story.setup.rules; tables = story.setup.tables; areas = []; begun = true; history = story.history; actors = map shown actors }
 
 module _ (story : Story) (actors : List Actor) (who : ℕ) (a : Actor) (sound : IsSoundWorld story actors) (below : who < 16) (is : a ≡ get_or actors who a) where
   actor : IsSoundActor story.setup story.history a

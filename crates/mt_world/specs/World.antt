@@ -1,5 +1,10 @@
 -- The world of a script: what each request is answered, and what it leaves.
 use Rattle.std.specs.Prelude.{◌≡◌, ℕ, ◌-◌, Bool, true, false, List, [], ◌∷◌, ◌++◌, length, map, replicate, take, drop, get_or, slice_set, unwrap_or, Option, Some, None, Result, Ok, Err, MatchBool, ◌⊎◌, ⊤}
+use Rattle.mt_area.specs.declared.area_no.AreaNo.{AreaNo}
+use Rattle.mt_area.specs.declared.area_no.AreaNo.TheVariants as area_no
+use Rattle.mt_area.specs.Adding.{IsAnswer}
+use Rattle.mt_base.specs.declared.area.Area.{Area}
+use Rattle.mt_base.specs.declared.area.Pierced.{Pierced}
 use Rattle.mt_base.specs.declared.command.Entry.{Entry}
 use Rattle.mt_base.specs.declared.command.Refusal.{Refusal}
 use Rattle.mt_base.specs.declared.conflict.Conflict.{Conflict}
@@ -13,6 +18,7 @@ use Rattle.mt_base.specs.Checks.{judged}
 use Rattle.mt_base.specs.Advice.{IsAdvice}
 use Rattle.mt_base.specs.History.{IsDecided, entered_by, state_of}
 use Rattle.mt_base.specs.Picture.{IsPublished, State, flight_of}
+use Rattle.mt_base.specs.Pierced.{ArePierced}
 use Rattle.mt_base.specs.Rules.{usual_rules}
 use Rattle.mt_base.specs.Settled.{IsSettled, IsSettledInPart, due_calls}
 use Rattle.mt_base.specs.Tally.{raised}
@@ -47,17 +53,18 @@ pub record Actor : Type 0 where
 abbrev pub new_actor : Actor
 new_actor = record { taken = 0; book = empty_book }
 
--- The world of a script: the rules and the tables, whether the picture has begun, its history, and its sixteen actors.
+-- The world of a script: the rules, the tables and the restricted areas, whether the picture has begun, its history, and its sixteen actors.
 pub record World : Type 0 where
   pub rules : Rules
   pub tables : Tables
+  pub areas : List Area
   pub begun : Bool
   pub history : List Entry
   pub actors : List Actor
 
 -- as it is before the first line
 abbrev pub opening_world : World
-opening_world = record { rules = usual_rules; tables = no_tables; begun = false; history = []; actors = replicate 16 new_actor }
+opening_world = record { rules = usual_rules; tables = no_tables; areas = []; begun = false; history = []; actors = replicate 16 new_actor }
 
 -- what its lines before `begin` fix, and the state of its history
 abbrev pub setup_of : World → Setup
@@ -65,6 +72,10 @@ setup_of w = record { rules = w.rules; tables = w.tables }
 
 abbrev pub picture_of : World → State
 picture_of w = state_of (setup_of w) w.history
+
+-- a world with other areas
+abbrev pub with_areas : World → List Area → World
+with_areas w areas = record w { areas = areas }
 
 -- an actor by its number; the state of the entries that it has taken
 abbrev pub actor_of : World → ℕ → Actor
@@ -108,6 +119,26 @@ not_added taken add.Memory = replies.Memory
 abbrev pub IsAdded : World → Result ⊤ AddNo → DoneWord → Reply → Tables → Reply → World → Type 0
 IsAdded w (Ok _) word taken tables reply next = IsGiven (replies.Done word) (record w { tables = tables }) reply next
 IsAdded w (Err refusal) word taken tables reply next = IsRefused w (not_added taken refusal) reply next
+
+-- what a line that adds an area is answered: the areas with one more at the end, or its refusal
+abbrev pub IsAreaGiven : World → Area → Result ⊤ AreaNo → Reply → World → Type 0
+IsAreaGiven w area (Ok _) reply next = IsGiven (replies.Done done.Area) (with_areas w (w.areas ++ area ∷ [])) reply next
+IsAreaGiven w area (Err area_no.Taken) reply next = IsRefused w (replies.TakenFix area.name) reply next
+IsAreaGiven w area (Err area_no.Shape) reply next = IsRefused w replies.Shape reply next
+IsAreaGiven w area (Err area_no.Full) reply next = IsRefused w replies.AreasFull reply next
+IsAreaGiven w area (Err area_no.Memory) reply next = ⊥
+
+pub record IsAreaAdded (w : World) (area : Area) (reply : Reply) (next : World) : Type 0 where
+  pub result : Result ⊤ AreaNo
+  pub answer : IsAnswer w.areas area result
+  pub given : IsAreaGiven w area result reply next
+
+-- the reply tells each trajectory of the state of the history that passes through an area in the window, and nothing has changed
+pub record AreAreasTold (w : World) (reply : Reply) (next : World) : Type 0 where
+  pub told : List Pierced
+  pub are : ArePierced (setup_of w) (picture_of w) w.areas told
+  pub reply_is : reply ≡ replies.Areas told (length w.history)
+  pub same : next ≡ w
 
 -- what is told of the flight of a callsign, where there is one
 abbrev pub IsTold : World → List ℕ → Option ℕ → Option Record → Reply → World → Type 0
@@ -174,7 +205,7 @@ pub record IsSettling (w : World) (who : ℕ) (reply : Reply) (next : World) : T
   pub settled : IsSettled (setup_of w) who w.history history
   pub given : IsGiven (replies.Settled (due_calls (state_of (setup_of w) history).records) (length history)) (record w { history = history }) reply next
 
--- What an actor's request is answered, and the world after it. Fixes, types and rules are set and the picture is begun once, at first;
+-- What an actor's request is answered, and the world after it. Fixes, types, areas and rules are set and the picture is begun once, at first;
 -- `hello` and `bye` are answered always, and the other requests once the picture has begun.
 abbrev pub IsServed : World → ℕ → Request → Reply → World → Type 0
 IsServed w who (requests.Fix name x y) reply next = MatchBool w.begun (IsRefused w replies.Begun reply next)
@@ -183,6 +214,7 @@ IsServed w who (requests.Fix name x y) reply next = MatchBool w.begun (IsRefused
 IsServed w who (requests.TypeLine name bands) reply next = MatchBool w.begun (IsRefused w replies.Begun reply next)
     (IsAdded w (judged (type_adding w.tables name bands) (tt {0})) done.TypeLine (replies.TakenType name)
     (with_type w.tables name bands) reply next)
+IsServed w who (requests.Area area) reply next = MatchBool w.begun (IsRefused w replies.Begun reply next) (IsAreaAdded w area reply next)
 IsServed w who (requests.Rule set) reply next = MatchBool w.begun
     (IsRefused w replies.Begun reply next) (IsGiven (replies.Done done.Rule) (record w { rules = rules_with set w.rules }) reply next)
 IsServed w who requests.Begin reply next = MatchBool w.begun
@@ -209,6 +241,13 @@ IsServed w who requests.Due reply next = MatchBool w.begun
     (IsGiven (replies.Due (due_calls (picture_of w).records) (length w.history)) w reply next) (IsRefused w replies.Unbegun reply next)
 IsServed w who requests.Settle reply next = MatchBool w.begun
     (IsSettling w who reply next) (IsRefused w replies.Unbegun reply next)
+IsServed w who requests.Areas reply next = MatchBool w.begun (AreAreasTold w reply next) (IsRefused w replies.Unbegun reply next)
+
+-- it asks for areas, or adds one
+abbrev pub IsOfAreas : Request → Type 0
+IsOfAreas (requests.Area area) = ⊤
+IsOfAreas requests.Areas = ⊤
+IsOfAreas request = ⊥
 
 -- A request that found no memory changed nothing, but that settling may have renewed some of the flights.
 pub record IsSettledSoFar (w : World) (who : ℕ) (next : World) : Type 0 where

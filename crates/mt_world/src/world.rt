@@ -1,12 +1,12 @@
 //! A world, and what each request is answered.
-ghost use Rattle.std.specs.Prelude.{◌≡◌, ◌⊎◌, ◌≤◌, length, replicate, true, All, IfOk};
+ghost use Rattle.std.specs.Prelude.{◌≡◌, ◌⊎◌, ◌≤◌, [], length, replicate, true, All, IfOk};
 ghost use Rattle.mt_base.specs.History.{IsLegal};
 ghost use Rattle.mt_machine.specs.Book.{empty_book};
 ghost use Rattle.mt_probe.specs.Shot.{Shot};
 ghost use Rattle.mt_read.specs.Bounded.{IsBoundedRequest};
 ghost use Rattle.mt_write.specs.declared.reply.Reply.TheVariants as replies;
 ghost use Rattle.mt_lines.specs.Fit.{IsFit};
-ghost use Rattle.mt_world.specs.World.{IsServed, IsStarved, new_actor};
+ghost use Rattle.mt_world.specs.World.{IsOfAreas, IsServed, IsStarved, new_actor};
 
 use crate::actor::Actor;
 use mt_base::{Memory, Tally};
@@ -31,7 +31,7 @@ pub struct World {
 }
 
 impl Model for World {
-    ghost use Rattle.std.specs.Prelude.{map, true};
+    ghost use Rattle.std.specs.Prelude.{[], map, true};
     ghost use Rattle.mt_world.specs.Sound.{IsSoundWorld, shown};
     ghost use Rattle.mt_world.specs.World.{World};
 
@@ -40,6 +40,7 @@ impl Model for World {
     ghost view = { λ w. record {
       rules = w.picture.setup.rules;
       tables = w.picture.setup.tables;
+      areas = [];
       begun = true;
       history = w.picture.history;
       actors = map shown w.actors.items;
@@ -67,6 +68,7 @@ impl World {
         ensures { IfOk result (λ world. world ≡ record {
           rules = picture.setup.rules;
           tables = picture.setup.tables;
+          areas = [];
           begun = true;
           history = picture.history;
           actors = replicate 16 new_actor;
@@ -85,11 +87,12 @@ impl World {
     /// Serves an actor's request: the reply that the definition of a world has for it, and that world after it; or `Memory` is the reply, and
     /// nothing has changed, but that settling may have renewed some flights.
     ///
-    /// Actors have the numbers 0 to 15. A line that would set the picture up is refused, as it has begun. A reply that follows a change is short
+    /// Actors have the numbers 0 to 15. It asks that the request isn't one on areas, which a world of this type doesn't keep. A line that would set the picture up is refused, as it has begun. A reply that follows a change is short
     /// enough for the room that is taken before the first line.
     pub fn step<R: Threads + Sync>(&mut self, rt: &R, who: u32, request: &Request) -> Reply
         requires who { who ≤ 15 }
         requires bounded { IsBoundedRequest self.old.rules request.now }
+        requires other { IsOfAreas request.now → ⊥ }
         ensures served { IsServed self.old who request.now result self.new ⊎ IsStarved self.old who request.now result self.new }
         ensures fit { IsFit result }
     {
@@ -115,6 +118,8 @@ impl World {
             Request::Advise { call } => self.advise(rt, who, *call),
             Request::Due => self.due(),
             Request::Settle => self.settle(who),
+            Request::Area(_) => unreachable!(),
+            Request::Areas => unreachable!(),
         }
     }
 

@@ -15,7 +15,7 @@ use Rattle.mt_base.specs.declared.flight.Tent.{Tent}
 use Rattle.mt_base.specs.declared.hit.Hit.{Hit}
 use Rattle.mt_base.specs.declared.row.Row.{Row}
 use Rattle.mt_base.specs.Name.{is_name}
-use Rattle.mt_write.specs.declared.reply.DoneWord.TheVariants.{Fix, TypeLine, Rule, Begin, Bye}
+use Rattle.mt_write.specs.declared.reply.DoneWord.TheVariants.{Fix, TypeLine, Area, Rule, Begin, Bye}
 use Rattle.mt_base.specs.declared.role.Role.TheVariants.{Feed, Position}
 use Rattle.mt_base.specs.declared.verdict.Verdict.{Verdict}
 use Rattle.mt_base.specs.declared.clearance.Clearance.{Clearance}
@@ -255,6 +255,7 @@ pub short_text : (r : Reply) → IsShort r → length (reply_text r) ≤ 65536
 unfolding json_on_literals
 short_text (reply.Done Fix) short = omega arith
 short_text (reply.Done TypeLine) short = omega arith
+short_text (reply.Done Area) short = omega arith
 short_text (reply.Done Rule) short = omega arith
 short_text (reply.Done Begin) short = omega arith
 short_text (reply.Done Bye) short = omega arith
@@ -271,6 +272,7 @@ short_text (reply.Due calls version) short =
 short_text (reply.Settled left version) short =
     simp length-append (omega (arith, calls_length false left short.each, short.few, digits_length version short.at_version))
 short_text (reply.History entries version) short = absurd short
+short_text (reply.Areas areas version) short = absurd short
 short_text (reply.Form name) short = simp length-append (omega (arith, escape_length name))
 short_text (reply.Range name) short = simp length-append (omega (arith, escape_length name))
 short_text (reply.TakenFix name) short = simp length-append (omega (arith, escape_length name))

@@ -33,6 +33,22 @@ pub conflict_text : (f l : ℕ) (kinds a b first last letters left right : List 
 unfolding json_on_literals
 conflict_text f l kinds a b first last letters left right k p q d e = simp (k, p, q, d, e, append_assoc)
 
+pub plain_kind : (a : Kind) → kind_letter a ∷ [] ≡ escape (kind_letter a ∷ [])
+unfolding json_on_literals
+plain_kind Actual = refl
+plain_kind Tentative = refl
+
+pub pierced_text : (f l : ℕ) (area call kind first last name sign letter : List ℕ) → name ≡ escape area → sign ≡ escape call → letter ≡ escape kind → first ≡ decimal f → last ≡ decimal l
+    → codes "{\"area\":\"" ++ (name ++ (codes "\",\"call\":\"" ++ (sign ++ (codes "\",\"first\":" ++ (first ++ (codes ",\"kind\":\"" ++ (letter ++ (codes "\",\"last\":" ++ (last ++ (codes "}" ++ []))))))))))
+    ≡ compact_text (object (
+    member (codes "area") (string area) (
+    member (codes "call") (string call) (
+    member (codes "first") (whole (pos f)) (
+    member (codes "kind") (string kind) (
+    member (codes "last") (whole (pos l)) no_members))))))
+unfolding json_on_literals
+pierced_text f l area call kind first last name sign letter n s k d e = simp (n, s, k, d, e, append_assoc)
+
 pub hit_text : (hit : Hit) (first last with_is : List ℕ) → first ≡ decimal hit.first → last ≡ decimal hit.last → with_is ≡ escape hit.with
     → codes "{\"first\":" ++ (first ++ (codes ",\"last\":" ++ (last ++ (codes ",\"with\":\"" ++ (with_is ++ (codes "\"}" ++ [])))))) ≡ compact_text (hit_value hit)
 unfolding json_on_literals

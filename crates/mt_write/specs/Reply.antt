@@ -2,6 +2,7 @@
 use Rattle.std.specs.Prelude.{ℕ, pos, Bool, List, [], ◌∷◌, ◌++◌, map, filter, codes, Option, Some, None}
 use Rattle.serde_json.specs.Data.{Data, string, array, object, no_items, item, Members, no_members, member}
 use Rattle.serde_json.specs.Written.{compact_text}
+use Rattle.mt_base.specs.declared.area.Pierced.{Pierced}
 use Rattle.mt_base.specs.declared.command.Refusal.{Refusal}
 use Rattle.mt_base.specs.declared.command.Refusal.TheVariants as refusal
 use Rattle.mt_base.specs.declared.clearance.Clearance.{Clearance}
@@ -15,7 +16,7 @@ use Rattle.mt_base.specs.declared.role.Role.TheVariants.{Feed, Position}
 use Rattle.mt_base.specs.declared.verdict.Verdict.{Verdict}
 use Rattle.mt_write.specs.declared.reply.AdviceItem.{AdviceItem}
 use Rattle.mt_write.specs.declared.reply.DoneWord.{DoneWord}
-use Rattle.mt_write.specs.declared.reply.DoneWord.TheVariants.{Fix, TypeLine, Rule, Begin, Bye}
+use Rattle.mt_write.specs.declared.reply.DoneWord.TheVariants.{Fix, TypeLine, Area, Rule, Begin, Bye}
 use Rattle.mt_write.specs.declared.reply.Reply.{Reply}
 use Rattle.mt_write.specs.declared.reply.Reply.TheVariants as reply
 use Rattle.mt_write.specs.Entry.{entry_value, values, whole}
@@ -24,6 +25,7 @@ use Rattle.mt_write.specs.Flight.{flight_value}
 abbrev pub done_text : DoneWord → List ℕ
 done_text Fix = codes "fix"
 done_text TypeLine = codes "type"
+done_text Area = codes "area"
 done_text Rule = codes "rule"
 done_text Begin = codes "begin"
 done_text Bye = codes "bye"
@@ -51,6 +53,15 @@ hit_value hit = object (
     member (codes "first") (whole (pos hit.first)) (
     member (codes "last") (whole (pos hit.last)) (
     member (codes "with") (string hit.with) no_members)))
+
+-- a passage of a trajectory through an area
+abbrev pub pierced_value : Pierced → Data
+pierced_value p = object (
+    member (codes "area") (string p.area) (
+    member (codes "call") (string p.call) (
+    member (codes "first") (whole (pos p.first)) (
+    member (codes "kind") (string (kind_letter p.kind ∷ [])) (
+    member (codes "last") (whole (pos p.last)) no_members)))))
 
 -- the flags of a verdict by their names, in order, and those of them that hold
 abbrev pub flags : Verdict → List (List ℕ × Bool)
@@ -163,12 +174,17 @@ reply_value (reply.Settled left version) = object (
 reply_value (reply.History entries version) = object (
     member (codes "entries") (array (values entry_value entries)) (
     member (codes "version") (whole (pos version)) no_members))
+reply_value (reply.Areas areas version) = object (
+    member (codes "areas") (array (values pierced_value areas)) (
+    member (codes "version") (whole (pos version)) no_members))
 reply_value reply.Json = word_value (codes "json")
 reply_value reply.Long = word_value (codes "long")
 reply_value reply.Begun = word_value (codes "begun")
 reply_value reply.Unbegun = word_value (codes "unbegun")
 reply_value reply.Bands = word_value (codes "bands")
 reply_value reply.TablesFull = word_value (codes "tables-full")
+reply_value reply.Shape = word_value (codes "shape")
+reply_value reply.AreasFull = word_value (codes "areas-full")
 reply_value reply.Memory = word_value (codes "memory")
 reply_value (reply.Form name) = field_value name (codes "form")
 reply_value (reply.Range name) = field_value name (codes "range")

@@ -108,6 +108,7 @@ IsShort (reply.Flight view) = IsShortFlight view
 IsShort (reply.Due calls version) = AreShortCalls calls version
 IsShort (reply.Settled left version) = AreShortCalls left version
 IsShort (reply.History entries version) = ⊥
+IsShort (reply.Areas areas version) = ⊥
 IsShort (reply.Form name) = length name ≤ 10000
 IsShort (reply.Range name) = length name ≤ 10000
 IsShort (reply.TakenFix name) = length name ≤ 7

@@ -8,7 +8,7 @@ use mt_base::{Conflict, Kind};
 use mt_memory::Memory;
 
 // The letter of a kind.
-fn letter(kind: Kind) -> u8
+pub(crate) fn letter(kind: Kind) -> u8
     ensures { result ≡ kind_letter kind }
 {
     match kind {

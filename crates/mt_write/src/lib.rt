@@ -14,6 +14,7 @@ mod hit;
 mod laws;
 mod names;
 mod number;
+mod pierced;
 mod planned;
 mod put_reply;
 mod refused;

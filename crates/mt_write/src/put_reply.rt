@@ -30,6 +30,7 @@ fn put_done(out: &mut Vec<u8>, word: DoneWord) -> Result<(), Memory>
     match word {
         DoneWord::Fix => put(out, b"{\"done\":\"fix\"}\n"),
         DoneWord::TypeLine => put(out, b"{\"done\":\"type\"}\n"),
+        DoneWord::Area => put(out, b"{\"done\":\"area\"}\n"),
         DoneWord::Rule => put(out, b"{\"done\":\"rule\"}\n"),
         DoneWord::Begin => put(out, b"{\"done\":\"begin\"}\n"),
         DoneWord::Bye => put(out, b"{\"done\":\"bye\"}\n"),
@@ -155,12 +156,17 @@ pub(crate) fn put_reply(out: &mut Vec<u8>, reply: &Reply) -> Result<(), Memory>
         Reply::History { entries, version } => {
             put_list(out, b"{\"entries\":[", entries.items(), *version)
         }
+        Reply::Areas { areas, version } => {
+            put_list(out, b"{\"areas\":[", areas.items(), *version)
+        }
         Reply::Json => put(out, b"{\"no\":\"json\"}\n"),
         Reply::Long => put(out, b"{\"no\":\"long\"}\n"),
         Reply::Begun => put(out, b"{\"no\":\"begun\"}\n"),
         Reply::Unbegun => put(out, b"{\"no\":\"unbegun\"}\n"),
         Reply::Bands => put(out, b"{\"no\":\"bands\"}\n"),
         Reply::TablesFull => put(out, b"{\"no\":\"tables-full\"}\n"),
+        Reply::Shape => put(out, b"{\"no\":\"shape\"}\n"),
+        Reply::AreasFull => put(out, b"{\"no\":\"areas-full\"}\n"),
         Reply::Memory => put(out, NO_MEMORY),
         Reply::Form(name) => put_field(out, name.bytes(), b"\",\"no\":\"form\"}\n"),
         Reply::Range(name) => put_field(out, name.bytes(), b"\",\"no\":\"range\"}\n"),

@@ -4,7 +4,7 @@ ghost use Rattle.mt_write.specs.Short.{IsShortAdvised};
 
 use mt_base::{
     Calls, Callsign, Clearance, Conflicts, Entered, Entries, FieldName, FixName, FlightView, Hits,
-    Listed, Refusal, Role, Second, TypeName,
+    Listed, Pierces, Refusal, Role, Second, TypeName,
 };
 
 /// What was done.
@@ -14,6 +14,8 @@ pub enum DoneWord {
     Fix,
     /// A type of aircraft was set.
     TypeLine,
+    /// A restricted area was set.
+    Area,
     /// Rules were set.
     Rule,
     /// The picture has begun.
@@ -119,6 +121,13 @@ pub enum Reply {
         /// The version now.
         version: u64,
     },
+    /// Which trajectories pass through which areas.
+    Areas {
+        /// Each passage in the window, in order.
+        areas: Pierces,
+        /// The version that they are of.
+        version: u64,
+    },
     /// No JSON value is read from the line.
     Json,
     /// The line is too long.
@@ -131,13 +140,17 @@ pub enum Reply {
     Bands,
     /// As many fixes or types stand as the tables hold.
     TablesFull,
+    /// The shape of the area isn't right.
+    Shape,
+    /// As many areas stand as may.
+    AreasFull,
     /// There wasn't enough memory.
     Memory,
     /// The line, or the field named, isn't of the form asked for.
     Form(FieldName),
     /// The number at the field named is outside its bounds.
     Range(FieldName),
-    /// A fix of that name stands.
+    /// A fix, or an area, of that name stands.
     TakenFix(FixName),
     /// A type of that name stands.
     TakenType(TypeName),

@@ -1,4 +1,4 @@
-use Rattle.std.proofs.Common.{◌<◌, ◌∙◌, ap, get_or, length, map, slice_set, sym, true, arith}
+use Rattle.std.proofs.Common.{◌<◌, ◌∙◌, [], ap, get_or, length, map, slice_set, sym, true, arith}
 use Rattle.mt_board.specs.Probing.{Probe}
 use Rattle.mt_machine.specs.Book.{Book, with_probe}
 use Rattle.mt_machine.proofs.Books.{all_push, told_push}
@@ -30,6 +30,7 @@ returns-clause-kept c =
     rw (← c.self.view_is, c.put.ensures.kept) (λ i. record {
       rules = c.self.inside.picture.setup.rules;
       tables = c.self.inside.picture.setup.tables;
+      areas = [];
       begun = true;
       history = c.self.inside.picture.history;
       actors = (book_view items c.args.who a (with_probe a.book c.args.probe) within c.index_mut.ensures.value

@@ -1,4 +1,4 @@
-use Rattle.std.proofs.Common.{◌<◌, ◌∙◌, ap, get_or, length, map, slice_set, sym, true, arith}
+use Rattle.std.proofs.Common.{◌<◌, ◌∙◌, [], ap, get_or, length, map, slice_set, sym, true, arith}
 use Rattle.mt_board.specs.Probing.{Probe}
 use Rattle.mt_machine.specs.Book.{Book, with_all}
 use Rattle.mt_machine.proofs.Books.{all_more, told_all}
@@ -30,6 +30,7 @@ returns c =
     rw (← c.self.view_is, c.put_all.ensures) (λ i. record {
       rules = c.self.inside.picture.setup.rules;
       tables = c.self.inside.picture.setup.tables;
+      areas = [];
       begun = true;
       history = c.self.inside.picture.history;
       actors = (book_view items c.args.who a (with_all a.book c.args.probes.items) within c.index_mut.ensures.value

@@ -1,4 +1,4 @@
-use Rattle.std.proofs.Common.{true}
+use Rattle.std.proofs.Common.{true, []}
 use Rattle.mt_world.proofs.WorldLemmas.{shown_first, sound_first}
 use Rattle.mt_world.proofs.world.World.make.Goals as goal
 
@@ -13,4 +13,4 @@ pub returns : goal.returns
 returns g c =
     let story = c.args.picture in
     let actors = shown_first c.in_ok-opening.opening c.in_ok-actors.actors.items 16 c.in_ok-opening.ensures.version c.in_ok-actors.ensures.0 c.in_ok-actors.ensures.1 in
-    λ i. record { rules = story.setup.rules; tables = story.setup.tables; begun = true; history = story.history; actors = actors i }
+    λ i. record { rules = story.setup.rules; tables = story.setup.tables; areas = []; begun = true; history = story.history; actors = actors i }

@@ -1,4 +1,4 @@
-use Rattle.std.proofs.Common.{◌<◌, ◌≡◌, ◌∙◌, ap, get_or, inl, length, map, refl, slice_set, true, ℕ, arith}
+use Rattle.std.proofs.Common.{◌<◌, ◌≡◌, ◌∙◌, [], ap, get_or, inl, length, map, refl, slice_set, true, ℕ, arith}
 use Rattle.mt_base.specs.Picture.{State}
 use Rattle.mt_base.proofs.HistoryLemmas.{version_is}
 use Rattle.mt_picture.specs.Story.{Story}
@@ -30,6 +30,7 @@ returns-clause-answered c =
       next_is = rw (← c.self.view_is) (λ i. record {
         rules = story.setup.rules;
         tables = story.setup.tables;
+        areas = [];
         begun = true;
         history = story.history;
         actors = (taken_view items c.args.who c.index_mut.result.now c.in-Ok.taken within c.index_mut.ensures.value

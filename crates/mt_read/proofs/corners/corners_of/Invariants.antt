@@ -1,0 +1,9 @@
+use Rattle.std.proofs.Common.{◌≡◌, ◌++◌, drop, option_map}
+use Rattle.serde_json.specs.View.{items_view}
+use Rattle.mt_read.specs.Field.{each_of}
+use Rattle.mt_read.specs.Corners.{as_corner}
+use Rattle.mt_read.proofs.corners.corners_of.Given as goal
+
+abbrev pub invariant-loop-value : goal.invariant-loop-value
+invariant-loop-value l =
+    option_map (λ xs. l.corners ++ xs) (each_of as_corner (items_view (drop l.value-index l.values))) ≡ each_of as_corner (items_view l.values)

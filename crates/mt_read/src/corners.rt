@@ -1,0 +1,123 @@
+//! The corners of an area: a list of lists of two numbers.
+ghost use Rattle.std.specs.Prelude.{◌≡◌, [], is_some, option_map, unwrap_or, IfOk};
+ghost use Rattle.serde_json.specs.View.{items_view, view};
+ghost use Rattle.mt_base.specs.Checks.{check};
+ghost use Rattle.mt_json.specs.Shown.{members};
+ghost use Rattle.mt_read.specs.Corners.{are_enough, are_whole, as_corner, as_corners, as_numbers, as_pair, corner_of, pair_of, shown};
+ghost use Rattle.mt_read.specs.Field.{ReadsUnlessMemory, as_list_of, each_of, read_at, there};
+ghost use Rattle.mt_read.specs.declared.key.Fault.TheVariants.{Range};
+
+use crate::bands::{bounded, is_whole};
+use crate::key::{Fault, Key, key_text};
+use crate::stop::Stop;
+use mt_base::Corners;
+use mt_json::Fields;
+use mt_memory::Memory;
+use serde_json::Value;
+use std::alloc::Global;
+
+// What stands in a list of exactly two.
+#[derive(Clone, Copy)]
+struct PairValues<'v> {
+    east: &'v Value,
+    north: &'v Value,
+}
+
+fn pair_of(values: &[Value]) -> Option<PairValues<'_>>
+    ensures { option_map shown result ≡ pair_of (items_view values.now) }
+{
+    match values {
+        [east, north] => Some(PairValues { east, north }),
+        _ => None,
+    }
+}
+
+fn pair(value: &Value) -> Option<PairValues<'_>>
+    ensures { option_map shown result ≡ as_pair (view value.now) }
+{
+    pair_of(value.as_array()?.as_slice())
+}
+
+fn are_whole(pair: &PairValues<'_>) -> bool
+    ensures { result ≡ are_whole (shown pair.now) }
+{
+    is_whole(pair.east) && is_whole(pair.north)
+}
+
+fn corner_of(pair: &PairValues<'_>) -> Option<(i64, i64)>
+    ensures { result ≡ corner_of (shown pair.now) }
+{
+    let east = bounded(pair.east, -3_686_400, 3_686_400)?;
+    let north = bounded(pair.north, -3_686_400, 3_686_400)?;
+    Some((east, north))
+}
+
+// Whether each value is a list of exactly two whole numbers.
+fn are_numbers(values: &[Value]) -> bool
+    ensures { result ≡ is_some (each_of as_numbers (items_view values.now)) }
+{
+    for value in values {
+        let Some(pair) = pair(value) else {
+            return false;
+        };
+        if !are_whole(&pair) {
+            return false;
+        }
+    }
+    true
+}
+
+/// A list of lists of exactly two whole numbers must be there.
+#[tactic(auto, unfolding(mt_base::specs::Checks::check))]
+pub(crate) fn corners_kind(fields: &Fields, key: Key) -> Result<(), Fault>
+    ensures { result ≡ check (there key (as_list_of as_numbers) (members fields.now)) }
+{
+    match fields.list(key_text(key)) {
+        Ok(values) if are_numbers(values) => Ok(()),
+        _ => Err(Fault::Form(key)),
+    }
+}
+
+// The corner that a value is.
+fn corner(value: &Value) -> Option<(i64, i64)>
+    ensures { result ≡ as_corner (view value.now) }
+{
+    corner_of(&pair(value)?)
+}
+
+// The corners that the values are, unless one of them is none.
+fn corners_of(alloc: Global, values: &[Value]) -> Result<Option<Corners>, Memory>
+    ensures { IfOk result (λ corners. corners ≡ each_of as_corner (items_view values.now)) }
+{
+    let mut corners = Corners::make(alloc)?;
+    for value in values {
+        let Some(corner) = corner(value) else {
+            return Ok(None);
+        };
+        corners.push(corner)?;
+    }
+    Ok(Some(corners))
+}
+
+// Whether there are 3 to 16 corners.
+fn are_enough(corners: &Corners) -> bool
+    ensures { result ≡ are_enough corners.now }
+{
+    let count = corners.items().len();
+    3 <= count && count <= 16
+}
+
+/// The corners at a key, 3 to 16, each in the plane.
+#[tactic(auto, unfolding(mt_base::specs::Checks::check))]
+pub(crate) fn corners(alloc: Global, fields: &Fields, key: Key) -> Result<Corners, Stop>
+    ensures { ReadsUnlessMemory result (check (Range key, is_some (read_at key as_corners (members fields.now))))
+        (unwrap_or (read_at key as_corners (members fields.now)) []) }
+{
+    let Ok(values) = fields.list(key_text(key)) else {
+        return Err(Stop::Fault(Fault::Range(key)));
+    };
+    match corners_of(alloc, values)? {
+        Some(corners) if are_enough(&corners) => Ok(corners),
+        _ => Err(Stop::Fault(Fault::Range(key))),
+    }
+}
