@@ -18,6 +18,10 @@ pub on_false : (b : Bool) (P Q : Type 0) → b ≡ false → Q → MatchBool b P
 on_false true P Q e q = cc
 on_false false P Q e q = q
 
+pub when_false : (b : Bool) (P Q : Type 0) → b ≡ false → MatchBool b P Q → Q
+when_false true P Q e m = cc
+when_false false P Q e m = m
+
 -- what is answered before the picture has begun, or memory is wanted
 pub before_or : (w next : World) (who : ℕ) (request : Request) (reply : Reply) (P Q : Type 0) → w.begun ≡ false → (next ≡ w → IsLeft w who request next)
     → Q ⊎ IsRefused w Memory reply next → MatchBool w.begun P Q ⊎ IsStarved w who request reply next

@@ -17,7 +17,7 @@ use Rattle.mt_base.specs.Tables.{Tables}
 use Rattle.mt_base.proofs.Cases.{on_either}
 use Rattle.mt_script.specs.Kept.{IsBegunWith, IsKept}
 
-when_true : (b : Bool) (P Q : Type 0) → b ≡ true → MatchBool b P Q → P
+pub when_true : (b : Bool) (P Q : Type 0) → b ≡ true → MatchBool b P Q → P
 when_true true P Q e m = m
 when_true false P Q e m = cc
 
@@ -59,6 +59,7 @@ module _ (w next : World) (who : ℕ) (reply : Reply) (begun : w.begun ≡ true)
   pub kept_served : (request : Request) → IsServed w who request reply next → IsKept w next
   kept_served (requests.Fix name x y) served = kept_same w next (when_true w.begun _ _ begun served).same
   kept_served (requests.TypeLine name bands) served = kept_same w next (when_true w.begun _ _ begun served).same
+  kept_served (requests.Area area) served = kept_same w next (when_true w.begun _ _ begun served).same
   kept_served (requests.Rule set) served = kept_same w next (when_true w.begun _ _ begun served).same
   kept_served requests.Begin served = kept_same w next (when_true w.begun _ _ begun served).same
   kept_served (requests.Hello role) served = kept_same w next served.next_is
@@ -80,6 +81,7 @@ module _ (w next : World) (who : ℕ) (reply : Reply) (begun : w.begun ≡ true)
   kept_served requests.Due served = kept_same w next (when_true w.begun _ _ begun served).next_is
   kept_served requests.Settle served =
       let settling = when_true w.begun _ _ begun served in kept_as w next _ settling.given.next_is refl refl refl
+  kept_served requests.Areas served = kept_same w next (when_true w.begun _ _ begun served).same
 
   kept_left : (request : Request) → IsLeft w who request next → IsKept w next
   kept_left requests.Settle left = ⊎_elim (kept_same w next) (λ part. kept_as w next _ part.next_is refl refl refl) left

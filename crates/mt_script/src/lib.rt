@@ -1,7 +1,8 @@
-//! A script: the requests of its actors, from the first one on. They set up fixes, types and rules, begin the picture, and are served by its
-//! world from then on.
+//! A script: the requests of its actors, from the first one on. They set up fixes, types, restricted areas and rules, begin the picture, and are
+//! served by its world from then on.
 #![tactic(auto)]
 
+mod passing;
 mod script;
 mod setting;
 

@@ -1,14 +1,18 @@
 //! A script: what each request is answered, and the world that it leaves.
-ghost use Rattle.std.specs.Prelude.{◌≡◌, ◌⊎◌, ◌≤◌, [], IfOk, MatchOption, None, false, true};
+ghost use Rattle.std.specs.Prelude.{◌≡◌, ◌⊎◌, ◌≤◌, ℕ, [], IfOk, MatchOption, None, false, true};
 ghost use Rattle.std.specs.Arc.{arc_value};
+ghost use Rattle.mt_base.specs.Area.{IsBoundedArea};
 ghost use Rattle.mt_base.specs.Bounds.{AreWithinBounds};
+ghost use Rattle.mt_read.specs.declared.request.Request.TheVariants as requests;
 ghost use Rattle.mt_read.specs.Bounded.{IsBoundedRequest};
 ghost use Rattle.mt_lines.specs.Fit.{IsFit};
 ghost use Rattle.mt_script.specs.Begun.{is_begin};
-ghost use Rattle.mt_world.specs.World.{IsServed, IsStarved, opening_world};
+ghost use Rattle.mt_world.specs.World.{IsOfAreas, IsServed, IsStarved, opening_world, with_areas};
 
+use crate::passing::{not_added, told};
 use crate::setting::Setting;
-use mt_base::{Memory, Rules};
+use mt_area::Areas;
+use mt_base::{Area, Memory, Rules};
 use mt_picture::Picture;
 use mt_read::Request;
 use mt_tables::Tables;
@@ -19,21 +23,23 @@ use std::marker::Model;
 use std::sync::Arc;
 use std::thread::Threads;
 
-/// A script, seen as its world: what was set up, and once the picture has begun the world of that picture.
+/// A script, seen as its world: what was set up, and once the picture has begun the world of that picture; the restricted areas stand beside
+/// both.
 #[derive(Drop)]
 pub struct Script {
     setting: Setting,
+    areas: Areas,
     begun: Option<World>,
 }
 
 impl Model for Script {
     ghost use Rattle.std.specs.Prelude.{IfSome, unwrap_or};
     ghost use Rattle.mt_script.specs.Kept.{IsBegunWith};
-    ghost use Rattle.mt_world.specs.World.{World};
+    ghost use Rattle.mt_world.specs.World.{World, with_areas};
 
     ghost Value = { World };
 
-    ghost view = { λ s. unwrap_or s.begun s.setting };
+    ghost view = { λ s. with_areas (unwrap_or s.begun s.setting) s.areas };
 
     ghost invariant = { λ s. IfSome s.begun (IsBegunWith s.setting.tables) };
 }
@@ -45,6 +51,7 @@ impl Script {
     {
         Ok(Script {
             setting: Setting::make(alloc)?,
+            areas: Areas::make(alloc)?,
             begun: None,
         })
     }
@@ -68,9 +75,9 @@ impl Script {
         self.setting.tables()
     }
 
-    /// The world; none exactly where the picture hasn't begun.
+    /// The world, but for the areas, which stand beside it; none exactly where the picture hasn't begun.
     pub fn world(&self) -> Option<&World>
-        ensures { MatchOption result (self.now.begun ≡ false) (λ world. world.now ≡ self.now) }
+        ensures { MatchOption result (self.now.begun ≡ false) (λ world. with_areas world.now self.now.areas ≡ self.now) }
     {
         let _rules = self.setting.rules();
         self.begun.as_ref()
@@ -93,7 +100,7 @@ impl Script {
         ensures setup { result.setup ≡ record { rules = self.rules; tables = self.tables } }
         ensures history { result.history ≡ self.history }
     {
-        let Script { setting, begun } = self;
+        let Script { setting, begun, .. } = self;
         let _rules = setting.rules();
         let Some(world) = begun else { unreachable!() };
         world.into_picture()
@@ -111,6 +118,70 @@ impl Script {
         request: &Request,
     ) -> Reply
         requires who { who ≤ 15 }
+        requires bounded { IsBoundedRequest self.old.rules request.now }
+        ensures served { IsServed self.old who request.now result self.new ⊎ IsStarved self.old who request.now result self.new }
+        ensures fit { IsFit result }
+        ensures begins { self.old.begun ≡ false → (self.new.begun ≡ is_begin result) × (self.new.history ≡ []) }
+    {
+        let _rules = self.rules();
+        match request {
+            Request::Area(area) => self.add_area(alloc, area),
+            Request::Areas => self.tell_areas(rt, alloc),
+            _ => self.serve_other(rt, alloc, who, request),
+        }
+    }
+
+    // Puts an area behind the others, before the picture begins.
+    fn add_area(&mut self, alloc: Global, area: &Area) -> Reply
+        requires { IsBoundedArea area.now }
+        ensures served { (who : ℕ) → IsServed self.old who (requests.Area area.now) result self.new
+            ⊎ IsStarved self.old who (requests.Area area.now) result self.new }
+        ensures fit { IsFit result }
+        ensures stays { is_begin result ≡ false }
+        ensures begun { self.new.begun ≡ self.old.begun }
+        ensures history { self.new.history ≡ self.old.history }
+    {
+        if self.has_begun() {
+            return Reply::Begun;
+        }
+        let Ok(copy) = area.copy(alloc) else {
+            return Reply::Memory;
+        };
+        if let Err(refusal) = self.areas.add(copy) {
+            return not_added(area.name, refusal);
+        }
+        Reply::Done(DoneWord::Area)
+    }
+
+    // Tells which trajectories pass through which areas, once the picture has begun.
+    fn tell_areas<R: Threads + Sync>(&self, rt: &R, alloc: Global) -> Reply
+        ensures served { (who : ℕ) → IsServed self.now who requests.Areas result self.now ⊎ IsStarved self.now who requests.Areas result self.now }
+        ensures fit { IsFit result }
+        ensures stays { is_begin result ≡ false }
+    {
+        let _rules = self.setting.rules();
+        let Some(world) = &self.begun else {
+            return Reply::Unbegun;
+        };
+        match told(rt, alloc, &self.areas, world) {
+            Ok(areas) => Reply::Areas {
+                areas,
+                version: world.picture().version(),
+            },
+            Err(Memory) => Reply::Memory,
+        }
+    }
+
+    // Serves a request that isn't one on areas.
+    fn serve_other<R: Threads + Sync>(
+        &mut self,
+        rt: &R,
+        alloc: Global,
+        who: u32,
+        request: &Request,
+    ) -> Reply
+        requires who { who ≤ 15 }
+        requires other { IsOfAreas request.now → ⊥ }
         requires bounded { IsBoundedRequest self.old.rules request.now }
         ensures served { IsServed self.old who request.now result self.new ⊎ IsStarved self.old who request.now result self.new }
         ensures fit { IsFit result }

@@ -13,7 +13,7 @@ ghost use Rattle.mt_read.specs.Bounded.{IsBoundedRequest};
 ghost use Rattle.mt_read.specs.Rules.{rules_with};
 ghost use Rattle.mt_lines.specs.Fit.{IsFit};
 ghost use Rattle.mt_script.specs.Begun.{is_begin};
-ghost use Rattle.mt_world.specs.World.{IsAdded, IsGiven, IsRefused, IsServed, IsStarved, new_actor, not_added, opening_world};
+ghost use Rattle.mt_world.specs.World.{IsAdded, IsGiven, IsOfAreas, IsRefused, IsServed, IsStarved, new_actor, not_added, opening_world};
 
 use mt_base::{Bands, FixName, Memory, Rules, TypeName};
 use mt_picture::Picture;
@@ -44,6 +44,7 @@ impl Model for Setting {
     ghost view = { λ s. record {
       rules = s.rules;
       tables = arc_value s.tables;
+      areas = [];
       begun = false;
       history = [];
       actors = replicate 16 new_actor;
@@ -81,9 +82,10 @@ impl Setting {
         Ok(Arc::try_clone(&self.tables)?)
     }
 
-    /// Serves a request, whoever asks. It asks that the request doesn't begin the picture.
+    /// Serves a request, whoever asks. It asks that the request doesn't begin the picture, and that it isn't one on areas.
     pub fn serve(&mut self, request: &Request) -> Reply
         requires stays { request.now ≡ requests.Begin → ⊥ }
+        requires other { IsOfAreas request.now → ⊥ }
         requires bounded { IsBoundedRequest self.old.rules request.now }
         ensures served { (who : ℕ) → IsServed self.old who request.now result self.new ⊎ IsStarved self.old who request.now result self.new }
         ensures fit { IsFit result }
@@ -110,6 +112,8 @@ impl Setting {
             Request::Advise { .. } => Reply::Unbegun,
             Request::Due => Reply::Unbegun,
             Request::Settle => Reply::Unbegun,
+            Request::Area(_) => unreachable!(),
+            Request::Areas => unreachable!(),
         }
     }
 

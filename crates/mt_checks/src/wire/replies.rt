@@ -21,6 +21,7 @@ fn replies_without_a_list(rt: HostRuntime) {
     check_reply(&rt, Reply::Done(DoneWord::Bye), r#"{"done":"bye"}"#);
     check_reply(&rt, Reply::Done(DoneWord::Fix), r#"{"done":"fix"}"#);
     check_reply(&rt, Reply::Done(DoneWord::TypeLine), r#"{"done":"type"}"#);
+    check_reply(&rt, Reply::Done(DoneWord::Area), r#"{"done":"area"}"#);
     check_reply(&rt, Reply::Hello(Role::Feed), r#"{"role":"feed"}"#);
     check_reply(&rt, Reply::Hello(Role::Position), r#"{"role":"position"}"#);
     check_reply(&rt, entered(41), r#"{"entered":41}"#);
@@ -37,6 +38,8 @@ fn replies_without_a_list(rt: HostRuntime) {
     check_reply(&rt, Reply::Memory, r#"{"no":"memory"}"#);
     check_reply(&rt, Reply::Bands, r#"{"no":"bands"}"#);
     check_reply(&rt, Reply::TablesFull, r#"{"no":"tables-full"}"#);
+    check_reply(&rt, Reply::Shape, r#"{"no":"shape"}"#);
+    check_reply(&rt, Reply::AreasFull, r#"{"no":"areas-full"}"#);
     check_reply(
         &rt,
         Reply::TakenFix(fix_name(&rt, b"Q0123")),

@@ -13,6 +13,6 @@ returns-clause-answered c =
     inl (is_added c.args.self.now _ (judged (fix_adding c.args.self.now.tables c.args.name) (tt {0})) Fix (TakenFix c.args.name)
     (with_fix c.args.self.now.tables c.args.name (record { x = c.args.x; y = c.args.y }))
     (rw (← c.self.view_is, ← c.in-Some.ensures.value) c.in_default-add_fix.ensures.answer)
-    (rw (← c.self.view_is) (ap (λ (t : Tables). record { rules = c.self.inside.rules; tables = t; begun = false; history = []; actors = replicate 16 new_actor })
+    (rw (← c.self.view_is) (ap (λ (t : Tables). record { rules = c.self.inside.rules; tables = t; areas = []; begun = false; history = []; actors = replicate 16 new_actor })
     (c.in_default-add_fix.ensures.ok
     ∙ (λ i. with_fix (c.in-Some.ensures.value i) c.args.name (record { x = to_z-of_z c.ranges.x i; y = to_z-of_z c.ranges.y i }))))))
