@@ -1,5 +1,5 @@
 -- The numbers that the probes of a run get, so that the first of those that are advised can be accepted.
-use Rattle.std.proofs.Common.{◌≡◌, ℕ, zero, suc, ◌+◌, ◌*◌, ◌<◌, ◌≤◌, ◌^◌, ◌%◌, List, [], ◌∷◌, length, map, get_or, replicate, Option, Some, None, Result, Ok, Err, refl, sym, ap, ◌∙◌, subst, arith, nat_eq}
+use Rattle.std.proofs.Common.{◌≡◌, ⊎_elim, ℕ, zero, suc, ◌+◌, ◌*◌, ◌<◌, ◌≤◌, ◌^◌, ◌%◌, List, [], ◌∷◌, length, map, get_or, replicate, Option, Some, None, Result, Ok, Err, refl, sym, ap, ◌∙◌, subst, arith, nat_eq}
 use Rattle.std.specs.Bool.{⊤}
 use Rattle.std.specs.List.{filter}
 use Rattle.std.specs.Prelude.{All, IfOk, MatchBool, slice_set}
@@ -27,6 +27,7 @@ use Rattle.mt_write.specs.declared.reply.AdviceItem.{AdviceItem}
 use Rattle.mt_write.specs.declared.reply.DoneWord.{DoneWord}
 use Rattle.mt_write.specs.declared.reply.Reply.{Reply}
 use Rattle.mt_write.specs.declared.reply.Reply.TheVariants.{Advice}
+use Rattle.mt_world.proofs.Areas.{added_either}
 use Rattle.mt_world.specs.World.{Actor, IsAcceptedOf, IsAdded, IsAdvisedAs, IsOutcome, IsServed, IsTold, World, actor_of, is_empty, items_from, new_actor, opening_world, picture_of}
 use Rattle.mt_load.specs.Load.{AreAsked, AreNamed, CanBeNamed, EachDivided, IsAdviceTaken, IsAdvisedFlight, IsAsked, IsFirstAccepted, probes_of}
 
@@ -103,6 +104,8 @@ module _ (w next : World) (who j : ℕ) (reply : Reply) where
       on_either w.begun _ _ _ (λ r. refused r.same) (λ is. added w next j _ _ _ _ reply is) served
   quiet_served (requests.TypeLine name bands) quiet served =
       on_either w.begun _ _ _ (λ r. refused r.same) (λ is. added w next j _ _ _ _ reply is) served
+  quiet_served (requests.Area area) quiet served = on_either w.begun _ _ _ (λ r. refused r.same)
+      (λ is. ⊎_elim refused (λ g. same_made w next _ j g.next_is refl) (added_either w next area reply is)) served
   quiet_served (requests.Rule set) quiet served = on_either w.begun _ _ _ (λ r. refused r.same) (λ g. same_made w next _ j g.next_is refl) served
   quiet_served requests.Begin quiet served =
       on_either w.begun _ _ _ (λ r. refused r.same) (λ g. begun_anew (ap (λ (v : World). v.actors) g.next_is)) served
@@ -123,6 +126,7 @@ module _ (w next : World) (who j : ℕ) (reply : Reply) where
   quiet_served requests.Due quiet served = on_either w.begun _ _ _ (λ g. refused g.next_is) (λ r. refused r.same) served
   quiet_served requests.Settle quiet served =
       on_either w.begun _ _ _ (λ settling. same_made w next _ j settling.given.next_is refl) (λ r. refused r.same) served
+  quiet_served requests.Areas quiet served = on_either w.begun _ _ _ (λ told. refused told.same) (λ r. refused r.same) served
 
 -- ---- advice makes at most sixteen
 

@@ -20,6 +20,7 @@ use Rattle.mt_lines.proofs.Brief.{not_given}
 use Rattle.mt_top.specs.Script.{IsAnswered, IsLeftBy, IsReplied, asked}
 use Rattle.mt_machine.specs.Book.{probe_at}
 use Rattle.mt_board.specs.Probing.{Probe}
+use Rattle.mt_world.proofs.Areas.{added_either}
 use Rattle.mt_world.specs.World.{IsAcceptedOf, IsAdded, IsAdvisedAs, IsLeft, IsOutcome, IsServed, IsTold, IsTried, World, actor_of, is_empty, picture_of}
 
 -- so nothing was added where the reply is not brief
@@ -55,6 +56,8 @@ unchanged_by w next who (requests.Fix name x y) reply served b =
     on_either w.begun _ _ _ (λ r. r.same) (added w next _ _ _ _ reply b) served
 unchanged_by w next who (requests.TypeLine name bands) reply served b =
     on_either w.begun _ _ _ (λ r. r.same) (added w next _ _ _ _ reply b) served
+unchanged_by w next who (requests.Area area) reply served b = on_either w.begun _ _ _ (λ r. r.same)
+    (λ added. ⊎_elim (λ same. same) (λ g. not_given _ reply _ g.reply_is refl b) (added_either w next area reply added)) served
 unchanged_by w next who (requests.Rule set) reply served b = on_either w.begun _ _ _ (λ r. r.same) (λ g. not_given _ reply _ g.reply_is refl b) served
 unchanged_by w next who requests.Begin reply served b = on_either w.begun _ _ _ (λ r. r.same) (λ g. not_given _ reply _ g.reply_is refl b) served
 unchanged_by w next who (requests.Hello role) reply served b = served.next_is
@@ -79,6 +82,7 @@ unchanged_by w next who (requests.Advise call) reply served b =
 unchanged_by w next who requests.Due reply served b = on_either w.begun _ _ _ (λ g. g.next_is) (λ r. r.same) served
 unchanged_by w next who requests.Settle reply served b =
     on_either w.begun _ _ _ (λ settling. not_given _ reply _ settling.given.reply_is refl b) (λ r. r.same) served
+unchanged_by w next who requests.Areas reply served b = on_either w.begun _ _ _ (λ told. told.same) (λ r. r.same) served
 
 unchanged_of : (w next : World) (a : Result (ℕ × Request) Reply) (reply : Reply) → IsAnswered w a reply next → is_brief reply ≡ false → next ≡ w
 unchanged_of w next (Ok a) reply served b = unchanged_by w next a.0 a.1 reply served b
