@@ -102,7 +102,7 @@ fn a_message_piece_by_piece(rt: HostRuntime) {
     let mut link = link_over(&rt, BYE);
     let mut buf = [0; 64];
     let mut given = Vec::new(rt.alloc());
-    while given.len() < 13 {
+    for _ in 0..3 {
         let count = link.read_some(&mut buf[..5]).expect(&rt, "bytes");
         given.extend_from_slice(&buf[..count]).expect(&rt, "memory");
     }
