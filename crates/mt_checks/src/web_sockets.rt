@@ -102,7 +102,8 @@ fn a_message_piece_by_piece(rt: HostRuntime) {
     let mut link = link_over(&rt, BYE);
     let mut buf = [0; 64];
     let mut given = Vec::new(rt.alloc());
-    for _ in 0..3 {
+    // 5, 5 and 2 bytes, and then the ending by itself
+    for _ in 0..4 {
         let count = link.read_some(&mut buf[..5]).expect(&rt, "bytes");
         given.extend_from_slice(&buf[..count]).expect(&rt, "memory");
     }
