@@ -1,5 +1,5 @@
 -- A conflict put into a list in the order of publishing, or taken out.
-use Rattle.std.proofs.Common.{◌≡◌, ◌≢◌, ℕ, ◌+◌, ◌-◌, ◌<◌, ◌≤◌, ◌⊎◌, inl, inr, ⊎_elim, ◌↔◌, List, [], ◌∷◌, length, get_or, Contains, refl, sym, ◌∙◌, ap, subst, arith}
+use Rattle.std.proofs.Common.{◌≡◌, ◌≢◌, ℕ, ◌+◌, ◌-◌, ◌<◌, ◌≤◌, ◌⊎◌, inl, inr, ⊎_elim, ◌↔◌, List, [], ◌∷◌, length, get_or, Contains, sym, ◌∙◌, ap, subst, arith}
 use Rattle.std.specs.List.{HoldsAt, SameBelow, ShiftedDown, insert, remove}
 use Rattle.std.specs.List.Sorted.{IsBinarySearchResult, IsPermutation, IsNonDecreasingBy, IsPartitionPoint, IsStrictlySortedBy}
 use Rattle.std.specs.Ordering.{is_lt, ordering_index, ordering_reverse}
@@ -23,7 +23,7 @@ not_after : (x : Conflict) → conflict_cmp x x ≢ Greater
 not_after x e = let flip = total.antisymm x x in let g : Greater ≡ ordering_reverse Greater = rw e at flip in cc
 
 -- a sorted list may be searched
-rising : (xs : List Conflict) (x : Conflict) → IsStrictlySortedBy conflict_cmp xs → IsNonDecreasingBy (λ y. ordering_index (conflict_cmp y x)) xs
+pub rising : (xs : List Conflict) (x : Conflict) → IsStrictlySortedBy conflict_cmp xs → IsNonDecreasingBy (λ y. ordering_index (conflict_cmp y x)) xs
 rising xs x sorted = searchable_from_sorted total (λ y. y) xs x (λ k d low below.
     let less = Less-from_sorted conflict_cmp xs k (k + 1) d sorted (omega arith) below in
     ap is_lt (total.antisymm (get_or xs (k + 1) d) (get_or xs k d) ∙ ap ordering_reverse less))

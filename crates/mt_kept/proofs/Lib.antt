@@ -9,3 +9,4 @@ pub mod Again
 pub mod Costs
 pub mod InOrder
 pub mod Shown
+pub mod Merged

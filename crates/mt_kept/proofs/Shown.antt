@@ -1,5 +1,5 @@
 -- What the open pairs of a slot show is taken out of what is listed, and what its finds show put in.
-use Rattle.std.proofs.Common.{◌≡◌, ◌≢◌, ℕ, ◌+◌, ◌*◌, ◌<◌, ◌⊎◌, inl, inr, ⊎_elim, ◌↔◌, Bool, true, false, not, true≢false, List, [], ◌∷◌, ◌++◌, length, Contains, Option, Some, None, refl, sym, ◌∙◌, ap, subst, arith, replicate}
+use Rattle.std.proofs.Common.{◌≡◌, ◌≢◌, ℕ, ◌+◌, ◌*◌, ◌<◌, ◌⊎◌, inl, inr, ⊎_elim, ◌↔◌, Bool, true, false, not, true≢false, List, [], ◌∷◌, ◌++◌, length, Contains, Option, Some, None, refl, sym, ◌∙◌, ap, subst}
 use Rattle.std.specs.List.{filter}
 use Rattle.std.proofs.lemmas.Bool.{cases_Bool, cases_eq}
 use Rattle.std.proofs.lemmas.List.Elements.{Contains-append_cases, Contains-append_left, Contains-append_right, Contains-push, Contains-push_cases}
@@ -210,3 +210,11 @@ own_emptied places slot inside own i j s t s_is t_is same = own i j s t (was i s
   was k u is = ⊎_elim
       (λ here. absurd (let none = at_slot places slot k inside here in cc))
       (λ other. sym (at_other places slot k None None other) ∙ is) (cases_eq (slot_of k) slot)
+
+-- what is listed once all that some pairs show is put in
+pub shown_all : (pairs : List OpenPair) (others list new : List Conflict) → ((c : Conflict) → Contains new c ↔ (Contains list c ⊎ Contains others c))
+    → ((c : Conflict) → Contains others c ↔ Shows pairs c) → (c : Conflict) → Contains new c ↔ (Contains list c ⊎ Shows pairs c)
+shown_all pairs others list new added shown c = (
+  (λ held. ⊎_elim (λ old. inl old) (λ fresh. inr ((shown c).0 fresh)) ((added c).0 held)),
+  (λ either. (added c).1 (⊎_elim (λ old. inl old) (λ shows. inr ((shown c).1 shows)) either)),
+)

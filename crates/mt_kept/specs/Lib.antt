@@ -5,5 +5,6 @@ pub mod Kept
 pub mod Laws
 pub mod Losing
 pub mod Made
+pub mod Merging
 pub mod Places
 pub mod Window

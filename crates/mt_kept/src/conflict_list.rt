@@ -1,17 +1,21 @@
 //! Conflicts in the order of publishing.
-ghost use Rattle.std.specs.Prelude.{◌≡◌, ◌≢◌, ◌+◌, ◌<◌, ◌≤◌, ◌↔◌, ◌⊎◌, [], Contains, OnOk};
+ghost use Rattle.std.specs.Prelude.{◌≡◌, ◌≢◌, ◌≤◌, ◌↔◌, ◌⊎◌, [], Contains, OnOk, length};
 ghost use Rattle.std.specs.List.Sorted.{IsStrictlySortedBy};
 ghost use Rattle.mt_base.specs.declared.conflict.Conflict.{Conflict};
 ghost use Rattle.mt_base.specs.Picture.{conflict_cmp};
 
+use crate::merging::merge;
 use mt_base::{Conflict, Memory};
 use std::alloc::Global;
 use std::marker::Model;
+use std::mem;
 
 /// Conflicts in the order of publishing, each once, with how many may be put in before the next `reserve`.
 #[derive(Drop)]
 pub(crate) struct ConflictList {
     values: Vec<Conflict>,
+    /// Room in which the conflicts are made one list with others. What it holds says nothing.
+    room: Vec<Conflict>,
 }
 
 impl Model for ConflictList {
@@ -22,7 +26,7 @@ impl Model for ConflictList {
 
     ghost Value = { Ordered };
 
-    ghost view = { λ l. record { conflicts = l.values.items; spare = vec_capacity l.values - vec_len l.values } };
+    ghost view = { λ l. record { conflicts = l.values.items; spare = vec_capacity l.room - vec_len l.values } };
 
     ghost invariant = { λ l. IsStrictlySortedBy conflict_cmp l.values.items };
 }
@@ -34,16 +38,20 @@ impl ConflictList {
     {
         ConflictList {
             values: Vec::new(alloc),
+            room: Vec::new(alloc),
         }
     }
 
     /// These conflicts, each once. It takes no memory.
-    pub(crate) fn of(mut values: Vec<Conflict>) -> ConflictList
+    pub(crate) fn of(alloc: Global, mut values: Vec<Conflict>) -> ConflictList
         ensures { (c : Conflict) → Contains result.conflicts c ↔ Contains values.items c }
     {
         values.sort_unstable();
         values.dedup();
-        ConflictList { values }
+        ConflictList {
+            values,
+            room: Vec::new(alloc),
+        }
     }
 
     /// The conflicts.
@@ -59,7 +67,12 @@ impl ConflictList {
         ensures room { OnOk result (n ≤ self.new.spare) }
         ensures same { self.new.conflicts ≡ self.old.conflicts }
     {
-        self.values.reserve(n)?;
+        if n == 0 {
+            return Ok(());
+        }
+        let count = self.values.len().checked_add(n).ok_or(Memory)?;
+        self.room.clear();
+        self.room.reserve(count)?;
         Ok(())
     }
 
@@ -73,14 +86,15 @@ impl ConflictList {
         }
     }
 
-    /// Puts a conflict in, if it isn't there. It takes no memory.
-    pub(crate) fn insert(&mut self, conflict: Conflict)
-        requires { 0 < self.old.spare }
-        ensures exact { (c : Conflict) → Contains self.new.conflicts c ↔ (Contains self.old.conflicts c ⊎ (conflict ≡ c)) }
-        ensures spare { self.old.spare ≤ self.new.spare + 1 }
+    /// Puts the conflicts of another list in. It takes no memory.
+    pub(crate) fn add_all(&mut self, others: &ConflictList)
+        requires { length others.now.conflicts ≤ self.old.spare }
+        ensures { (c : Conflict) → Contains self.new.conflicts c ↔ (Contains self.old.conflicts c ⊎ Contains others.now.conflicts c) }
     {
-        if let Err(index) = self.values.binary_search(&conflict) {
-            let _ = self.values.insert(index, conflict);
+        if others.values.is_empty() {
+            return;
         }
+        merge(&mut self.room, &self.values, &others.values);
+        mem::swap(&mut self.values, &mut self.room);
     }
 }

@@ -14,9 +14,9 @@ ghost use Rattle.mt_kept.specs.Window.{WasTestedOnce};
 
 use crate::conflict_list::ConflictList;
 use crate::finds::{Candidate, gather};
-use crate::lists::{add_closed, add_lasting, add_open, at_place, drop_slot, lasting};
+use crate::lists::{add_closed, add_lasting, at_place, drop_slot, lasting, open_of};
 use crate::open_pair::{OpenPair, WINDOW};
-use crate::showing::{hide_slot, opened, published, show_open};
+use crate::showing::{hide_slot, opened, published};
 use mt_base::{Conflict, Memory, Rules, Second, Steps, Tally};
 use mt_edges::Edges;
 use mt_track::Item;
@@ -180,14 +180,17 @@ impl Kept {
         let Ok(count) = u32::try_from(finds.len()) else {
             return Err(Memory);
         };
+        let alloc = *self.open_pairs.allocator();
+        let fresh = open_of(alloc, finds, self.moment)?;
+        let shown = published(alloc, &fresh)?;
         self.pairs.reserve(count)?;
-        self.open_pairs.reserve(finds.len())?;
-        self.published.reserve(finds.len())?;
+        self.open_pairs.reserve(fresh.len())?;
+        self.published.reserve(shown.items().len())?;
         replace_pairs(&mut self.pairs, slot, finds, steps);
         hide_slot(&mut self.published, &self.open_pairs, slot);
         drop_slot(&mut self.open_pairs, slot);
-        add_open(&mut self.open_pairs, finds, self.moment);
-        show_open(&mut self.published, finds, self.moment);
+        let _ = self.open_pairs.extend_from_slice(&fresh);
+        self.published.add_all(&shown);
         self.places[2 * slot as usize] = first;
         self.places[2 * slot as usize + 1] = second;
         Ok(())

@@ -7,6 +7,7 @@ mod finds;
 mod kept;
 mod laws;
 mod lists;
+mod merging;
 mod open_pair;
 mod showing;
 

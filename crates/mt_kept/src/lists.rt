@@ -49,17 +49,22 @@ pub(crate) fn drop_slot(pairs: &mut Vec<OpenPair>, slot: u32)
     pairs.retain(|pair| is_elsewhere(pair, slot));
 }
 
-/// Puts behind some open pairs those of others that are open. There is room for all of these.
-pub(crate) fn add_open(pairs: &mut Vec<OpenPair>, others: &[OpenPair], now: Second)
-    requires early { now ≤ 10000000 }
-    requires room { vec_len pairs.old + length others.now ≤ vec_capacity pairs.old }
-    ensures { pairs.new.items ≡ pairs.old.items ++ filter (opens now) others.now }
+/// Those of these pairs that are open.
+pub(crate) fn open_of(
+    alloc: Global,
+    pairs: &[OpenPair],
+    now: Second,
+) -> Result<Vec<OpenPair>, Memory>
+    requires { now ≤ 10000000 }
+    ensures { IfOk result (λ list. list.items ≡ filter (opens now) pairs.now) }
 {
-    for pair in others {
+    let mut list = Vec::new(alloc);
+    for pair in pairs {
         if is_open(&pair.edge, now) {
-            pairs.push_reserved(*pair);
+            list.push(*pair)?;
         }
     }
+    Ok(list)
 }
 
 /// The open pairs of which one end is that place.

@@ -132,7 +132,7 @@ pub(crate) fn published(alloc: Global, pairs: &[OpenPair]) -> Result<ConflictLis
             list.push(conflict)?;
         }
     }
-    Ok(ConflictList::of(list))
+    Ok(ConflictList::of(alloc, list))
 }
 
 /// Takes out what a pair shows.
@@ -154,31 +154,6 @@ pub(crate) fn hide_slot(list: &mut ConflictList, pairs: &[OpenPair], slot: u32)
     for pair in pairs {
         if !is_elsewhere(pair, slot) {
             hide(list, pair);
-        }
-    }
-}
-
-/// Puts in what a pair shows. It takes no memory.
-fn show(list: &mut ConflictList, pair: &OpenPair)
-    requires { 0 < list.old.spare }
-    ensures exact { (c : Conflict) → Contains list.new.conflicts c ↔ (Contains list.old.conflicts c ⊎ (pair.now.conflict ≡ Some c)) }
-    ensures spare { list.old.spare ≤ list.new.spare + 1 }
-{
-    if let Some(conflict) = pair.conflict {
-        list.insert(conflict);
-    }
-}
-
-/// Puts in what those of these pairs show that are open. It takes no memory.
-pub(crate) fn show_open(list: &mut ConflictList, finds: &[OpenPair], now: Second)
-    requires early { now ≤ 10000000 }
-    requires room { length finds.now ≤ list.old.spare }
-    ensures { (c : Conflict) → Contains list.new.conflicts c
-        ↔ (Contains list.old.conflicts c ⊎ Shows (filter (opens now) finds.now) c) }
-{
-    for find in finds {
-        if is_open(&find.edge, now) {
-            show(list, find);
         }
     }
 }
