@@ -7,6 +7,7 @@ use Rattle.mt_base.specs.declared.row.Row.{Row}
 use Rattle.mt_base.specs.declared.rules.Rules.{Rules}
 use Rattle.mt_base.specs.Bounds.{AreWithinBounds, IsBoundedRow}
 use Rattle.mt_base.specs.Loss.{LosesIn, apart_x, apart_y, width}
+use Rattle.mt_track.specs.declared.layer.Layer.{Layer}
 use Rattle.mt_cover.specs.declared.area.Area.{Area}
 use Rattle.mt_cover.specs.declared.area.Extent.{Extent}
 use Rattle.mt_cover.specs.Box.{half, wider}
@@ -18,11 +19,19 @@ pub record Spans (e : Extent) (z gain : ℤ) : Type 0 where
   pub high : z ≤ℤ e.high
   pub high_end : (z +ℤ gain) ≤ℤ e.high
 
+-- heights hold those of a row at the start and at the end of its second, with the vertical margin
+pub record Rises (layer : Layer) (row : Row) : Type 0 where
+  pub low : layer.low ≤ℤ (row.z -ℤ row.w)
+  pub low_end : layer.low ≤ℤ ((row.z -ℤ row.w) +ℤ (row.vz -ℤ row.gw))
+  pub high : (row.z +ℤ row.w) ≤ℤ layer.high
+  pub high_end : ((row.z +ℤ row.w) +ℤ (row.vz +ℤ row.gw)) ≤ℤ layer.high
+
 -- a box holds a row
 pub record Holds (a : Area) (row : Row) : Type 0 where
   pub x : Spans a.x row.x row.vx
   pub y : Spans a.y row.y row.vy
   pub margin : (row.r +ℤ row.gr) ≤ℤ a.margin
+  pub heights : Rises a.layer row
 
 -- two extents are none of them turned round, and meet
 pub record Meet (a b : Extent) : Type 0 where

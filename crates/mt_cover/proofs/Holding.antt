@@ -4,10 +4,11 @@ use Rattle.std.proofs.lemmas.Int.{ints, clamps}
 use Rattle.std.specs.Int.{int_max}
 use Rattle.std.specs.Prelude.{slice_get}
 use Rattle.mt_base.specs.declared.row.Row.{Row}
+use Rattle.mt_track.specs.declared.layer.Layer.{Layer}
 use Rattle.mt_cover.specs.declared.area.Area.{Area}
 use Rattle.mt_cover.specs.declared.area.Extent.{Extent}
-use Rattle.mt_cover.specs.Box.{extent_of, grown, grown_by, hull}
-use Rattle.mt_cover.proofs.Apart.{Holds, Spans}
+use Rattle.mt_cover.specs.Box.{both, extent_of, grown, grown_by, hull, layer_of}
+use Rattle.mt_cover.proofs.Apart.{Holds, Rises, Spans}
 
 Spans-own : (z v : ℤ) → Spans (extent_of z v) z v
 Spans-own z v = record {
@@ -39,11 +40,28 @@ not_less m z = omega (arith, ints, clamps)
 still : (m z y : ℤ) → y ≤ℤ m → y ≤ℤ int_max m z
 still m z y h = omega (arith, ints, clamps)
 
+Rises-right : (layer : Layer) (row : Row) → Rises (both layer (layer_of row)) row
+Rises-right layer row = record {
+  low = omega (arith, ints, clamps);
+  low_end = omega (arith, ints, clamps);
+  high = omega (arith, ints, clamps);
+  high_end = omega (arith, ints, clamps);
+}
+
+pub Rises-left : (layer other : Layer) (row : Row) → Rises layer row → Rises (both layer other) row
+Rises-left layer other row h = record {
+  low = omega (arith, ints, clamps, h.low);
+  low_end = omega (arith, ints, clamps, h.low_end);
+  high = omega (arith, ints, clamps, h.high);
+  high_end = omega (arith, ints, clamps, h.high_end);
+}
+
 Holds-new : (a : Area) (row : Row) → Holds (grown a row) row
 Holds-new a row = record {
   x = Spans-right a.x (extent_of row.x row.vx) row.x row.vx (Spans-own row.x row.vx);
   y = Spans-right a.y (extent_of row.y row.vy) row.y row.vy (Spans-own row.y row.vy);
   margin = not_less a.margin (row.r +ℤ row.gr);
+  heights = Rises-right a.layer row;
 }
 
 Holds-grown : (a : Area) (next row : Row) → Holds a row → Holds (grown a next) row
@@ -51,6 +69,7 @@ Holds-grown a next row h = record {
   x = Spans-left a.x (extent_of next.x next.vx) row.x row.vx h.x;
   y = Spans-left a.y (extent_of next.y next.vy) row.y row.vy h.y;
   margin = still a.margin (next.r +ℤ next.gr) (row.r +ℤ row.gr) h.margin;
+  heights = Rises-left a.layer (layer_of next) row h.heights;
 }
 
 pub Holds-grown_by : (a : Area) (rows : List Row) (row : Row) → Holds a row → Holds (grown_by a rows) row

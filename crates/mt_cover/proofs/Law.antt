@@ -1,21 +1,29 @@
 -- In a loss second two covers share a cell.
-use Rattle.std.proofs.Common.{◌≡◌, ℕ, suc, ◌+◌, ◌-◌, ◌*◌, ◌/◌, ◌%◌, ◌<◌, ◌≤◌, max, ⊎_elim, ℤ, pos, negsuc, ◌+ℤ◌, ◌≤ℤ◌, List, [], ◌∷◌, Contains, Some, None, length, drop, flat_map, refl, ap, ◌∙◌, arith}
+use Rattle.std.proofs.Common.{◌≡◌, ℕ, suc, ◌+◌, ◌-◌, ◌*◌, ◌/◌, ◌%◌, ◌<◌, ◌≤◌, max, ⊎_elim, ℤ, pos, negsuc, ◌+ℤ◌, ◌≤ℤ◌, List, [], ◌∷◌, Contains, Some, None, length, drop, flat_map, get_or, int_div, refl, ap, subst, ◌∙◌, arith}
 use Rattle.std.proofs.lemmas.Bool.{cases_lt, le-ltb, lt-ltb}
 use Rattle.std.proofs.lemmas.Int.{ints}
-use Rattle.std.proofs.lemmas.Option.{slice_get_within}
+use Rattle.std.proofs.lemmas.List.FromFn.{get_or-map-range_with_len}
+use Rattle.std.proofs.lemmas.Option.{slice_get-get_or, slice_get_within}
 use Rattle.std.specs.Int.{div_ceil}
 use Rattle.std.specs.List.{range_with_len}
 use Rattle.std.specs.Prelude.{slice_get}
 use Rattle.mt_base.specs.declared.row.Row.{Row}
 use Rattle.mt_base.specs.declared.rules.Rules.{Rules}
+use Rattle.mt_base.specs.Bounds.{AreWithinBounds, IsBoundedRow}
+use Rattle.mt_base.specs.Conflict.{IsLossSecond}
 use Rattle.mt_base.specs.Trajectory.{Trajectory, row_at}
+use Rattle.mt_track.specs.declared.layer.Layer.{Layer}
+use Rattle.mt_track.specs.Laid.{IsStrand}
+use Rattle.mt_track.specs.Layer.{IsInLayer}
 use Rattle.mt_track.proofs.Strands.{IsBoundedRow-row_at}
 use Rattle.mt_cover.specs.declared.area.Area.{Area}
 use Rattle.mt_cover.specs.declared.area.Extent.{Extent}
+use Rattle.mt_cover.specs.declared.sliced.Slice.{Slice}
 use Rattle.mt_cover.specs.declared.stays.Stay.{Stay}
 use Rattle.mt_cover.specs.Box.{area_of, area_over, half, wider}
-use Rattle.mt_cover.specs.Cells.{IsAt, MissesNone, cells, cells_in, cells_of, cover_of, place, place_from, places, slice_rows, stays_in, stays_of, stays_over}
-use Rattle.mt_cover.proofs.Apart.{Holds, Meet, boxes_meet}
+use Rattle.mt_cover.specs.Cells.{IsAt, MissesNone, ShareAt, cells, cells_in, cells_of, cover_of, place, place_from, places, slice_rows, stays_in, stays_of, stays_over}
+use Rattle.mt_cover.specs.Sliced.{Have, Touch, TouchBoth, TouchingIsNear, no_slice, slice_at, slice_by, slice_in, slice_over, slices_of}
+use Rattle.mt_cover.proofs.Apart.{Holds, Meet, Rises, Spans, boxes_meet}
 use Rattle.mt_cover.proofs.Holding.{Holds-slice_get}
 use Rattle.mt_base.proofs.Members.{Contains-flat_map, Contains-map}
 use Rattle.mt_cover.proofs.Members.{Contains-range, slice_get-drop, slice_get-take}
@@ -52,9 +60,10 @@ Contains-cells : (x y : Extent) (column line : ℕ) → Contains (places x) colu
 Contains-cells x y column line in_x in_y =
     Contains-flat_map (cells_in x) (places y) line (64 * line + column) in_y (Contains-map (λ (c : ℕ). 64 * line + c) (places x) column in_x)
 
--- stays cover a row in a second: there is a box that holds the row, in each cell of which, made wider, one of them is
-record Covers (rules : Rules) (stays : List Stay) (row : Row) (k : ℕ) : Type 0 where
+-- stays cover a row in a second: there is a box, that of a slice, that holds the row, in each cell of which, made wider, one of them is
+record Covers (rules : Rules) (stays : List Stay) (slice : Slice) (row : Row) (k : ℕ) : Type 0 where
   area : Area
+  is : slice ≡ slice_by rules area
   holds : Holds area row
   each : (cell : ℕ) → Contains (cells_of rules area) cell → IsAt stays cell k
 
@@ -76,21 +85,22 @@ IsAt-stays_of from to list cell k in_list begun within = record {
   within = within;
 }
 
-covers_over : (rules : Rules) (from : ℕ) (rows : List Row) (i : ℕ) (row : Row) → slice_get rows i ≡ Some row → Covers rules (stays_over rules from rows) row (from + i)
+covers_over : (rules : Rules) (from : ℕ) (rows : List Row) (i : ℕ) (row : Row) → slice_get rows i ≡ Some row → Covers rules (stays_over rules from rows) (slice_over rules rows) row (from + i)
 covers_over rules from [] i row at = cc
 covers_over rules from (first ∷ rows) i row at = record {
   area = area_over (first ∷ rows) first;
+  is = refl;
   holds = Holds-slice_get (area_of first) (first ∷ rows) i row at;
   each = λ cell in_cells. IsAt-stays_of from (from + length (first ∷ rows)) (cells_of rules (area_over (first ∷ rows) first)) cell (from + i) in_cells (omega arith)
       (omega (arith, slice_get_within (first ∷ rows) i row at));
 }
 
-covers : (rules : Rules) (t : Trajectory) (k : ℕ) (row : Row) → row_at t k ≡ Some row → Covers rules (cover_of rules t) row k
+covers : (rules : Rules) (t : Trajectory) (k : ℕ) (row : Row) → row_at t k ≡ Some row → Covers rules (cover_of rules t) (slice_at (slices_of rules t) k) row k
 covers rules t k row at = ⊎_elim
     (λ early. let none : row_at t k ≡ None = rw (lt-ltb k t.start early) refl in cc)
     (λ begun. let found : slice_get t.rows (k - t.start) ≡ Some row = rw (le-ltb k t.start begun) at at in in_slice begun found)
     (cases_lt k t.start) where
-      in_slice : t.start ≤ k → slice_get t.rows (k - t.start) ≡ Some row → Covers rules (cover_of rules t) row k
+      in_slice : t.start ≤ k → slice_get t.rows (k - t.start) ≡ Some row → Covers rules (cover_of rules t) (slice_at (slices_of rules t) k) row k
       in_slice begun found =
           let i = (k - t.start) / 256 in
           let j = (k - t.start) % 256 in
@@ -101,28 +111,120 @@ covers rules t k row at = ⊎_elim
           let second : t.start + 256 * i + j ≡ k = omega (arith, whole, begun) in
           record {
             area = c.area;
+            is = get_or-map-range_with_len (slice_in rules t) 0 (div_ceil (length t.rows) 256) i i no_slice
+                (omega (arith, slice_get_within t.rows (k - t.start) row found)) (omega arith) ∙ c.is;
             holds = c.holds;
             each = λ cell in_cells. IsAt-flat_map (stays_in rules t) (range_with_len 0 (div_ceil (length t.rows) 256)) i cell k
                 (Contains-range 0 (div_ceil (length t.rows) 256) i (omega arith) (omega (arith, slice_get_within t.rows (k - t.start) row found)))
                 (rw second at (c.each cell in_cells));
           }
 
-pub misses_none : MissesNone
-misses_none rules a b k rules_kept a_kept b_kept loss =
-    let left = covers rules a k loss.left loss.left_is in
-    let right = covers rules b k loss.right loss.right_is in
-    let meet = boxes_meet rules _ _ left.area right.area loss.left loss.right rules_kept (IsBoundedRow-row_at a k loss.left a_kept loss.left_is)
-    (IsBoundedRow-row_at b k loss.right b_kept loss.right_is) left.holds right.holds loss.loss in
-    let by_left = left.area.margin +ℤ half rules in
-    let by_right = right.area.margin +ℤ half rules in
-    let e = wider left.area.x by_left in
-    let f = wider left.area.y by_left in
-    let g = wider right.area.x by_right in
-    let h = wider right.area.y by_right in
-    let x = common_place e g meet.x in
-    let y = common_place f h meet.y in
+-- covers of rows share a cell where the boxes of their slices, made wider, meet
+share_by : (rules : Rules) (k : ℕ) (stays others : List Stay) (slice other : Slice) (row next : Row) (left : Covers rules stays slice row k)
+    (right : Covers rules others other next k) → Meet slice.x other.x → Meet slice.y other.y → ShareAt stays others k
+share_by rules k stays others slice other row next left right in_x in_y =
+    let x = common_place slice.x other.x in_x in
+    let y = common_place slice.y other.y in_y in
     record {
       cell = 64 * y.place + x.place;
-      left = left.each (64 * y.place + x.place) (Contains-cells e f x.place y.place x.left y.left);
-      right = right.each (64 * y.place + x.place) (Contains-cells g h x.place y.place x.right y.right);
+      left = left.each (64 * y.place + x.place)
+          (subst (λ (s : Slice). Contains (cells s.x s.y) (64 * y.place + x.place)) left.is (Contains-cells slice.x slice.y x.place y.place x.left y.left));
+      right = right.each (64 * y.place + x.place)
+          (subst (λ (s : Slice). Contains (cells s.x s.y) (64 * y.place + x.place)) right.is (Contains-cells other.x other.y x.place y.place x.right y.right));
     }
+
+-- what holds in a loss second: the slices of both have it, have a position in common, and hold the heights of the rows
+pub record AreCut (rules : Rules) (a b : Trajectory) (k : ℕ) (loss : IsLossSecond rules a b k) : Type 0 where
+  pub left : Have (slices_of rules a) k
+  pub right : Have (slices_of rules b) k
+  pub touch : TouchBoth (slice_at (slices_of rules a) k) (slice_at (slices_of rules b) k)
+  pub left_in : IsInLayer (slice_at (slices_of rules a) k).layer loss.left
+  pub right_in : IsInLayer (slice_at (slices_of rules b) k).layer loss.right
+
+have_row : (rules : Rules) (t : Trajectory) (k : ℕ) (row : Row) → row_at t k ≡ Some row → Have (slices_of rules t) k
+have_row rules t k row at = ⊎_elim
+    (λ early. let none : row_at t k ≡ None = rw (lt-ltb k t.start early) refl in cc)
+    (λ begun. let found : slice_get t.rows (k - t.start) ≡ Some row = rw (le-ltb k t.start begun) at at in
+    record { begun = begun; within = omega (arith, slice_get_within t.rows (k - t.start) row found) })
+    (cases_lt k t.start)
+
+in_heights : (layer : Layer) (row : Row) → IsBoundedRow row → Rises layer row → IsInLayer layer row
+in_heights layer row kept rises = record {
+  start = record { margin = kept.w.value.least; low = rises.low; high = rises.high };
+  end = record {
+    margin = omega (arith, ints, kept.w.value.least, kept.w.growth.least);
+    low = omega (arith, ints, rises.low_end);
+    high = omega (arith, ints, rises.high_end);
+  };
+}
+
+touch : (e f : Extent) → Meet e f → Touch e f
+touch e f meet = record { left = meet.left; right = meet.right }
+
+pub cut_by_loss : (rules : Rules) (a b : Trajectory) (k : ℕ) (loss : IsLossSecond rules a b k) → AreWithinBounds rules → IsStrand a → IsStrand b → AreCut rules a b k loss
+cut_by_loss rules a b k loss rules_kept a_kept b_kept =
+    let left = covers rules a k loss.left loss.left_is in
+    let right = covers rules b k loss.right loss.right_is in
+    let left_kept = IsBoundedRow-row_at a k loss.left a_kept loss.left_is in
+    let right_kept = IsBoundedRow-row_at b k loss.right b_kept loss.right_is in
+    let meet = boxes_meet rules _ _ left.area right.area loss.left loss.right rules_kept left_kept right_kept left.holds right.holds loss.loss in
+    record {
+      left = have_row rules a k loss.left loss.left_is;
+      right = have_row rules b k loss.right loss.right_is;
+      touch = rw (left.is, right.is) (record { x = touch _ _ meet.x; y = touch _ _ meet.y });
+      left_in = rw left.is (in_heights left.area.layer loss.left left_kept left.holds.heights);
+      right_in = rw right.is (in_heights right.area.layer loss.right right_kept right.holds.heights);
+    }
+
+-- in each second that a trajectory covers it has a row
+record HasRow (t : Trajectory) (k : ℕ) : Type 0 where
+  row : Row
+  is : row_at t k ≡ Some row
+
+no_row : Row
+no_row = record { x = pos 0; y = pos 0; z = pos 0; r = pos 0; w = pos 0; vx = pos 0; vy = pos 0; vz = pos 0; gr = pos 0; gw = pos 0; leg = 0 }
+
+has_row : (rules : Rules) (t : Trajectory) (k : ℕ) → Have (slices_of rules t) k → HasRow t k
+has_row rules t k have = record {
+  row = get_or t.rows (k - t.start) no_row;
+  is = rw (le-ltb k t.start have.begun) (slice_get-get_or t.rows (k - t.start) no_row (omega (arith, have.begun, have.within)));
+}
+
+-- an extent that spans a value is in order
+in_order : (e : Extent) (z v m : ℤ) → Spans e z v → pos 0 ≤ℤ m → (wider e m).low ≤ℤ (wider e m).high
+in_order e z v m spans some = omega (arith, ints, spans.low, spans.high)
+
+meet_by : (e f : Extent) → e.low ≤ℤ e.high → f.low ≤ℤ f.high → Touch e f → Meet e f
+meet_by e f first second touch = record { first = first; second = second; left = touch.left; right = touch.right }
+
+half_nonneg : (z : ℤ) → pos 1 ≤ℤ z → pos 0 ≤ℤ int_div (z +ℤ pos 1) (pos 2)
+half_nonneg (pos n) least = omega (arith, ints)
+half_nonneg (negsuc n) least = absurd (omega (arith, ints))
+
+reach_nonneg : (rules : Rules) (a : Area) (row : Row) → AreWithinBounds rules → IsBoundedRow row → Holds a row → pos 0 ≤ℤ (a.margin +ℤ half rules)
+reach_nonneg rules a row rules_kept kept holds =
+    let h = half_nonneg rules.sh rules_kept.sh.least in
+    omega (arith, ints, holds.margin, kept.r.value.least, kept.r.growth.least, h)
+
+pub touching_is_near : TouchingIsNear
+touching_is_near rules a b k rules_kept a_kept b_kept have_a have_b touch =
+    let one = has_row rules a k have_a in
+    let other = has_row rules b k have_b in
+    let left = covers rules a k one.row one.is in
+    let right = covers rules b k other.row other.is in
+    let m = reach_nonneg rules left.area one.row rules_kept (IsBoundedRow-row_at a k one.row a_kept one.is) left.holds in
+    let n = reach_nonneg rules right.area other.row rules_kept (IsBoundedRow-row_at b k other.row b_kept other.is) right.holds in
+    let both = rw (left.is, right.is) at touch in
+    let by_left = left.area.margin +ℤ half rules in
+    let by_right = right.area.margin +ℤ half rules in
+    let x = meet_by (wider left.area.x by_left) (wider right.area.x by_right) (in_order left.area.x one.row.x one.row.vx by_left left.holds.x m)
+    (in_order right.area.x other.row.x other.row.vx by_right right.holds.x n) both.x in
+    let y = meet_by (wider left.area.y by_left) (wider right.area.y by_right) (in_order left.area.y one.row.y one.row.vy by_left left.holds.y m)
+    (in_order right.area.y other.row.y other.row.vy by_right right.holds.y n) both.y in
+    share_by rules k (cover_of rules a) (cover_of rules b) (slice_at (slices_of rules a) k) (slice_at (slices_of rules b) k) one.row other.row left right
+    (rw (left.is, right.is) x) (rw (left.is, right.is) y)
+
+pub misses_none : MissesNone
+misses_none rules a b k rules_kept a_kept b_kept loss =
+    let cut = cut_by_loss rules a b k loss rules_kept a_kept b_kept in
+    touching_is_near rules a b k rules_kept a_kept b_kept cut.left cut.right cut.touch

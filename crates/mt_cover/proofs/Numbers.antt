@@ -1,5 +1,5 @@
 -- Numbers that pass through their bits, and stay within bounds.
-use Rattle.std.proofs.Common.{◌≡◌, ◌∙◌, ℤ, pos, neg_ℤ, ◌+ℤ◌, ◌≤ℤ◌, to_z, of_z, w64, arith, lit<}
+use Rattle.std.proofs.Common.{◌≡◌, ◌∙◌, ℤ, pos, neg_ℤ, ◌+ℤ◌, ◌-ℤ◌, ◌*ℤ◌, ◌≤ℤ◌, FitsSigned, to_z, of_z, w64, arith, lit<}
 use Rattle.std.proofs.lemmas.Int.{clamps, ints, to_z-of_z}
 use Rattle.std.specs.Int.{int_max, int_min}
 use Rattle.mt_base.specs.Bounds.{IsWithin}
@@ -68,3 +68,66 @@ min_below_max y z = omega (arith, ints, clamps)
 
 pub hull_ordered : (a b c d : ℤ) → a ≤ℤ b → int_min a c ≤ℤ int_max b d
 hull_ordered a b c d h = omega (arith, ints, clamps)
+
+-- heights, with a margin
+abbrev pub IsHigh : ℤ → Type 0
+IsHigh z = IsWithin (neg_ℤ (pos 600000)) (pos 4200000) z
+
+pub high_is : (z : ℤ) → IsHigh z → in_64 z ≡ z
+high_is z h = as_it_is (neg_ℤ (pos 600000)) (pos 4200000) z h (omega (arith, ints)) (omega (arith, ints))
+
+pub IsHigh-64 : (z : ℤ) → IsHigh z → IsHigh (in_64 z)
+IsHigh-64 z h = rw (high_is z h) h
+
+-- the heights of a row are such
+pub lowest : (z w v g : ℤ) → IsWithin (pos 0) (pos 3600000) z → IsWithin (pos 0) (pos 600000) w → IsWithin (pos 0) (pos 3600000) (z +ℤ v *ℤ pos 1)
+    → IsWithin (pos 0) (pos 600000) (w +ℤ g *ℤ pos 1) → IsHigh (int_min (z -ℤ w) ((z -ℤ w) +ℤ (v -ℤ g)))
+lowest z w v g a b c d = record {
+  least = omega (arith, ints, clamps, a.least, b.most, c.least, d.most);
+  most = omega (arith, ints, clamps, a.most, b.least);
+}
+
+pub highest : (z w v g : ℤ) → IsWithin (pos 0) (pos 3600000) z → IsWithin (pos 0) (pos 600000) w → IsWithin (pos 0) (pos 3600000) (z +ℤ v *ℤ pos 1)
+    → IsWithin (pos 0) (pos 600000) (w +ℤ g *ℤ pos 1) → IsHigh (int_max (z +ℤ w) ((z +ℤ w) +ℤ (v +ℤ g)))
+highest z w v g a b c d = record {
+  least = omega (arith, ints, clamps, a.least, b.least);
+  most = omega (arith, ints, clamps, a.most, b.most, c.most, d.most);
+}
+
+-- a height, its margin and their gains, and their sums and differences, as the code has them
+pub record AreAsCoded (z w v g : ℤ) : Type 0 where
+  pub z_is : in_64 z ≡ z
+  pub w_is : in_64 w ≡ w
+  pub v_is : in_64 v ≡ v
+  pub g_is : in_64 g ≡ g
+  pub less : in_64 (z -ℤ w) ≡ z -ℤ w
+  pub more : in_64 (z +ℤ w) ≡ z +ℤ w
+  pub less_gain : in_64 (v -ℤ g) ≡ v -ℤ g
+  pub more_gain : in_64 (v +ℤ g) ≡ v +ℤ g
+  pub less_end : in_64 ((z -ℤ w) +ℤ (v -ℤ g)) ≡ (z -ℤ w) +ℤ (v -ℤ g)
+  pub more_end : in_64 ((z +ℤ w) +ℤ (v +ℤ g)) ≡ (z +ℤ w) +ℤ (v +ℤ g)
+  pub fits : FitsSigned w64 ((z +ℤ w) +ℤ (v +ℤ g))
+
+pub as_coded : (z w v g : ℤ) → IsWithin (pos 0) (pos 3600000) z → IsWithin (pos 0) (pos 600000) w → IsWithin (neg_ℤ (pos 10000)) (pos 10000) v
+    → IsWithin (pos 0) (pos 10000) g → AreAsCoded z w v g
+as_coded z w v g a b c d = record {
+  z_is = reach_is z (record { least = omega (arith, ints, a.least); most = omega (arith, ints, a.most) });
+  w_is = reach_is w (record { least = omega (arith, ints, b.least); most = omega (arith, ints, b.most) });
+  v_is = reach_is v (record { least = omega (arith, ints, c.least); most = omega (arith, ints, c.most) });
+  g_is = reach_is g (record { least = omega (arith, ints, d.least); most = omega (arith, ints, d.most) });
+  less = reach_is (z -ℤ w) (record { least = omega (arith, ints, a.least, b.most); most = omega (arith, ints, a.most, b.least) });
+  more = reach_is (z +ℤ w) (record { least = omega (arith, ints, a.least, b.least); most = omega (arith, ints, a.most, b.most) });
+  less_gain = reach_is (v -ℤ g) (record { least = omega (arith, ints, c.least, d.most); most = omega (arith, ints, c.most, d.least) });
+  more_gain = reach_is (v +ℤ g) (record { least = omega (arith, ints, c.least, d.least); most = omega (arith, ints, c.most, d.most) });
+  less_end = reach_is ((z -ℤ w) +ℤ (v -ℤ g)) (record {
+    least = omega (arith, ints, a.least, b.most, c.least, d.most);
+    most = omega (arith, ints, a.most, b.least, c.most, d.least);
+  });
+  more_end = reach_is ((z +ℤ w) +ℤ (v +ℤ g)) (record {
+    least = omega (arith, ints, a.least, b.least, c.least, d.least);
+    most = omega (arith, ints, a.most, b.most, c.most, d.most);
+  });
+  fits = fits_64 size (lit< tt);
+} where
+  size : Abs 9000000 ((z +ℤ w) +ℤ (v +ℤ g))
+  size = record { low = omega (arith, ints, a.least, b.least, c.least, d.least); high = omega (arith, ints, a.most, b.most, c.most, d.most) }

@@ -1,8 +1,9 @@
--- The box of some rows: where they are at any instant, and their greatest margin.
+-- The box of some rows: where they are at any instant, in height with the vertical margin below and above, and their greatest margin.
 use Rattle.std.specs.Prelude.{ℤ, pos, ◌+ℤ◌, ◌-ℤ◌, int_div, List, [], ◌∷◌}
 use Rattle.std.specs.Int.{int_max, int_min}
 use Rattle.mt_base.specs.declared.row.Row.{Row}
 use Rattle.mt_base.specs.declared.rules.Rules.{Rules}
+use Rattle.mt_track.specs.declared.layer.Layer.{Layer}
 use Rattle.mt_cover.specs.declared.area.Area.{Area}
 use Rattle.mt_cover.specs.declared.area.Extent.{Extent}
 
@@ -14,13 +15,29 @@ extent_of z gain = record { low = int_min z (z +ℤ gain); high = int_max z (z +
 abbrev pub hull : Extent → Extent → Extent
 hull a b = record { low = int_min a.low b.low; high = int_max a.high b.high }
 
--- x and `x + vx`, y and `y + vy` of a row, and its margin at the end of its second
+-- heights so far that they hold both
+abbrev pub both : Layer → Layer → Layer
+both a b = record { low = int_min a.low b.low; high = int_max a.high b.high }
+
+-- from the lesser `z - w` at both ends of a row's second to the greater `z + w`
+abbrev pub layer_of : Row → Layer
+layer_of row = record {
+  low = (extent_of (row.z -ℤ row.w) (row.vz -ℤ row.gw)).low;
+  high = (extent_of (row.z +ℤ row.w) (row.vz +ℤ row.gw)).high;
+}
+
+-- x and `x + vx`, y and `y + vy` of a row, its margin at the end of its second, and its heights
 abbrev pub area_of : Row → Area
-area_of row = record { x = extent_of row.x row.vx; y = extent_of row.y row.vy; margin = row.r +ℤ row.gr }
+area_of row = record { x = extent_of row.x row.vx; y = extent_of row.y row.vy; margin = row.r +ℤ row.gr; layer = layer_of row }
 
 -- with a row more
 abbrev pub grown : Area → Row → Area
-grown a row = record { x = hull a.x (extent_of row.x row.vx); y = hull a.y (extent_of row.y row.vy); margin = int_max a.margin (row.r +ℤ row.gr) }
+grown a row = record {
+  x = hull a.x (extent_of row.x row.vx);
+  y = hull a.y (extent_of row.y row.vy);
+  margin = int_max a.margin (row.r +ℤ row.gr);
+  layer = both a.layer (layer_of row);
+}
 
 -- with some rows more
 abbrev pub grown_by : Area → List Row → Area

@@ -1,6 +1,7 @@
 -- Bounds of boxes: in the plane, or not far from it.
 use Rattle.std.specs.Prelude.{pos, neg_ℤ, ◌≤ℤ◌}
 use Rattle.mt_base.specs.Bounds.{IsWithin}
+use Rattle.mt_track.specs.Layer.{IsLayerKept}
 use Rattle.mt_cover.specs.declared.area.Area.{Area}
 use Rattle.mt_cover.specs.declared.area.Extent.{Extent}
 
@@ -15,6 +16,7 @@ pub record IsAreaInPlane (a : Area) : Type 0 where
   pub x : IsExtentInPlane a.x
   pub y : IsExtentInPlane a.y
   pub margin : IsWithin (pos 0) (pos 72000) a.margin
+  pub layer : IsLayerKept a.layer
 
 -- both ends are in the plane or not far from it, and in order
 pub record IsExtentNearPlane (e : Extent) : Type 0 where

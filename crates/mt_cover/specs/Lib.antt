@@ -1,4 +1,5 @@
 pub mod Box
 pub mod Cells
 pub mod InPlane
+pub mod Sliced
 pub mod Walk

@@ -4,7 +4,9 @@ ghost use Rattle.mt_cover.specs.Box.{area_of, extent_of, grown, half, hull, wide
 ghost use Rattle.mt_cover.specs.Cells.{place};
 ghost use Rattle.mt_cover.specs.InPlane.{IsAreaInPlane, IsExtentInPlane, IsExtentNearPlane};
 
+use crate::heights::{both, layer_of};
 use mt_base::{Row, Rules};
+use mt_track::Layer;
 
 /// Coordinates from a least to a greatest one, in units of the plane.
 #[derive(Clone, Copy)]
@@ -15,7 +17,8 @@ pub struct Extent {
     pub high: i64,
 }
 
-/// The box of some rows: where they are at any instant of their seconds, and their greatest horizontal margin.
+/// The box of some rows: where they are at any instant of their seconds, in height with the vertical margin below and above, and their
+/// greatest horizontal margin.
 #[derive(Clone, Copy)]
 pub struct Area {
     /// Positions east.
@@ -24,6 +27,8 @@ pub struct Area {
     pub y: Extent,
     /// The greatest horizontal margin.
     pub margin: i64,
+    /// Heights, with the vertical margin.
+    pub layer: Layer,
 }
 
 /// From the lesser to the greater of a coordinate and what it is a second later.
@@ -72,6 +77,7 @@ pub(crate) fn area_of(row: &Row) -> Area
         x: extent_of(row.x, row.vx),
         y: extent_of(row.y, row.vy),
         margin: margin_of(row),
+        layer: layer_of(row),
     }
 }
 
@@ -87,6 +93,7 @@ pub(crate) fn grown(area: Area, row: &Row) -> Area
         x: hull(area.x, own.x),
         y: hull(area.y, own.y),
         margin: area.margin.max(own.margin),
+        layer: both(area.layer, own.layer),
     }
 }
 

@@ -1,12 +1,17 @@
-//! The cells that a trajectory meets, and for which seconds; and that two trajectories which lose separation meet one cell in that second.
+//! The cells that a trajectory meets, and for which seconds; the slices that they are cut from, with heights; and that two trajectories which
+//! lose separation meet one cell in that second.
 #![tactic(auto)]
 
 mod area;
+mod heights;
 mod laws;
+mod sliced;
 mod stays;
 mod walk;
 
-pub use laws::misses_none_law;
+pub use area::Extent;
+pub use laws::{misses_none_law, touching_is_near_law};
 pub use mt_memory::Memory;
+pub use sliced::{Slice, Slices};
 pub use stays::{Cover, Stay};
-pub use walk::cover;
+pub use walk::{cover, slices};

@@ -7,10 +7,13 @@ ghost use Rattle.mt_track.specs.Rows.{row_after};
 ghost use Rattle.mt_cover.specs.Box.{area_over, grown_by};
 ghost use Rattle.mt_cover.specs.Cells.{cover_of};
 ghost use Rattle.mt_cover.specs.InPlane.{IsAreaInPlane};
+ghost use Rattle.mt_cover.specs.Sliced.{slices_of};
 ghost use Rattle.mt_cover.specs.declared.stays.Stay.{Stay};
 ghost use Rattle.mt_cover.specs.Walk.{Stands, part};
 
 use crate::area::{Area, area_of, grown};
+use crate::heights::{both, no_layer};
+use crate::sliced::{SLICE, Slices, slice_by};
 use crate::stays::Cover;
 use mt_base::{Memory, Rules, Second};
 use mt_track::{Segment, Strand, later};
@@ -74,9 +77,6 @@ fn gather(
     Gathered { area, index }
 }
 
-/// How many seconds a slice has, but the last one, which may be shorter.
-const SLICE: Second = 256;
-
 /// The cover of a strand. Its seconds are cut from its start into slices of 256. In each slice the strand counts to the cells that the box of
 /// the slice's rows meets, made wider on each side by their greatest horizontal margin and half of the horizontal minimum, rounded up.
 pub fn cover(alloc: Global, strand: &Strand, rules: &Rules) -> Result<Cover, Memory>
@@ -97,4 +97,33 @@ pub fn cover(alloc: Global, strand: &Strand, rules: &Rules) -> Result<Cover, Mem
         index = gathered.index;
     }
     Ok(cover)
+}
+
+/// The slices of a strand: the boxes that its cover is cut from, each with the heights of its seconds.
+pub fn slices(alloc: Global, strand: &Strand, rules: &Rules) -> Result<Slices, Memory>
+    requires { AreWithinBounds rules.now }
+    ensures { IfOk result (λ slices. slices ≡ slices_of rules.now strand.now) }
+{
+    let start = strand.start();
+    let end = strand.end();
+    let segments = strand.segments();
+    let mut list = Vec::new(alloc);
+    let mut layer = no_layer();
+    let mut index = 0;
+    for slice in 0..(end - start).div_ceil(SLICE) {
+        let begin = start + SLICE * slice;
+        let until = end.min(begin + SLICE);
+        let gathered = gather(segments, start, end, index, begin, until);
+        let own = slice_by(rules, gathered.area);
+        layer = both(layer, own.layer);
+        list.push(own)?;
+        index = gathered.index;
+    }
+    Ok(Slices {
+        from: start,
+        to: end,
+        rvsm: strand.rvsm(),
+        layer,
+        list,
+    })
 }

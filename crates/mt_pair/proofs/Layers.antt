@@ -1,19 +1,23 @@
 -- Trajectories in layers that lie apart by the vertical minimum of these never lose separation.
-use Rattle.std.proofs.Common.{◌≡◌, Bool, ℕ, ◌-◌, ◌⊎◌, ⊎_elim, Some, None, refl, ℤ, pos, ◌+ℤ◌, ◌-ℤ◌, ◌*ℤ◌, ◌≤ℤ◌, ◌<ℤ◌, arith}
+use Rattle.std.proofs.Common.{◌≡◌, Bool, ℕ, ◌-◌, ◌⊎◌, inl, inr, ⊎_elim, Some, None, refl, ℤ, pos, ◌+ℤ◌, ◌-ℤ◌, ◌*ℤ◌, ◌≤ℤ◌, ◌<ℤ◌, ◌↔◌, IsTrue, to_z, of_z, w64, lit<, arith}
 use Rattle.std.proofs.lemmas.Bool.{cases_lt, le-ltb, lt-ltb}
 use Rattle.std.proofs.lemmas.Option.{get_or_from_slice_get, slice_get_within}
 use Rattle.std.specs.Prelude.{◌&&◌, slice_get}
+use Rattle.std.proofs.lemmas.Int.{ints, to_z-of_z}
+use Rattle.std.specs.Int.Signed.{le_z}
+use Rattle.mt_ring.proofs.Sizes.{Abs, fits_64}
 use Rattle.mt_ring.proofs.Ring.{lin, spread}
 use Rattle.mt_ring.proofs.Signs.{mul_nonneg}
 use Rattle.mt_base.specs.declared.row.Row.{Row}
 use Rattle.mt_base.specs.declared.rules.Rules.{Rules}
 use Rattle.mt_base.specs.Instant.{value_at}
 use Rattle.mt_base.specs.Conflict.{IsLossSecond}
+use Rattle.mt_base.specs.Bounds.{IsWithin}
 use Rattle.mt_base.specs.Loss.{IsNearAt, LosesIn, height}
 use Rattle.mt_base.specs.Trajectory.{Trajectory, row_at}
 use Rattle.mt_track.specs.declared.layer.Layer.{Layer}
-use Rattle.mt_track.specs.Layer.{AreInLayer, IsInLayer}
-use Rattle.mt_pair.specs.Heights.{IsMinimumIn}
+use Rattle.mt_track.specs.Layer.{AreInLayer, IsInLayer, IsLayerKept}
+use Rattle.mt_pair.specs.Heights.{AreApartBy, EndBelow, IsMinimumIn, LieApart}
 use Rattle.mt_pair.specs.High.{LosesAbove, level_of}
 use Rattle.mt_pair.proofs.Instants.{loses_above}
 
@@ -94,6 +98,31 @@ rows_apart rules pa pb one other least a b w in_one in_other loss =
     let less = near.above in absurd (omega (arith, lin, h, less)))
     w.apart
 
+-- rows in layers that lie apart don't lose separation
+pub lying_apart : (rules : Rules) (pa pb : Bool) (one other : Layer) (a b : Row) → rules.sv ≤ℤ rules.sv2 → LieApart rules (level_of (pa && pb)) one other
+    → IsInLayer one a → IsInLayer other b → ¬ LosesIn rules pa pb a b
+lying_apart rules pa pb one other a b greater apart in_one in_other = ⊎_elim
+    (λ most. rows_apart rules pa pb one other rules.sv2 a b (record { greater = greater; minimum = inl refl; apart = most }) in_one in_other)
+    (λ lesser. rows_apart rules pa pb one other rules.sv a b (record { greater = greater; minimum = inr (refl, lesser.0); apart = lesser.1 }) in_one in_other)
+    apart
+
+-- the minimum that the code takes says whether layers lie apart
+apart_more : (s t : ℤ) (one other : Layer) → s ≤ℤ t → AreApartBy t one other → AreApartBy s one other
+apart_more s t one other more apart = ⊎_elim (λ h. inl (omega (arith, lin, more, h))) (λ h. inr (omega (arith, lin, more, h))) apart
+
+pub apart_by : (rules : Rules) (level : ℤ) (one other : Layer) (least : ℤ) → IsMinimumIn rules level one other least → AreApartBy least one other → LieApart rules level one other
+apart_by rules level one other least minimum apart = ⊎_elim
+    (λ most. inl (rw most at apart))
+    (λ lesser. inr (lesser.1, rw (lesser.0) at apart))
+    minimum
+
+pub apart_for : (rules : Rules) (level : ℤ) (one other : Layer) (least : ℤ) → rules.sv ≤ℤ rules.sv2 → IsMinimumIn rules level one other least
+    → (EndBelow level one other → least ≡ rules.sv) → LieApart rules level one other → AreApartBy least one other
+apart_for rules level one other least greater minimum lesser apart = ⊎_elim
+    (λ most. apart_more least rules.sv2 one other (⊎_elim (λ e. omega (arith, lin, e)) (λ e. omega (arith, lin, e.0, greater)) minimum) most)
+    (λ some. apart_more least rules.sv one other (omega (arith, lin, lesser some.0)) some.1)
+    apart
+
 -- the row of a second is in the layer of all rows
 in_layer : (layer : Layer) (t : Trajectory) (k : ℕ) (row : Row) → AreInLayer layer t.rows → row_at t k ≡ Some row → IsInLayer layer row
 in_layer layer t k row all at = ⊎_elim
@@ -102,8 +131,25 @@ in_layer layer t k row all at = ⊎_elim
     rw (get_or_from_slice_get t.rows (k - t.start) row row found) at (all (k - t.start) row (slice_get_within t.rows (k - t.start) row found)))
     (cases_lt k t.start)
 
--- trajectories in such layers have no loss second
-pub never_lose : (rules : Rules) (one other : Layer) (least : ℤ) (a b : Trajectory) (k : ℕ) → AreApart rules a.rvsm b.rvsm one other least
+-- trajectories in layers that lie apart have no loss second
+pub never_lose : (rules : Rules) (one other : Layer) (a b : Trajectory) (k : ℕ) → rules.sv ≤ℤ rules.sv2 → LieApart rules (level_of (a.rvsm && b.rvsm)) one other
     → AreInLayer one a.rows → AreInLayer other b.rows → ¬ IsLossSecond rules a b k
-never_lose rules one other least a b k apart in_one in_other loss = rows_apart rules a.rvsm b.rvsm one other least loss.left loss.right apart
+never_lose rules one other a b k greater apart in_one in_other loss = lying_apart rules a.rvsm b.rvsm one other loss.left loss.right greater apart
     (in_layer one a k loss.left in_one loss.left_is) (in_layer other b k loss.right in_other loss.right_is) loss.loss
+
+-- the comparison of two layers, as the code has it
+pub at_least : (least : ℤ) (low high : Layer) → IsWithin (pos 1) (pos 600000) least → IsLayerKept low → IsLayerKept high
+    → IsTrue (le_z (to_z w64 (of_z w64 least)) (to_z w64 (of_z w64 (to_z w64 (of_z w64 high.low) -ℤ to_z w64 (of_z w64 low.high))))) ↔ (least ≤ℤ (high.low -ℤ low.high))
+at_least least low high kept low_kept high_kept =
+    let size : Abs 9000000 least = record { low = omega (arith, ints, kept.least); high = omega (arith, ints, kept.most) } in
+    let one : Abs 9000000 high.low = record { low = omega (arith, ints, high_kept.low.least); high = omega (arith, ints, high_kept.low.most) } in
+    let other : Abs 9000000 low.high = record { low = omega (arith, ints, low_kept.high.least); high = omega (arith, ints, low_kept.high.most) } in
+    let gap : Abs 9000000 (high.low -ℤ low.high) = record {
+      low = omega (arith, ints, high_kept.low.least, low_kept.high.most);
+      high = omega (arith, ints, high_kept.low.most, low_kept.high.least);
+    } in
+    let a = to_z-of_z w64 least (fits_64 size (lit< tt)) in
+    let b = to_z-of_z w64 high.low (fits_64 one (lit< tt)) in
+    let c = to_z-of_z w64 low.high (fits_64 other (lit< tt)) in
+    let d = to_z-of_z w64 (high.low -ℤ low.high) (fits_64 gap (lit< tt)) in
+    rw (a, b, c, d) (grind (arith, ints))

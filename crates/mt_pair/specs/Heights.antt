@@ -1,5 +1,5 @@
 -- Which vertical minimum keeps two layers of heights apart.
-use Rattle.std.specs.Prelude.{◌≡◌, ℤ, ◌≤ℤ◌, ◌⊎◌}
+use Rattle.std.specs.Prelude.{◌≡◌, ℤ, ◌-ℤ◌, ◌≤ℤ◌, ◌⊎◌}
 use Rattle.mt_base.specs.declared.rules.Rules.{Rules}
 use Rattle.mt_track.specs.declared.layer.Layer.{Layer}
 
@@ -11,3 +11,12 @@ pub record EndBelow (level : ℤ) (a b : Layer) : Type 0 where
 -- the greater minimum; or the lesser one, where neither layer reaches above the level from which on the greater one holds
 abbrev pub IsMinimumIn : Rules → ℤ → Layer → Layer → ℤ → Type 0
 IsMinimumIn rules level a b least = (least ≡ rules.sv2) ⊎ ((least ≡ rules.sv) × EndBelow level a b)
+
+-- one of two layers lies above the other by at least that much
+abbrev pub AreApartBy : ℤ → Layer → Layer → Type 0
+AreApartBy least a b = (least ≤ℤ (b.low -ℤ a.high)) ⊎ (least ≤ℤ (a.low -ℤ b.high))
+
+-- Two layers lie apart by the vertical minimum: by the greater one; or by the lesser one, where neither reaches above the level from which on the
+-- greater one holds.
+abbrev pub LieApart : Rules → ℤ → Layer → Layer → Type 0
+LieApart rules level a b = AreApartBy rules.sv2 a b ⊎ (EndBelow level a b × AreApartBy rules.sv a b)

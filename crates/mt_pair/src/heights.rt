@@ -1,9 +1,9 @@
 //! Trajectories whose heights keep them apart.
-ghost use Rattle.std.specs.Prelude.{◌≡◌, ◌↔◌, ◌&&◌, ℕ, true, None, ◌≤ℤ◌, ◌-ℤ◌, IsTrue};
+ghost use Rattle.std.specs.Prelude.{◌≡◌, ◌↔◌, ◌&&◌, ℕ, pos, true, None, ◌≤ℤ◌, ◌-ℤ◌, IsTrue};
 ghost use Rattle.mt_base.specs.Bounds.{AreWithinBounds, IsWithin};
 ghost use Rattle.mt_base.specs.Conflict.{IsConflict};
 ghost use Rattle.mt_track.specs.Layer.{IsLayerKept};
-ghost use Rattle.mt_pair.specs.Heights.{EndBelow, IsMinimumIn};
+ghost use Rattle.mt_pair.specs.Heights.{EndBelow, IsMinimumIn, LieApart};
 ghost use Rattle.mt_pair.specs.High.{level_of};
 
 use crate::vertical::{both, level};
@@ -22,6 +22,8 @@ fn end_below(approved: bool, a: &Layer, b: &Layer) -> bool
 fn minimum<'a>(rules: &'a Rules, approved: bool, a: &Layer, b: &Layer) -> &'a i64
     requires { AreWithinBounds rules.now }
     ensures is { IsMinimumIn rules.now (level_of approved) a.now b.now result.now }
+    ensures lesser { EndBelow (level_of approved) a.now b.now → result.now ≡ rules.now.sv }
+    ensures kept { IsWithin (pos 1) (pos 600000) result.now }
 {
     if end_below(approved, a, b) {
         &rules.sv
@@ -32,11 +34,24 @@ fn minimum<'a>(rules: &'a Rules, approved: bool, a: &Layer, b: &Layer) -> &'a i6
 
 /// Whether one layer lies above another by at least that much.
 fn is_above(least: &i64, low: &Layer, high: &Layer) -> bool
+    requires least_kept { IsWithin (pos 1) (pos 600000) least.now }
     requires low_kept { IsLayerKept low.now }
     requires high_kept { IsLayerKept high.now }
-    ensures { result ≡ true → least.now ≤ℤ (high.now.low -ℤ low.now.high) }
+    ensures { IsTrue result ↔ (least.now ≤ℤ (high.now.low -ℤ low.now.high)) }
 {
     high.low - low.high >= *least
+}
+
+/// Whether two layers lie apart by the vertical minimum: the greater one, or the lesser one where neither reaches above the level from which
+/// on the greater one holds; that is flight level 410 where both aircraft are approved, else 290.
+pub fn lie_apart(rules: &Rules, approved: bool, a: &Layer, b: &Layer) -> bool
+    requires rules { AreWithinBounds rules.now }
+    requires a_kept { IsLayerKept a.now }
+    requires b_kept { IsLayerKept b.now }
+    ensures { IsTrue result ↔ LieApart rules.now (level_of approved) a.now b.now }
+{
+    let least = minimum(rules, approved, a, b);
+    is_above(least, a, b) || is_above(least, b, a)
 }
 
 /// Whether two strands keep so far apart in height that they never lose separation. Where it says no, nothing is said. It is no test of the
@@ -45,7 +60,5 @@ pub fn keep_apart(a: &Strand, b: &Strand, rules: &Rules) -> bool
     requires { AreWithinBounds rules.now }
     ensures { result ≡ true → (from to : ℕ) → IsConflict rules.now a.now b.now from to None }
 {
-    let (below, above) = (a.layer(), b.layer());
-    let least = minimum(rules, both(a.rvsm(), b.rvsm()), &below, &above);
-    is_above(least, &below, &above) || is_above(least, &above, &below)
+    lie_apart(rules, both(a.rvsm(), b.rvsm()), &a.layer(), &b.layer())
 }

@@ -1,7 +1,7 @@
 use Rattle.std.proofs.Common.{◌∙◌, ap}
 use Rattle.std.specs.Int.{int_max}
 use Rattle.mt_cover.specs.declared.area.Area.{Area}
-use Rattle.mt_cover.specs.Box.{hull}
+use Rattle.mt_cover.specs.Box.{both, hull}
 use Rattle.mt_cover.proofs.Numbers.{margin_max}
 use Rattle.mt_cover.proofs.area.grown.Goals as goal
 
@@ -12,9 +12,10 @@ returns-clause-is c =
     let y = c.hull-2.ensures.is ∙ ap (λ (a : Area). hull c.args.area.y a.y) own in
     let margin = margin_max c.args.area.margin c.area_of-own.result.margin c.max.result c.requires.kept.margin c.area_of-own.ensures.kept.margin c.max.ensures.value in
     let m = margin.0 ∙ ap (λ (a : Area). int_max c.args.area.margin a.margin) own in
-    λ i. record { x = x i; y = y i; margin = m i }
+    let layer = c.both.ensures.is ∙ ap (λ (a : Area). both c.args.area.layer a.layer) own in
+    λ i. record { x = x i; y = y i; margin = m i; layer = layer i }
 
 pub returns-clause-kept : goal.returns-clause-kept
 returns-clause-kept c =
     let margin = margin_max c.args.area.margin c.area_of-own.result.margin c.max.result c.requires.kept.margin c.area_of-own.ensures.kept.margin c.max.ensures.value in
-    record { x = c.hull.ensures.kept; y = c.hull-2.ensures.kept; margin = margin.1 }
+    record { x = c.hull.ensures.kept; y = c.hull-2.ensures.kept; margin = margin.1; layer = c.both.ensures.kept }

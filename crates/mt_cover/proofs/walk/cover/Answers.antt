@@ -3,7 +3,7 @@ use Rattle.mt_cover.specs.declared.stays.Stay.{Stay}
 use Rattle.mt_cover.specs.Cells.{stays_in}
 use Rattle.mt_cover.proofs.Counted.{flat_map_next}
 use Rattle.mt_cover.proofs.InGrid.{All-slices}
-use Rattle.mt_cover.proofs.Slices.{slice_is}
+use Rattle.mt_cover.proofs.Cut.{slice_is}
 use Rattle.mt_cover.proofs.walk.cover.Goals as goal
 
 pub loop-slice-preserved : goal.loop-slice-preserved

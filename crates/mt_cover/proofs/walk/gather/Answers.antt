@@ -1,4 +1,4 @@
-use Rattle.std.proofs.Common.{◌<◌, arith}
+use Rattle.std.proofs.Common.{◌≡◌, ◌<◌, arith}
 use Rattle.mt_track.proofs.Straight.{IsBoundedRow-row_after}
 use Rattle.mt_cover.proofs.Stand.{IsBoundedOver-front, at_element, first_area, gathered_on, goes, here_or, stands_past, stands_still, stands_within}
 use Rattle.mt_cover.proofs.walk.gather.Goals as goal
@@ -85,3 +85,8 @@ loop-at-preserved c =
       within = h.within;
       stands = stands_still _ _ _ _ _ _ _ _ c.requires.laid stands early is c.loop-at-test.true c.min-until.ensures c.if-segment-to.false;
     }
+
+pub returns-clause-is : goal.returns-clause-is
+returns-clause-is c = λ row at.
+    let e : c.loop-at.at ≡ c.args.to = omega (arith, c.loop-at.invariant.within, c.loop-at-test.false) in
+    rw e at (c.loop-at.invariant.is row at)

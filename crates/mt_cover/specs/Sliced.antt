@@ -1,0 +1,92 @@
+-- The slices of a trajectory: where it is, and in which heights, in each 256 of its seconds from its start, the last of which may be fewer.
+use Rattle.std.specs.Prelude.{◌≡◌, ◌≤◌, ◌<◌, ℕ, Bool, ◌+◌, ◌-◌, ◌/◌, pos, neg_ℤ, ◌+ℤ◌, ◌≤ℤ◌, List, [], ◌∷◌, All, length, get_or, map}
+use Rattle.std.specs.Int.{div_ceil}
+use Rattle.std.specs.List.{fold, range_with_len}
+use Rattle.mt_base.specs.declared.row.Row.{Row}
+use Rattle.mt_base.specs.declared.rules.Rules.{Rules}
+use Rattle.mt_base.specs.Bounds.{AreWithinBounds}
+use Rattle.mt_base.specs.Trajectory.{Trajectory}
+use Rattle.mt_track.specs.declared.layer.Layer.{Layer}
+use Rattle.mt_track.specs.Laid.{IsStrand}
+use Rattle.mt_track.specs.Layer.{IsLayerKept}
+use Rattle.mt_cover.specs.declared.area.Area.{Area}
+use Rattle.mt_cover.specs.declared.area.Extent.{Extent}
+use Rattle.mt_cover.specs.declared.sliced.Slice.{Slice}
+use Rattle.mt_cover.specs.Box.{area_over, both, half, wider}
+use Rattle.mt_cover.specs.Cells.{ShareAt, cover_of, slice_rows}
+
+-- the box of a slice's rows, made wider on each side by its greatest margin and half of the horizontal minimum, and its heights
+abbrev pub slice_by : Rules → Area → Slice
+slice_by rules a = record { x = wider a.x (a.margin +ℤ half rules); y = wider a.y (a.margin +ℤ half rules); layer = a.layer }
+
+-- what stands for the slice of no row
+abbrev pub no_slice : Slice
+no_slice = record { x = record { low = pos 0; high = pos 0 }; y = record { low = pos 0; high = pos 0 }; layer = record { low = pos 0; high = pos 0 } }
+
+-- the slice of those rows
+abbrev pub slice_over : Rules → List Row → Slice
+slice_over rules [] = no_slice
+slice_over rules (row ∷ rows) = slice_by rules (area_over (row ∷ rows) row)
+
+-- slice i of a trajectory
+abbrev pub slice_in : Rules → Trajectory → ℕ → Slice
+slice_in rules t i = slice_over rules (slice_rows t.rows i)
+
+-- Slices, one after another: the seconds `from <= k < to` that they have together, and whether the aircraft is approved for RVSM.
+pub record Sliced : Type 0 where
+  pub from : ℕ
+  pub to : ℕ
+  pub rvsm : Bool
+  pub list : List Slice
+
+-- The slices of a trajectory.
+abbrev pub slices_of : Rules → Trajectory → Sliced
+slices_of rules t = record {
+  from = t.start;
+  to = t.start + length t.rows;
+  rvsm = t.rvsm;
+  list = map (slice_in rules t) (range_with_len 0 (div_ceil (length t.rows) 256));
+}
+
+-- the slice of second k
+abbrev pub slice_at : Sliced → ℕ → Slice
+slice_at s k = get_or s.list ((k - s.from) / 256) no_slice
+
+-- they have second k
+pub record Have (s : Sliced) (k : ℕ) : Type 0 where
+  pub begun : s.from ≤ k
+  pub within : k < s.to
+
+-- two extents have a coordinate in common
+pub record Touch (a b : Extent) : Type 0 where
+  pub left : a.low ≤ℤ b.high
+  pub right : b.low ≤ℤ a.high
+
+-- two slices have a position in common
+pub record TouchBoth (a b : Slice) : Type 0 where
+  pub x : Touch a.x b.x
+  pub y : Touch a.y b.y
+
+-- What has slices with a position in common is near: in a second in which two trajectories have such slices, their covers share a cell.
+abbrev pub TouchingIsNear : Type 0
+TouchingIsNear = (rules : Rules) (a b : Trajectory) (k : ℕ) → AreWithinBounds rules → IsStrand a → IsStrand b → Have (slices_of rules a) k
+    → Have (slices_of rules b) k → TouchBoth (slice_at (slices_of rules a) k) (slice_at (slices_of rules b) k)
+    → ShareAt (cover_of rules a) (cover_of rules b) k
+
+-- no height, and the heights of some slices
+abbrev pub no_layer : Layer
+no_layer = record { low = pos 4200000; high = neg_ℤ (pos 600000) }
+
+abbrev pub with_slice : Layer → Slice → Layer
+with_slice layer slice = both layer slice.layer
+
+abbrev pub layer_over : List Slice → Layer
+layer_over slices = fold with_slice no_layer slices
+
+-- What slices keep: one for each 256 seconds, none of which begins behind second 10,014,400; numbers of a size that sums of them fit.
+pub record AreSlices (s : Sliced) : Type 0 where
+  pub number : length s.list ≡ div_ceil (s.to - s.from) 256
+  pub ordered : s.from ≤ s.to
+  pub early : s.to ≤ 10014400
+  pub each : All (λ (slice : Slice). IsLayerKept slice.layer) s.list
+  pub layer : IsLayerKept (layer_over s.list)

@@ -1,0 +1,110 @@
+ghost use Rattle.std.specs.Prelude.{◌≡◌, ◌≤◌, ◌<◌, ◌+◌, ◌-◌, ◌*◌, ◌/◌};
+ghost use Rattle.mt_base.specs.Bounds.{AreWithinBounds};
+ghost use Rattle.mt_track.specs.Layer.{IsLayerKept};
+ghost use Rattle.mt_cover.specs.InPlane.{IsAreaInPlane};
+ghost use Rattle.mt_cover.specs.Sliced.{AreSlices, Have, layer_over, slice_at, slice_by};
+
+use crate::area::{Area, Extent, half, wider};
+use mt_base::{Rules, Second};
+use mt_track::Layer;
+use std::marker::Model;
+
+/// Where a trajectory is in some of its seconds, made wider on each side by its greatest horizontal margin there and half of the horizontal
+/// minimum; and its heights there, with the vertical margin below and above.
+#[derive(Clone, Copy)]
+pub struct Slice {
+    /// Positions east.
+    pub x: Extent,
+    /// Positions north.
+    pub y: Extent,
+    /// Heights.
+    pub layer: Layer,
+}
+
+/// How many seconds a slice has, but the last one, which may be shorter.
+pub(crate) const SLICE: Second = 256;
+
+/// The slices of a trajectory, one for each 256 seconds from its start, the last of which may be shorter.
+#[derive(Drop)]
+pub struct Slices {
+    pub(crate) from: Second,
+    pub(crate) to: Second,
+    pub(crate) rvsm: bool,
+    pub(crate) layer: Layer,
+    pub(crate) list: Vec<Slice>,
+}
+
+impl Model for Slices {
+    ghost use Rattle.std.specs.Prelude.{◌≡◌};
+    ghost use Rattle.mt_cover.specs.Sliced.{AreSlices, Sliced, layer_over};
+
+    ghost Value = { Sliced };
+
+    ghost view = { λ s. record { from = s.from; to = s.to; rvsm = s.rvsm; list = s.list.items } };
+
+    ghost invariant = { λ s. AreSlices (record { from = s.from; to = s.to; rvsm = s.rvsm; list = s.list.items }) × (s.layer ≡ layer_over s.list.items) };
+}
+
+impl Slices {
+    /// The first second. What all slices keep is said here too.
+    pub fn from(&self) -> Second
+        ensures from { result ≡ self.now.from }
+        ensures kept { AreSlices self.now }
+    {
+        self.from
+    }
+
+    /// The second after the last one.
+    pub fn to(&self) -> Second
+        ensures { result ≡ self.now.to }
+    {
+        self.to
+    }
+
+    /// Whether the aircraft is approved for RVSM.
+    pub fn rvsm(&self) -> bool
+        ensures { result ≡ self.now.rvsm }
+    {
+        self.rvsm
+    }
+
+    /// The heights of all slices.
+    pub fn layer(&self) -> Layer
+        ensures is { result ≡ layer_over self.now.list }
+        ensures kept { IsLayerKept result }
+    {
+        self.layer
+    }
+
+    /// The slice of a second.
+    pub fn at(&self, k: Second) -> &Slice
+        requires { Have self.now k }
+        ensures is { result.now ≡ slice_at self.now k }
+        ensures kept { IsLayerKept result.now.layer }
+    {
+        &self.list[((k - self.from) / SLICE) as usize]
+    }
+
+    /// The second after the slice of a second.
+    pub fn until(&self, k: Second) -> Second
+        requires { Have self.now k }
+        ensures { result ≡ self.now.from + 256 * ((k - self.now.from) / 256 + 1) }
+    {
+        self.from + SLICE * ((k - self.from) / SLICE + 1)
+    }
+}
+
+/// The slice of a box.
+pub(crate) fn slice_by(rules: &Rules, area: Area) -> Slice
+    requires rules_kept { AreWithinBounds rules.now }
+    requires kept { IsAreaInPlane area }
+    ensures is { result ≡ slice_by rules.now area }
+    ensures kept { IsLayerKept result.layer }
+{
+    let by = area.margin + half(rules);
+    Slice {
+        x: wider(area.x, by),
+        y: wider(area.y, by),
+        layer: area.layer,
+    }
+}

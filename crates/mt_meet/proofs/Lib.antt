@@ -1,0 +1,4 @@
+pub mod Hulls
+pub mod Kept
+pub mod Listing
+pub mod Meetings

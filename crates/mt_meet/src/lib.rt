@@ -1,0 +1,15 @@
+//! Which of some trajectories are so near a new one, in place, height and time, that they may lose separation with it: those whose slices meet
+//! its slices in a common second.
+//!
+//! What never loses separation with it need not be tested, and what is tested is near by the definition of cells.
+#![tactic(auto)]
+
+mod laws;
+mod meeting;
+mod reach;
+mod table;
+
+pub use laws::{losing_meet_law, meeting_is_near_law};
+pub use meeting::meet;
+pub use mt_memory::Memory;
+pub use table::{Met, SliceTable};
