@@ -1,5 +1,6 @@
 pub mod BoundedLines
 pub mod Decoding
 pub mod EntryReading
+pub mod FeedReading
 pub mod StepLemmas
 pub mod TimedEntries
