@@ -1,33 +1,39 @@
 -- Entries put into a picture, one more at a time.
-use Rattle.std.proofs.Common.{◌≡◌, ◌<◌, ◌≤◌, ℕ, zero, suc, List, [], ◌∷◌, ◌++◌, length, get_or, take, Some, sym, ◌∙◌, ap, subst, arith}
+use Rattle.std.proofs.Common.{◌≡◌, ◌<◌, ◌≤◌, ℕ, zero, suc, List, [], ◌∷◌, ◌++◌, length, get_or, take, Some, Ok, sym, ◌∙◌, ap, subst, arith}
 use Rattle.std.specs.Prelude.{slice_get}
 use Rattle.std.proofs.Math.Seq.{take-suc}
 use Rattle.std.proofs.lemmas.List.{length-take-le, take_all}
 use Rattle.mt_base.specs.declared.command.Command.{Command}
 use Rattle.mt_base.specs.declared.command.Entered.{Entered}
 use Rattle.mt_base.specs.declared.command.Entry.{Entry}
-use Rattle.mt_base.specs.History.{IsReplayable, checks, filled, look_at, state_of}
+use Rattle.mt_base.specs.History.{IsDecided, IsInTime, IsReplayable, checks, entered_by, filled, look_at, state_of}
 use Rattle.mt_base.specs.Picture.{State}
 use Rattle.mt_base.specs.Tables.{Setup}
 use Rattle.mt_base.proofs.CheckLemmas.{answer_is}
 use Rattle.mt_picture.specs.Story.{IsEntered, Story}
 use Rattle.mt_history.specs.declared.rebuilding.Wrong.{Wrong}
 use Rattle.mt_history.specs.declared.rebuilding.Wrong.TheVariants.{Illegal, Late, Memory}
+use Rattle.mt_history.specs.Followed.{HasFollowed}
 use Rattle.mt_history.specs.Rebuilt.{IsWrong, IsWrongNext}
 
 abbrev pub story_with : Setup → List Entry → Story
 story_with setup h = record { setup = setup; history = h }
 
 -- the entry that is entered is the entry that was put in
-pub entered_is : (before after : Story) (e : Entry) (entered : Entered) → ((now : ℕ) → filled now e.command ≡ e.command) → IsEntered before after e.who e.command entered
-    → after ≡ story_with before.setup (before.history ++ e ∷ [])
-entered_is before after e entered timed is =
+pub followed_is : (before after : Story) (e : Entry) (entered : Entered) → ((now : ℕ) → filled now e.command ≡ e.command)
+    → IsInTime (length before.history) e.command → IsEntered before after e.who e.command entered → HasFollowed before e after entered
+followed_is before after e entered timed early is =
     let s : State = state_of before.setup before.history in
     let kept : record { who = e.who; command = filled s.now e.command } ≡ is.entry =
     answer_is (checks before.setup (look_at s e.command) e.who e.command) (record { who = e.who; command = filled s.now e.command }) is.entry is.decided.0 in
     let same : is.entry ≡ e = sym kept ∙ ap (λ (c : Command). record { who = e.who; command = c }) (timed s.now) in
     let longer : after.history ≡ before.history ++ e ∷ [] = is.longer ∙ ap (λ (x : Entry). before.history ++ x ∷ []) same in
-    λ i. story_with (is.same i) (longer i)
+    record {
+      in_time = early;
+      decided = subst (λ (x : Entry). IsDecided before.setup s e.who e.command (Ok x)) same is.decided;
+      after_is = λ i. story_with (is.same i) (longer i);
+      answered = is.answered ∙ ap (entered_by before.setup s) same;
+    }
 
 -- The picture has the first entries, and these can be replayed.
 pub record IsPutUpTo (setup : Setup) (entries : List Entry) (n : ℕ) (picture : Story) : Type 0 where

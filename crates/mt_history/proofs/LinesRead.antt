@@ -54,7 +54,7 @@ pub one_reading : (lines : List (List ℕ)) (some others : List Entry) → AreRe
 unfolding AreRead
 one_reading lines some others read also = same_entries some others (sym read ∙ also)
 
-slice_get_at : {X : Type 0} (xs : List X) (y : X) (ys : List X) (n : ℕ) → length xs ≡ n → slice_get (xs ++ y ∷ ys) n ≡ Some y
+pub slice_get_at : {X : Type 0} (xs : List X) (y : X) (ys : List X) (n : ℕ) → length xs ≡ n → slice_get (xs ++ y ∷ ys) n ≡ Some y
 slice_get_at [] y ys zero e = refl
 slice_get_at [] y ys (suc n) e = absurd (omega arith)
 slice_get_at (x ∷ xs) y ys zero e = absurd (omega arith)

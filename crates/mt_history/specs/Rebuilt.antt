@@ -6,6 +6,8 @@ use Rattle.mt_base.specs.Bounds.{IsBoundedCommand}
 use Rattle.mt_base.specs.History.{IsDecided, IsInTime, IsReplayable, filled, state_of}
 use Rattle.mt_base.specs.Tables.{Setup}
 use Rattle.mt_picture.specs.Story.{Story}
+use Rattle.mt_history.specs.declared.following.FollowNo.{FollowNo}
+use Rattle.mt_history.specs.declared.following.FollowNo.TheVariants as no
 use Rattle.mt_history.specs.declared.rebuilding.Wrong.{Wrong}
 use Rattle.mt_history.specs.declared.rebuilding.Wrong.TheVariants.{Illegal, Late, Memory}
 
@@ -35,6 +37,12 @@ abbrev pub IsWrong : Setup → List Entry → Wrong → Type 0
 IsWrong setup entries (Illegal at refusal) = IsIllegalAt setup entries at refusal
 IsWrong setup entries (Late at) = IsLateAt setup entries at
 IsWrong setup entries Memory = ⊤
+
+-- why an entry is not put behind the history of those before it, as what is wrong at its place
+abbrev pub wrong_of : FollowNo → Wrong
+wrong_of (no.Illegal version refusal) = Illegal version refusal
+wrong_of (no.Late version) = Late version
+wrong_of no.Memory = Memory
 
 -- what is wrong with an entry behind the history of a picture
 abbrev pub IsWrongNext : Story → Entry → Wrong → Type 0

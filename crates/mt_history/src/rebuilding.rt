@@ -1,18 +1,16 @@
 //! The picture that entries rebuild.
-ghost use Rattle.std.specs.Prelude.{◌≡◌, ◌↔◌, ◌++◌, ◌∷◌, [], All, IfErr, IfOk, IsTrue, OnOk, length};
+ghost use Rattle.std.specs.Prelude.{◌≡◌, ◌++◌, ◌∷◌, [], All, IfErr, IfOk, OnOk};
 ghost use Rattle.std.specs.Arc.{arc_value};
-ghost use Rattle.mt_base.specs.Bounds.{AreWithinBounds, IsBoundedCommand};
-ghost use Rattle.mt_base.specs.History.{IsInTime, IsReplayable};
+ghost use Rattle.mt_base.specs.Bounds.{AreWithinBounds};
+ghost use Rattle.mt_base.specs.History.{IsReplayable};
 ghost use Rattle.mt_base.specs.Tables.{setup_with};
-ghost use Rattle.mt_picture.specs.Story.{IsEntered, IsGivenFor, IsRefused};
 ghost use Rattle.mt_history.specs.declared.rebuilding.Wrong.TheVariants as wrongs;
 ghost use Rattle.mt_history.specs.Rebuilt.{IsReady, IsWrong, IsWrongNext};
 
-use mt_base::{Command, Entered, Entries, Entry, Refusal, Rules, Tally};
-use mt_board::No;
+use crate::following::{FollowNo, follow_entry};
+use mt_base::{Entries, Entry, Refusal, Rules, Tally};
 use mt_memory::Memory;
 use mt_picture::Picture;
-use mt_probe::{Prep, makes_strand, prepare};
 use mt_tables::Tables;
 use std::alloc::Global;
 use std::sync::Arc;
@@ -45,55 +43,21 @@ impl From<Memory> for Wrong {
     }
 }
 
-// Whether a command at a place is no acceptance that names a version above it.
-fn is_in_time(at: u64, command: &Command) -> bool
-    ensures { IsTrue result ↔ IsInTime at command.now }
-{
-    match command {
-        Command::Accept { probed, .. } => *probed <= at,
-        _ => true,
-    }
-}
+impl From<FollowNo> for Wrong {
+    ghost use Rattle.mt_history.specs.Rebuilt.{wrong_of};
 
-// What is prepared for a command on the state now, where it makes a trajectory; or why it is refused.
-fn prepared(
-    alloc: Global,
-    picture: &Picture,
-    who: u32,
-    command: &Command,
-    tests: &mut Tally,
-) -> Result<Option<Prep>, No>
-    requires { IsBoundedCommand command.now }
-    ensures given { IfOk result (IsGivenFor picture.now who command.now) }
-    ensures refused { IfErr result (IsRefused picture.now who command.now) }
-{
-    if !makes_strand(command) {
-        return Ok(None);
-    }
-    let now = picture.snapshot()?;
-    let (tables, rules) = (now.tables(), now.rules());
-    match prepare(alloc, &now, tables, rules, who, command, tests) {
-        Ok(prep) => Ok(Some(prep)),
-        Err(no) => Err(no),
-    }
-}
+    ghost from_gives = { λ no e. e ≡ wrong_of no };
 
-// Enters a command, prepared on the state now; or says why it is refused.
-fn enter(
-    alloc: Global,
-    picture: &mut Picture,
-    who: u32,
-    command: &Command,
-    tests: &mut Tally,
-) -> Result<Entered, No>
-    requires bounded { IsBoundedCommand command.now }
-    requires in_time { IsInTime (length picture.old.history) command.now }
-    ensures entered { IfOk result (IsEntered picture.old picture.new who command.now) }
-    ensures refused { IfErr result (IsRefused picture.old who command.now) }
-    ensures replayable { OnOk result (IsReplayable picture.old.setup picture.old.history → IsReplayable picture.new.setup picture.new.history) }
-{
-    let prep = prepared(alloc, picture, who, command, tests)?;
-    picture.publish(alloc, who, command, prep.as_ref(), tests)
+    fn from(no: FollowNo) -> Wrong {
+        match no {
+            FollowNo::Late { version } => Wrong::Late { at: version },
+            FollowNo::Illegal { version, refusal } => Wrong::Illegal {
+                at: version,
+                refusal,
+            },
+            FollowNo::Memory => Wrong::Memory,
+        }
+    }
 }
 
 // Puts an entry behind the history of a picture; or says what is wrong with it there.
@@ -103,14 +67,9 @@ fn put(alloc: Global, picture: &mut Picture, entry: &Entry, tests: &mut Tally) -
     ensures replayable { OnOk result (IsReplayable picture.old.setup picture.old.history → IsReplayable picture.new.setup picture.new.history) }
     ensures wrong { IfErr result (IsWrongNext picture.old entry.now) }
 {
-    let at = picture.version();
-    if !is_in_time(at, &entry.command) {
-        return Err(Wrong::Late { at });
-    }
-    match enter(alloc, picture, entry.who, &entry.command, tests) {
+    match follow_entry(alloc, picture, entry, tests) {
         Ok(_) => Ok(()),
-        Err(No::Refused { refusal, .. }) => Err(Wrong::Illegal { at, refusal }),
-        Err(No::Memory) => Err(Wrong::Memory),
+        Err(no) => Err(Wrong::from(no)),
     }
 }
 

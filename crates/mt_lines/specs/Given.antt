@@ -21,6 +21,8 @@ is_brief (replies.Range name) = false
 is_brief (replies.TakenFix name) = false
 is_brief (replies.TakenType name) = false
 is_brief (replies.Refused refusal version) = false
+is_brief (replies.Illegal version refusal) = false
+is_brief (replies.Late version) = false
 is_brief reply = true
 
 -- the reply after which no line is answered

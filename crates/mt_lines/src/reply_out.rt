@@ -77,7 +77,7 @@ fn is_brief(reply: &Reply) -> bool
         Reply::List { .. } | Reply::Flight(_) | Reply::Due { .. } | Reply::History { .. } => false,
         Reply::Areas { .. } => false,
         Reply::Form(_) | Reply::Range(_) | Reply::TakenFix(_) | Reply::TakenType(_) => false,
-        Reply::Refused { .. } => false,
+        Reply::Refused { .. } | Reply::Illegal { .. } | Reply::Late { .. } => false,
     }
 }
 

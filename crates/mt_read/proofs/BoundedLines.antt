@@ -304,11 +304,11 @@ who_bounded place.Replay ms who e =
 who_bounded p ms who e = let same : 0 ≡ who = cc in omega arith
 
 -- what each step of an answer was
-record Steps {A : Type 0} (bounded_is more_is : Result ⊤ Fault) (who : Result ℕ Fault) (q : A) (a : ℕ × A) : Type 0 where
-  bounded_ok : IsOk bounded_is
-  more_ok : IsOk more_is
-  who_is : who ≡ Ok a.0
-  asked_is : q ≡ a.1
+pub record Steps {A : Type 0} (bounded_is more_is : Result ⊤ Fault) (who : Result ℕ Fault) (q : A) (a : ℕ × A) : Type 0 where
+  pub bounded_ok : IsOk bounded_is
+  pub more_ok : IsOk more_is
+  pub who_is : who ≡ Ok a.0
+  pub asked_is : q ≡ a.1
 
 steps : {A : Type 0} (k l b : Result ⊤ Fault) (who : Result ℕ Fault) (s : Result ⊤ Fault) (q : A) (a : ℕ × A)
     → (k >>= λ _. (l >>= λ _. (b >>= λ _. (who >>= λ n. (s >>= λ _. Ok (n, q)))))) ≡ Ok a → Steps b s who q a
@@ -321,7 +321,7 @@ steps (Ok _) (Ok _) (Err f) who s q a e = cc
 steps (Ok _) (Ok _) (Ok _) (Err f) s q a e = cc
 steps (Ok _) (Ok _) (Ok _) (Ok n) (Err f) q a e = cc
 
-checked_steps : {A : Type 0} (origin : Origin) (more : List (Fault × Bool)) (row : Layout A) (ms : Members) (a : ℕ × A) → checked origin more row ms ≡ Ok a
+pub checked_steps : {A : Type 0} (origin : Origin) (more : List (Fault × Bool)) (row : Layout A) (ms : Members) (a : ℕ × A) → checked origin more row ms ≡ Ok a
     → Steps (judged (row.bounds ms) (tt {0})) (judged more (tt {0})) (judged (who_bounds origin ms) (who_in origin ms)) (row.asks ms) a
 unfolding checked
 checked_steps origin more row ms a e =
@@ -376,10 +376,10 @@ pub answer_bounded : (p : Place) (rules : Rules) (bytes : List ℕ) (r : Result 
 answer_bounded p rules bytes (Ok a) e = line_bounded p rules bytes a (sym e)
 answer_bounded p rules bytes (Err e) h = tt
 
-abbrev HoldsBounded : ℕ × Command → Type 0
+abbrev pub HoldsBounded : ℕ × Command → Type 0
 HoldsBounded a = IsBoundedCommand a.1
 
-entry_word_bounded : (ms : Members) (o : Option EntryWord) (a : ℕ × Command) → of_entry_word ms o ≡ Ok a → HoldsBounded a
+pub entry_word_bounded : (ms : Members) (o : Option EntryWord) (a : ℕ × Command) → of_entry_word ms o ≡ Ok a → HoldsBounded a
 entry_word_bounded ms None a e = cc
 entry_word_bounded ms (Some w) a e = layout_holds HoldsBounded origins.Entry [] (entry_layout w) ms a (entry_bounded w ms) e
 

@@ -94,7 +94,7 @@ HoldsFull a = IsFull a.1
 row_full : (w : EntryWord) (ms : Members) (a : ℕ × Command) → checked origins.Entry [] (entry_layout w) ms ≡ Ok a → HoldsFull a
 row_full w ms a e = let was = checked_steps (entry_layout w) ms a e in subst IsFull was.asked_is (held_full w ms was.fields_ok)
 
-word_full : (ms : Members) (o : Option EntryWord) (a : ℕ × Command) → of_entry_word ms o ≡ Ok a → HoldsFull a
+pub word_full : (ms : Members) (o : Option EntryWord) (a : ℕ × Command) → of_entry_word ms o ≡ Ok a → HoldsFull a
 word_full ms None a e = cc
 word_full ms (Some w) a e = layout_holds HoldsFull origins.Entry [] (entry_layout w) ms a (row_full w ms) e
 

@@ -3,6 +3,7 @@ pub mod Bounded
 pub mod Corners
 pub mod Entry
 pub mod Field
+pub mod Following
 pub mod Key
 pub mod Line
 pub mod Rules

@@ -40,8 +40,8 @@ fn checked(alloc: Global, fields: &Fields, word: EntryWord) -> Result<(u32, Comm
     }
 }
 
-// What an object's fields hold.
-fn read_fields(alloc: Global, fields: &Fields) -> Result<(u32, Command), LineNo>
+/// The command that an object's fields hold, and who asked for it.
+pub(crate) fn held(alloc: Global, fields: &Fields) -> Result<(u32, Command), LineNo>
     ensures { Gives result (held_in (members fields.now)) }
 {
     let Some(word) = word_in(fields) else {
@@ -63,7 +63,7 @@ fn read_bytes(alloc: Global, bytes: &[u8]) -> Result<(u32, Command), LineNo>
     let Some(fields) = Fields::of(&value) else {
         return Err(form(alloc, b""));
     };
-    read_fields(alloc, &fields)
+    held(alloc, &fields)
 }
 
 /// The entry that a text says, with or without its 0x0A.

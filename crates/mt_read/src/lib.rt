@@ -13,6 +13,7 @@ mod corners;
 mod entry;
 mod feed;
 mod field;
+mod following;
 mod key;
 mod line;
 mod marks;
@@ -27,5 +28,6 @@ mod tables;
 mod word;
 
 pub use entry::read_entry;
+pub use following::{FeedLine, read_feed};
 pub use line::read_line;
 pub use request::{LineNo, Place, Request, RuleSet};

@@ -122,6 +122,8 @@ reply_read (reply.Refused (refusal.UnknownFix name) version) h = rw (numbered (p
 reply_read (reply.Refused (refusal.TentativeHeld owner) version) h = rw (numbered (pos owner) h.1.0, numbered (pos version) h.1.1.0) refl
 reply_read (reply.Refused (refusal.Stale first) version) h = rw (hit_read first h.0, numbered (pos version) h.1.1.0) refl
 reply_read (reply.Refused cause version) h = rw (numbered (pos version) h.1.0) refl
+reply_read (reply.Illegal version cause) h = rw (numbered (pos version) h.1.0) refl
+reply_read (reply.Late version) h = rw (numbered (pos version) h.1.0) refl
 reply_read r h = refl
 
 reply_depth : (r : Reply) → tree.depth (outline (reply_value r)) ≤ 4

@@ -26,7 +26,8 @@ use Rattle.mt_write.specs.declared.reply.Reply.TheVariants as reply
 use Rattle.mt_write.specs.Entry.{values, whole}
 use Rattle.mt_write.specs.Flight.{or_null, row_value, tent_value}
 use Rattle.mt_write.specs.Numbers.{flag_text, flight_text, verdict_text}
-use Rattle.mt_write.specs.Reply.{advised_members, advised_value, hit_value, reply_text}
+use Rattle.mt_write.specs.Reply.{advised_members, advised_value, hit_value, refusal_word, reply_text}
+use Rattle.mt_write.proofs.IllegalTexts.{illegal_parts, illegal_text, word_length}
 use Rattle.mt_write.proofs.ReplyTexts.{judged_text}
 use Rattle.mt_write.proofs.ValueTexts.{flight_text_is}
 use Rattle.mt_write.proofs.PlainText.{plain_name}
@@ -250,6 +251,14 @@ parts_length view short =
 flight_length : (view : FlightView) → IsShortFlight view → length (reply_text (reply.Flight view)) ≤ 65536
 flight_length view short = subst (λ text. length text ≤ 65536) (flight_text_is view) (parts_length view short)
 
+-- ---- the refusal of an entry that a standby was to follow
+
+illegal_parts_length : (version : ℕ) (refusal : Refusal) → version < 2 ^ 64 → length (illegal_parts version refusal) ≤ 65536
+illegal_parts_length version refusal fits = simp length-append (omega (arith, digits_length version fits, word_length refusal))
+
+illegal_length : (version : ℕ) (refusal : Refusal) → version < 2 ^ 64 → length (reply_text (reply.Illegal version refusal)) ≤ 65536
+illegal_length version refusal fits = subst (λ text. length text ≤ 65536) (illegal_text version refusal) (illegal_parts_length version refusal fits)
+
 -- a reply that carries no list has at most 65,536 bytes
 pub short_text : (r : Reply) → IsShort r → length (reply_text r) ≤ 65536
 unfolding json_on_literals
@@ -278,4 +287,6 @@ short_text (reply.Range name) short = simp length-append (omega (arith, escape_l
 short_text (reply.TakenFix name) short = simp length-append (omega (arith, escape_length name))
 short_text (reply.TakenType name) short = simp length-append (omega (arith, escape_length name))
 short_text (reply.Refused refusal version) short = refused_length refusal version short.0 short.1
+short_text (reply.Illegal version refusal) short = illegal_length version refusal short
+short_text (reply.Late version) short = simp length-append (omega (arith, digits_length version short))
 short_text r short = omega arith

@@ -1,4 +1,5 @@
 pub mod EntryTexts
+pub mod IllegalTexts
 pub mod Lengths
 pub mod PlainText
 pub mod Putting

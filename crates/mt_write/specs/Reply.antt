@@ -145,6 +145,39 @@ refusal_members version (refusal.Stale first) = member (codes "conflict") (hit_v
 refusal_members version refusal.NotDue = at_version (codes "not-due") version
 refusal_members version refusal.Fixed = at_version (codes "fixed") version
 
+-- the word of a refusal
+abbrev pub refusal_word : Refusal → List ℕ
+refusal_word refusal.HeldCall = codes "held-call"
+refusal_word (refusal.UnknownCall call) = codes "unknown-call"
+refusal_word (refusal.UnknownType name) = codes "unknown-type"
+refusal_word (refusal.UnknownFix name) = codes "unknown-fix"
+refusal_word refusal.RouteShort = codes "route"
+refusal_word refusal.RouteLong = codes "route"
+refusal_word refusal.RouteTwice = codes "route"
+refusal_word refusal.Full = codes "full"
+refusal_word refusal.HistoryFull = codes "history-full"
+refusal_word refusal.Backward = codes "backward"
+refusal_word refusal.Old = codes "old"
+refusal_word refusal.Future = codes "future"
+refusal_word refusal.Ended = codes "ended"
+refusal_word refusal.NotAhead = codes "not-ahead"
+refusal_word refusal.Ceiling = codes "ceiling"
+refusal_word (refusal.TentativeHeld owner) = codes "tentative-held"
+refusal_word refusal.NoTentative = codes "no-tentative"
+refusal_word refusal.NotOwner = codes "not-owner"
+refusal_word refusal.NoProbe = codes "no-probe"
+refusal_word refusal.NotFree = codes "not-free"
+refusal_word (refusal.Stale first) = codes "stale"
+refusal_word refusal.NotDue = codes "not-due"
+refusal_word refusal.Fixed = codes "fixed"
+
+-- the refusal of an entry that a standby was to follow, with the word of why it is not what is decided
+abbrev pub illegal_value : ℕ → Refusal → Data
+illegal_value version why = object (
+    member (codes "no") (string (codes "illegal")) (
+    member (codes "version") (whole (pos version)) (
+    member (codes "why") (string (refusal_word why)) no_members)))
+
 -- What a reply says, as an object with its keys in byte order.
 abbrev pub reply_value : Reply → Data
 reply_value (reply.Done word) = object (member (codes "done") (string (done_text word)) no_members)
@@ -191,6 +224,8 @@ reply_value (reply.Range name) = field_value name (codes "range")
 reply_value (reply.TakenFix name) = taken_value name
 reply_value (reply.TakenType name) = taken_value name
 reply_value (reply.Refused refusal version) = object (refusal_members version refusal)
+reply_value (reply.Illegal version refusal) = illegal_value version refusal
+reply_value (reply.Late version) = object (at_version (codes "late") version)
 
 -- it, compact, with 0x0A at its end
 abbrev pub reply_text : Reply → List ℕ

@@ -114,4 +114,6 @@ IsShort (reply.Range name) = length name ≤ 10000
 IsShort (reply.TakenFix name) = length name ≤ 7
 IsShort (reply.TakenType name) = length name ≤ 7
 IsShort (reply.Refused refusal version) = IsShortRefusal refusal × (version < 2 ^ 64)
+IsShort (reply.Illegal version refusal) = version < 2 ^ 64
+IsShort (reply.Late version) = version < 2 ^ 64
 IsShort reply = ⊤

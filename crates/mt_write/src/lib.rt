@@ -11,6 +11,7 @@ mod escape;
 mod external;
 mod flight_view;
 mod hit;
+mod illegal;
 mod laws;
 mod names;
 mod number;

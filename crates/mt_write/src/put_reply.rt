@@ -11,6 +11,7 @@ ghost use Rattle.mt_write.specs.Reply.{reply_text};
 use crate::advice::put_advice;
 use crate::escape::put_escaped;
 use crate::flight_view::put_flight;
+use crate::illegal::put_illegal;
 use crate::refused::put_refused;
 use crate::reply::{DoneWord, Reply};
 use crate::verdict::put_entered;
@@ -173,5 +174,7 @@ pub(crate) fn put_reply(out: &mut Vec<u8>, reply: &Reply) -> Result<(), Memory>
         Reply::TakenFix(name) => put_taken(out, name.bytes()),
         Reply::TakenType(name) => put_taken(out, name.bytes()),
         Reply::Refused { refusal, version } => put_refused(out, refusal, *version),
+        Reply::Illegal { version, refusal } => put_illegal(out, *version, refusal),
+        Reply::Late { version } => put_versioned(out, b"{\"no\":\"late\",\"version\":", *version),
     }
 }

@@ -161,4 +161,16 @@ pub enum Reply {
         /// The version at which that holds.
         version: u64,
     },
+    /// An entry that a standby was to follow isn't what is decided of its command.
+    Illegal {
+        /// The version at which that holds.
+        version: u64,
+        /// Why.
+        refusal: Refusal,
+    },
+    /// An entry that a standby was to follow is an acceptance that names a version above the one now.
+    Late {
+        /// The version now.
+        version: u64,
+    },
 }

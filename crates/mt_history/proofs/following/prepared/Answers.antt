@@ -3,7 +3,7 @@ use Rattle.mt_base.specs.Bounds.{AreWithinBounds}
 use Rattle.mt_base.specs.Tables.{Setup}
 use Rattle.mt_picture.specs.Story.{Story}
 use Rattle.mt_picture.proofs.Given.{denied_now, given_now}
-use Rattle.mt_history.proofs.rebuilding.prepared.Goals as goal
+use Rattle.mt_history.proofs.following.prepared.Goals as goal
 
 pub returns-clause-refused : goal.returns-clause-refused
 returns-clause-refused c =

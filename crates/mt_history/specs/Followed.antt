@@ -1,0 +1,24 @@
+-- What putting an entry behind a history means, and why it is not put there.
+use Rattle.std.specs.Prelude.{◌≡◌, List, [], ◌∷◌, ◌++◌, length, Ok, Err, ⊤}
+use Rattle.mt_base.specs.declared.command.Entered.{Entered}
+use Rattle.mt_base.specs.declared.command.Entry.{Entry}
+use Rattle.mt_base.specs.History.{IsDecided, IsInTime, entered_by, state_of}
+use Rattle.mt_history.specs.declared.following.FollowNo.{FollowNo}
+use Rattle.mt_history.specs.declared.following.FollowNo.TheVariants.{Illegal, Late, Memory}
+use Rattle.mt_picture.specs.Story.{Story}
+
+-- The entry comes in time and is what is decided of its command, asked for by who made it, on the state of the history. It stands behind the
+-- history now, and that is answered.
+pub record HasFollowed (before : Story) (e : Entry) (after : Story) (entered : Entered) : Type 0 where
+  pub in_time : IsInTime (length before.history) e.command
+  pub decided : IsDecided before.setup (state_of before.setup before.history) e.who e.command (Ok e)
+  pub after_is : after ≡ record { setup = before.setup; history = before.history ++ e ∷ [] }
+  pub answered : entered ≡ entered_by before.setup (state_of before.setup before.history) e
+
+-- Why it is not put there, at the version of the history: it is an acceptance that was probed at a version after it; or it is not, and its
+-- command is refused on the state of the history; or memory is wanted.
+abbrev pub IsNotFollowed : Story → Entry → FollowNo → Type 0
+IsNotFollowed story e (Late version) = (version ≡ length story.history) × (¬ IsInTime (length story.history) e.command)
+IsNotFollowed story e (Illegal version refusal) = (version ≡ length story.history) × IsInTime (length story.history) e.command
+    × IsDecided story.setup (state_of story.setup story.history) e.who e.command (Err refusal)
+IsNotFollowed story e Memory = ⊤

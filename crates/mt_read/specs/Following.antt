@@ -1,0 +1,74 @@
+-- What a line asks of a standby whose picture has begun.
+use Rattle.std.specs.Prelude.{◌≡◌, ℕ, List, [], ◌∷◌, Option, Some, None, option_and_then, Result, Ok, Err, ⊤}
+use Rattle.serde_json.specs.Data.{Members}
+use Rattle.mt_base.specs.declared.command.Entry.{Entry}
+use Rattle.mt_base.specs.Bounds.{IsBoundedCommand}
+use Rattle.mt_base.specs.History.{filled}
+use Rattle.mt_read.specs.declared.following.FeedLine.{FeedLine}
+use Rattle.mt_read.specs.declared.following.FeedLine.TheVariants.{Followed, Asked, Ended}
+use Rattle.mt_read.specs.declared.following.Reading.{Reading}
+use Rattle.mt_read.specs.declared.following.Reading.TheVariants as reading
+use Rattle.mt_read.specs.declared.origin.Origin.TheVariants.{Line}
+use Rattle.mt_read.specs.declared.request.LineNo.{LineNo}
+use Rattle.mt_read.specs.declared.request.Place.TheVariants.{Plain}
+use Rattle.mt_read.specs.declared.request.Request.{Request}
+use Rattle.mt_read.specs.declared.request.Request.TheVariants as request
+use Rattle.mt_read.specs.declared.word.Word.TheVariants as word
+use Rattle.mt_read.specs.Entry.{as_entry, held_in}
+use Rattle.mt_read.specs.Line.{decoded, read_layout, read_value, word_text}
+use Rattle.mt_read.specs.Table.{Layout, layout_of}
+use Rattle.mt_read.specs.Words.{named_by}
+
+-- the rows of the lines that are no entry
+abbrev pub reading_layout : Reading → Layout Request
+reading_layout reading.List = layout_of word.List
+reading_layout reading.Check = layout_of word.Check
+reading_layout reading.Flight = layout_of word.Flight
+reading_layout reading.Due = layout_of word.Due
+reading_layout reading.Bye = layout_of word.Bye
+
+abbrev pub readings : List Reading
+readings = reading.List ∷ reading.Check ∷ reading.Flight ∷ reading.Due ∷ reading.Bye ∷ []
+
+unfoldable pub reading_word_of : List ℕ → Option Reading
+reading_word_of = named_by (λ w. (reading_layout w).text) readings
+
+-- what such a line asks for: to end, or what holds
+abbrev pub as_line : Request → FeedLine
+as_line request.Bye = Ended
+as_line asked = Asked asked
+
+abbrev pub as_asked : Result (ℕ × Request) LineNo → Result FeedLine LineNo
+as_asked (Ok asked) = Ok (as_line asked.1)
+as_asked (Err refusal) = Err refusal
+
+abbrev pub as_followed : Result Entry LineNo → Result FeedLine LineNo
+as_followed (Ok e) = Ok (Followed e)
+as_followed (Err refusal) = Err refusal
+
+abbrev pub of_reading : Members → Option Reading → Result FeedLine LineNo
+of_reading ms (Some word) = as_asked (read_layout (Line Plain) [] (reading_layout word) ms)
+of_reading ms None = as_followed (as_entry (held_in ms))
+
+-- what an object's members are read as
+abbrev pub feed_members : Members → Result FeedLine LineNo
+feed_members ms = of_reading ms (option_and_then reading_word_of (word_text ms))
+
+-- What a line is read as, by the checks of a line and in their order: a line that is no entry as in a session, and so without who asks; each
+-- other line as the text of an entry.
+abbrev pub feed : List ℕ → Result FeedLine LineNo
+feed bytes = read_value feed_members (decoded bytes)
+
+-- it asks for what holds
+abbrev pub IsReading : Request → Type 0
+IsReading request.List = ⊤
+IsReading request.Check = ⊤
+IsReading (request.Flight call sec) = ⊤
+IsReading request.Due = ⊤
+IsReading other = ⊥
+
+-- The numbers of an entry are within their bounds, and no moment fills anything in. What else is asked for is what holds.
+abbrev pub IsReadyLine : FeedLine → Type 0
+IsReadyLine (Followed e) = IsBoundedCommand e.command × ((now : ℕ) → filled now e.command ≡ e.command)
+IsReadyLine (Asked asked) = IsReading asked
+IsReadyLine Ended = ⊤

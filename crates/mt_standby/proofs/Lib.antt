@@ -1,0 +1,2 @@
+pub mod CaughtUp
+pub mod Told

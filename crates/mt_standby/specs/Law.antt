@@ -1,0 +1,44 @@
+-- A standby that follows the beginning of a primary's history.
+use Rattle.std.specs.Prelude.{◌≡◌, ◌≤◌, ℕ, true, List, [], length, take, All}
+use Rattle.mt_base.specs.declared.command.Entry.{Entry}
+use Rattle.mt_base.specs.declared.conflict.Conflict.{Conflict}
+use Rattle.mt_base.specs.History.{IsReplayable, state_of}
+use Rattle.mt_base.specs.Picture.{IsPublished}
+use Rattle.mt_base.specs.Tables.{Setup}
+use Rattle.mt_history.specs.Printed.{AreRead}
+use Rattle.mt_lines.specs.Answering as answering
+use Rattle.mt_lines.specs.Given.{is_farewell}
+use Rattle.mt_write.specs.declared.reply.Reply.{Reply}
+use Rattle.mt_write.specs.Reply.{reply_text}
+use Rattle.mt_standby.specs.Standby.{IsAnswered, asked}
+use Rattle.mt_world.specs.World.{World, picture_of, setup_of}
+
+-- the reply to a line in whose place no `memory` stands
+abbrev pub IsToLine : World → List ℕ → Reply → World → Type 0
+IsToLine w line reply next = IsAnswered w (asked line) reply next
+
+-- nothing follows the reply to a line
+abbrev pub IsLast : World → List ℕ → Reply → World → World → Type 0
+IsLast w line reply answered next = next ≡ answered
+
+-- these bytes answer the lines, in order, and none of them by `memory`
+abbrev pub AreAnswered : World → List (List ℕ) → List ℕ → World → Type 0
+AreAnswered w lines bytes end = answering.AreReplied reply_text is_farewell IsToLine IsLast w lines bytes end
+
+-- The setup is the primary's, and no entry was followed yet. The lines are the texts of the first n entries of the primary's history, which can be
+-- replayed, and were all answered.
+pub record FollowFirst (setup : Setup) (primary : List Entry) (n : ℕ) (w : World) (lines : List (List ℕ)) (bytes : List ℕ) (end : World) : Type 0 where
+  pub begun : w.begun ≡ true
+  pub setup_is : setup_of w ≡ setup
+  pub none : w.history ≡ []
+  pub replayable : IsReplayable setup primary
+  pub read : AreRead lines (take n primary)
+  pub short : All (λ line. length line ≤ 65536) lines
+  pub answered : AreAnswered w lines bytes end
+
+-- The standby has these n entries, and what is published of it is what the primary published at version n.
+pub record HasCaughtUp (setup : Setup) (primary : List Entry) (n : ℕ) (end : World) : Type 0 where
+  pub setup_is : setup_of end ≡ setup
+  pub history : end.history ≡ take n primary
+  pub published : (conflicts : List Conflict) → IsPublished setup (state_of setup (take n primary)) conflicts
+      → IsPublished (setup_of end) (picture_of end) conflicts

@@ -1,0 +1,77 @@
+-- The world of a standby once its picture has begun: what each line is answered, and the world after it. It is the world of a script, of whose
+-- actors and areas a standby uses none.
+use Rattle.std.specs.Prelude.{◌⊎◌, ◌≤◌, ℕ, true, List, [], ◌∷◌, ◌++◌, length, nat_lt, replicate, Result, Ok, Err, if◌then◌else◌}
+use Rattle.mt_base.specs.declared.command.Entry.{Entry}
+use Rattle.mt_base.specs.declared.command.Refusal.{Refusal}
+use Rattle.mt_base.specs.History.{IsDecided, IsInTime, entered_by}
+use Rattle.mt_picture.specs.Story.{Story}
+use Rattle.mt_read.specs.declared.following.FeedLine.{FeedLine}
+use Rattle.mt_read.specs.declared.following.FeedLine.TheVariants.{Followed, Asked, Ended}
+use Rattle.mt_read.specs.declared.request.LineNo.{LineNo}
+use Rattle.mt_read.specs.declared.request.LineNo.TheVariants as nos
+use Rattle.mt_read.specs.declared.request.Request.TheVariants as requests
+use Rattle.mt_read.specs.Following.{feed}
+use Rattle.mt_write.specs.declared.reply.Reply.{Reply}
+use Rattle.mt_write.specs.declared.reply.Reply.TheVariants as replies
+use Rattle.mt_world.specs.World.{IsGiven, IsRefused, IsServed, World, new_actor, picture_of, setup_of}
+
+-- a picture as the world of a standby
+abbrev pub world_of : Story → World
+world_of story = record {
+  rules = story.setup.rules;
+  tables = story.setup.tables;
+  areas = [];
+  begun = true;
+  history = story.history;
+  actors = replicate 16 new_actor;
+}
+
+-- an entry that is an acceptance of a version above the number of entries is late, and changes nothing
+pub record IsLate (w : World) (e : Entry) (reply : Reply) (next : World) : Type 0 where
+  pub ahead : ¬ IsInTime (length w.history) e.command
+  pub refused : IsRefused w (replies.Late (length w.history)) reply next
+
+-- One that isn't is illegal where its command, asked for by who made it, is refused on the state of the history; it changes nothing.
+pub record IsIllegal (w : World) (e : Entry) (reply : Reply) (next : World) : Type 0 where
+  pub in_time : IsInTime (length w.history) e.command
+  pub refusal : Refusal
+  pub decided : IsDecided (setup_of w) (picture_of w) e.who e.command (Err refusal)
+  pub refused : IsRefused w (replies.Illegal (length w.history) refusal) reply next
+
+-- It is entered where it is that which is decided: it is put behind the history.
+pub record IsPut (w : World) (e : Entry) (reply : Reply) (next : World) : Type 0 where
+  pub in_time : IsInTime (length w.history) e.command
+  pub decided : IsDecided (setup_of w) (picture_of w) e.who e.command (Ok e)
+  pub given : IsGiven (replies.Entered (entered_by (setup_of w) (picture_of w) e)) (record w { history = w.history ++ e ∷ [] }) reply next
+
+-- what an entry is answered
+abbrev pub IsFollowed : World → Entry → Reply → World → Type 0
+IsFollowed w e reply next = IsLate w e reply next ⊎ (IsIllegal w e reply next ⊎ IsPut w e reply next)
+
+-- the refusal of a line as a reply
+abbrev pub or_reply : Result FeedLine LineNo → Result FeedLine Reply
+or_reply (Ok line) = Ok line
+or_reply (Err nos.Json) = Err replies.Json
+or_reply (Err (nos.Form name)) = Err (replies.Form name)
+or_reply (Err (nos.Range name)) = Err (replies.Range name)
+or_reply (Err nos.Memory) = Err replies.Memory
+
+-- what a line asks for, or its refusal
+abbrev pub asked : List ℕ → Result FeedLine Reply
+asked line = if nat_lt 65536 (length line) then Err replies.Long else or_reply (feed line)
+
+-- What is answered of it, and the world after it. What holds is told, and the end is said, as in a script, where it doesn't matter who asks.
+abbrev pub IsAnswered : World → Result FeedLine Reply → Reply → World → Type 0
+IsAnswered w (Err refusal) reply next = IsRefused w refusal reply next
+IsAnswered w (Ok (Followed e)) reply next = IsFollowed w e reply next
+IsAnswered w (Ok (Asked request)) reply next = IsServed w 0 request reply next
+IsAnswered w (Ok Ended) reply next = IsServed w 0 requests.Bye reply next
+
+-- In place of any reply but `long`, `memory` may stand; then the line changed nothing.
+pub record WantsMemory (w : World) (line : List ℕ) (reply : Reply) (next : World) : Type 0 where
+  pub short : length line ≤ 65536
+  pub refused : IsRefused w replies.Memory reply next
+
+-- this reply is given to a line of a standby, and leaves this world
+abbrev pub IsReplied : World → List ℕ → Reply → World → Type 0
+IsReplied w line reply next = IsAnswered w (asked line) reply next ⊎ WantsMemory w line reply next
