@@ -28,4 +28,5 @@ mod word;
 
 pub use entry::read_entry;
 pub use line::read_line;
+pub use mt_json::Scratch;
 pub use request::{LineNo, Place, Request, RuleSet};
