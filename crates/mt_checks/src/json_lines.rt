@@ -1,8 +1,7 @@
 //! Fields of objects by their values, and objects written as lines.
 
 use crate::cases::{Check, assert_case, check_each, columns};
-use mt_json::{Builder, Fields};
-use serde_json::Value;
+use mt_json::{Builder, Fields, Scratch, Value};
 use std::process::Abort;
 
 // An object, and what its key "k" is as a text, a truth value, a whole number from -5 to 5, one of any size, and a list, by its length.
@@ -42,12 +41,18 @@ const FIELDS: &str = r#"
 "#;
 
 /// The value that the text says.
-fn value(rt: &(impl Abort + AllocGlobal), text: &str) -> Value {
-    Value::from_str(rt.alloc(), text).ok().expect(rt, "a value")
+fn value<'a>(
+    rt: &(impl Abort + AllocGlobal),
+    scratch: &'a mut Scratch,
+    text: &'a str,
+) -> Value<'a> {
+    Value::read(rt.alloc(), text.as_bytes(), scratch)
+        .ok()
+        .expect(rt, "a value")
 }
 
 /// What the key "k" is in each way.
-fn answers(rt: &(impl Abort + AllocGlobal), fields: &Fields<'_>) -> String {
+fn answers(rt: &(impl Abort + AllocGlobal), fields: &Fields<'_, '_>) -> String {
     let word = fields.word("k");
     let flag = fields.flag("k");
     let small = fields.whole("k", -5, 5);
@@ -71,7 +76,8 @@ struct Kinds;
 impl Check for Kinds {
     fn check(rt: &(impl Abort + AllocGlobal), case: &str) {
         let (text, wanted) = columns(rt, case);
-        let value = value(rt, text);
+        let mut scratch = Scratch::new(rt.alloc());
+        let value = value(rt, &mut scratch, text);
         let fields = Fields::of(&value).expect(rt, "an object");
         check_text(rt, text, answers(rt, &fields), wanted);
         drop(value);
@@ -83,34 +89,30 @@ fn a_field_is_by_its_value(rt: HostRuntime) {
     check_each::<Kinds>(&rt, FIELDS);
 }
 
-// An object, the keys that are allowed, and the least other key with its place. In the order of a language the letters of the fourth last
+// An object, the keys that are allowed, and the least other key. In the order of a language the letters of the fourth last
 // lines are a, B, é, z, Z; in the order of UTF-16 the second key of the last line would stand first.
 const KEYS: &str = r#"
-{} |  | Ok(()) None
-{} | a b  | Ok(()) None
-{"b":1,"a":2} | a b  | Ok(()) None
-{"b":1,"a":2,"b":3} | b a c  | Ok(()) None
-{"z":1,"y":2} |  | Err(Extra { place: 0 }) Some("y")
-{"d":1,"a":2,"c":3,"b":4} | a b  | Err(Extra { place: 2 }) Some("c")
-{"from gr":1} | from gr  | Err(Extra { place: 0 }) Some("from gr")
-{"fro":1,"from":2,"from ":3} | from  | Err(Extra { place: 0 }) Some("fro")
-{"from":2,"from ":3} | from  | Err(Extra { place: 1 }) Some("from ")
-{"":1,"a":2} | a  | Err(Extra { place: 0 }) Some("")
-{"a":1,"\u0061\n":2} | a  | Err(Extra { place: 1 }) Some("a\n")
-{"a":1,"B":2,"é":3,"z":4,"Z":5} | a B Z  | Err(Extra { place: 3 }) Some("z")
-{"a":1,"B":2,"é":3,"z":4,"Z":5} | é z a  | Err(Extra { place: 0 }) Some("B")
-{"a":1,"B":2,"é":3,"z":4,"Z":5} | a B z Z  | Err(Extra { place: 4 }) Some("é")
-{"\ufb00":1,"\ud800\udc00":2} |  | Err(Extra { place: 0 }) Some("ﬀ")
+{} |  | Ok(())
+{} | a b  | Ok(())
+{"b":1,"a":2} | a b  | Ok(())
+{"b":1,"a":2,"b":3} | b a c  | Ok(())
+{"z":1,"y":2} |  | Err(Extra { key: "y" })
+{"d":1,"a":2,"c":3,"b":4} | a b  | Err(Extra { key: "c" })
+{"from gr":1} | from gr  | Err(Extra { key: "from gr" })
+{"fro":1,"from":2,"from ":3} | from  | Err(Extra { key: "fro" })
+{"from":2,"from ":3} | from  | Err(Extra { key: "from " })
+{"":1,"a":2} | a  | Err(Extra { key: "" })
+{"a":1,"\u0061\n":2} | a  | Err(Extra { key: "a\n" })
+{"a":1,"B":2,"é":3,"z":4,"Z":5} | a B Z  | Err(Extra { key: "z" })
+{"a":1,"B":2,"é":3,"z":4,"Z":5} | é z a  | Err(Extra { key: "B" })
+{"a":1,"B":2,"é":3,"z":4,"Z":5} | a B z Z  | Err(Extra { key: "é" })
+{"\ufb00":1,"\ud800\udc00":2} |  | Err(Extra { key: "ﬀ" })
 "#;
 
 /// Whether these keys are allowed alone, and else the least other key.
-fn outcome(rt: &(impl Abort + AllocGlobal), fields: &Fields<'_>, allowed: &str) -> String {
+fn outcome(rt: &(impl Abort + AllocGlobal), fields: &Fields<'_, '_>, allowed: &str) -> String {
     let outcome = fields.only(allowed);
-    let key = match outcome {
-        Ok(()) => None,
-        Err(extra) => fields.key(extra.place),
-    };
-    format!(in rt.alloc(); "{outcome:?} {key:?}").expect(rt, "memory")
+    format!(in rt.alloc(); "{outcome:?}").expect(rt, "memory")
 }
 
 /// Which keys are allowed.
@@ -120,7 +122,8 @@ impl Check for Keys {
     fn check(rt: &(impl Abort + AllocGlobal), case: &str) {
         let (text, rest) = columns(rt, case);
         let (allowed, wanted) = columns(rt, rest);
-        let value = value(rt, text);
+        let mut scratch = Scratch::new(rt.alloc());
+        let value = value(rt, &mut scratch, text);
         let fields = Fields::of(&value).expect(rt, "an object");
         check_text(rt, text, outcome(rt, &fields, allowed), wanted);
         drop(value);
@@ -133,7 +136,8 @@ fn the_least_key_that_is_not_allowed(rt: HostRuntime) {
 }
 
 fn check_no_object(rt: &(impl Abort + AllocGlobal), text: &str) {
-    let value = value(rt, text);
+    let mut scratch = Scratch::new(rt.alloc());
+    let value = value(rt, &mut scratch, text);
     assert!(rt; Fields::of(&value).is_none());
     drop(value);
 }
@@ -145,11 +149,33 @@ fn what_is_no_object_has_no_fields(rt: HostRuntime) {
     check_no_object(&rt, "1");
     check_no_object(&rt, "\"a\"");
     check_no_object(&rt, "[{}]");
-    let value = value(&rt, r#"{"b":1,"a":2}"#);
-    let fields = Fields::of(&value).expect(&rt, "an object");
-    assert!(rt; fields.key(1) == Some("b"));
-    assert!(rt; fields.key(2).is_none());
-    drop(value);
+}
+
+// A text, and whether a value is read of it: numbers up to the greatest float, and no more than one value.
+const READ: &str = r#"
+[1e308, -1e308] | true
+1e400 | false
+{"a":[-1e400]} | false
+1e-400 | true
+{} {} | false
+"\ud800" | false
+"#;
+
+/// Whether a text is read.
+struct Read;
+
+impl Check for Read {
+    fn check(rt: &(impl Abort + AllocGlobal), case: &str) {
+        let (text, wanted) = columns(rt, case);
+        let mut scratch = Scratch::new(rt.alloc());
+        let read = Value::read(rt.alloc(), text.as_bytes(), &mut scratch).is_ok();
+        assert_case(rt, read == (wanted == "true"), text);
+    }
+}
+
+#[test]
+fn what_is_read(rt: HostRuntime) {
+    check_each::<Read>(&rt, READ);
 }
 
 fn add_number(rt: &impl Abort, builder: &mut Builder, key: &str, number: i64) {
@@ -163,7 +189,9 @@ fn a_line_has_its_pairs_in_byte_order(rt: HostRuntime) {
     add_number(&rt, &mut builder, "b", 1);
     add_number(&rt, &mut builder, "a\t", i64::MIN);
     add_number(&rt, &mut builder, "a", i64::MAX);
-    let nested = value(&rt, r#"{"y": [null, true, -3, 1.5], "x": {}}"#);
+    let nested = serde_json::Value::from_str(rt.alloc(), r#"{"y": [null, true, -3, 1.5], "x": {}}"#)
+        .ok()
+        .expect(&rt, "a value");
     builder.value("B", nested).expect(&rt, "memory");
     add_number(&rt, &mut builder, "b", -7);
     let bytes = builder.line().expect(&rt, "memory");

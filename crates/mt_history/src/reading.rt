@@ -8,7 +8,7 @@ ghost use Rattle.mt_history.specs.Rebuilt.{IsReady};
 
 use mt_base::{Entries, Entry};
 use mt_memory::Memory;
-use mt_wire::{LineNo, read_entry};
+use mt_wire::{LineNo, Scratch, read_entry};
 use std::alloc::Global;
 
 /// Why bytes are not read.
@@ -43,12 +43,12 @@ fn first_line(bytes: &[u8]) -> (&[u8], &[u8])
 }
 
 // The entry that the line at a place says.
-fn read_line(alloc: Global, line: &[u8], place: u64) -> Result<Entry, Bad>
+fn read_line(alloc: Global, scratch: &mut Scratch, line: &[u8], place: u64) -> Result<Entry, Bad>
     ensures read { IfOk result (λ e. entry line.now ≡ Ok e) }
     ensures ready { IfOk result IsReady }
     ensures bad { IfErr result (IsBadLine line.now place) }
 {
-    match read_entry(alloc, line) {
+    match read_entry(alloc, scratch, line) {
         Ok(entry) => Ok(entry),
         Err(LineNo::Memory) => Err(Bad::Memory),
         Err(LineNo::Json | LineNo::Form(_) | LineNo::Range(_)) => Err(Bad::Line(place)),
@@ -63,11 +63,12 @@ pub fn read_all(alloc: Global, bytes: &[u8]) -> Result<Entries, Bad>
     ensures bad { IfErr result (IsBad bytes.now) }
 {
     let mut entries = Entries::make(alloc)?;
+    let mut scratch = Scratch::new(alloc);
     let mut rest = bytes;
     while !rest.is_empty() {
         let (line, others) = first_line(rest);
         let place = entries.items().len() as u64;
-        let entry = read_line(alloc, line, place)?;
+        let entry = read_line(alloc, &mut scratch, line, place)?;
         entries.push(entry)?;
         rest = others;
     }

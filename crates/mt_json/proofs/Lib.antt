@@ -1,4 +1,6 @@
+mod Converted
 mod KeysShown
 mod LeastOther
+mod Members
 pub mod OneLine
 mod Plain

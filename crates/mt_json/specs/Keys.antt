@@ -1,8 +1,8 @@
 -- The keys of an object, and which of them are allowed.
-use Rattle.std.specs.Prelude.{◌≡◌, ◌⊎◌, ℕ, ◌==◌, ◌&&◌, List, [], ◌∷◌, length, All, slice_get, Bool, false, not, Option, Some, None, Result, Ok, Err, ⊤}
+use Rattle.std.specs.Prelude.{◌≡◌, ◌⊎◌, ℕ, ◌==◌, ◌&&◌, List, [], ◌∷◌, length, All, slice_get, Bool, false, not, Option, Some, None, option_and_then, Result, Ok, Err, ⊤}
 use Rattle.std.specs.List.{list_any, position, slice_split}
 use Rattle.std.specs.List.Sorted.{IsStrictlySortedBy}
-use Rattle.std.specs.Ordering.{nat_cmp}
+use Rattle.std.specs.Ordering.{nat_cmp, match_ordering}
 use Rattle.std.specs.Cmp.Lexicographic.{slice_cmp}
 use Rattle.std.specs.Str.{bytes_eq}
 use Rattle.std.specs.declared.cmp.Ordering.TheVariants.{Less}
@@ -22,22 +22,27 @@ AreInByteOrder ms = IsStrictlySortedBy (slice_cmp nat_cmp) (keys ms)
 abbrev pub is_allowed : List ℕ → List ℕ → Bool
 is_allowed allowed key = not (length key == 0) && list_any (λ word. bytes_eq word key) (slice_split (λ b. b == 32) allowed)
 
--- no place, or the place of a key that is not allowed
-abbrev pub or_extra : Option ℕ → Result ⊤ Extra
-or_extra None = Ok (tt {0})
-or_extra (Some place) = Err (record { place = place })
-
 -- the place, from 0, of the first key that is not allowed
 abbrev pub other_at : List ℕ → Members → Option ℕ
 other_at allowed ms = position (λ key. not (is_allowed allowed key)) (keys ms)
 
--- Ok where each key is allowed, else the place of the first that is not
-abbrev pub only_at : List ℕ → Members → Result ⊤ Extra
-only_at allowed ms = or_extra (other_at allowed ms)
+-- the least key, in byte order, that is not allowed
+abbrev pub other_key : List ℕ → Members → Option (List ℕ)
+other_key allowed ms = option_and_then (slice_get (keys ms)) (other_at allowed ms)
 
--- of the keys that are not allowed, the one at the place is the least, byte by byte
-pub record IsLeastOther (allowed : List ℕ) (ks : List (List ℕ)) (place : ℕ) : Type 0 where
-  pub key : List ℕ
+-- the key that an answer names
+abbrev pub shown_other : Result ⊤ Extra → Option (List ℕ)
+shown_other (Ok _) = None
+shown_other (Err extra) = Some extra.key.now
+
+-- the lesser of a key and another, if there is one
+abbrev pub lesser : List ℕ → Option (List ℕ) → List ℕ
+lesser k None = k
+lesser k (Some l) = match_ordering (slice_cmp nat_cmp l k) l k k
+
+-- of the keys that are not allowed, this one is the least, byte by byte
+pub record IsLeastOther (allowed : List ℕ) (ks : List (List ℕ)) (key : List ℕ) : Type 0 where
+  pub place : ℕ
   pub stands : slice_get ks place ≡ Some key
   pub other : is_allowed allowed key ≡ false
   pub least : All (λ k. is_allowed allowed k ≡ false → (k ≡ key) ⊎ (slice_cmp nat_cmp key k ≡ Less)) ks

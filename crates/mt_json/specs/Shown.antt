@@ -2,11 +2,12 @@
 use Rattle.serde_json.specs.Data.{Members}
 use Rattle.serde_json.specs.View.{members_view}
 use Rattle.mt_json.specs.declared.fields.Fields.{Fields}
+use Rattle.mt_json.specs.View as read
 use Rattle.mt_json.specs.declared.builder.Builder.{Builder}
 
 -- the members of the object that is looked into
 abbrev pub members : Fields → Members
-members f = members_view f.map.now.entries
+members f = read.members_view f.list.now
 
 -- the pairs that were put in, by their keys; a key that was put in again has the last value
 abbrev pub pairs : Builder → Members

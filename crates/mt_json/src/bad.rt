@@ -11,7 +11,7 @@ pub enum Bad {
 
 /// An object has a key that isn't allowed.
 #[derive(Debug, Clone, Copy, PartialEq, Eq)]
-pub struct Extra {
-    /// The place of the least such key among the object's keys, in byte order from 0; [`Fields::key`](crate::Fields::key) gives the key.
-    pub place: usize,
+pub struct Extra<'a> {
+    /// The least such key, in byte order.
+    pub key: &'a str,
 }

@@ -1,60 +1,49 @@
-ghost use Rattle.std.specs.Prelude.{◌≡◌, option_map, MatchOption, OnOk, IfErr, true, All, slice_get};
+ghost use Rattle.std.specs.Prelude.{◌≡◌, option_map, OnOk, IfErr, true, All};
 ghost use Rattle.serde_json.specs.Find.{as_object, get_member};
-ghost use Rattle.serde_json.specs.View.{view, items_view};
-ghost use Rattle.mt_json.specs.Keys.{keys as keys_of, AreInByteOrder, is_allowed, other_at, only_at, IsLeastOther};
+ghost use Rattle.mt_json.specs.Keys.{keys as keys_of, AreInByteOrder, is_allowed, lesser, other_key, shown_other, IsLeastOther};
 ghost use Rattle.mt_json.specs.Field.{result_map, word_at, flag_at, whole_at, list_at};
 ghost use Rattle.mt_json.specs.Shown.{members};
+ghost use Rattle.mt_json.specs.View.{items_view, view};
 
 use crate::bad::{Bad, Extra};
-use serde_json::{Map, Value};
+use crate::value::{Member, Value};
 
-/// The members of a JSON object, to be looked into. It takes no memory.
+/// The members of a JSON object, to be looked into: of those with one key the last. It takes no memory.
 #[derive(Clone, Copy)]
-pub struct Fields<'v> {
-    map: &'v Map<String, Value>,
+pub struct Fields<'v, 'a> {
+    list: &'v [Member<'a>],
 }
 
-impl<'v> Fields<'v> {
+impl<'v, 'a> Fields<'v, 'a> {
     /// The members of `value`, or None exactly where it isn't an object.
-    pub fn of(value: &'v Value) -> Option<Fields<'v>>
+    pub fn of(value: &'v Value<'a>) -> Option<Fields<'v, 'a>>
         ensures { option_map members result ≡ as_object (view value.now) }
     {
         match value.as_object() {
-            Some(map) => Some(Fields { map }),
+            Some(list) => Some(Fields { list }),
             None => None,
         }
     }
 
-    /// Whether each key is allowed, else the place of the least key, in byte order, that isn't.
+    /// Whether each key is allowed, else the least key, in byte order, that isn't.
     ///
     /// `keys` holds the allowed keys with one space after each. The empty key is never allowed.
-    pub fn only(&self, keys: &str) -> Result<(), Extra>
-        ensures exact { result ≡ only_at keys.now (members self.now) }
+    pub fn only(&self, keys: &str) -> Result<(), Extra<'a>>
+        ensures exact { shown_other result ≡ other_key keys.now (members self.now) }
         ensures allowed { OnOk result
             (All (λ k. is_allowed keys.now k ≡ true) (keys_of (members self.now))) }
         ensures least { IfErr result
-            (λ extra. IsLeastOther keys.now (keys_of (members self.now)) extra.place) }
+            (λ extra. IsLeastOther keys.now (keys_of (members self.now)) extra.key.now) }
         ensures ordered { AreInByteOrder (members self.now) }
     {
-        match self.first_other(keys) {
-            Some(place) => Err(Extra { place }),
+        match self.least_other(keys) {
+            Some(key) => Err(Extra { key }),
             None => Ok(()),
         }
     }
 
-    /// The key at a place in byte order, from 0, or None exactly where no key has that place.
-    pub fn key(&self, place: usize) -> Option<&'v str>
-        ensures key { option_map (λ s. s.now) result ≡ slice_get (keys_of (members self.now)) place }
-        ensures ordered { AreInByteOrder (members self.now) }
-    {
-        match self.map.keys().nth(place) {
-            Some(key) => Some(key.as_str()),
-            None => None,
-        }
-    }
-
     /// The text at a key, or Missing or Kind.
-    pub fn word(&self, key: &str) -> Result<&'v str, Bad>
+    pub fn word(&self, key: &str) -> Result<&'a str, Bad>
         ensures { result_map (λ s. s.now) result ≡ word_at key.now (members self.now) }
     {
         self.get(key).ok_or(Bad::Missing)?.as_str().ok_or(Bad::Kind)
@@ -90,33 +79,51 @@ impl<'v> Fields<'v> {
     }
 
     /// The items of the list at a key, or Missing or Kind.
-    pub fn list(&self, key: &str) -> Result<&'v [Value], Bad>
+    pub fn list(&self, key: &str) -> Result<&'v [Value<'a>], Bad>
         ensures { result_map (λ vs. items_view vs.now) result ≡ list_at key.now (members self.now) }
     {
-        match self.get(key).ok_or(Bad::Missing)?.as_array() {
-            Some(items) => Ok(items.as_slice()),
-            None => Err(Bad::Kind),
-        }
+        self.get(key)
+            .ok_or(Bad::Missing)?
+            .as_array()
+            .ok_or(Bad::Kind)
     }
 
-    // The place of the first key that isn't allowed.
-    fn first_other(&self, keys: &str) -> Option<usize>
-        ensures exact { result ≡ other_at keys.now (members self.now) }
-        ensures found { MatchOption result
-            (All (λ k. is_allowed keys.now k ≡ true) (keys_of (members self.now)))
-            (IsLeastOther keys.now (keys_of (members self.now))) }
-        ensures ordered { AreInByteOrder (members self.now) }
+    // The least key that isn't allowed.
+    fn least_other(&self, keys: &str) -> Option<&'a str>
+        ensures { option_map (λ s. s.now) result ≡ other_key keys.now (members self.now) }
     {
-        self.map
-            .keys()
-            .position(|key| !is_allowed(keys, key.as_str()))
+        let mut least = None;
+        for member in self.list {
+            if !is_allowed(keys, member.0) {
+                least = Some(lesser(member.0, least));
+            }
+        }
+        least
     }
 
     // The value at a key.
-    fn get(&self, key: &str) -> Option<&'v Value>
+    fn get(&self, key: &str) -> Option<&'v Value<'a>>
         ensures { option_map (λ v. view v.now) result ≡ get_member key.now (members self.now) }
     {
-        self.map.get(key)
+        let mut left = self.list.len();
+        while left > 0 {
+            left -= 1;
+            let member = &self.list[left];
+            if member.0 == key {
+                return Some(&member.1);
+            }
+        }
+        None
+    }
+}
+
+// The lesser of two keys, in byte order.
+fn lesser<'a>(key: &'a str, least: Option<&'a str>) -> &'a str
+    ensures { result.now ≡ lesser key.now (option_map (λ s. s.now) least.entry) }
+{
+    match least {
+        Some(least) if least < key => least,
+        _ => key,
     }
 }
 

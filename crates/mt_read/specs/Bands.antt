@@ -2,7 +2,7 @@
 use Rattle.std.specs.Prelude.{ℤ, pos, List, length, Bool, Option, Some, None, is_some, option_and_then, nat_le, int_le, ◌&&◌, unsigned_abs, if◌then◌else◌}
 use Rattle.serde_json.specs.Data.{Data, Items, no_items, item}
 use Rattle.serde_json.specs.Find.{as_array}
-use Rattle.serde_json.specs.View.{view}
+use Rattle.mt_json.specs.View.{view}
 use Rattle.mt_base.specs.declared.band.Band.{Band}
 use Rattle.mt_json.specs.Field.{as_whole}
 use Rattle.mt_read.specs.declared.bands.FourValues.{FourValues}

@@ -1,9 +1,9 @@
 //! The bands of a type: a list of lists of four numbers.
 ghost use Rattle.std.specs.Prelude.{◌≡◌, [], is_some, option_map, unwrap_or, IfOk};
-ghost use Rattle.serde_json.specs.View.{items_view, view};
 ghost use Rattle.mt_base.specs.Checks.{check};
 ghost use Rattle.mt_json.specs.Field.{as_whole};
 ghost use Rattle.mt_json.specs.Shown.{members};
+ghost use Rattle.mt_json.specs.View.{items_view, view};
 ghost use Rattle.mt_read.specs.Bands.{are_few, are_whole, as_band, as_bands, as_bounded, as_four, as_numbers, band_of, four_of, shown};
 ghost use Rattle.mt_read.specs.Field.{ReadsUnlessMemory, as_list_of, each_of, read_at, there};
 ghost use Rattle.mt_read.specs.declared.key.Fault.TheVariants.{Range};
@@ -11,21 +11,20 @@ ghost use Rattle.mt_read.specs.declared.key.Fault.TheVariants.{Range};
 use crate::key::{Fault, Key, key_text};
 use crate::stop::Stop;
 use mt_base::{Band, Bands};
-use mt_json::Fields;
+use mt_json::{Fields, Value};
 use mt_memory::Memory;
-use serde_json::Value;
 use std::alloc::Global;
 
 // What stands in a list of exactly four.
 #[derive(Clone, Copy)]
-struct FourValues<'v> {
-    top: &'v Value,
-    speed: &'v Value,
-    climb: &'v Value,
-    descent: &'v Value,
+struct FourValues<'v, 'a> {
+    top: &'v Value<'a>,
+    speed: &'v Value<'a>,
+    climb: &'v Value<'a>,
+    descent: &'v Value<'a>,
 }
 
-fn four_of(values: &[Value]) -> Option<FourValues<'_>>
+fn four_of<'v, 'a>(values: &'v [Value<'a>]) -> Option<FourValues<'v, 'a>>
     ensures { option_map shown result ≡ four_of (items_view values.now) }
 {
     match values {
@@ -39,10 +38,10 @@ fn four_of(values: &[Value]) -> Option<FourValues<'_>>
     }
 }
 
-fn four(value: &Value) -> Option<FourValues<'_>>
+fn four<'v, 'a>(value: &'v Value<'a>) -> Option<FourValues<'v, 'a>>
     ensures { option_map shown result ≡ as_four (view value.now) }
 {
-    four_of(value.as_array()?.as_slice())
+    four_of(value.as_array()?)
 }
 
 // Whether a value is a whole number.
@@ -55,7 +54,7 @@ pub(crate) fn is_whole(value: &Value) -> bool
     }
 }
 
-fn are_whole(four: &FourValues<'_>) -> bool
+fn are_whole(four: &FourValues<'_, '_>) -> bool
     ensures { result ≡ are_whole (shown four.now) }
 {
     is_whole(four.top) && is_whole(four.speed) && is_whole(four.climb) && is_whole(four.descent)
@@ -71,7 +70,7 @@ pub(crate) fn bounded(value: &Value, low: i64, high: i64) -> Option<i64>
     }
 }
 
-fn band_of(four: &FourValues<'_>) -> Option<Band>
+fn band_of(four: &FourValues<'_, '_>) -> Option<Band>
     ensures { result ≡ band_of (shown four.now) }
 {
     let top = bounded(four.top, 1, 600)?;

@@ -1,8 +1,8 @@
 //! The corners of an area: a list of lists of two numbers.
 ghost use Rattle.std.specs.Prelude.{◌≡◌, [], is_some, option_map, unwrap_or, IfOk};
-ghost use Rattle.serde_json.specs.View.{items_view, view};
 ghost use Rattle.mt_base.specs.Checks.{check};
 ghost use Rattle.mt_json.specs.Shown.{members};
+ghost use Rattle.mt_json.specs.View.{items_view, view};
 ghost use Rattle.mt_read.specs.Corners.{are_enough, are_whole, as_corner, as_corners, as_numbers, as_pair, corner_of, pair_of, shown};
 ghost use Rattle.mt_read.specs.Field.{ReadsUnlessMemory, as_list_of, each_of, read_at, there};
 ghost use Rattle.mt_read.specs.declared.key.Fault.TheVariants.{Range};
@@ -11,19 +11,18 @@ use crate::bands::{bounded, is_whole};
 use crate::key::{Fault, Key, key_text};
 use crate::stop::Stop;
 use mt_base::Corners;
-use mt_json::Fields;
+use mt_json::{Fields, Value};
 use mt_memory::Memory;
-use serde_json::Value;
 use std::alloc::Global;
 
 // What stands in a list of exactly two.
 #[derive(Clone, Copy)]
-struct PairValues<'v> {
-    east: &'v Value,
-    north: &'v Value,
+struct PairValues<'v, 'a> {
+    east: &'v Value<'a>,
+    north: &'v Value<'a>,
 }
 
-fn pair_of(values: &[Value]) -> Option<PairValues<'_>>
+fn pair_of<'v, 'a>(values: &'v [Value<'a>]) -> Option<PairValues<'v, 'a>>
     ensures { option_map shown result ≡ pair_of (items_view values.now) }
 {
     match values {
@@ -32,19 +31,19 @@ fn pair_of(values: &[Value]) -> Option<PairValues<'_>>
     }
 }
 
-fn pair(value: &Value) -> Option<PairValues<'_>>
+fn pair<'v, 'a>(value: &'v Value<'a>) -> Option<PairValues<'v, 'a>>
     ensures { option_map shown result ≡ as_pair (view value.now) }
 {
-    pair_of(value.as_array()?.as_slice())
+    pair_of(value.as_array()?)
 }
 
-fn are_whole(pair: &PairValues<'_>) -> bool
+fn are_whole(pair: &PairValues<'_, '_>) -> bool
     ensures { result ≡ are_whole (shown pair.now) }
 {
     is_whole(pair.east) && is_whole(pair.north)
 }
 
-fn corner_of(pair: &PairValues<'_>) -> Option<(i64, i64)>
+fn corner_of(pair: &PairValues<'_, '_>) -> Option<(i64, i64)>
     ensures { result ≡ corner_of (shown pair.now) }
 {
     let east = bounded(pair.east, -3_686_400, 3_686_400)?;

@@ -19,7 +19,7 @@ use crate::request::LineNo;
 use crate::stop::Stop;
 use crate::word::{EntryWord, entry_keys, entry_word_of};
 use mt_base::{Command, Entry};
-use mt_json::Fields;
+use mt_json::{Fields, Scratch};
 use std::alloc::Global;
 
 // The command that the entry names.
@@ -56,10 +56,10 @@ pub(crate) fn held(alloc: Global, fields: &Fields) -> Result<(u32, Command), Lin
 }
 
 // What an entry's text holds.
-fn read_bytes(alloc: Global, bytes: &[u8]) -> Result<(u32, Command), LineNo>
+fn read_bytes(alloc: Global, scratch: &mut Scratch, bytes: &[u8]) -> Result<(u32, Command), LineNo>
     ensures { Gives result (read_value held_in (decoded bytes.now)) }
 {
-    let value = value_of(alloc, bytes)?;
+    let value = value_of(alloc, scratch, bytes)?;
     let Some(fields) = Fields::of(&value) else {
         return Err(form(alloc, b""));
     };
@@ -71,12 +71,13 @@ fn read_bytes(alloc: Global, bytes: &[u8]) -> Result<(u32, Command), LineNo>
 /// It is one object with all the fields of the entry's command, those with a default too, and `who`, from 0 to 4,294,967,295. An
 /// acceptance has the fields of a clearance and `v`, the version of its probe, from 0 to 4,194,304. The refusals are those of a line, in
 /// the same order; `v` is checked behind the clearance, and `who` last, in both passes. [`LineNo::Memory`] may come in place of any answer.
+/// A text with an escape goes into `scratch`, which is kept from entry to entry.
 /// The numbers of what is read are within their bounds, and its clearance says from when it holds, so that no moment fills that in.
-pub fn read_entry(alloc: Global, bytes: &[u8]) -> Result<Entry, LineNo>
+pub fn read_entry(alloc: Global, scratch: &mut Scratch, bytes: &[u8]) -> Result<Entry, LineNo>
     ensures exact { Gives result (entry bytes.now) }
     ensures bounded { IfOk result (λ (e : Kept). IsBoundedCommand e.command) }
     ensures timed { IfOk result (λ (e : Kept). (now : ℕ) → filled now e.command ≡ e.command) }
 {
-    let (who, command) = read_bytes(alloc, bytes)?;
+    let (who, command) = read_bytes(alloc, scratch, bytes)?;
     Ok(Entry { who, command })
 }

@@ -14,7 +14,7 @@ use crate::origin::Origin;
 use crate::plain::{bye_line, check_line, due_line, flight_line, list_line};
 use crate::request::{LineNo, Place, Request};
 use mt_base::Entry;
-use mt_json::Fields;
+use mt_json::{Fields, Scratch};
 use std::alloc::Global;
 
 /// What a line asks of a standby whose picture has begun.
@@ -133,10 +133,10 @@ fn read_fields(alloc: Global, fields: &Fields) -> Result<FeedLine, LineNo>
 }
 
 // What a line asks of a standby.
-fn read_bytes(alloc: Global, bytes: &[u8]) -> Result<FeedLine, LineNo>
+fn read_bytes(alloc: Global, scratch: &mut Scratch, bytes: &[u8]) -> Result<FeedLine, LineNo>
     ensures { Gives result (feed bytes.now) }
 {
-    let value = value_of(alloc, bytes)?;
+    let value = value_of(alloc, scratch, bytes)?;
     let Some(fields) = Fields::of(&value) else {
         return Err(form(alloc, b""));
     };
@@ -147,11 +147,16 @@ fn read_bytes(alloc: Global, bytes: &[u8]) -> Result<FeedLine, LineNo>
 ///
 /// A line whose `do` is `list`, `check`, `flight`, `due` or `bye` is read as in a session: it has no field `who`. Each other line is read as
 /// the text of an entry, by the checks of [`read_entry`](crate::read_entry); so a line that sets the picture up names no command there. The
-/// refusals are those of a line, in the same order. [`LineNo::Memory`] may come in place of any answer. The numbers of an entry are within
-/// their bounds, and its clearance says from when it holds, so that no moment fills that in.
-pub fn read_feed(alloc: Global, bytes: &[u8]) -> Result<FeedLine, LineNo>
+/// refusals are those of a line, in the same order. [`LineNo::Memory`] may come in place of any answer. A text with an escape goes into `scratch`,
+/// which is kept from line to line. The numbers of an entry are within their bounds, and its clearance says from when it holds, so that no moment
+/// fills that in.
+pub fn read_feed(
+    alloc: Global,
+    scratch: &mut Scratch,
+    bytes: &[u8],
+) -> Result<FeedLine, LineNo>
     ensures exact { Gives result (feed bytes.now) }
     ensures ready { IfOk result IsReadyLine }
 {
-    read_bytes(alloc, bytes)
+    read_bytes(alloc, scratch, bytes)
 }

@@ -22,7 +22,7 @@ use crate::stop::Stop;
 use crate::tables::{fix_line, type_line};
 use crate::word::{Change, Word, is_allowed, keys_of, word_of};
 use mt_base::Rules;
-use mt_json::Fields;
+use mt_json::{Fields, Scratch};
 use std::alloc::Global;
 
 // The command that the line names, where the place has it.
@@ -108,13 +108,14 @@ fn read_fields(
 // What a line is read as.
 fn read_bytes(
     alloc: Global,
+    scratch: &mut Scratch,
     bytes: &[u8],
     place: Place,
     rules: &Rules,
 ) -> Result<(u32, Request), LineNo>
     ensures { Gives result (line place rules.now bytes.now) }
 {
-    let value = value_of(alloc, bytes)?;
+    let value = value_of(alloc, scratch, bytes)?;
     let Some(fields) = Fields::of(&value) else {
         return Err(form(alloc, b""));
     };
@@ -128,9 +129,10 @@ fn read_bytes(
 /// with the least key, in byte order, that isn't a field of the command; with the first field that is missing or of another kind.
 /// [`LineNo::Range`] with the first field whose number, or list of bands, is outside its bounds. In a script each line may have the field
 /// `who`, checked after the others' kinds and again after the others' bounds. For `rule`, last, the rules as they would then stand are
-/// checked. [`LineNo::Memory`] may come in place of any answer.
+/// checked. [`LineNo::Memory`] may come in place of any answer. A text with an escape goes into `scratch`, which is kept from line to line.
 pub fn read_line(
     alloc: Global,
+    scratch: &mut Scratch,
     bytes: &[u8],
     place: Place,
     rules: &Rules,
@@ -138,5 +140,5 @@ pub fn read_line(
     ensures exact { Gives result (line place rules.now bytes.now) }
     ensures bounded { IfOk result (IsBounded rules.now) }
 {
-    read_bytes(alloc, bytes, place, rules)
+    read_bytes(alloc, scratch, bytes, place, rules)
 }

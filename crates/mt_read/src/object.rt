@@ -1,16 +1,15 @@
 //! The object that bytes are read as, and the refusals that name a field.
 ghost use Rattle.std.specs.Prelude.{◌≡◌, ◌⊎◌, ℕ, List, None, Some, MatchResult};
-ghost use Rattle.serde_json.specs.View.{view};
 ghost use Rattle.mt_json.specs.Shown.{members};
+ghost use Rattle.mt_json.specs.View.{view};
 ghost use Rattle.mt_read.specs.Line.{decoded, least_other, named_fault};
 ghost use Rattle.mt_read.specs.declared.request.LineNo.TheVariants.{Json, Form, Memory as no_memory};
 
 use crate::key::{Fault, key_text};
 use crate::request::LineNo;
 use mt_base::FieldName;
-use mt_json::Fields;
+use mt_json::{Fields, Scratch, Unread, Value};
 use mt_memory::Memory;
-use serde_json::Value;
 use std::alloc::Global;
 
 impl From<Memory> for LineNo {
@@ -22,18 +21,18 @@ impl From<Memory> for LineNo {
 }
 
 /// The value that the bytes are read as.
-pub(crate) fn value_of(alloc: Global, bytes: &[u8]) -> Result<Value, LineNo>
+pub(crate) fn value_of<'a>(
+    alloc: Global,
+    scratch: &'a mut Scratch,
+    bytes: &'a [u8],
+) -> Result<Value<'a>, LineNo>
     ensures { MatchResult result (λ v. decoded bytes.now ≡ Some (view v))
         (λ e. (e ≡ no_memory) ⊎ ((e ≡ Json) × (decoded bytes.now ≡ None))) }
 {
-    match Value::from_slice(alloc, bytes) {
+    match Value::read(alloc, bytes, scratch) {
         Ok(value) => Ok(value),
-        Err(e) => {
-            if e.is_memory() {
-                return Err(LineNo::Memory);
-            }
-            Err(LineNo::Json)
-        }
+        Err(Unread::Json) => Err(LineNo::Json),
+        Err(Unread::Memory) => Err(LineNo::Memory),
     }
 }
 
@@ -52,12 +51,9 @@ pub(crate) fn no_other(alloc: Global, fields: &Fields, keys: &str) -> Result<(),
     ensures { MatchResult result (λ _. least_other keys.now (members fields.now) ≡ None)
         (λ e. (e ≡ no_memory) ⊎ ((key : List ℕ) × (least_other keys.now (members fields.now) ≡ Some key) × (e ≡ Form key))) }
 {
-    let Err(extra) = fields.only(keys) else {
-        return Ok(());
-    };
-    match fields.key(extra.place) {
-        Some(key) => Err(form(alloc, key.as_bytes())),
-        None => Ok(()),
+    match fields.only(keys) {
+        Ok(()) => Ok(()),
+        Err(extra) => Err(form(alloc, extra.key.as_bytes())),
     }
 }
 

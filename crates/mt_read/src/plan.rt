@@ -1,8 +1,8 @@
 //! A planned flight: `plan`.
 ghost use Rattle.std.specs.Prelude.{◌≡◌, [], unwrap_or, IfOk};
-ghost use Rattle.serde_json.specs.View.{items_view, view};
 ghost use Rattle.mt_base.specs.Checks.{check};
 ghost use Rattle.mt_json.specs.Shown.{members};
+ghost use Rattle.mt_json.specs.View.{items_view, view};
 ghost use Rattle.mt_read.specs.Field.{IsUnlessMemory, ReadsUnlessMemory, as_fix, as_list_of, each_of, read_at, there};
 ghost use Rattle.mt_read.specs.Line.{checked};
 ghost use Rattle.mt_read.specs.Table.{change_layout};
@@ -16,9 +16,8 @@ use crate::key::{Fault, Key, key_text};
 use crate::origin::Origin;
 use crate::stop::Stop;
 use mt_base::{Command, FixName, Route};
-use mt_json::Fields;
+use mt_json::{Fields, Value};
 use mt_memory::Memory;
-use serde_json::Value;
 use std::alloc::Global;
 
 // The name of a fix that a value is.

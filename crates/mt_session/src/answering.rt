@@ -18,7 +18,7 @@ use crate::telling::refused;
 use mt_base::{Callsign, Command, Memory, Role, Rules};
 use mt_board::{Ask, Board};
 use mt_io::Gate;
-use mt_wire::{DoneWord, FieldName, LineNo, Place, Reply, Request, read_line};
+use mt_wire::{DoneWord, FieldName, LineNo, Place, Reply, Request, Scratch, read_line};
 use std::alloc::Global;
 use std::sync::Wait;
 use std::thread::Threads;
@@ -84,6 +84,7 @@ impl<B: Board> Serving<B> {
         &mut self,
         rt: &R,
         alloc: Global,
+        scratch: &mut Scratch,
         line: &[u8],
         gate: &G,
     ) -> (Reply, Option<Callsign>)
@@ -94,7 +95,7 @@ impl<B: Board> Serving<B> {
         ensures on { StaysOn self.old self.new }
         ensures fit { IsFit result.0 }
     {
-        match read_line(alloc, line, self.place(), &Rules::usual()) {
+        match read_line(alloc, scratch, line, self.place(), &Rules::usual()) {
             Ok((_, request)) => self.serve(rt, alloc, request, gate),
             Err(no) => (unread(no), None),
         }

@@ -21,7 +21,7 @@ use mt_board::Board;
 use mt_io::{Duplex, Gate, Line, LineFault, LineReader, Sink};
 use mt_lines::give;
 use mt_machine::Book;
-use mt_wire::Reply;
+use mt_wire::{Reply, Scratch};
 use mt_workers::{NoOutbox, Outbox};
 use std::alloc::Global;
 use std::sync::Wait;
@@ -79,11 +79,13 @@ fn serve_link<R: Threads + Wait + Sync, B: Board, L: Duplex, O: Outbox, G: Gate>
     let Ok((mut reader, book, mut room)) = memory(alloc) else {
         return (board, Outcome::Memory);
     };
+    let mut scratch = Scratch::new(alloc);
     let mut serving = Serving::of(board, book);
     let outcome = turns(
         rt,
         alloc,
         &mut reader,
+        &mut scratch,
         &mut serving,
         &mut room,
         link,
@@ -110,6 +112,7 @@ fn turns<R: Threads + Wait + Sync, B: Board, L: Duplex, O: Outbox, G: Gate>(
     rt: &R,
     alloc: Global,
     reader: &mut LineReader,
+    scratch: &mut Scratch,
     serving: &mut Serving<B>,
     room: &mut Vec<u8>,
     link: &mut L,
@@ -129,7 +132,7 @@ fn turns<R: Threads + Wait + Sync, B: Board, L: Duplex, O: Outbox, G: Gate>(
     ensures write { result ≡ WriteFault → Rose (L.Sink.faults link.old) (L.Sink.faults link.new) }
 {
     loop {
-        if let Some(outcome) = turn(rt, alloc, reader, serving, room, link, jobs, gate) {
+        if let Some(outcome) = turn(rt, alloc, reader, scratch, serving, room, link, jobs, gate) {
             return outcome;
         }
     }
@@ -168,6 +171,7 @@ fn give_whole<K: Sink>(
 fn answer_line<R: Threads + Wait + Sync, B: Board, K: Sink, O: Outbox, G: Gate>(
     rt: &R,
     alloc: Global,
+    scratch: &mut Scratch,
     line: &[u8],
     serving: &mut Serving<B>,
     room: &mut Vec<u8>,
@@ -186,7 +190,7 @@ fn answer_line<R: Threads + Wait + Sync, B: Board, K: Sink, O: Outbox, G: Gate>(
     ensures later { K.faults output.old ≤ K.faults output.new }
     ensures kept { K.writes_to output.old output.new }
 {
-    let (reply, job) = serving.answer(rt, alloc, line, gate);
+    let (reply, job) = serving.answer(rt, alloc, scratch, line, gate);
     if let Some(outcome) = give_whole(alloc, reply, room, output) {
         return Some(outcome);
     }
@@ -199,6 +203,7 @@ fn turn<R: Threads + Wait + Sync, B: Board, L: Duplex, O: Outbox, G: Gate>(
     rt: &R,
     alloc: Global,
     reader: &mut LineReader,
+    scratch: &mut Scratch,
     serving: &mut Serving<B>,
     room: &mut Vec<u8>,
     link: &mut L,
@@ -219,7 +224,9 @@ fn turn<R: Threads + Wait + Sync, B: Board, L: Duplex, O: Outbox, G: Gate>(
     ensures later { (L.Source.faults link.old ≤ L.Source.faults link.new) × (L.Sink.faults link.old ≤ L.Sink.faults link.new) }
 {
     match reader.next(link) {
-        Ok(Line::Text(line)) => answer_line(rt, alloc, line, serving, room, link, jobs, gate),
+        Ok(Line::Text(line)) => {
+            answer_line(rt, alloc, scratch, line, serving, room, link, jobs, gate)
+        }
         Ok(Line::Long) => give_whole(alloc, Reply::Long, room, link),
         Ok(Line::End) => Some(Outcome::Ended),
         Err(LineFault::ReadFault) => Some(Outcome::ReadFault),

@@ -10,18 +10,24 @@ ghost use Rattle.mt_write.specs.declared.reply.Reply.TheVariants as replies;
 use crate::standby::Standby;
 use crate::telling::{ask_of, followed, told};
 use mt_base::Entry;
-use mt_read::{FeedLine, LineNo, Request, read_feed};
+use mt_read::{FeedLine, LineNo, Request, Scratch, read_feed};
 use mt_write::{DoneWord, Reply};
 use std::thread::Threads;
 
 impl Standby {
-    /// Answers a line of at most 65,536 bytes: an entry that it is to follow, or a line that asks what holds. The definition is `IsReplied`.
-    pub fn answer<R: Threads + Sync>(&mut self, rt: &R, line: &[u8]) -> Reply
+    /// Answers a line of at most 65,536 bytes: an entry that it is to follow, or a line that asks what holds. The definition is `IsReplied`. A text
+    /// with an escape goes into `scratch`, which is kept from line to line.
+    pub fn answer<R: Threads + Sync>(
+        &mut self,
+        rt: &R,
+        scratch: &mut Scratch,
+        line: &[u8],
+    ) -> Reply
         requires { length line.now ≤ 65536 }
         ensures replied { IsReplied (world_of self.old) line.now result (world_of self.new) }
         ensures fit { IsFit result }
     {
-        match read_feed(self.alloc, line) {
+        match read_feed(self.alloc, scratch, line) {
             Ok(FeedLine::Followed(entry)) => self.enter(&entry),
             Ok(FeedLine::Asked(request)) => self.tell(rt, &request),
             Ok(FeedLine::Ended) => Reply::Done(DoneWord::Bye),

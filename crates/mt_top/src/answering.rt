@@ -5,7 +5,7 @@ ghost use Rattle.mt_script.specs.Begun.{is_begin};
 ghost use Rattle.mt_top.specs.Script.{IsReplied};
 
 use mt_script::Script;
-use mt_wire::{LineNo, Place, Reply, read_line};
+use mt_wire::{LineNo, Place, Reply, Scratch, read_line};
 use std::alloc::Global;
 use std::thread::Threads;
 
@@ -13,6 +13,7 @@ use std::thread::Threads;
 pub(crate) fn answer<R: Threads + Sync>(
     rt: &R,
     alloc: Global,
+    scratch: &mut Scratch,
     script: &mut Script,
     line: &[u8],
 ) -> Reply
@@ -21,7 +22,7 @@ pub(crate) fn answer<R: Threads + Sync>(
     ensures fit { IsFit result }
     ensures begins { script.old.begun ≡ false → (script.new.begun ≡ is_begin result) × (script.new.history ≡ []) }
 {
-    match read_line(alloc, line, Place::Replay, &script.rules()) {
+    match read_line(alloc, scratch, line, Place::Replay, &script.rules()) {
         Ok((who, request)) => script.serve(rt, alloc, who, &request),
         Err(LineNo::Json) => Reply::Json,
         Err(LineNo::Form(name)) => Reply::Form(name),

@@ -15,7 +15,7 @@ use mt_io::{Line, LineFault, LineReader, Sink, Source};
 use mt_lines::give;
 use mt_picture::Picture;
 use mt_script::Script;
-use mt_wire::Reply;
+use mt_wire::{Reply, Scratch};
 use std::alloc::Global;
 use std::thread::Threads;
 
@@ -26,6 +26,7 @@ const ROOM: usize = 65_536;
 #[derive(Drop)]
 pub(crate) struct Lines {
     reader: LineReader,
+    scratch: Scratch,
     script: Script,
     room: Vec<u8>,
 }
@@ -39,6 +40,7 @@ impl Lines {
     {
         Ok(Lines {
             reader: LineReader::make(alloc)?,
+            scratch: Scratch::new(alloc),
             script: Script::make(alloc)?,
             room: Vec::with_capacity(alloc, ROOM)?,
         })
@@ -116,7 +118,7 @@ impl Lines {
     {
         match self.reader.next(input) {
             Ok(Line::Text(line)) => {
-                let reply = answer(rt, alloc, &mut self.script, line);
+                let reply = answer(rt, alloc, &mut self.scratch, &mut self.script, line);
                 let given = give(alloc, &reply, &mut self.room, output);
                 ending(given, is_set_up(until_begun, &self.script))
             }

@@ -1,7 +1,7 @@
 //! Texts of entries: each is read and written again, or refused.
 use super::texts::{check_entry, is_refused};
 use crate::cases::{Check, assert_case, check_each};
-use mt_wire::read_entry;
+use mt_wire::{Scratch, read_entry};
 use std::process::Abort;
 
 // Behind each text stands what comes of it: `read`, or the refusal with the field that it names.
@@ -57,7 +57,8 @@ struct Texts;
 impl Check for Texts {
     fn check(rt: &(impl Abort + AllocGlobal), case: &str) {
         let (text, wanted) = case.split_once(" => ").expect(rt, "two columns");
-        match read_entry(rt.alloc(), text.as_bytes()) {
+        let mut scratch = Scratch::new(rt.alloc());
+        match read_entry(rt.alloc(), &mut scratch, text.as_bytes()) {
             Ok(entry) => {
                 assert_case(rt, wanted == "read", text);
                 check_entry(rt, entry, text);
@@ -78,7 +79,8 @@ struct Approved;
 impl Check for Approved {
     fn check(rt: &(impl Abort + AllocGlobal), case: &str) {
         let (text, wanted) = case.split_once(" => ").expect(rt, "two columns");
-        let entry = read_entry(rt.alloc(), text.as_bytes())
+        let mut scratch = Scratch::new(rt.alloc());
+        let entry = read_entry(rt.alloc(), &mut scratch, text.as_bytes())
             .ok()
             .expect(rt, "an entry");
         check_entry(rt, entry, wanted);

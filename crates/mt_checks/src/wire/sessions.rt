@@ -4,7 +4,7 @@
 use super::texts::is_refused;
 use crate::cases::{Check, assert_part, check_each, columns};
 use mt_base::{Command, Rules};
-use mt_wire::{Place, Request, read_line};
+use mt_wire::{Place, Request, Scratch, read_line};
 use std::process::Abort;
 
 /// Lines, each with what it is read as of the feed, of a position, and without a role: a command, by actor 0, or a refusal.
@@ -63,7 +63,8 @@ fn is_word_of(request: Request, wanted: &str) -> bool {
 
 // Whether a line is read so.
 fn is_read(rt: &(impl Abort + AllocGlobal), line: &[u8], place: Place, wanted: &str) -> bool {
-    match read_line(rt.alloc(), line, place, &Rules::usual()) {
+    let mut scratch = Scratch::new(rt.alloc());
+    match read_line(rt.alloc(), &mut scratch, line, place, &Rules::usual()) {
         Ok((who, request)) => is_word_of(request, wanted) && who == 0,
         Err(no) => is_refused(no, wanted),
     }

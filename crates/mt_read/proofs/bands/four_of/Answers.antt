@@ -1,6 +1,6 @@
 use Rattle.std.proofs.Common.{◌≡◌, List, [], ◌∷◌, length, None, refl, arith}
-use Rattle.serde_json.specs.View.{items_view}
-use Rattle.serde_json.specs.declared.value.Value.{Value}
+use Rattle.mt_json.specs.View.{items_view}
+use Rattle.mt_json.specs.declared.value.Value.{Value}
 use Rattle.mt_read.specs.Bands.{four_of}
 use Rattle.mt_read.proofs.bands.four_of.Goals as goal
 use Rattle.mt_read.proofs.bands.four_of.Goals.{in_default-via-then-values-lt4, in_default-via-else-values-lt4+else-values-lt5}

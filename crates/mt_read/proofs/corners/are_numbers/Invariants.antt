@@ -1,6 +1,6 @@
 use Rattle.std.proofs.Common.{◌≡◌, drop}
 use Rattle.std.specs.Prelude.{is_some}
-use Rattle.serde_json.specs.View.{items_view}
+use Rattle.mt_json.specs.View.{items_view}
 use Rattle.mt_read.specs.Corners.{as_numbers}
 use Rattle.mt_read.specs.Field.{each_of}
 use Rattle.mt_read.proofs.corners.are_numbers.Given as goal

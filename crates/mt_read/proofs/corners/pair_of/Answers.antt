@@ -1,6 +1,6 @@
 use Rattle.std.proofs.Common.{◌≡◌, List, [], ◌∷◌, length, None, refl, arith}
-use Rattle.serde_json.specs.View.{items_view}
-use Rattle.serde_json.specs.declared.value.Value.{Value}
+use Rattle.mt_json.specs.View.{items_view}
+use Rattle.mt_json.specs.declared.value.Value.{Value}
 use Rattle.mt_read.specs.Corners.{pair_of}
 use Rattle.mt_read.proofs.corners.pair_of.Goals as goal
 use Rattle.mt_read.proofs.corners.pair_of.Goals.{in_default-via-then-values-lt2, in_default-via-else-values-lt2+else-values-lt3}

@@ -1,5 +1,5 @@
 use Rattle.std.proofs.Common.{◌≡◌, ◌++◌, drop, option_map}
-use Rattle.serde_json.specs.View.{items_view}
+use Rattle.mt_json.specs.View.{items_view}
 use Rattle.mt_read.specs.Field.{as_fix, each_of}
 use Rattle.mt_read.proofs.plan.route_of.Given as goal
 
