@@ -14,7 +14,6 @@ pub mod Knowing
 pub mod Leaving
 pub mod Looked
 pub mod Making
-pub mod Meeting
 pub mod Moved
 pub mod Opening
 pub mod Owning

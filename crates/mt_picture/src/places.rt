@@ -15,17 +15,6 @@ pub(crate) struct Standing {
     pub(crate) stamp: u64,
 }
 
-/// The kind of trajectory that stands in a place.
-pub(crate) fn kind_of(place: u32) -> Kind
-    ensures { result ≡ kind_at place }
-{
-    if place.is_multiple_of(2) {
-        Kind::Actual
-    } else {
-        Kind::Tentative
-    }
-}
-
 // The place of a kind of trajectory of the flight in a slot.
 fn place_of(slot: u32, kind: Kind) -> u32
     requires { slot < 2147483648 }

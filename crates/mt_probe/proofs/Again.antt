@@ -1,5 +1,5 @@
 -- A flight that is put again, with the trajectories that it had.
-use Rattle.std.proofs.Common.{◌≡◌, ◌≢◌, Bool, true, false, ℕ, ◌/◌, ◌<◌, List, [], ◌∷◌, Option, Some, None, Contains, length, get_or, nat_eq, option_map, refl, sym, ◌∙◌, ap, subst, arith}
+use Rattle.std.proofs.Common.{◌≡◌, ◌≢◌, Bool, true, false, ℕ, ◌/◌, ◌<◌, List, [], ◌∷◌, Option, Some, None, Contains, length, get_or, nat_eq, option_map, refl, sym, ◌∙◌, ap, subst, length-set, ◌*◌, arith}
 use Rattle.std.proofs.Math.ListN.{set}
 use Rattle.std.proofs.lemmas.Bool.Decides.{nat_tests}
 use Rattle.std.proofs.lemmas.List.{get_or-set_other, get_or-set_same}
@@ -9,13 +9,12 @@ use Rattle.mt_base.specs.declared.conflict.Kind.TheVariants.{Actual, Tentative}
 use Rattle.mt_base.specs.declared.rules.Rules.{Rules}
 use Rattle.mt_base.specs.Picture.{NamedTrajectory}
 use Rattle.mt_base.specs.Trajectory.{Trajectory}
-use Rattle.mt_grid.specs.declared.placed.Placed.{Placed}
+use Rattle.mt_cover.specs.Sliced.{Sliced, slices_of}
 use Rattle.mt_probe.specs.declared.flight.Flight.{Flight}
-use Rattle.mt_probe.specs.Gridded.{AreLaid, Holds}
-use Rattle.mt_probe.specs.Items.{kind_at, path_of, stays_at, stays_by, stays_of}
+use Rattle.mt_probe.specs.Boxed.{AreLaid, Holds, slices_at, slices_by}
+use Rattle.mt_probe.specs.Items.{kind_at, path_of}
 use Rattle.mt_probe.specs.Shot.{Shot, flight_at, kept_of, made_named}
 use Rattle.mt_probe.specs.Standing.{IsSoundShot}
-use Rattle.mt_probe.proofs.Covered.{alike}
 
 -- the flight whose trajectories are those of another
 pub record IsOldOf (at : Option Flight) (new : Flight) : Type 0 where
@@ -58,21 +57,24 @@ module _ (old new : Flight) (kept : kept_of new ≡ kept_of old) where
   same_path Tentative = marked_alike new.card.call old.card.call (path_of Tentative new) (path_of Tentative old) same_marked
 
   module _ (rules : Rules) (slots : List (Option Flight)) (i : ℕ) (inside : i < length slots) (at : get_or slots i None ≡ Some old) where
-    same_stays : (k : ℕ) → stays_at rules slots k ≡ stays_at rules (set slots i (Some new)) k
-    same_stays k = by_test (nat_eq (k / 2) i) refl where
-      by_test : (b : Bool) → nat_eq (k / 2) i ≡ b → stays_at rules slots k ≡ stays_at rules (set slots i (Some new)) k
+    same_slices : (k : ℕ) → slices_at rules slots k ≡ slices_at rules (set slots i (Some new)) k
+    same_slices k = by_test (nat_eq (k / 2) i) refl where
+      by_test : (b : Bool) → nat_eq (k / 2) i ≡ b → slices_at rules slots k ≡ slices_at rules (set slots i (Some new)) k
       by_test true e =
           let here : k / 2 ≡ i = grind (arith, nat_tests) in
-          ap (λ (j : ℕ). stays_by rules (kind_at k) (get_or slots j None)) here
-          ∙ ap (stays_by rules (kind_at k)) at
-          ∙ sym (ap (stays_of rules) (same_path (kind_at k)))
-          ∙ sym (ap (stays_by rules (kind_at k)) (get_or-set_same slots i (Some new) None inside))
-          ∙ sym (ap (λ (j : ℕ). stays_by rules (kind_at k) (get_or (set slots i (Some new)) j None)) here)
+          ap (λ (j : ℕ). slices_by rules (kind_at k) (get_or slots j None)) here
+          ∙ ap (slices_by rules (kind_at k)) at
+          ∙ sym (ap (option_map (slices_of rules)) (same_path (kind_at k)))
+          ∙ sym (ap (slices_by rules (kind_at k)) (get_or-set_same slots i (Some new) None inside))
+          ∙ sym (ap (λ (j : ℕ). slices_by rules (kind_at k) (get_or (set slots i (Some new)) j None)) here)
       by_test false e =
-          let other : k / 2 ≢ i = grind (arith, nat_tests) in sym (ap (stays_by rules (kind_at k)) (get_or-set_other slots i (k / 2) (Some new) None other))
+          let other : k / 2 ≢ i = grind (arith, nat_tests) in sym (ap (slices_by rules (kind_at k)) (get_or-set_other slots i (k / 2) (Some new) None other))
 
-    pub same_holds : (grid : List (List Placed)) → Holds grid (stays_at rules slots) → Holds grid (stays_at rules (set slots i (Some new)))
-    same_holds grid holds = alike grid (stays_at rules slots) (stays_at rules (set slots i (Some new))) holds same_stays
+    pub same_holds : (table : List (Option Sliced)) → Holds rules slots table → Holds rules (set slots i (Some new)) table
+    same_holds table holds = record {
+      items = holds.items ∙ ap (λ (n : ℕ). 2 * n) (sym (length-set slots i (Some new)));
+      held = λ k. holds.held k ∙ same_slices k;
+    }
 
   pub same_laid : (shot : Shot) (i : ℕ) → IsSoundShot shot → flight_at shot i ≡ Some old → AreLaid new
   same_laid shot i sound at = λ t held. sound.laid i old t at (subst (λ (ts : List NamedTrajectory). Contains ts t) kept held)

@@ -1,5 +1,8 @@
+mod Candidates
+mod NearItems
 pub mod Again
 pub mod Aside
+pub mod Boxes
 pub mod Clearing
 pub mod Covered
 pub mod Filing

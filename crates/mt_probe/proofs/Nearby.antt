@@ -1,11 +1,7 @@
 -- What is found with the trajectories near a new one is what is found with all.
-use Rattle.std.proofs.Common.{◌≡◌, ◌≢◌, ℕ, zero, suc, ◌+◌, ◌*◌, ◌/◌, ◌<◌, ◌≤◌, ⊎_elim, List, [], ◌∷◌, ◌++◌, Option, Some, None, Contains, length, get_or, take, option_map, Bool, true, false, refl, sym, ◌∙◌, ap, subst, true≢false, if◌then◌else◌, length-append, arith}
-use Rattle.std.proofs.lemmas.Cmp.{nat_cmp_total}
-use Rattle.std.proofs.lemmas.List.{flat_map_more, take_more}
-use Rattle.std.proofs.lemmas.Map.Keys.{sorted_from_strictly_increasing}
+use Rattle.std.proofs.Common.{◌≡◌, ◌≢◌, ℕ, suc, ◌+◌, ◌*◌, ◌/◌, ⊎_elim, List, [], ◌∷◌, Option, Some, None, Contains, get_or, option_map, Bool, true, false, refl, sym, ◌∙◌, ap, subst, true≢false, if◌then◌else◌, arith}
 use Rattle.std.proofs.lemmas.Slice.Eq.{bytes_eq-Decides}
 use Rattle.std.specs.Arc.{arc_value}
-use Rattle.std.specs.List.{flat_map}
 use Rattle.std.specs.Prelude.{option_and_then}
 use Rattle.std.specs.Str.{bytes_eq}
 use Rattle.mt_base.specs.declared.conflict.Kind.{Kind}
@@ -16,14 +12,16 @@ use Rattle.mt_base.specs.Bounds.{AreWithinBounds}
 use Rattle.mt_base.specs.Conflict.{IsLossSecond}
 use Rattle.mt_base.specs.Picture.{NamedTrajectory}
 use Rattle.mt_base.specs.Trajectory.{Trajectory}
-use Rattle.mt_base.proofs.OneOrder.{one_order}
 use Rattle.mt_cover.specs.declared.stays.Stay.{Stay}
 use Rattle.mt_cover.specs.Cells.{cover_of}
+use Rattle.mt_cover.specs.Sliced.{slices_of}
 use Rattle.mt_cover.proofs.Law.{misses_none}
 use Rattle.mt_track.specs.Laid.{IsStrand}
 use Rattle.mt_probe.specs.declared.flight.Flight.{Flight}
-use Rattle.mt_probe.specs.Items.{AreNearItems, IsNearItem, kind_at, other_at, other_of, others_among, path_of, stays_at, stays_by, stays_of}
+use Rattle.mt_probe.specs.Boxed.{slices_at, slices_by}
+use Rattle.mt_probe.specs.Items.{IsNearItem, kind_at, other_at, other_of, path_of, stays_at, stays_by, stays_of}
 use Rattle.mt_probe.specs.Shot.{Shot, kept_of, made_named}
+use Rattle.mt_probe.proofs.Boxes.{slices_even, slices_odd}
 use Rattle.mt_probe.proofs.Covered.{at_even, at_odd, even_half, even_kind, odd_half, odd_kind}
 use Rattle.mt_base.proofs.Members.{Contains-cases, Contains-head, Contains-none}
 
@@ -34,7 +32,7 @@ pub record IsOther (slots : List (Option Flight)) (call : List ℕ) (item : ℕ)
   pub apart : flight.card.call ≢ call
   pub kept : Contains (kept_of flight) other
 
-kept_by : (f : Flight) (kind : Kind) (other : NamedTrajectory) → Contains (made_named f.card.call kind (path_of kind f)) other → Contains (kept_of f) other
+pub kept_by : (f : Flight) (kind : Kind) (other : NamedTrajectory) → Contains (made_named f.card.call kind (path_of kind f)) other → Contains (kept_of f) other
 kept_by f Actual other held =
     let actual : NamedTrajectory = record { call = f.card.call; kind = Actual; path = arc_value f.actual.strand } in
     ⊎_elim (λ same. subst (λ (o : NamedTrajectory). Contains (kept_of f) o) same (Contains-head actual (made_named f.card.call Tentative (path_of Tentative f))))
@@ -63,6 +61,7 @@ pub record IsNamed (rules : Rules) (slots : List (Option Flight)) (call : List �
   pub item : ℕ
   pub among : Contains (other_at call slots item) other
   pub stays : stays_at rules slots item ≡ cover_of rules other.path
+  pub slices : slices_at rules slots item ≡ Some (slices_of rules other.path)
 
 other_by : (call : List ℕ) (kind : Kind) (f : Flight) → f.card.call ≢ call → other_of call kind (Some f) ≡ made_named f.card.call kind (path_of kind f)
 other_by call kind f apart = by_test (bytes_eq f.card.call call) refl where
@@ -87,6 +86,13 @@ module _ (rules : Rules) (slots : List (Option Flight)) (call : List ℕ) (i : �
       (λ same. ap (λ (o : NamedTrajectory). cover_of rules o.path) same) (λ none. absurd (Contains-none other none))
       (Contains-cases (record { call = f.card.call; kind = kind; path = t }) [] other held)
 
+  path_sliced : (kind : Kind) (path : Option Trajectory) (other : NamedTrajectory) → Contains (made_named f.card.call kind path) other
+      → option_map (slices_of rules) path ≡ Some (slices_of rules other.path)
+  path_sliced kind None other held = absurd (Contains-none other held)
+  path_sliced kind (Some t) other held = ⊎_elim
+      (λ same. ap (λ (o : NamedTrajectory). Some (slices_of rules o.path)) same) (λ none. absurd (Contains-none other none))
+      (Contains-cases (record { call = f.card.call; kind = kind; path = t }) [] other held)
+
   pub named_by : (other : NamedTrajectory) → Contains (kept_of f) other → IsNamed rules slots call other
   named_by other kept = ⊎_elim
       (λ same.
@@ -97,11 +103,13 @@ module _ (rules : Rules) (slots : List (Option Flight)) (call : List ℕ) (i : �
         item = 2 * i;
         among = subst (λ (os : List NamedTrajectory). Contains os other) (sym even_other) held;
         stays = at_even rules slots i ∙ ap (stays_by rules Actual) at ∙ path_named Actual (path_of Actual f) other held;
+        slices = slices_even rules slots i ∙ ap (slices_by rules Actual) at ∙ path_sliced Actual (path_of Actual f) other held;
       })
       (λ held. record {
         item = 2 * i + 1;
         among = subst (λ (os : List NamedTrajectory). Contains os other) (sym odd_other) held;
         stays = at_odd rules slots i ∙ ap (stays_by rules Tentative) at ∙ path_named Tentative (path_of Tentative f) other held;
+        slices = slices_odd rules slots i ∙ ap (slices_by rules Tentative) at ∙ path_sliced Tentative (path_of Tentative f) other held;
       })
       (Contains-cases (record { call = f.card.call; kind = Actual; path = arc_value f.actual.strand })
       (made_named f.card.call Tentative (path_of Tentative f)) other kept)
@@ -124,25 +132,6 @@ near_by_loss shot t other item k rules mine theirs loss stays =
         right = (share.right.begun, share.right.within);
       };
     }
-
--- the items near a cover are one list
-pub near_once : (shot : Shot) (cover : List Stay) (some others : List ℕ) → AreNearItems shot cover some → AreNearItems shot cover others → some ≡ others
-near_once shot cover some others one also = one_order nat_cmp_total some others (sorted_from_strictly_increasing some one.rising)
-    (sorted_from_strictly_increasing others also.rising) (λ item held. (also.same item).1 ((one.same item).0 held))
-    (λ item held. (one.same item).1 ((also.same item).0 held))
-
--- with one item more
-pub one_item_more : (call : List ℕ) (slots : List (Option Flight)) (items : List ℕ) (i item : ℕ) → i < length items → item ≡ get_or items i item
-    → others_among call slots (take (i + 1) items) ≡ others_among call slots (take i items) ++ other_at call slots item
-one_item_more call slots items i item below is =
-    ap (others_among call slots) (take_more items i item below ∙ ap (λ (k : ℕ). take i items ++ k ∷ []) (sym is))
-    ∙ sym (flat_map_more (other_at call slots) [] (take i items) item)
-
--- the first items name no more than all
-pub fewer : {X Y : Type 0} (f : X → List Y) (n : ℕ) (xs : List X) → length (flat_map f (take n xs)) ≤ length (flat_map f xs)
-fewer f zero xs = omega arith
-fewer f (suc n) [] = omega arith
-fewer f (suc n) (x ∷ xs) = let rest = fewer f n xs in omega (arith, rest, length-append (f x) (flat_map f (take n xs)), length-append (f x) (flat_map f xs))
 
 -- an item of another flight names one trajectory
 pub other_one : (slots : List (Option Flight)) (call : List ℕ) (item : ℕ) (kind : Kind) (card : Record) (path : Trajectory) → kind ≡ kind_at item

@@ -1,12 +1,10 @@
--- Near trajectories are of different flights or kinds, so each is found once.
-use Rattle.std.proofs.Common.{◌≡◌, ◌≢◌, ◌∙◌, ℕ, ◌/◌, ◌%◌, ◌<◌, ◌≤◌, suc, ⊎_elim, List, [], ◌∷◌, Option, Some, None, Contains, length, get_or, Bool, true, false, refl, sym, ap, nat_eq, if◌then◌else◌, arith}
+-- Trajectories that were met are of different flights or kinds, so each is found once.
+use Rattle.std.proofs.Common.{◌≡◌, ◌≢◌, ◌∙◌, ℕ, ◌/◌, ◌%◌, ◌<◌, ◌≤◌, suc, ⊎_elim, List, [], ◌∷◌, Option, Some, None, Contains, length, get_or, Bool, true, false, refl, sym, ap, subst, nat_eq, if◌then◌else◌, arith}
 use Rattle.std.specs.List.{All, AllPairs, flat_map}
-use Rattle.std.specs.List.Sorted.{IsStrictlyIncreasing}
 use Rattle.std.specs.Str.{bytes_eq}
 use Rattle.std.proofs.lemmas.Bool.{cases_eq}
 use Rattle.std.proofs.lemmas.Bool.Decides.{nat_tests}
 use Rattle.std.proofs.lemmas.List.Elements.{All-contains}
-use Rattle.std.proofs.lemmas.List.Kept.{AllPairs-from_increasing}
 use Rattle.mt_base.specs.declared.conflict.Kind.{Kind}
 use Rattle.mt_base.specs.declared.conflict.Kind.TheVariants.{Actual, Tentative}
 use Rattle.mt_base.specs.Picture.{NamedTrajectory}
@@ -14,14 +12,18 @@ use Rattle.mt_base.specs.Trajectory.{Trajectory}
 use Rattle.mt_base.proofs.Members.{Contains-cases, Contains-flat_map, Contains-flat_map_cases, Contains-none, distinct_append}
 use Rattle.mt_probe.specs.declared.flight.Flight.{Flight}
 use Rattle.mt_probe.specs.Finds.{AreFinds, AreCalledApart, FindsMore}
-use Rattle.mt_probe.specs.Items.{AreNearItems, kind_at, other_at, other_of, others_among, path_of}
+use Rattle.mt_probe.specs.Items.{kind_at, other_at, other_of, path_of}
 use Rattle.mt_probe.specs.Shot.{Shot, made_named, state_of}
 use Rattle.mt_probe.specs.Standing.{IsSoundShot}
 use Rattle.mt_track.specs.Laid.{IsStrand}
-use Rattle.mt_cover.specs.Cells.{cover_of}
+use Rattle.mt_cover.specs.Sliced.{slices_of}
+use Rattle.mt_meet.specs.declared.table.Met.{Met}
+use Rattle.mt_meet.proofs.Meetings.{losing_meet}
+use Rattle.mt_probe.specs.Boxed.{AreMetItems}
 use Rattle.mt_probe.specs.declared.finding.Found.{Found}
 use Rattle.mt_probe.proofs.Gathered.{at_kept, kept_at, kept_call}
-use Rattle.mt_probe.proofs.Nearby.{named_by, near_by_loss, other_is}
+use Rattle.mt_probe.proofs.Candidates.{others_met}
+use Rattle.mt_probe.proofs.Nearby.{named_by, other_is}
 
 -- lists of which each is so, and any two are so across, are so put together
 distinct_flat_map : {X Y : Type 0} (R : Y → Y → Type 0) (f : X → List Y) (xs : List X)
@@ -94,25 +96,25 @@ apart_items shot call i j sound before a b held there same =
     (cases_eq (i / 2) (j / 2))
 
 -- and so do some rising items
-pub apart_among : (shot : Shot) (call : List ℕ) (items : List ℕ) → IsSoundShot shot → IsStrictlyIncreasing items
-    → AllPairs AreCalledApart (others_among call shot.slots items)
-apart_among shot call items sound rising = distinct_flat_map AreCalledApart (other_at call shot.slots) items
-    (λ i j d before below. apart_items shot call (get_or items i d) (get_or items j d) sound (AllPairs-from_increasing items rising i j d before below))
-    (λ item. let one = one_other shot.slots call item in λ i j d before below. absurd (omega (arith, one, before, below)))
+pub apart_among : (shot : Shot) (call : List ℕ) (list : List Met) → IsSoundShot shot → AllPairs (λ (m n : Met). m.item < n.item) list
+    → AllPairs AreCalledApart (others_met call shot.slots list)
+apart_among shot call list sound rising = distinct_flat_map AreCalledApart (λ (met : Met). other_at call shot.slots met.item) list
+    (λ i j d before below. apart_items shot call (get_or list i d).item (get_or list j d).item sound (rising i j d before below))
+    (λ met. let one = one_other shot.slots call met.item in λ i j d before below. absurd (omega (arith, one, before, below)))
 
--- all that is near
-pub found_near : (shot : Shot) (call : List ℕ) (t : Trajectory) (items : List ℕ) (finds : List Found) → IsSoundShot shot → IsStrand t
-    → AreNearItems shot (cover_of shot.setup.rules t) items
-    → FindsMore shot.setup.rules shot.now t (others_among call shot.slots items) [] finds → AreFinds shot.setup (state_of shot) call t finds
-found_near shot call t items finds sound laid near found = record {
+-- all that was met
+pub found_met : (shot : Shot) (call : List ℕ) (t : Trajectory) (list : List Met) (finds : List Found) → IsSoundShot shot → IsStrand t
+    → AreMetItems shot (slices_of shot.setup.rules t) list
+    → FindsMore shot.setup.rules shot.now t (others_met call shot.slots list) [] finds → AreFinds shot.setup (state_of shot) call t finds
+found_met shot call t list finds sound laid met found = record {
   exact = λ one held. ⊎_elim
       (λ before. absurd (Contains-none one before))
-      (λ by. let named = Contains-flat_map_cases (other_at call shot.slots) items by.other by.among in
-      let it = other_is shot.slots call named.of by.other named.within in
+      (λ by. let named = Contains-flat_map_cases (λ (m : Met). other_at call shot.slots m.item) list by.other by.among in
+      let it = other_is shot.slots call named.of.item by.other named.within in
       record {
         other = by.other;
         of = record {
-          there = at_kept shot (named.of / 2) it.flight by.other sound it.at it.kept;
+          there = at_kept shot (named.of.item / 2) it.flight by.other sound it.at it.kept;
           apart = λ same. it.apart (sym (kept_call it.flight by.other it.kept) ∙ same);
         };
         is = by.is;
@@ -122,7 +124,9 @@ found_near shot call t items finds sound laid near found = record {
   complete = λ other of k early loss.
       let it = kept_at shot other sound of.there in
       let named = named_by shot.setup.rules shot.slots call it.place it.flight it.at (λ same. of.apart (it.call_is ∙ same)) other it.kept in
-      let item = near_by_loss shot t other.path named.item k sound.rules laid (sound.laid it.place it.flight other it.at it.kept) loss named.stays in
-      found.listed other (Contains-flat_map (other_at call shot.slots) items named.item other ((near.same named.item).1 item) named.among) k early loss;
-  once = found.once (apart_among shot call items sound near.rising) (λ one other held among. absurd (Contains-none one held)) (λ i j d before below. absurd (omega arith));
+      let meet = losing_meet shot.setup.rules t other.path k sound.rules laid (sound.laid it.place it.flight other it.at it.kept) loss in
+      let listed = met.complete named.item (slices_of shot.setup.rules other.path) k named.slices meet in
+      let among = subst (λ (item : ℕ). Contains (other_at call shot.slots item) other) (sym listed.is) named.among in
+      found.listed other (Contains-flat_map (λ (m : Met). other_at call shot.slots m.item) list listed.met other listed.held among) k early loss;
+  once = found.once (apart_among shot call list sound met.rising) (λ one other held among. absurd (Contains-none one held)) (λ i j d before below. absurd (omega arith));
 }

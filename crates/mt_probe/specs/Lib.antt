@@ -1,8 +1,8 @@
 pub mod Body
+pub mod Boxed
 pub mod Clear
 pub mod Filing
 pub mod Finds
-pub mod Gridded
 pub mod Hits
 pub mod Indexed
 pub mod Items

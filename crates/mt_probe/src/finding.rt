@@ -1,8 +1,10 @@
 //! The conflicts of a new trajectory with those of the other flights.
-ghost use Rattle.std.specs.Prelude.{◌≡◌, ◌≤◌, ◌+◌, ◌*◌, length, IfOk, OnOk};
+ghost use Rattle.std.specs.Prelude.{◌≡◌, ◌≤◌, ◌<◌, ◌+◌, ◌*◌, ℕ, length, IfOk, OnOk};
 ghost use Rattle.mt_base.specs.Bounds.{AreWithinBounds};
-ghost use Rattle.mt_base.specs.Conflict.{IsConflict};
+ghost use Rattle.mt_base.specs.Conflict.{IsConflict, IsLossSecond};
 ghost use Rattle.mt_base.specs.Picture.{window_end};
+ghost use Rattle.mt_cover.specs.Sliced.{slices_of};
+ghost use Rattle.mt_probe.specs.Boxed.{IsMetOf};
 ghost use Rattle.mt_probe.specs.Finds.{AreFinds, FindsMore, IsFound};
 ghost use Rattle.mt_probe.specs.Items.{WasTestedNear, kind_at, other_at};
 ghost use Rattle.mt_probe.specs.Narrow.{all_end};
@@ -11,16 +13,13 @@ ghost use Rattle.mt_probe.specs.Shot.{state_of};
 use crate::narrow::narrowed;
 use crate::snapshot::Snapshot;
 use mt_base::{Callsign, Kind, Listed, Memory, Rules, Second, Tally};
-use mt_cover::cover;
-use mt_pair::{keep_apart, lose};
+use mt_meet::Met;
+use mt_pair::lose;
 use mt_track::Strand;
 use std::alloc::Global;
 
 /// The seconds of the window.
 pub(crate) const WINDOW: Second = 1200;
-
-/// The second behind the last one of any trajectory.
-const ALL_END: Second = 10_014_400;
 
 /// What is found with a trajectory of another flight.
 #[derive(Clone, Copy, PartialEq, Eq)]
@@ -59,7 +58,7 @@ fn in_window(
     }
 }
 
-// What is found with one trajectory.
+// What is found with one trajectory, which loses separation only in the seconds from a first to a last one.
 fn find_one(
     rules: &Rules,
     now: Second,
@@ -67,14 +66,18 @@ fn find_one(
     kind: Kind,
     strand: &Strand,
     other: &Strand,
+    first: Second,
+    last: Second,
     tests: &mut Tally,
 ) -> Found
     requires rules { AreWithinBounds rules.now }
     requires early { now ≤ 10000000 }
+    requires ends { last < all_end }
+    requires within { (k : ℕ) → IsLossSecond rules.now strand.now other.now k → (first ≤ k) × (k ≤ last) }
     ensures found { IsFound rules.now now strand.now (record { call = call; kind = kind; path = other.now }) result }
     ensures counted { tests.new ≤ tests.old + 2 }
 {
-    let whole = lose(strand, other, rules, 0, ALL_END, tests);
+    let whole = lose(strand, other, rules, first, last + 1, tests);
     let window = in_window(rules, now, strand, other, whole, tests);
     Found {
         call,
@@ -84,8 +87,8 @@ fn find_one(
     }
 }
 
-// The kind of trajectory that an item names.
-fn kind_of(item: u32) -> Kind
+/// The kind of trajectory that an item names.
+pub(crate) fn kind_of(item: u32) -> Kind
     ensures { result ≡ kind_at item }
 {
     if item.is_multiple_of(2) {
@@ -95,42 +98,45 @@ fn kind_of(item: u32) -> Kind
     }
 }
 
-// What is found with the trajectory that an item names, where it is that of a flight of another callsign.
-fn find_item(
+// What is found with a trajectory whose slices meet those of the new one, where it is that of a flight of another callsign.
+fn find_met(
     snapshot: &Snapshot,
-    item: u32,
+    met: Met,
     call: Callsign,
     strand: &Strand,
     tests: &mut Tally,
     finds: &mut Finds,
 ) -> Result<(), Memory>
-    ensures found { OnOk result (FindsMore snapshot.now.setup.rules snapshot.now.now strand.now (other_at call snapshot.now.slots item) finds.old finds.new) }
-    ensures counted { tests.new ≤ tests.old + 2 * length (other_at call snapshot.now.slots item) }
+    requires { IsMetOf snapshot.now (slices_of snapshot.now.setup.rules strand.now) met }
+    ensures found { OnOk result (FindsMore snapshot.now.setup.rules snapshot.now.now strand.now (other_at call snapshot.now.slots met.item) finds.old finds.new) }
+    ensures counted { tests.new ≤ tests.old + 2 * length (other_at call snapshot.now.slots met.item) }
 {
-    let slot = item / 2;
+    let _version = snapshot.version();
+    let _end = strand.end();
+    let slot = met.item / 2;
     let Some(card) = snapshot.flight(slot) else {
         return Ok(());
     };
     if card.call == call {
         return Ok(());
     }
-    let kind = kind_of(item);
+    let kind = kind_of(met.item);
     let Some(other) = snapshot.path(slot, kind) else {
         return Ok(());
     };
     let rules = snapshot.rules();
-    if keep_apart(strand, other, rules) {
-        return Ok(());
-    }
     let now = snapshot.now();
-    let found = find_one(rules, now, card.call, kind, strand, other, tests);
+    let found = find_one(
+        rules, now, card.call, kind, strand, other, met.first, met.last, tests,
+    );
     match found.whole {
         Some(_) => finds.push(found),
         None => Ok(()),
     }
 }
 
-/// What is found with a new trajectory of a flight, of which no other is tested: only what is near it is, with at most two tests each.
+/// What is found with a new trajectory of a flight, of which no other is tested: only what has slices that meet its own is, in the seconds from
+/// the first to the last one in which they do, with at most two tests each. All that is near by the definition of cells.
 pub(crate) fn find_all(
     alloc: Global,
     snapshot: &Snapshot,
@@ -144,10 +150,9 @@ pub(crate) fn find_all(
     let _version = snapshot.version();
     let _end = strand.end();
     let mut finds = Finds::make(alloc)?;
-    let cover = cover(alloc, strand, snapshot.rules())?;
-    let items = snapshot.near(&cover)?;
-    for item in &items {
-        find_item(snapshot, *item, call, strand, tests, &mut finds)?;
+    let list = snapshot.meeting(strand)?;
+    for met in &list {
+        find_met(snapshot, *met, call, strand, tests, &mut finds)?;
     }
     Ok(finds)
 }

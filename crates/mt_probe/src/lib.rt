@@ -8,6 +8,7 @@ mod hitting;
 mod index;
 mod laws;
 mod narrow;
+mod nearness;
 mod placing;
 mod prep;
 mod preparing;

@@ -1,23 +1,25 @@
 //! A picture as it was at one version.
-ghost use Rattle.std.specs.Prelude.{◌≡◌, ◌<◌, ◌≤◌, ◌^◌, ◌+◌, None, Ok, Some, pos, length, replicate, IfOk, IfSome, is_some, true, option_copied, option_map, option_and_then};
+ghost use Rattle.std.specs.Prelude.{◌≡◌, ◌↔◌, ◌<◌, ◌≤◌, ◌^◌, ◌+◌, None, Ok, Some, pos, length, replicate, IfOk, IfSome, IsTrue, is_some, true, option_copied, option_map, option_and_then};
 ghost use Rattle.std.specs.Arc.{arc_value};
 ghost use Rattle.mt_base.specs.Bounds.{AreWithinBounds};
 ghost use Rattle.mt_base.specs.Picture.{flight_of, opening};
 ghost use Rattle.mt_change.specs.Sound.{IsSoundState};
-ghost use Rattle.mt_grid.specs.Lists.{AreInGrid};
+ghost use Rattle.mt_cover.specs.Sliced.{slices_of};
 ghost use Rattle.mt_probe.specs.Body.{shot_of};
-ghost use Rattle.mt_probe.specs.Gridded.{IsKept};
-ghost use Rattle.mt_probe.specs.Items.{AreNearItems, path_of};
+ghost use Rattle.mt_probe.specs.Boxed.{AreMetItems, IsKept};
+ghost use Rattle.mt_probe.specs.Items.{AreNearItems, IsNearItem, path_of};
 ghost use Rattle.mt_probe.specs.Putting.{Fits, records_put, with_flight, with_moment};
 ghost use Rattle.mt_probe.specs.Shot.{IsFreeIn, flight_at, kept_of, made_of, records_in, state_of};
 ghost use Rattle.mt_probe.specs.Standing.{IsSoundShot};
 
+use crate::finding::kind_of;
 use crate::flight::{Flight, Made};
 use crate::index::Index;
+use crate::nearness::share;
 use crate::placing::moved;
 use mt_base::{Callsign, Kind, Memory, Record, Rules, Second};
-use mt_cover::Cover;
-use mt_grid::Grid;
+use mt_cover::{Cover, cover, slices};
+use mt_meet::{Met, SliceTable};
 use mt_paged::Paged;
 use mt_tables::Tables;
 use mt_track::Strand;
@@ -34,7 +36,7 @@ pub struct Body {
     version: u64,
     moment: Second,
     slots: Paged<Flight>,
-    grid: Grid,
+    table: SliceTable,
     index: Index,
 }
 
@@ -48,13 +50,13 @@ impl Model for Snapshot {
     ghost use Rattle.std.specs.Arc.{arc_value};
     ghost use Rattle.mt_probe.specs.Shot.{Shot};
     ghost use Rattle.mt_probe.specs.Body.{shot_of};
-    ghost use Rattle.mt_probe.specs.Gridded.{IsKept};
+    ghost use Rattle.mt_probe.specs.Boxed.{IsKept};
 
     ghost Value = { Shot };
 
     ghost view = { λ s. shot_of (arc_value s.body) };
 
-    ghost invariant = { λ s. IsKept (shot_of (arc_value s.body)) (arc_value s.body).grid (arc_value s.body).index };
+    ghost invariant = { λ s. IsKept (shot_of (arc_value s.body)) (arc_value s.body).table (arc_value s.body).index };
 }
 
 impl Snapshot {
@@ -80,7 +82,7 @@ impl Snapshot {
                     version: 0,
                     moment: 0,
                     slots: Paged::make(alloc, count)?,
-                    grid: Grid::make(alloc)?,
+                    table: SliceTable::make(alloc, 2 * count)?,
                     index: Index::make(alloc)?,
                 },
             )?,
@@ -234,20 +236,45 @@ impl Snapshot {
         self.body.index.free(&self.body.slots, self.slots())
     }
 
-    /// The items whose trajectories are near a cover, rising, each once: they share a cell with it, with a second in common. The trajectory
-    /// that the flight at a place flies is item `2 * slot`, its tentative one item `2 * slot + 1`.
+    /// Whether the trajectory that an item names is near a cover: it shares a cell with it, with a second in common. The trajectory that the
+    /// flight at a place flies is item `2 * slot`, its tentative one item `2 * slot + 1`. An item that names none is near nothing.
+    pub fn is_near(&self, mine: &Cover, item: u32) -> Result<bool, Memory>
+        ensures { IfOk result (λ near. IsTrue near ↔ IsNearItem self.now mine.now item) }
+    {
+        let Some(strand) = self.path(item / 2, kind_of(item)) else {
+            return Ok(false);
+        };
+        let theirs = cover(self.body.alloc, strand, self.rules())?;
+        Ok(share(mine.stays(), theirs.stays()))
+    }
+
+    /// The items whose trajectories are near a cover, rising, each once. The cover of each trajectory that is kept is computed.
     pub fn near(&self, cover: &Cover) -> Result<Vec<u32>, Memory>
-        requires { AreInGrid cover.now }
         ensures { IfOk result (λ items. AreNearItems self.now cover.now items.items) }
     {
-        self.body.grid.near(cover)
+        let _version = self.version();
+        let mut items = Vec::new(self.body.alloc);
+        for item in 0..2 * self.slots() {
+            if self.is_near(cover, item)? {
+                items.push(item)?;
+            }
+        }
+        Ok(items)
+    }
+
+    /// The items whose trajectories have slices that meet those of a new one, rising, each once, with the first and the last second in which they
+    /// do. No other can lose separation with it, and none in another second.
+    pub(crate) fn meeting(&self, strand: &Strand) -> Result<Vec<Met>, Memory>
+        ensures { IfOk result (λ list. AreMetItems self.now (slices_of self.now.setup.rules strand.now) list.items) }
+    {
+        let mine = slices(self.body.alloc, strand, self.rules())?;
+        self.body.table.meeting(&mine, self.rules())
     }
 
     /// The picture with that flight at a place, or none, one version later. This snapshot stays as it is.
     ///
     /// It asks that the version is below 2^40 and the place is one. A flight that is put must be sound, and its trajectories its own; no other
-    /// place has its callsign; it keeps the filing of the flight that it replaces, or was filed after all others. Covers are not kept: those
-    /// of what was there are computed again, from its trajectories.
+    /// place has its callsign; it keeps the filing of the flight that it replaces, or was filed after all others.
     pub fn put(&self, slot: u32, flight: Option<Flight>) -> Result<Snapshot, Memory>
         requires counted { self.now.version < 2 ^ 40 }
         requires place { slot < length self.now.slots }
@@ -257,18 +284,10 @@ impl Snapshot {
             (state_of shot).records ≡ records_put (flight_at self.now slot) flight (state_of self.now).records) }
     {
         let body = &*self.body;
-        let old = self.at_place(slot);
-        let grid = moved(
-            body.alloc,
-            &body.rules,
-            &body.grid,
-            slot,
-            old,
-            flight.as_ref(),
-        )?;
+        let table = moved(body.alloc, &body.rules, &body.table, slot, flight.as_ref())?;
         let index = body.index.put(body.alloc, &body.slots, self.slots(), slot, flight.as_ref())?;
         let slots = body.slots.set(slot, shared(body.alloc, flight)?)?;
-        changed(body, body.moment, slots, grid, index)
+        changed(body, body.moment, slots, table, index)
     }
 
     /// The picture with a flight at a place that has its callsign and its trajectories already, one version later. This snapshot stays as it is,
@@ -286,8 +305,8 @@ impl Snapshot {
         let body = &*self.body;
         let shared = Arc::new(body.alloc, flight)?;
         let slots = body.slots.set(slot, Some(shared))?;
-        let (grid, index) = (body.grid.share()?, body.index.share()?);
-        changed(body, body.moment, slots, grid, index)
+        let (table, index) = (body.table.share()?, body.index.share()?);
+        changed(body, body.moment, slots, table, index)
     }
 
     /// The picture at that moment, one version later. This snapshot stays as it is. It asks that the version is below 2^40.
@@ -301,7 +320,7 @@ impl Snapshot {
             body,
             now,
             body.slots.share()?,
-            body.grid.share()?,
+            body.table.share()?,
             body.index.share()?,
         )
     }
@@ -330,11 +349,11 @@ fn changed(
     body: &Body,
     moment: Second,
     slots: Paged<Flight>,
-    grid: Grid,
+    table: SliceTable,
     index: Index,
 ) -> Result<Snapshot, Memory>
     requires counted { body.now.version < 2 ^ 40 }
-    requires kept { IsKept (record (shot_of body.now) { version = body.now.version + 1; now = moment; slots = slots }) grid index }
+    requires kept { IsKept (record (shot_of body.now) { version = body.now.version + 1; now = moment; slots = slots }) table index }
     ensures { IfOk result (λ shot. shot ≡ record (shot_of body.now) { version = body.now.version + 1; now = moment; slots = slots }) }
 {
     Ok(Snapshot {
@@ -347,7 +366,7 @@ fn changed(
                 version: body.version + 1,
                 moment,
                 slots,
-                grid,
+                table,
                 index,
             },
         )?,

@@ -1,9 +1,6 @@
 use Rattle.std.proofs.Common.{refl}
 use Rattle.mt_picture.proofs.verdicts.all_near.Goals as goal
 
-pub near-requires : goal.near-requires
-near-requires c = c.in_ok-cover.ensures.in_grid
-
 pub returns : goal.returns
 returns c =
     let cover = rw c.rules.ensures.rules at c.in_ok-cover.ensures.is in

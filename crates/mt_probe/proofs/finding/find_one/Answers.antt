@@ -1,14 +1,20 @@
 use Rattle.std.proofs.Common.{refl, arith}
+use Rattle.mt_probe.proofs.Candidates.{whole_by_hull}
 use Rattle.mt_probe.proofs.finding.find_one.Goals as goal
+
+pub in_window-window-requires-clause-whole : goal.in_window-window-requires-clause-whole
+in_window-window-requires-clause-whole c = whole_by_hull c.args.rules.now c.args.strand.now c.args.other.now c.args.first c.args.last c.lose-whole.result c.requires.within c.requires.ends
+    c.lose-whole.ensures.conflict
 
 pub returns-clause-found : goal.returns-clause-found
 returns-clause-found c = record {
   call_is = refl;
   kind_is = refl;
-  whole = c.lose-whole.ensures.conflict;
+  whole = whole_by_hull c.args.rules.now c.args.strand.now c.args.other.now c.args.first c.args.last c.lose-whole.result c.requires.within c.requires.ends
+      c.lose-whole.ensures.conflict;
   window = c.in_window-window.ensures.conflict;
 }
 
--- one test over all seconds, and at most one in the window
+-- one test over these seconds, and at most one in the window
 pub returns-clause-counted : goal.returns-clause-counted
 returns-clause-counted c = omega arith

@@ -1,8 +1,8 @@
-use Rattle.std.proofs.Common.{List, ap, refl}
+use Rattle.std.proofs.Common.{List, ap}
 use Rattle.mt_base.specs.declared.flight.Record.{Record}
 use Rattle.mt_base.specs.Picture.{State}
 use Rattle.mt_base.specs.Tables.{Setup}
-use Rattle.mt_probe.proofs.Covered.{opening_holds}
+use Rattle.mt_probe.proofs.Boxes.{opening_holds}
 use Rattle.mt_probe.proofs.Placed.{opening_records, opening_sound}
 use Rattle.mt_probe.proofs.snapshot.Snapshot.opening.Goals as goal
 
@@ -11,7 +11,7 @@ invariant_of-result c =
     let setup : Setup = record { rules = c.args.rules; tables = c.args.tables.value } in
     rw (c.in_ok-new.ensures.ok, c.in_ok-make.ensures, c.in_ok-make-2.ensures) (record {
       sound = opening_sound setup c.places-count.result 0 c.requires c.places-count.ensures;
-      holds = opening_holds c.args.rules 4096 c.places-count.result refl;
+      holds = opening_holds c.args.rules c.places-count.result;
       indexed = c.in_ok-make-3.ensures c.places-count.result;
     })
 

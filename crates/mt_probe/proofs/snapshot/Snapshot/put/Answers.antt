@@ -4,7 +4,7 @@ use Rattle.std.specs.Arc.{arc_value}
 use Rattle.mt_probe.specs.Body.{shot_of}
 use Rattle.mt_probe.specs.Putting.{Fits, records_put}
 use Rattle.mt_probe.specs.Shot.{Shot, flight_at, records_in}
-use Rattle.mt_probe.proofs.Covered.{moved_holds}
+use Rattle.mt_probe.proofs.Boxes.{holds_with}
 use Rattle.mt_probe.proofs.Indexing.{can_be}
 use Rattle.mt_probe.proofs.Placed.{put_records, put_sound}
 use Rattle.mt_probe.proofs.snapshot.Snapshot.put.Goals as goal
@@ -14,13 +14,11 @@ changed-requires-clause-kept c =
     let shot : Shot = shot_of (arc_value c.self.inside.body) in
     let fits = subst (λ (s : Shot). IfSome c.args.flight (Fits s c.args.slot)) (sym c.self.view_is) c.requires.fits in
     let inside = subst (λ (s : Shot). c.args.slot < length s.slots) (sym c.self.view_is) c.requires.place in
-    let laid = rw c.as_ref.ensures.value at c.in_ok-grid.ensures.laid in
-    let old = c.at_place-old.ensures ∙ sym (ap (λ (s : Shot). flight_at s c.args.slot) c.self.view_is) in
-    let grid = rw (c.as_ref.ensures.value, old, c.deref-body.ensures) at c.in_ok-grid.ensures.grid in
-    rw (c.in_ok-slots.ensures, c.in_ok-shared.ensures, c.deref-body.ensures, grid) (record {
+    let laid = rw c.as_ref.ensures.value at c.in_ok-table.ensures.laid in
+    let table = rw (c.as_ref.ensures.value, c.deref-body.ensures) at c.in_ok-table.ensures.table in
+    rw (c.in_ok-slots.ensures, c.in_ok-shared.ensures, c.deref-body.ensures, table) (record {
       sound = put_sound shot c.args.slot inside c.self.invariant.sound c.args.flight (shot.version + 1) fits laid;
-      holds = moved_holds shot.setup.rules shot.slots c.args.slot (arc_value c.self.inside.body).grid (flight_at shot c.args.slot) c.args.flight inside refl
-          c.self.invariant.holds;
+      holds = holds_with shot.setup.rules shot.slots c.args.slot c.args.flight (arc_value c.self.inside.body).table inside c.self.invariant.holds;
       indexed = rw (c.as_ref-2.ensures.value, c.deref-body.ensures) at c.in_ok-index.ensures;
     })
 

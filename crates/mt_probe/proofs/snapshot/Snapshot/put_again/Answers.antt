@@ -24,10 +24,10 @@ changed-requires-clause-kept c =
     let same = subst (λ (s : Shot). option_map kept_of (flight_at s c.args.slot) ≡ Some (kept_of flight)) (sym c.self.view_is) c.requires.same in
     let it = old_of (flight_at shot c.args.slot) flight same in
     let inside = filled_inside shot.slots c.args.slot it.old it.there in
-    rw (c.in_ok-slots.ensures, c.in_ok-shared.ensures.ok, c.in_ok-grid.ensures, c.in_ok-index.ensures, c.deref-body.ensures) (record {
+    rw (c.in_ok-slots.ensures, c.in_ok-shared.ensures.ok, c.in_ok-table.ensures, c.in_ok-index.ensures, c.deref-body.ensures) (record {
       sound = put_sound shot c.args.slot inside c.self.invariant.sound (Some flight) (shot.version + 1) fits
           (same_laid it.old flight it.kept shot c.args.slot c.self.invariant.sound it.there);
-      holds = same_holds it.old flight it.kept shot.setup.rules shot.slots c.args.slot inside it.there (arc_value c.self.inside.body).grid c.self.invariant.holds;
+      holds = same_holds it.old flight it.kept shot.setup.rules shot.slots c.args.slot inside it.there (arc_value c.self.inside.body).table c.self.invariant.holds;
       indexed = same_index shot.slots (arc_value c.self.inside.body).index c.args.slot it.old flight inside it.there (same_call it.old flight it.kept)
           c.self.invariant.indexed;
     })

@@ -1,0 +1,93 @@
+-- A table that has the slices of the trajectories of a snapshot.
+use Rattle.std.proofs.Common.{◌≡◌, ◌≢◌, ⊎_elim, ℕ, zero, suc, ◌+◌, ◌*◌, ◌/◌, ◌<◌, List, Option, None, length, get_or, replicate, refl, sym, ◌∙◌, ap, subst, length-set, arith}
+use Rattle.std.proofs.Math.ListN.{set}
+use Rattle.std.proofs.lemmas.Bool.{cases_eq}
+use Rattle.std.proofs.lemmas.List.{get_or-set_same, get_or-set_other, length-replicate}
+use Rattle.mt_base.specs.declared.conflict.Kind.{Kind}
+use Rattle.mt_base.specs.declared.conflict.Kind.TheVariants.{Actual, Tentative}
+use Rattle.mt_base.specs.declared.rules.Rules.{Rules}
+use Rattle.mt_cover.specs.Sliced.{Sliced}
+use Rattle.mt_probe.specs.declared.flight.Flight.{Flight}
+use Rattle.mt_meet.specs.declared.table.Met.{Met}
+use Rattle.mt_meet.specs.Meeting.{AreMet}
+use Rattle.mt_probe.specs.Boxed.{AreMetItems, Holds, slices_at, slices_by, table_with}
+use Rattle.mt_probe.specs.Items.{kind_at}
+use Rattle.mt_probe.specs.Shot.{Shot}
+use Rattle.mt_probe.proofs.Covered.{even_half, even_kind, odd_half, odd_kind}
+
+pub slices_even : (rules : Rules) (slots : List (Option Flight)) (i : ℕ) → slices_at rules slots (2 * i) ≡ slices_by rules Actual (get_or slots i None)
+slices_even rules slots i = ap (λ (kind : Kind). slices_by rules kind (get_or slots ((2 * i) / 2) None)) (even_kind i)
+    ∙ ap (λ (j : ℕ). slices_by rules Actual (get_or slots j None)) (even_half i)
+
+pub slices_odd : (rules : Rules) (slots : List (Option Flight)) (i : ℕ) → slices_at rules slots (2 * i + 1) ≡ slices_by rules Tentative (get_or slots i None)
+slices_odd rules slots i = ap (λ (kind : Kind). slices_by rules kind (get_or slots ((2 * i + 1) / 2) None)) (odd_kind i)
+    ∙ ap (λ (j : ℕ). slices_by rules Tentative (get_or slots j None)) (odd_half i)
+
+-- with the slices of what is put at a place
+module _ (rules : Rules) (slots : List (Option Flight)) (i : ℕ) (x : Option Flight) (table : List (Option Sliced)) (below : i < length slots)
+    (holds : Holds rules slots table) where
+  abbrev flown : Option Sliced
+  flown = slices_by rules Actual x
+
+  abbrev marked : Option Sliced
+  marked = slices_by rules Tentative x
+
+  there : get_or (set slots i x) i None ≡ x
+  there = get_or-set_same slots i x None below
+
+  abbrev first : List (Option Sliced)
+  first = set table (2 * i) flown
+
+  at_even : get_or (set first (2 * i + 1) marked) (2 * i) None ≡ flown
+  at_even = get_or-set_other first (2 * i + 1) (2 * i) marked None (λ same. omega (arith, same)) ∙ get_or-set_same table (2 * i) flown None (omega (arith, holds.items, below))
+
+  at_odd : get_or (set first (2 * i + 1) marked) (2 * i + 1) None ≡ marked
+  at_odd = get_or-set_same first (2 * i + 1) marked None (omega (arith, holds.items, below, length-set table (2 * i) flown))
+
+  at_other : (k : ℕ) → k / 2 ≢ i → get_or (set first (2 * i + 1) marked) k None ≡ slices_at rules (set slots i x) k
+  at_other k apart =
+      get_or-set_other first (2 * i + 1) k marked None (λ same. apart (ap (λ (n : ℕ). n / 2) same ∙ odd_half i))
+      ∙ get_or-set_other table (2 * i) k flown None (λ same. apart (ap (λ (n : ℕ). n / 2) same ∙ even_half i))
+      ∙ holds.held k
+      ∙ sym (ap (slices_by rules (kind_at k)) (get_or-set_other slots i (k / 2) x None apart))
+
+  at_own : (k : ℕ) → k / 2 ≡ i → get_or (set first (2 * i + 1) marked) k None ≡ slices_at rules (set slots i x) k
+  at_own k half = ⊎_elim
+      (λ even. subst (λ (n : ℕ). get_or (set first (2 * i + 1) marked) n None ≡ slices_at rules (set slots i x) n) (sym even)
+      (at_even ∙ sym (slices_even rules (set slots i x) i ∙ ap (slices_by rules Actual) there)))
+      (λ uneven. let odd : k ≡ 2 * i + 1 = omega (arith, half, uneven) in
+      subst (λ (n : ℕ). get_or (set first (2 * i + 1) marked) n None ≡ slices_at rules (set slots i x) n) (sym odd)
+      (at_odd ∙ sym (slices_odd rules (set slots i x) i ∙ ap (slices_by rules Tentative) there)))
+      (cases_eq k (2 * i))
+
+  pub holds_with : Holds rules (set slots i x) (table_with rules i x table)
+  holds_with = record {
+    items = length-set first (2 * i + 1) marked ∙ length-set table (2 * i) flown ∙ holds.items ∙ ap (λ (n : ℕ). 2 * n) (sym (length-set slots i x));
+    held = λ k. ⊎_elim (at_own k) (at_other k) (cases_eq (k / 2) i);
+  }
+
+-- empty places
+nothing_there : (rules : Rules) (n place : ℕ) (kind : Kind) → slices_by rules kind (get_or (replicate n None) place None) ≡ None
+nothing_there rules zero place kind = refl
+nothing_there rules (suc n) zero kind = refl
+nothing_there rules (suc n) (suc place) kind = nothing_there rules n place kind
+
+nothing_kept : (n item : ℕ) → get_or {A = Option Sliced} (replicate n None) item None ≡ None
+nothing_kept zero item = refl
+nothing_kept (suc n) zero = refl
+nothing_kept (suc n) (suc item) = nothing_kept n item
+
+pub opening_holds : (rules : Rules) (n : ℕ) → Holds rules (replicate n None) (replicate (2 * n) None)
+opening_holds rules n = record {
+  items = length-replicate (2 * n) None ∙ ap (λ (m : ℕ). 2 * m) (sym (length-replicate n None));
+  held = λ item. nothing_kept (2 * n) item ∙ sym (nothing_there rules n (item / 2) (kind_at item));
+}
+
+-- what was met in the table was met among the trajectories
+pub met_items : (shot : Shot) (mine : Sliced) (table : List (Option Sliced)) (list : List Met) → Holds shot.setup.rules shot.slots table
+    → AreMet shot.setup.rules mine table list → AreMetItems shot mine list
+met_items shot mine table list holds met = record {
+  rising = met.rising;
+  exact = λ m held. let is = met.exact m held in record { theirs = is.theirs; there = sym (holds.held m.item) ∙ is.there; hull = is.hull };
+  complete = λ item theirs k there meet. met.complete item theirs k (holds.held item ∙ there) meet;
+}
