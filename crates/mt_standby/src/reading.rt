@@ -7,9 +7,7 @@ ghost use Rattle.mt_board.specs.declared.ask.Ask.TheVariants as asks;
 ghost use Rattle.mt_standby.specs.Reading.{IsToldNow, IsUntold};
 
 use crate::standby::Standby;
-use mt_base::{
-    Callsign, Conflict, Conflicts, Entries, Entry, FlightView, Refusal, Second, Tally,
-};
+use mt_base::{Callsign, Conflict, Conflicts, Entries, Entry, FlightView, Refusal, Second, Tally};
 use mt_board::{Answer, Ask, No};
 use mt_memory::Memory;
 use mt_snapshot_view::{check, due, view};
