@@ -150,11 +150,7 @@ fn read_bytes(alloc: Global, scratch: &mut Scratch, bytes: &[u8]) -> Result<Feed
 /// refusals are those of a line, in the same order. [`LineNo::Memory`] may come in place of any answer. A text with an escape goes into `scratch`,
 /// which is kept from line to line. The numbers of an entry are within their bounds, and its clearance says from when it holds, so that no moment
 /// fills that in.
-pub fn read_feed(
-    alloc: Global,
-    scratch: &mut Scratch,
-    bytes: &[u8],
-) -> Result<FeedLine, LineNo>
+pub fn read_feed(alloc: Global, scratch: &mut Scratch, bytes: &[u8]) -> Result<FeedLine, LineNo>
     ensures exact { Gives result (feed bytes.now) }
     ensures ready { IfOk result IsReadyLine }
 {
