@@ -74,9 +74,9 @@ def run(data, program=PROGRAM):
     return seconds, written
 
 
-def spent(data, program=PROGRAM):
+def spent(data, program=PROGRAM, word="replay"):
     """The seconds of a processor that one run takes, so that other work on the machine counts less."""
-    with subprocess.Popen([program, "replay"], stdin=subprocess.PIPE, stdout=subprocess.DEVNULL) as process:
+    with subprocess.Popen([program, word], stdin=subprocess.PIPE, stdout=subprocess.DEVNULL) as process:
         process.stdin.write(data)
         process.stdin.close()
         _, status, usage = os.wait4(process.pid, 0)
@@ -86,6 +86,6 @@ def spent(data, program=PROGRAM):
     return usage.ru_utime + usage.ru_stime
 
 
-def least(data, repeats=REPEATS):
+def least(data, repeats=REPEATS, word="replay"):
     """The seconds of a processor of the cheapest of some runs."""
-    return min(spent(data) for _ in range(repeats))
+    return min(spent(data, word=word) for _ in range(repeats))

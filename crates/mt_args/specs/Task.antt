@@ -5,7 +5,7 @@ use Rattle.std.specs.List.{after_first, before_first, position_or_len}
 use Rattle.std.specs.Str.{all_ascii_digits, bytes_eq}
 use Rattle.std.specs.Str.Parse.{digits_value}
 use Rattle.mt_args.specs.declared.task.Task.{Task}
-use Rattle.mt_args.specs.declared.task.Task.TheVariants.{Load, Replay, Serve}
+use Rattle.mt_args.specs.declared.task.Task.TheVariants.{Load, Replay, Serve, Standby}
 
 -- A number: 1 to 10 ASCII digits, whose number is within these bounds.
 abbrev pub number_in : ℕ → ℕ → List ℕ → Option ℕ
@@ -103,14 +103,19 @@ no_serving = record { port = None; sessions = None; workers = None }
 abbrev pub no_loading : Loading
 no_loading = record { flights = None; number = None }
 
--- Words are read so: `replay` alone; `serve` or `load` and its options. Nothing else is.
+-- what is asked for by a word that stands alone
+abbrev pub alone : Task → List (List ℕ) → Option Task
+alone task words = if length words == 0 then Some task else None
+
+-- Words are read so: `replay` or `standby` alone; `serve` or `load` and its options. Nothing else is.
 abbrev pub task_of : List (List ℕ) → Option Task
 task_of [] = None
 task_of (command ∷ words) =
-    if bytes_eq command (codes "replay") then (if length words == 0 then Some Replay else None)
+    if bytes_eq command (codes "replay") then alone Replay words
+    else (if bytes_eq command (codes "standby") then alone Standby words
     else (if bytes_eq command (codes "serve") then option_map serve_task (set_by serving_with no_serving words)
     else (if bytes_eq command (codes "load") then option_map load_task (set_by loading_with no_loading words)
-    else None))
+    else None)))
 
 -- the flights of a load run are 1 to 1,024
 abbrev pub IsFlights : ℕ → Type 0
@@ -126,3 +131,4 @@ abbrev pub IsBoundedTask : Task → Type 0
 IsBoundedTask (Load flights number) = IsFlights flights
 IsBoundedTask (Serve port sessions workers) = AreFewSessions sessions × AreFewWorkers workers
 IsBoundedTask Replay = ⊤
+IsBoundedTask Standby = ⊤

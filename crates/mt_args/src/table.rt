@@ -1,7 +1,6 @@
 //! The table of words.
 ghost use Rattle.std.specs.Prelude.{◌≡◌, ◌<◌, drop, length, IfOk, MatchResult, Some, None};
 ghost use Rattle.mt_args.specs.Task.{IsBoundedTask, task_of};
-ghost use Rattle.mt_args.specs.declared.task.Task.TheVariants.{Replay};
 
 use crate::loading::load;
 use crate::serving::serve;
@@ -11,7 +10,7 @@ use mt_base::Words;
 /// Reads the words of a command line, without the program's name, as what they ask for; `Usage` for every list of words that asks for
 /// nothing. It takes no memory.
 ///
-/// `replay` stands alone. `serve` has the options `--port` (1 to 65,535, by default 7700), `--sessions` (1 to 64, by default 16) and
+/// `replay` and `standby` stand alone. `serve` has the options `--port` (1 to 65,535, by default 7700), `--sessions` (1 to 64, by default 16) and
 /// `--workers` (0 to 8, by default 2), `load` the options `--flights` (1 to 1,024, by default 40) and `--number` (0 to 4,294,967,295, by
 /// default 1). Options follow in any order, each at most once, as `--port 7700` or `--port=7700`. A number is 1 to 10 ASCII digits.
 pub fn read_words(words: &Words) -> Result<Task, Usage>
@@ -23,7 +22,10 @@ pub fn read_words(words: &Words) -> Result<Task, Usage>
     }
     let command = words.word(0);
     if command == "replay" {
-        return replay(words);
+        return alone(words, Task::Replay);
+    }
+    if command == "standby" {
+        return alone(words, Task::Standby);
     }
     if command == "serve" {
         return serve(words);
@@ -34,13 +36,13 @@ pub fn read_words(words: &Words) -> Result<Task, Usage>
     Err(Usage)
 }
 
-// Reads the words behind the first as those of `replay`: there are none.
-fn replay(words: &Words) -> Result<Task, Usage>
+// Reads the words behind the first as those of a task that has none.
+fn alone(words: &Words, task: Task) -> Result<Task, Usage>
     requires { 0 < length words.now }
-    ensures { MatchResult result (λ task. (length (drop 1 words.now) ≡ 0) × (task ≡ Replay)) (λ _. 0 < length (drop 1 words.now)) }
+    ensures { MatchResult result (λ given. (length (drop 1 words.now) ≡ 0) × (given ≡ task)) (λ _. 0 < length (drop 1 words.now)) }
 {
     if words.count() == 1 {
-        Ok(Task::Replay)
+        Ok(task)
     } else {
         Err(Usage)
     }

@@ -5,6 +5,8 @@
 pub enum Task {
     /// To answer a script of lines, from the input.
     Replay,
+    /// To follow a primary's history, from the input.
+    Standby,
     /// To serve links.
     Serve {
         /// The port, 1 to 65,535.

@@ -51,7 +51,7 @@ accepted w next who (Some probe) reply b a =
     on_either (is_empty probe.hits) _ _ _ (λ changed. outcome w next changed.decision reply b changed.outcome) (λ r. r.same) a
 
 -- a reply that is not brief follows no change
-unchanged_by : (w next : World) (who : ℕ) (request : Request) (reply : Reply) → IsServed w who request reply next → is_brief reply ≡ false → next ≡ w
+pub unchanged_by : (w next : World) (who : ℕ) (request : Request) (reply : Reply) → IsServed w who request reply next → is_brief reply ≡ false → next ≡ w
 unchanged_by w next who (requests.Fix name x y) reply served b =
     on_either w.begun _ _ _ (λ r. r.same) (added w next _ _ _ _ reply b) served
 unchanged_by w next who (requests.TypeLine name bands) reply served b =

@@ -1,4 +1,4 @@
--- Lines of a script, by the steps of lines answered one by one.
+-- Lines, by the steps of lines answered one by one.
 use Rattle.std.proofs.Common.{◌≡◌, ◌≤◌, ◌||◌, ◌&&◌, inl, inr, ⊎_elim, ℕ, Bool, true, false, List, length, refl, sym, ap, ◌∙◌, Result, Ok, Err, true≢false}
 use Rattle.std.specs.declared.option.Option.{Option}
 use Rattle.std.specs.Io.KnownBytes.{Appends}
@@ -18,10 +18,9 @@ use Rattle.mt_script.specs.Begun.{is_begin}
 use Rattle.mt_top.specs.declared.status.Status.{Status}
 use Rattle.mt_top.specs.declared.status.Status.TheVariants.{Done, ReadFault, Spent}
 use Rattle.mt_top.specs.Lines.{LinesMean, SoFar, Turned, is_last}
-use Rattle.mt_top.specs.Script.{IsFollowed, IsReplied}
+use Rattle.mt_top.specs.Script.{IsFollowed}
 use Rattle.mt_top.specs.Status.{ending}
 use Rattle.mt_world.specs.World.{World, opening_world}
-use Rattle.mt_top.proofs.Replying.{given_replied}
 
 begin_is_brief : (reply : Reply) → is_begin reply ≡ true → is_brief reply ≡ true
 begin_is_brief (replies.Done done.Begin) is = refl
@@ -59,46 +58,48 @@ pub long_goes_on : (until_begun : Bool) (w : World) → (until_begun ≡ true �
 long_goes_on until_begun w unbegun given for =
     last_given until_begun w replies.Long unbegun given for ∙ ap (λ b. is_farewell given || b) (none_set_up until_begun w.begun unbegun)
 
-module _ (until_begun : Bool) where
+module _ (HasReply : World → List ℕ → Reply → World → Type 0) (until_begun : Bool) where
   -- before the first line
-  pub starts : (before held : Option (List ℕ)) → SoFar until_begun before before held held fresh opening_world
-  starts before held = steps.starts reply_text (is_last until_begun) IsReplied IsFollowed opening_world before held
+  pub starts : (before held : Option (List ℕ)) → SoFar HasReply until_begun before before held held fresh opening_world
+  starts before held = steps.starts reply_text (is_last until_begun) HasReply IsFollowed opening_world before held
 
   module _ (before now after held held_now : Option (List ℕ)) (reader new : Reading) (w : World) where
     -- a line was read and answered, and its reply given
-    pub turned : (held_after : Option (List ℕ)) (next : World) (line : List ℕ) (reply : Reply) (given : Result Bool Failed) (is_set_up : Bool)
-        → SoFar until_begun before now held held_now reader w → Takes reader new now after line → IsReplied w line reply next
+    pub turned : ((v next : World) (line : List ℕ) (reply other : Reply) → HasReply v line reply next → IsGivenFor reply other
+        → (is_brief reply ≡ false → length line ≤ 65536) → HasReply v line other next)
+        → (held_after : Option (List ℕ)) (next : World) (line : List ℕ) (reply : Reply) (given : Result Bool Failed) (is_set_up : Bool)
+        → SoFar HasReply until_begun before now held held_now reader w → Takes reader new now after line → HasReply w line reply next
         → ((other : Reply) → IsGivenFor reply other → is_last until_begun other ≡ is_farewell other || is_set_up)
         → (is_brief reply ≡ false → length line ≤ 65536) → Gives reply given held_now held_after
-        → Turned until_begun (ending given is_set_up) before after held held_after new next
-    turned held_after next line reply given is_set_up so_far takes replied last short gives = by_result given is_set_up last gives where
-      replied_as : (given : Result Bool Failed) (gives : Gives reply given held_now held_after) → IsReplied w line gives.given next
-      replied_as given gives = given_replied w next line reply gives.given replied gives.given_for short
+        → Turned HasReply until_begun (ending given is_set_up) before after held held_after new next
+    turned given_as held_after next line reply given is_set_up so_far takes replied last short gives = by_result given is_set_up last gives where
+      replied_as : (given : Result Bool Failed) (gives : Gives reply given held_now held_after) → HasReply w line gives.given next
+      replied_as given gives = given_as w next line reply gives.given replied gives.given_for short
 
       ends : (given : Result Bool Failed) (gives : Gives reply given held_now held_after) → is_last until_begun gives.given ≡ true
-          → Appends held_now held_after (reply_text gives.given) → Explains (LinesMean until_begun next Done) before after held held_after
-      ends given gives is sent = steps.explained_as _ (LinesMean until_begun next Done) before after held held_after (λ input left written answers. inr answers)
-          (steps.ends_at reply_text (is_last until_begun) IsReplied IsFollowed opening_world before now after held held_now held_after reader new w next line gives.given
+          → Appends held_now held_after (reply_text gives.given) → Explains (LinesMean HasReply until_begun next Done) before after held held_after
+      ends given gives is sent = steps.explained_as _ (LinesMean HasReply until_begun next Done) before after held held_after (λ input left written answers. inr answers)
+          (steps.ends_at reply_text (is_last until_begun) HasReply IsFollowed opening_world before now after held held_now held_after reader new w next line gives.given
           so_far takes (replied_as given gives) is sent)
 
       by_result : (given : Result Bool Failed) (is_set_up : Bool)
           → ((other : Reply) → IsGivenFor reply other → is_last until_begun other ≡ is_farewell other || is_set_up)
-          → Gives reply given held_now held_after → Turned until_begun (ending given is_set_up) before after held held_after new next
+          → Gives reply given held_now held_after → Turned HasReply until_begun (ending given is_set_up) before after held held_after new next
       by_result (Ok true) is_set_up last gives =
           ends (Ok true) gives (last gives.given gives.given_for ∙ ap (λ b. b || is_set_up) gives.sent.1) gives.sent.0
       by_result (Ok false) true last gives = ends (Ok false) gives (last gives.given gives.given_for ∙ ap (λ b. b || true) gives.sent.1) gives.sent.0
       by_result (Ok false) false last gives =
-          steps.goes_on reply_text (is_last until_begun) IsReplied IsFollowed opening_world before now after held held_now held_after reader new w next line
+          steps.goes_on reply_text (is_last until_begun) HasReply IsFollowed opening_world before now after held held_now held_after reader new w next line
           gives.given next so_far takes (replied_as (Ok false) gives) (last gives.given gives.given_for ∙ ap (λ b. b || false) gives.sent.1) gives.sent.0 refl
       by_result (Err fault) is_set_up last gives =
-          steps.cut_at reply_text (is_last until_begun) IsReplied IsFollowed opening_world before now after held held_now held_after reader new w next line
+          steps.cut_at reply_text (is_last until_begun) HasReply IsFollowed opening_world before now after held held_now held_after reader new w next line
           gives.given so_far takes (replied_as (Err fault) gives) gives.sent
 
     -- the input ended
-    pub ended : SoFar until_begun before now held held_now reader w → (until_begun ≡ true → w.begun ≡ false) → IsDone reader new now after
-        → Explains (LinesMean until_begun w Done) before after held held_now
-    ended so_far unbegun done = steps.explained_as _ (LinesMean until_begun w Done) before after held held_now (λ input left written answers. inl (answers, unbegun))
-        (steps.ended reply_text (is_last until_begun) IsReplied IsFollowed opening_world before now after held held_now held_now reader new w so_far done)
+    pub ended : SoFar HasReply until_begun before now held held_now reader w → (until_begun ≡ true → w.begun ≡ false) → IsDone reader new now after
+        → Explains (LinesMean HasReply until_begun w Done) before after held held_now
+    ended so_far unbegun done = steps.explained_as _ (LinesMean HasReply until_begun w Done) before after held held_now (λ input left written answers. inl (answers, unbegun))
+        (steps.ended reply_text (is_last until_begun) HasReply IsFollowed opening_world before now after held held_now held_now reader new w so_far done)
 
     -- the status of a reader's fault
     abbrev pub status_of : LineFault → Status
@@ -108,13 +109,13 @@ module _ (until_begun : Bool) where
     -- the lines that are whole in what was taken were answered
     whole : (fault : LineFault) (input left written : List ℕ)
         → (taken : List ℕ) × IsFaultAt fault (length taken)
-        × answering.AnswersWhole reply_text (is_last until_begun) IsReplied IsFollowed opening_world input left taken written w
-        → LinesMean until_begun w (status_of fault) input left written
+        × answering.AnswersWhole reply_text (is_last until_begun) HasReply IsFollowed opening_world input left taken written w
+        → LinesMean HasReply until_begun w (status_of fault) input left written
     whole faults.ReadFault input left written (taken, fewer, answers) = (taken, answers)
     whole faults.Spent input left written whole_of = whole_of
 
     -- the reader stopped at a fault
-    pub stopped : (fault : LineFault) → SoFar until_begun before now held held_now reader w → IsStopped reader new now after fault
-        → Explains (LinesMean until_begun w (status_of fault)) before after held held_now
-    stopped fault so_far stop = steps.explained_as _ (LinesMean until_begun w (status_of fault)) before after held held_now (whole fault)
-        (steps.stopped reply_text (is_last until_begun) IsReplied IsFollowed opening_world before now after held held_now held_now reader new w fault so_far stop)
+    pub stopped : (fault : LineFault) → SoFar HasReply until_begun before now held held_now reader w → IsStopped reader new now after fault
+        → Explains (LinesMean HasReply until_begun w (status_of fault)) before after held held_now
+    stopped fault so_far stop = steps.explained_as _ (LinesMean HasReply until_begun w (status_of fault)) before after held held_now (whole fault)
+        (steps.stopped reply_text (is_last until_begun) HasReply IsFollowed opening_world before now after held held_now held_now reader new w fault so_far stop)

@@ -4,4 +4,5 @@ pub mod Opening
 pub mod Serve
 pub mod Run
 pub mod Script
+pub mod Standby
 pub mod Status

@@ -3,59 +3,69 @@ use Rattle.std.specs.declared.option.Option.{Option}
 use Rattle.std.specs.declared.option.Option.TheVariants.{None, Some}
 use Rattle.std.specs.Io.KnownBytes.{Appends}
 use Rattle.mt_args.specs.declared.task.Task.{Task}
-use Rattle.mt_args.specs.declared.task.Task.TheVariants.{Load, Replay, Serve}
+use Rattle.mt_args.specs.declared.task.Task.TheVariants.{Load, Replay, Serve, Standby}
 use Rattle.mt_args.specs.Task.{task_of}
 use Rattle.mt_io.specs.Writing.{AppendsFront}
 use Rattle.mt_io.specs.declared.source.Source as Source
 use Rattle.mt_io.specs.declared.sink.Sink as Sink
 use Rattle.mt_lines.specs.Answering as answering
 use Rattle.mt_lines.specs.Given.{is_farewell}
+use Rattle.mt_write.specs.declared.reply.Reply.{Reply}
 use Rattle.mt_write.specs.Reply.{reply_text}
 use Rattle.mt_top.specs.declared.status.Status.{Status}
 use Rattle.mt_top.specs.declared.status.Status.TheVariants.{Done, Usage, Setup, ReadFault, WriteFault, DoorFault, Spent, Memory}
 use Rattle.mt_top.specs.Load.{LoadMeans}
 use Rattle.mt_top.specs.Script.{IsFollowed, IsReplied}
 use Rattle.mt_top.specs.Serve.{Doorway, ServeMeans}
+use Rattle.mt_top.specs.Standby.{IsStoodBy}
 use Rattle.mt_world.specs.World.{World, opening_world}
 
--- A script is lines answered one by one, from the opening world on, up to the one that is answered with a farewell. At its end there is
--- some world.
+-- Lines are answered one by one, from the opening world on, up to the one that is answered with a farewell: which reply is given to a line of a
+-- world, and which world that leaves, is said by `HasReply`. At the end there is some world.
+module _ (HasReply : World → List ℕ → Reply → World → Type 0) where
+  -- The input was read to its end, and the bytes written answer all its lines.
+  abbrev pub AnswersAll : List ℕ → List ℕ → List ℕ → Type 0
+  AnswersAll input left written = (end : World)
+      × answering.AnswersAll reply_text is_farewell HasReply IsFollowed opening_world input left written end
 
--- The input was read to its end, and the bytes written answer all its lines.
-abbrev pub AnswersAll : List ℕ → List ℕ → List ℕ → Type 0
-AnswersAll input left written = (end : World)
-    × answering.AnswersAll reply_text is_farewell IsReplied IsFollowed opening_world input left written end
+  -- The input was read to the line that ends the lines, and the bytes written answer those up to it.
+  abbrev pub AnswersToBye : List ℕ → List ℕ → List ℕ → Type 0
+  AnswersToBye input left written = (end : World)
+      × answering.AnswersToLast reply_text is_farewell HasReply IsFollowed opening_world input left written end
 
--- The input was read to the line that ends the script, and the bytes written answer the lines up to it.
-abbrev pub AnswersToBye : List ℕ → List ℕ → List ℕ → Type 0
-AnswersToBye input left written = (end : World)
-    × answering.AnswersToLast reply_text is_farewell IsReplied IsFollowed opening_world input left written end
+  -- Of the input these bytes were taken, and the bytes written answer the lines that are whole in them.
+  abbrev pub AnswersWhole : List ℕ → List ℕ → List ℕ → List ℕ → Type 0
+  AnswersWhole input left taken written = (end : World)
+      × answering.AnswersWhole reply_text is_farewell HasReply IsFollowed opening_world input left taken written end
 
--- Of the input these bytes were taken, and the bytes written answer the lines that are whole in them.
-abbrev pub AnswersWhole : List ℕ → List ℕ → List ℕ → List ℕ → Type 0
-AnswersWhole input left taken written = (end : World)
-    × answering.AnswersWhole reply_text is_farewell IsReplied IsFollowed opening_world input left taken written end
+  -- The bytes written answer the lines that were read of the input, but that the last reply is cut short.
+  abbrev pub AnswersFront : List ℕ → List ℕ → List ℕ → Type 0
+  AnswersFront input left written = (end : World)
+      × answering.AnswersFront reply_text is_farewell HasReply IsFollowed opening_world input left written end
 
--- The bytes written answer the lines that were read of the input, but that the last reply is cut short.
-abbrev pub AnswersFront : List ℕ → List ℕ → List ℕ → Type 0
-AnswersFront input left written = (end : World)
-    × answering.AnswersFront reply_text is_farewell IsReplied IsFollowed opening_world input left written end
+  -- What a status says of the whole input, of what is left of it, and of the bytes written. Memory is wanted only before the first line: then
+  -- nothing was read and nothing written.
+  abbrev pub AnswersMean : Status → List ℕ → List ℕ → List ℕ → Type 0
+  AnswersMean Done input left written = AnswersAll input left written ⊎ AnswersToBye input left written
+  AnswersMean ReadFault input left written = (taken : List ℕ) × AnswersWhole input left taken written
+  AnswersMean Spent input left written = (taken : List ℕ) × (length taken ≡ 2 ^ 32) × AnswersWhole input left taken written
+  AnswersMean WriteFault input left written = AnswersFront input left written
+  AnswersMean Memory input left written = (left ≡ input) × (written ≡ [])
+  AnswersMean Usage input left written = ⊥
+  AnswersMean Setup input left written = ⊥
+  AnswersMean DoorFault input left written = ⊥
 
--- What a replay's status says of its whole input, of what it left of it, and of the bytes that it wrote. Memory is wanted only before the
--- first line: then nothing was read and nothing written.
+-- what a replay's status says: the lines are those of a script
 abbrev pub ReplayMeans : Status → List ℕ → List ℕ → List ℕ → Type 0
-ReplayMeans Done input left written = AnswersAll input left written ⊎ AnswersToBye input left written
-ReplayMeans ReadFault input left written = (taken : List ℕ) × AnswersWhole input left taken written
-ReplayMeans Spent input left written = (taken : List ℕ) × (length taken ≡ 2 ^ 32) × AnswersWhole input left taken written
-ReplayMeans WriteFault input left written = AnswersFront input left written
-ReplayMeans Memory input left written = (left ≡ input) × (written ≡ [])
-ReplayMeans Usage input left written = ⊥
-ReplayMeans Setup input left written = ⊥
-ReplayMeans DoorFault input left written = ⊥
+ReplayMeans = AnswersMean IsReplied
+
+-- what a standby's status says: the lines are those of a script up to the one that begins the picture, and from then on those of a standby
+abbrev pub StandbyMeans : Status → List ℕ → List ℕ → List ℕ → Type 0
+StandbyMeans = AnswersMean IsStoodBy
 
 -- the line that is written where the words are no command
 abbrev pub usage_line : List ℕ
-usage_line = codes "usage: mtcd replay | serve [--port P] [--sessions N] [--workers W] | load [--flights N] [--number X]" ++ 10 ∷ []
+usage_line = codes "usage: mtcd replay | standby | serve [--port P] [--sessions N] [--workers W] | load [--flights N] [--number X]" ++ 10 ∷ []
 
 -- what the status says where they are not: nothing was read, and the usage line was written, or a front of it where the output failed
 abbrev pub UsageMeans : Status → List ℕ → List ℕ → List ℕ → Type 0
@@ -74,6 +84,7 @@ module _ {L : Type 0} (source : Source.Ghosts L) (sink : Sink.Ghosts L) (old new
   -- of its faults.
   abbrev pub TaskMeans : Option Task → Status → List ℕ → List ℕ → List ℕ → Type 0
   TaskMeans (Some Replay) status input left written = ReplayMeans status input left written × (new ≡ old)
+  TaskMeans (Some Standby) status input left written = StandbyMeans status input left written × (new ≡ old)
   TaskMeans (Some (Load flights number)) status input left written = LoadMeans flights number status input left written × (new ≡ old)
   TaskMeans (Some (Serve port sessions workers)) status input left written =
       ServeMeans source sink port sessions workers old new before now status input left written

@@ -1,13 +1,15 @@
-//! The top call: a script of lines in, their replies out; or a large input that is made and summed up.
+//! The top call: a script of lines in, or a primary's history, and their replies out; or a large input that is made and summed up.
 #![tactic(auto)]
 
 mod answering;
+mod following;
 mod laws;
 mod lines;
 mod load;
 mod opening;
 mod replay;
 mod serving;
+mod standing;
 mod status;
 mod top_call;
 

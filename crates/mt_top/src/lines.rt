@@ -1,6 +1,7 @@
-//! Lines of a script, read from the input and answered on the output, up to the last one.
+//! Lines read from the input and answered on the output, up to the last one.
 ghost use Rattle.std.specs.Prelude.{◌≡◌, ◌≤◌, ◌^◌, ◌+◌, ◌&&◌, ℕ, List, [], None, Some, IfNone, IfOk, false, true, vec_capacity};
 ghost use Rattle.std.specs.declared.option.Option.{Option};
+ghost use Rattle.std.specs.Thread.{IsSync};
 ghost use Rattle.mt_io.specs.Causes.{Rose};
 ghost use Rattle.mt_io.specs.Reading.{fresh};
 ghost use Rattle.mt_lines.specs.Answering.{Explains};
@@ -8,7 +9,7 @@ ghost use Rattle.mt_top.specs.Lines.{LinesMean, SoFar, Turned};
 ghost use Rattle.mt_top.specs.declared.status.Status.TheVariants.{ReadFault, WriteFault};
 ghost use Rattle.mt_world.specs.World.{opening_world, setup_of};
 
-use crate::answering::answer;
+use crate::answering::Answers;
 use crate::status::{Status, ending};
 use mt_base::Memory;
 use mt_io::{Line, LineFault, LineReader, Sink, Source};
@@ -22,37 +23,16 @@ use std::thread::Threads;
 /// The room for a reply that follows a change, in bytes.
 const ROOM: usize = 65_536;
 
-/// What reads the lines of a script, what answers them, and the room for replies, which has 65,536 bytes.
+/// What reads the lines, what answers them, as that of a script, a scratch for texts of lines, and the room for replies, which has 65,536 bytes.
 #[derive(Drop)]
-pub(crate) struct Lines {
+pub(crate) struct Lines<A> {
     reader: LineReader,
     scratch: Scratch,
-    script: Script,
+    script: A,
     room: Vec<u8>,
 }
 
-impl Lines {
-    /// All memory that is taken before the first line.
-    pub(crate) fn make(alloc: Global) -> Result<Lines, Memory>
-        ensures reader { IfOk result (λ lines. lines.reader ≡ fresh) }
-        ensures script { IfOk result (λ lines. lines.script ≡ opening_world) }
-        ensures room { IfOk result (λ lines. 65536 ≤ vec_capacity lines.room) }
-    {
-        Ok(Lines {
-            reader: LineReader::make(alloc)?,
-            scratch: Scratch::new(alloc),
-            script: Script::make(alloc)?,
-            room: Vec::with_capacity(alloc, ROOM)?,
-        })
-    }
-
-    /// Whether the picture has begun.
-    pub(crate) fn have_begun(&self) -> bool
-        ensures { result ≡ self.now.script.begun }
-    {
-        self.script.has_begun()
-    }
-
+impl Lines<Script> {
     /// The picture that has begun, and the room.
     pub(crate) fn into_picture(self) -> (Picture, Vec<u8>)
         requires { self.script.begun ≡ true }
@@ -61,6 +41,29 @@ impl Lines {
     {
         let Lines { script, room, .. } = self;
         (script.into_picture(), room)
+    }
+}
+
+impl<A: Answers> Lines<A> {
+    /// All memory that is taken before the first line, but for what answers them.
+    pub(crate) fn make(alloc: Global, script: A) -> Result<Lines<A>, Memory>
+        ensures reader { IfOk result (λ lines. lines.reader ≡ fresh) }
+        ensures script { IfOk result (λ lines. lines.script ≡ script) }
+        ensures room { IfOk result (λ lines. 65536 ≤ vec_capacity lines.room) }
+    {
+        Ok(Lines {
+            reader: LineReader::make(alloc)?,
+            scratch: Scratch::new(alloc),
+            script,
+            room: Vec::with_capacity(alloc, ROOM)?,
+        })
+    }
+
+    /// Whether the picture has begun.
+    pub(crate) fn have_begun(&self) -> bool
+        ensures { result ≡ (A.world self.now.script).begun }
+    {
+        self.script.has_begun()
     }
 
     /// Answers the lines of the input up to the last one: its end; a line that is answered with a farewell; or, where the lines are to set a
@@ -73,10 +76,11 @@ impl Lines {
         input: &mut S,
         output: &mut K,
     ) -> Status
-        requires first { (self.old.reader ≡ fresh) × (self.old.script ≡ opening_world) }
+        requires sync { IsSync R.row }
+        requires first { (self.old.reader ≡ fresh) × (A.world self.old.script ≡ opening_world) }
         requires room { 65536 ≤ vec_capacity self.old.room }
-        ensures means { Explains (LinesMean until_begun self.new.script result) (S.left input.old) (S.left input.new) (K.held output.old) (K.held output.new) }
-        ensures empty { until_begun ≡ true → self.new.script.begun ≡ true → self.new.script.history ≡ [] }
+        ensures means { Explains (LinesMean A.replied until_begun (A.world self.new.script) result) (S.left input.old) (S.left input.new) (K.held output.old) (K.held output.new) }
+        ensures empty { until_begun ≡ true → (A.world self.new.script).begun ≡ true → (A.world self.new.script).history ≡ [] }
         ensures room { 65536 ≤ vec_capacity self.new.room }
         ensures read { result ≡ ReadFault → Rose (S.faults input.old) (S.faults input.new) }
         ensures write { result ≡ WriteFault → Rose (K.faults output.old) (K.faults output.new) }
@@ -100,15 +104,16 @@ impl Lines {
         input: &mut S,
         output: &mut K,
     ) -> Option<Status>
+        requires sync { IsSync R.row }
         requires sound { self.old.reader.fault ≡ None }
         requires room { 65536 ≤ vec_capacity self.old.room }
-        requires unbegun { until_begun ≡ true → self.old.script.begun ≡ false }
+        requires unbegun { until_begun ≡ true → (A.world self.old.script).begun ≡ false }
         ensures turned { (before held : Option (List ℕ))
-            → SoFar until_begun before (S.left input.old) held (K.held output.old) self.old.reader self.old.script
-            → Turned until_begun result before (S.left input.new) held (K.held output.new) self.new.reader self.new.script }
+            → SoFar A.replied until_begun before (S.left input.old) held (K.held output.old) self.old.reader (A.world self.old.script)
+            → Turned A.replied until_begun result before (S.left input.new) held (K.held output.new) self.new.reader (A.world self.new.script) }
         ensures rises { IfNone result ((self.new.reader.given ≡ self.old.reader.given + 1) × (self.new.reader.given ≤ 2 ^ 32) × (self.new.reader.fault ≡ None)
-            × (until_begun ≡ true → self.new.script.begun ≡ false)) }
-        ensures empty { until_begun ≡ true → self.new.script.begun ≡ true → self.new.script.history ≡ [] }
+            × (until_begun ≡ true → (A.world self.new.script).begun ≡ false)) }
+        ensures empty { until_begun ≡ true → (A.world self.new.script).begun ≡ true → (A.world self.new.script).history ≡ [] }
         ensures room { 65536 ≤ vec_capacity self.new.room }
         ensures read { result ≡ Some ReadFault → Rose (S.faults input.old) (S.faults input.new) }
         ensures write { result ≡ Some WriteFault → Rose (K.faults output.old) (K.faults output.new) }
@@ -116,9 +121,10 @@ impl Lines {
         ensures reads { S.reads_to input.old input.new }
         ensures writes { K.writes_to output.old output.new }
     {
+        self.script.reply_law();
         match self.reader.next(input) {
             Ok(Line::Text(line)) => {
-                let reply = answer(rt, alloc, &mut self.scratch, &mut self.script, line);
+                let reply = self.script.answer(rt, alloc, &mut self.scratch, line);
                 let given = give(alloc, &reply, &mut self.room, output);
                 ending(given, is_set_up(until_begun, &self.script))
             }
@@ -131,8 +137,17 @@ impl Lines {
 }
 
 // Whether the picture has begun that the lines are to set up.
-fn is_set_up(until_begun: bool, script: &Script) -> bool
-    ensures { result ≡ until_begun && script.now.begun }
+fn is_set_up<A: Answers>(until_begun: bool, script: &A) -> bool
+    ensures { result ≡ until_begun && (A.world script.now).begun }
 {
     until_begun && script.has_begun()
+}
+
+/// The lines of a script before the first one: all memory is taken that is taken before it.
+pub(crate) fn script_lines(alloc: Global) -> Result<Lines<Script>, Memory>
+    ensures reader { IfOk result (λ lines. lines.reader ≡ fresh) }
+    ensures script { IfOk result (λ lines. lines.script ≡ opening_world) }
+    ensures room { IfOk result (λ lines. 65536 ≤ vec_capacity lines.room) }
+{
+    Lines::make(alloc, Script::make(alloc)?)
 }

@@ -1,11 +1,12 @@
 //! The lines that set a picture up, read from the input and answered on the output, up to the one that begins it.
 ghost use Rattle.std.specs.Prelude.{◌≡◌, ◌≤◌, [], IfOk, IfErr, vec_capacity};
+ghost use Rattle.std.specs.Thread.{IsSync};
 ghost use Rattle.mt_io.specs.Causes.{Rose};
 ghost use Rattle.mt_lines.specs.Answering.{Explains};
 ghost use Rattle.mt_top.specs.Opening.{Begins, OpeningMeans};
 ghost use Rattle.mt_top.specs.declared.status.Status.TheVariants.{ReadFault, WriteFault};
 
-use crate::lines::Lines;
+use crate::lines::script_lines;
 use crate::status::Status;
 use mt_io::{Sink, Source};
 use mt_picture::Picture;
@@ -20,6 +21,7 @@ pub(crate) fn open<R: Threads + Sync, S: Source, K: Sink>(
     input: &mut S,
     output: &mut K,
 ) -> Result<(Picture, Vec<u8>), Status>
+    requires sync { IsSync R.row }
     ensures begins { IfOk result (λ r. Explains (λ input left written. Begins input left written r.0) (S.left input.old) (S.left input.new) (K.held output.old) (K.held output.new)) }
     ensures room { IfOk result (λ r. 65536 ≤ vec_capacity r.1) }
     ensures opening { IfOk result (λ r. r.0.history ≡ []) }
@@ -30,7 +32,7 @@ pub(crate) fn open<R: Threads + Sync, S: Source, K: Sink>(
     ensures writes { K.writes_to output.old output.new }
     ensures later { (S.faults input.old ≤ S.faults input.new) × (K.faults output.old ≤ K.faults output.new) }
 {
-    let Ok(mut lines) = Lines::make(alloc) else {
+    let Ok(mut lines) = script_lines(alloc) else {
         return Err(Status::Memory);
     };
     let status = lines.answer_all(rt, alloc, true, input, output);

@@ -9,6 +9,7 @@ ghost use Rattle.mt_top.specs.declared.status.Status.TheVariants.{DoorFault, Rea
 use crate::load::load;
 use crate::replay::replay;
 use crate::serving::serve;
+use crate::standing::stand_by;
 use crate::status::Status;
 use mt_args::{Task, read_words};
 use mt_base::Words;
@@ -19,12 +20,13 @@ use std::thread::Threads;
 
 /// What is written where the words are no command.
 const USAGE: &[u8] =
-    b"usage: mtcd replay | serve [--port P] [--sessions N] [--workers W] | load [--flights N] [--number X]\n";
+    b"usage: mtcd replay | standby | serve [--port P] [--sessions N] [--workers W] | load [--flights N] [--number X]\n";
 
 /// Does all that the program does: `words` are those of its command line, without its name; `input` and `output` its streams; `door` is where
 /// links come from, and `gate` a place between two turns of a session.
 ///
-/// The word `replay` alone answers each line of the input on the output. The word `load` with its options makes a large input, runs it and
+/// The word `replay` alone answers each line of the input on the output. The word `standby` alone does so up to the line that begins the
+/// picture, and then follows the entries of a primary's history, and tells what holds. The word `load` with its options makes a large input, runs it and
 /// writes one line that sums it up. The word `serve` with its options answers the lines of the input up to the one that begins a picture, serves
 /// links of the door over it, and writes one line that sums that up. Any other words are answered by the usage line. Words are read by the
 /// table of `mt_args`.
@@ -61,6 +63,7 @@ pub fn run<R: Threads + Wait + Sync, S: Source, K: Sink, D: Door, G: Gate + Sync
     };
     match task {
         Task::Replay => replay(rt, alloc, input, output),
+        Task::Standby => stand_by(rt, alloc, input, output),
         Task::Load { flights, number } => load(rt, alloc, flights, number, output),
         Task::Serve {
             port,

@@ -11,7 +11,7 @@ use std::thread::Threads;
 
 /// What is written where the words are no command.
 const USAGE: &str =
-    "usage: mtcd replay | serve [--port P] [--sessions N] [--workers W] | load [--flights N] [--number X]\n";
+    "usage: mtcd replay | standby | serve [--port P] [--sessions N] [--workers W] | load [--flights N] [--number X]\n";
 
 /// Two flights head-on: the script, and its answers.
 const INPUT: &str = r#"{"do":"begin"}

@@ -1,8 +1,9 @@
 use Rattle.mt_top.proofs.Opened.{replayed, wanted}
+use Rattle.mt_top.specs.Script.{IsReplied}
 use Rattle.mt_top.proofs.replay.replay.Goals as goal
 
 pub returns-in-Ok-clause-means : goal.returns-in-Ok-clause-means
-returns-in-Ok-clause-means g c = replayed _ _ _ _ c.answer_all.new.self.script c.answer_all.result c.answer_all.ensures.means
+returns-in-Ok-clause-means g c = replayed _ _ _ _ c.answer_all.new.self.script IsReplied c.answer_all.result c.answer_all.ensures.means
 
 pub returns-in-Ok-clause-read : goal.returns-in-Ok-clause-read
 returns-in-Ok-clause-read g c = c.answer_all.ensures.read
@@ -12,7 +13,7 @@ returns-in-Ok-clause-write g c = c.answer_all.ensures.write
 
 -- memory wanted before the first line is told as that, not as a fault
 pub returns-in-Err-clause-means : goal.returns-in-Err-clause-means
-returns-in-Err-clause-means g c = wanted _ _
+returns-in-Err-clause-means g c = wanted IsReplied _ _
 
 pub returns-in-Err-clause-read : goal.returns-in-Err-clause-read
 returns-in-Err-clause-read g c = λ is. cc

@@ -1,5 +1,5 @@
 use Rattle.std.proofs.Common.{None, Some, ap, refl, ◌∙◌}
-use Rattle.mt_args.specs.declared.task.Task.TheVariants.{Load, Replay, Serve}
+use Rattle.mt_args.specs.declared.task.Task.TheVariants.{Load, Replay, Serve, Standby}
 use Rattle.mt_top.proofs.WordLemmas.{asked_for, summary_explained, uncalled, usage_explained}
 use Rattle.mt_top.proofs.top_call.run.Goals as goal
 
@@ -12,6 +12,11 @@ pub returns-in-Replay-clause-means : goal.returns-in-Replay-clause-means
 returns-in-Replay-clause-means g c =
     asked_for g.D.Link.Source g.D.Link.Sink _ _ _ _ c.args.words.now (Some Replay) c.replay.result _ _ _ _ (c.in-Ok.ensures.task ∙ ap Some c.in-Replay.is)
     (uncalled _ _ _ _ _ _ _ refl c.replay.ensures.means)
+
+pub returns-in-Standby-clause-means : goal.returns-in-Standby-clause-means
+returns-in-Standby-clause-means g c =
+    asked_for g.D.Link.Source g.D.Link.Sink _ _ _ _ c.args.words.now (Some Standby) c.stand_by.result _ _ _ _ (c.in-Ok.ensures.task ∙ ap Some c.in-Standby.is)
+    (uncalled _ _ _ _ _ _ _ refl c.stand_by.ensures.means)
 
 pub returns-in-Load-clause-means : goal.returns-in-Load-clause-means
 returns-in-Load-clause-means g c =

@@ -4,7 +4,7 @@ use Rattle.mt_top.proofs.lines.Lines.answer_all.Goals as goal
 
 pub loop-status-init : goal.loop-status-init
 loop-status-init g c = rw (c.requires.first.0, c.requires.first.1) (record {
-  so_far = starts c.args.until_begun _ _;
+  so_far = starts g.A.Answers.replied c.args.until_begun _ _;
   sound = refl;
   bound = omega arith;
   room = c.requires.room;

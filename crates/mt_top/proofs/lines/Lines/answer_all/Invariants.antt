@@ -4,12 +4,12 @@ use Rattle.mt_top.proofs.lines.Lines.answer_all.Given as goal
 
 abbrev pub invariant-loop-status : goal.invariant-loop-status
 invariant-loop-status g l = record {
-  so_far : SoFar l.fn.until_begun (g.S.Source.left l.fn.input) (g.S.Source.left l.input) (g.K.Sink.held l.fn.output) (g.K.Sink.held l.output)
-      l.self.reader l.self.script;
+  so_far : SoFar g.A.Answers.replied l.fn.until_begun (g.S.Source.left l.fn.input) (g.S.Source.left l.input) (g.K.Sink.held l.fn.output) (g.K.Sink.held l.output)
+      l.self.reader (g.A.Answers.world l.self.script);
   sound : l.self.reader.fault ≡ None;
   bound : l.self.reader.given ≤ 2 ^ 32;
   room : 65536 ≤ vec_capacity l.self.room;
-  unbegun : l.fn.until_begun ≡ true → l.self.script.begun ≡ false;
+  unbegun : l.fn.until_begun ≡ true → (g.A.Answers.world l.self.script).begun ≡ false;
   read : g.S.Source.faults l.fn.input ≤ g.S.Source.faults l.input;
   written : g.K.Sink.faults l.fn.output ≤ g.K.Sink.faults l.output;
   reads : g.S.Source.reads_to l.fn.input l.input;
