@@ -1,7 +1,8 @@
 -- What meets is near, and what loses separation meets.
-use Rattle.std.proofs.Common.{◌≡◌, ◌<◌, ◌-◌, ◌/◌, ◌&&◌, ℕ, zero, suc, length, ℤ, List, [], ◌∷◌, Option, Some, None, inl, inr, ⊎_elim, sym, subst, ◌∙◌, get_or, ap, arith}
+use Rattle.std.proofs.Common.{◌≡◌, ◌<◌, ◌+◌, ◌*◌, ◌-◌, ◌/◌, ◌%◌, ◌&&◌, ℕ, zero, suc, length, ℤ, List, [], ◌∷◌, Option, Some, None, inl, inr, ⊎_elim, refl, sym, subst, ◌∙◌, get_or, ap, arith}
+use Rattle.std.proofs.lemmas.Bool.{cases_lt}
 use Rattle.std.proofs.lemmas.Int.{ints, clamps}
-use Rattle.std.proofs.lemmas.List.{get_or-map}
+use Rattle.std.proofs.lemmas.List.{get_or_past}
 use Rattle.std.specs.List.{fold}
 use Rattle.mt_base.specs.declared.rules.Rules.{Rules}
 use Rattle.mt_track.specs.declared.layer.Layer.{Layer}
@@ -12,9 +13,10 @@ use Rattle.mt_cover.proofs.Law.{cut_by_loss, touching_is_near}
 use Rattle.mt_pair.specs.Heights.{AreApartBy, LieApart}
 use Rattle.mt_pair.specs.High.{level_of}
 use Rattle.mt_pair.proofs.Layers.{lying_apart}
-use Rattle.mt_meet.specs.Meeting.{LosingMeet, MeetAt, MeetingIsNear}
+use Rattle.mt_meet.specs.Meeting.{IsMetAt, LosingMeet, MeetAt, MeetingIsNear, MeetNone}
 use Rattle.mt_meet.specs.declared.reach.Reach.{Reach}
-use Rattle.mt_meet.specs.Reaching.{AreClose, AreSlicesIn, IsKept, nowhere, reach_in, reach_of}
+use Rattle.mt_meet.specs.Reaching.{AreClose, AreReachesOn, AreSlicesIn, IsKept, IsReachOf, nowhere, page_of, reach_in, reach_of}
+use Rattle.mt_meet.proofs.Kept.{same}
 
 pub losing_meet : LosingMeet
 losing_meet rules a b k rules_kept a_kept b_kept loss =
@@ -71,12 +73,6 @@ close_by_meeting rules a b k a_kept b_kept meet = record {
       (wider_at no_layer b.list ((k - b.from) / 256) no_slice (inside b k b_kept meet.right)) apart);
 }
 
--- the reach that stands beside an item
-pub reach_at : (count : ℕ) (table : List (Option Sliced)) (reaches : List Reach) (i : ℕ) (r : Reach) → IsKept count table reaches → i < length table
-    → r ≡ get_or reaches i r → r ≡ reach_in (get_or table i None)
-reach_at count table reaches i r kept below is =
-    is ∙ ap (λ (all : List Reach). get_or all i r) kept.reaches_are ∙ get_or-map reach_in table i None r below
-
 nowhere_kept : IsLayerKept nowhere.layer
 nowhere_kept = record {
   low = record { least = omega (arith, ints); most = omega (arith, ints) };
@@ -87,16 +83,58 @@ reach_kept : (x : Option Sliced) → AreSlicesIn x → IsLayerKept (reach_in x).
 reach_kept None kept = nowhere_kept
 reach_kept (Some s) kept = kept.layer
 
-pub layer_kept : (count : ℕ) (table : List (Option Sliced)) (reaches : List Reach) (i : ℕ) (r : Reach) → IsKept count table reaches → i < length table
-    → r ≡ get_or reaches i r → IsLayerKept r.layer
-layer_kept count table reaches i r kept below is =
-    subst (λ (x : Reach). IsLayerKept x.layer) (sym (reach_at count table reaches i r kept below is)) (reach_kept (get_or table i None) (kept.each i None below))
+pub layer_kept : (x : Option Sliced) (r : Reach) → IsReachOf x r → IsLayerKept r.layer
+layer_kept x r of = subst (λ (it : Reach). IsLayerKept it.layer) (sym of.is) (reach_kept x of.slices)
 
 -- what is not close never meets
-pub far_apart : (rules : Rules) (mine : Sliced) (count : ℕ) (table : List (Option Sliced)) (reaches : List Reach) (i : ℕ) (own r : Reach) → AreSlices mine
-    → IsKept count table reaches → i < length table → own ≡ reach_of mine → r ≡ get_or reaches i r → ¬ AreClose rules own r
-    → (theirs : Sliced) (k : ℕ) → get_or table i None ≡ Some theirs → ¬ MeetAt rules mine theirs k
-far_apart rules mine count table reaches i own r mine_kept kept below own_is is far theirs k there meet =
-    let here : r ≡ reach_of theirs = reach_at count table reaches i r kept below is ∙ ap reach_in there in
-    let theirs_kept : AreSlices theirs = subst AreSlicesIn there (kept.each i None below) in
+pub far_apart : (rules : Rules) (mine : Sliced) (table : List (Option Sliced)) (i : ℕ) (own r : Reach) → AreSlices mine → own ≡ reach_of mine
+    → IsReachOf (get_or table i None) r → ¬ AreClose rules own r → IsMetAt rules mine table i None
+far_apart rules mine table i own r mine_kept own_is of far theirs k there meet =
+    let here : r ≡ reach_of theirs = of.is ∙ ap reach_in there in
+    let theirs_kept : AreSlices theirs = subst AreSlicesIn there of.slices in
     far (rw (own_is, here) (close_by_meeting rules mine theirs k mine_kept theirs_kept meet))
+
+-- nothing is close to that of no slices
+nothing_close : (rules : Rules) (own r : Reach) → r ≡ nowhere → ¬ AreClose rules own r
+nothing_close rules own r is close = let none : r.to ≡ 0 = ap (λ (x : Reach). x.to) is in omega (arith, close.left, none)
+
+pub within : (all : List (Option Sliced)) (item : ℕ) (theirs : Sliced) → get_or all item None ≡ Some theirs → item < length all
+within [] item theirs there = absurd (cc)
+within (x ∷ all) zero theirs there = omega arith
+within (x ∷ all) (suc item) theirs there = let h = within all item theirs there in omega (arith, h)
+
+-- what is close is an item of the table
+pub close_inside : (rules : Rules) (table : List (Option Sliced)) (i : ℕ) (own r : Reach) → IsReachOf (get_or table i None) r → AreClose rules own r
+    → i < length table
+close_inside rules table i own r of close = by_entry (get_or table i None) refl of.is where
+  by_entry : (x : Option Sliced) → get_or table i None ≡ x → r ≡ reach_in x → i < length table
+  by_entry None at is = absurd (nothing_close rules own r is close)
+  by_entry (Some s) at is = within table i s at
+
+-- a page that is there has the reaches of its items; the items of one that isn't meet nothing
+module _ (count : ℕ) (table : List (Option Sliced)) (pages : List (Option (List Reach))) (kept : IsKept count table pages) where
+  slices_in : (i : ℕ) → AreSlicesIn (get_or table i None)
+  slices_in i = ⊎_elim (λ below. kept.each i None below) (λ past. subst AreSlicesIn (sym (get_or_past table i None past)) tt) (cases_lt i (length table))
+
+  pub reaches_on : (number : ℕ) (page : List Reach) → get_or pages number None ≡ Some page → AreReachesOn table number page
+  reaches_on number page at place few =
+      let of : (64 * number + place) / 64 ≡ number = omega arith in
+      let in_page : (64 * number + place) % 64 ≡ place = omega arith in
+      let is = kept.reaches_are (64 * number + place) in
+      record {
+        is = ap (λ (it : Option (List Reach)). get_or (page_of it) place nowhere) (sym at) ∙ rw (of, in_page) at is;
+        slices = slices_in (64 * number + place);
+      }
+
+  none_on : (rules : Rules) (mine : Sliced) (i : ℕ) → AreSlices mine → get_or pages (i / 64) None ≡ None → IsMetAt rules mine table i None
+  none_on rules mine i mine_kept at =
+      let is : nowhere ≡ reach_in (get_or table i None) = sym (same 64 (i % 64) nowhere)
+      ∙ ap (λ (it : Option (List Reach)). get_or (page_of it) (i % 64) nowhere) (sym at) ∙ kept.reaches_are i in
+      far_apart rules mine table i (reach_of mine) nowhere mine_kept refl (record { is = is; slices = slices_in i })
+      (nothing_close rules (reach_of mine) nowhere refl)
+
+  pub none_on_page : (rules : Rules) (mine : Sliced) (number : ℕ) → AreSlices mine → get_or pages number None ≡ None
+      → MeetNone rules mine table (64 * number) (64 * number + 64)
+  none_on_page rules mine number mine_kept at item late below =
+      let page : item / 64 ≡ number = omega (arith, late, below) in
+      none_on rules mine item mine_kept (subst (λ (n : ℕ). get_or pages n None ≡ None) (sym page) at)

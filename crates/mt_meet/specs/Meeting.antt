@@ -1,5 +1,5 @@
 -- Trajectories whose slices meet: only these can lose separation.
-use Rattle.std.specs.Prelude.{◌≡◌, ◌≤◌, ◌<◌, ◌&&◌, Bool, true, false, ℕ, List, AllPairs, Contains, Option, Some, None, get_or}
+use Rattle.std.specs.Prelude.{◌≡◌, ◌≤◌, ◌<◌, ◌&&◌, Bool, true, false, ℕ, List, AllPairs, Contains, Option, Some, None, get_or, length}
 use Rattle.mt_base.specs.declared.rules.Rules.{Rules}
 use Rattle.mt_base.specs.Bounds.{AreWithinBounds}
 use Rattle.mt_base.specs.Conflict.{IsLossSecond}
@@ -72,3 +72,18 @@ pub record AreMet (rules : Rules) (mine : Sliced) (table : List (Option Sliced))
   pub rising : AllPairs (λ (m n : Met). m.item < n.item) list
   pub exact : (met : Met) → Contains list met → IsMetIn rules mine table met
   pub complete : (item : ℕ) (theirs : Sliced) (k : ℕ) → get_or table item None ≡ Some theirs → MeetAt rules mine theirs k → IsListed list item
+
+-- none of the items from one on and before another one has slices that meet some
+abbrev pub MeetNone : Rules → Sliced → List (Option Sliced) → ℕ → ℕ → Type 0
+MeetNone rules mine table from end = (item : ℕ) → from ≤ item → item < end → IsMetAt rules mine table item None
+
+-- it is the first item, from one on, whose slices meet some
+pub record IsFirstMet (rules : Rules) (mine : Sliced) (table : List (Option Sliced)) (from : ℕ) (met : Met) : Type 0 where
+  pub begun : from ≤ met.item
+  pub is : IsMetIn rules mine table met
+  pub none_before : MeetNone rules mine table from met.item
+
+-- The first item of a table, from one on, whose slices meet some; or none does.
+abbrev pub IsNextMet : Rules → Sliced → List (Option Sliced) → ℕ → Option Met → Type 0
+IsNextMet rules mine table from (Some met) = IsFirstMet rules mine table from met
+IsNextMet rules mine table from None = MeetNone rules mine table from (length table)

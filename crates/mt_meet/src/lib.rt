@@ -7,6 +7,7 @@
 mod laws;
 mod meeting;
 mod reach;
+mod reaches;
 mod table;
 
 pub use laws::{losing_meet_law, meeting_is_near_law};

@@ -1,12 +1,13 @@
 //! The slices of many trajectories.
-ghost use Rattle.std.specs.Prelude.{◌≡◌, ◌<◌, ◌≤◌, None, length, replicate, slice_set, IfOk, option_copied, option_map};
+ghost use Rattle.std.specs.Prelude.{◌≡◌, ◌<◌, ◌≤◌, ◌+◌, ◌*◌, ℕ, None, length, get_or, replicate, slice_set, IfOk, option_copied, option_map};
 ghost use Rattle.std.specs.Arc.{arc_value};
 ghost use Rattle.mt_base.specs.Bounds.{AreWithinBounds};
-ghost use Rattle.mt_meet.specs.Meeting.{AreMet, IsMetAt};
-ghost use Rattle.mt_meet.specs.Reaching.{AreSlicesIn, nowhere, reach_in, reach_of};
+ghost use Rattle.mt_meet.specs.Meeting.{AreMet, IsMetAt, IsNextMet};
+ghost use Rattle.mt_meet.specs.Reaching.{AreReachesOn, AreSlicesIn, IsNextOn, IsReachOf, reach_in, reach_of};
 
 use crate::meeting::meet;
 use crate::reach::{Reach, are_close, nowhere, reach_of};
+use crate::reaches::{ITEMS, ReachPage, with_reach};
 use mt_base::{Memory, Rules, Second};
 use mt_cover::Slices;
 use mt_paged::Paged;
@@ -25,27 +26,26 @@ pub struct Met {
     pub last: Second,
 }
 
-/// The slices of items, each of which may have none. They stand in pages that tables share; beside them, in one list that is gone over whole,
-/// stand the heights of each item and its first and last seconds.
+/// The slices of items, each of which may have none. They stand in pages that tables share; beside them, in pages of their own, stand the
+/// heights of each item and its first and last seconds, which are gone over whole, but for the pages that no item with slices was on.
 #[derive(Drop)]
 pub struct SliceTable {
     alloc: Global,
     count: u32,
     slices: Paged<Slices>,
-    reaches: Arc<Vec<Reach>>,
+    pages: Paged<ReachPage>,
 }
 
 impl Model for SliceTable {
-    ghost use Rattle.std.specs.Prelude.{List, Option, map, length};
-    ghost use Rattle.std.specs.Arc.{arc_value};
+    ghost use Rattle.std.specs.Prelude.{List, Option};
     ghost use Rattle.mt_cover.specs.Sliced.{Sliced};
-    ghost use Rattle.mt_meet.specs.Reaching.{IsKept, reach_in};
+    ghost use Rattle.mt_meet.specs.Reaching.{IsKept};
 
     ghost Value = { List (Option Sliced) };
 
     ghost view = { λ s. s.slices };
 
-    ghost invariant = { λ s. IsKept s.count s.slices (arc_value s.reaches).items };
+    ghost invariant = { λ s. IsKept s.count s.slices s.pages };
 }
 
 impl SliceTable {
@@ -53,12 +53,11 @@ impl SliceTable {
     pub fn make(alloc: Global, count: u32) -> Result<SliceTable, Memory>
         ensures { IfOk result (λ table. table ≡ replicate count None) }
     {
-        let reaches = no_reaches(alloc, count as usize)?;
         Ok(SliceTable {
             alloc,
             count,
             slices: Paged::make(alloc, count)?,
-            reaches: Arc::new(alloc, reaches)?,
+            pages: Paged::make(alloc, count.div_ceil(ITEMS))?,
         })
     }
 
@@ -70,11 +69,12 @@ impl SliceTable {
             alloc: self.alloc,
             count: self.count,
             slices: self.slices.share()?,
-            reaches: Arc::try_clone(&self.reaches)?,
+            pages: self.pages.share()?,
         })
     }
 
-    /// The table with other slices of an item, or none. This table stays. Where it has none before and after, no list is copied.
+    /// The table with other slices of an item, or none. This table stays. Where it has none before and after, no list is copied; else the page
+    /// of the item is.
     pub fn set(&self, item: u32, slices: Option<Slices>) -> Result<SliceTable, Memory>
         requires { item < length self.now }
         ensures { IfOk result (λ table. table ≡ slice_set self.now item slices) }
@@ -83,24 +83,32 @@ impl SliceTable {
             return self.share();
         }
         let own = reach_in(slices.as_ref());
-        let reaches = changed(self.alloc, &self.reaches, item as usize, own)?;
+        let (number, place) = (item / ITEMS, (item % ITEMS) as usize);
+        let page = with_reach(self.alloc, self.pages.get(number), place, own)?;
         Ok(SliceTable {
             alloc: self.alloc,
             count: self.count,
             slices: self.slices.set(item, shared(self.alloc, slices)?)?,
-            reaches: Arc::new(self.alloc, reaches)?,
+            pages: self.pages.set(number, Some(Arc::new(self.alloc, page)?))?,
         })
     }
 
-    // The seconds in which the slices of an item meet some, where there is one. `own` is what is compared first.
-    fn met_at(&self, item: u32, own: &Reach, mine: &Slices, rules: &Rules) -> Option<Met>
+    // The seconds in which the slices of an item meet some, where there is one. `own` is what is compared first, with that of the item.
+    fn met_at(
+        &self,
+        item: u32,
+        reach: &Reach,
+        own: &Reach,
+        mine: &Slices,
+        rules: &Rules,
+    ) -> Option<Met>
         requires rules { AreWithinBounds rules.now }
-        requires inside { item < length self.now }
+        requires reach { IsReachOf (get_or self.now item None) reach.now }
         requires own { own.now ≡ reach_of mine.now }
         ensures { IsMetAt rules.now mine.now self.now item result }
     {
         let _from = mine.from();
-        if !are_close(rules, own, &self.reaches[item as usize]) {
+        if !are_close(rules, own, reach) {
             return None;
         }
         let theirs = self.slices.get(item)?;
@@ -108,27 +116,64 @@ impl SliceTable {
         Some(Met { item, first, last })
     }
 
+    // The first item of a page, from a place on, whose slices meet some.
+    fn next_on(
+        &self,
+        page: &ReachPage,
+        number: u32,
+        from: u32,
+        own: &Reach,
+        mine: &Slices,
+        rules: &Rules,
+    ) -> Option<Met>
+        requires rules { AreWithinBounds rules.now }
+        requires few { number < 67108864 }
+        requires page { AreReachesOn self.now number page.now }
+        requires own { own.now ≡ reach_of mine.now }
+        ensures { IsNextOn rules.now mine.now self.now number from result }
+    {
+        let list = page.list();
+        for place in from..ITEMS {
+            let reach = &list[place as usize];
+            if let Some(met) = self.met_at(number * ITEMS + place, reach, own, mine, rules) {
+                return Some(met);
+            }
+        }
+        None
+    }
+
+    /// The first of the items, from one of them on, whose slices meet some, with the first and the last second in which they do; `None` exactly
+    /// where there is none. It takes no memory.
+    pub fn next_meeting(&self, from: u32, mine: &Slices, rules: &Rules) -> Option<Met>
+        requires { AreWithinBounds rules.now }
+        ensures { IsNextMet rules.now mine.now self.now from result }
+    {
+        let own = reach_of(mine);
+        for number in from / ITEMS..self.count.div_ceil(ITEMS) {
+            let place = from.saturating_sub(number * ITEMS);
+            let Some(page) = self.pages.get(number) else {
+                continue;
+            };
+            if let Some(met) = self.next_on(page, number, place, &own, mine, rules) {
+                return Some(met);
+            }
+        }
+        None
+    }
+
     /// The items whose slices meet some, rising, each once, with the first and the last second in which they do.
     pub fn meeting(&self, mine: &Slices, rules: &Rules) -> Result<Vec<Met>, Memory>
         requires { AreWithinBounds rules.now }
         ensures { IfOk result (λ met. AreMet rules.now mine.now self.now met.items) }
     {
-        let own = reach_of(mine);
         let mut list = Vec::new(self.alloc);
-        for item in 0..self.count {
-            if let Some(met) = self.met_at(item, &own, mine, rules) {
-                list.push(met)?;
-            }
+        let mut from = 0;
+        while let Some(met) = self.next_meeting(from, mine, rules) {
+            list.push(met)?;
+            from = met.item + 1;
         }
         Ok(list)
     }
-}
-
-// The reaches of so many items that have no slices.
-fn no_reaches(alloc: Global, count: usize) -> Result<Vec<Reach>, Memory>
-    ensures { IfOk result (λ reaches. reaches.items ≡ replicate count nowhere) }
-{
-    Ok(vec![in alloc; nowhere(); count]?)
 }
 
 // The reach of an item that may have slices. What these keep is said here too.
@@ -140,22 +185,6 @@ fn reach_in(slices: Option<&Slices>) -> Reach
         Some(slices) => reach_of(slices),
         None => nowhere(),
     }
-}
-
-// A list with another reach at a place. The list itself stays.
-fn changed(
-    alloc: Global,
-    reaches: &[Reach],
-    place: usize,
-    reach: Reach,
-) -> Result<Vec<Reach>, Memory>
-    requires { place < length reaches.now }
-    ensures { IfOk result (λ after. after.items ≡ slice_set reaches.now place reach) }
-{
-    let mut after = Vec::new(alloc);
-    after.extend_from_slice(reaches)?;
-    after[place] = reach;
-    Ok(after)
 }
 
 // What is kept of an item, to be shared.

@@ -1,19 +1,18 @@
 use Rattle.std.proofs.Common.{List, Option, length, ap, arith}
 use Rattle.mt_cover.specs.Sliced.{Sliced}
-use Rattle.mt_meet.proofs.Listing.{all_before, none_more, one_more}
-use Rattle.mt_meet.proofs.table.SliceTable.meeting.Goals.{in-Some+in_ok-push, in_default}
+use Rattle.mt_meet.proofs.Listing.{all_before, next_more}
+use Rattle.mt_meet.proofs.Meetings.{within}
 use Rattle.mt_meet.proofs.table.SliceTable.meeting.Goals as goal
 
-pub loop-item-preserved : goal.loop-item-preserved
-loop-item-preserved c = elim c.match-met_at.branch [
-  | in-Some+in_ok-push w ↦ rw (w.list-is, w.in_ok-push.ensures.items)
-      (one_more c.args.rules.now c.args.mine.now c.args.self.now c.loop-item.item c.loop-item.list.items w.in-Some.met w.in-Some.ensures c.loop-item.invariant)
-  | in_default w ↦ rw w.list-is
-      (none_more c.args.rules.now c.args.mine.now c.args.self.now c.loop-item.item c.loop-item.list.items w.in_default.ensures c.loop-item.invariant)
-]
+pub overflow_add-from : goal.overflow_add-from
+overflow_add-from c =
+    let inside = within c.args.self.now c.in-Some.met.item c.in-Some.ensures.is.theirs c.in-Some.ensures.is.there in
+    let count = ap (λ (t : List (Option Sliced)). length t) c.self.view_is in
+    omega (arith, inside, count, c.self.invariant.count_is, c.self.invariant.few)
+
+pub loop-met-preserved : goal.loop-met-preserved
+loop-met-preserved c = rw c.in_ok-push.ensures.items
+    (next_more c.args.rules.now c.args.mine.now c.args.self.now c.loop-met.from c.loop-met.list.items c.in-Some.met c.in-Some.ensures c.loop-met.invariant)
 
 pub returns : goal.returns
-returns c =
-    let count = ap (λ (t : List (Option Sliced)). length t) c.self.view_is in
-    all_before c.args.rules.now c.args.mine.now c.args.self.now c.loop-item.item c.loop-item.list.items
-    (omega (arith, c.loop-item.auto.item-end, c.loop-item-test.false, c.self.invariant.count_is, count)) c.loop-item.invariant
+returns c = all_before c.args.rules.now c.args.mine.now c.args.self.now c.loop-met.from c.loop-met.list.items c.in_default.ensures c.loop-met.invariant
