@@ -1,5 +1,5 @@
 -- A table that has the slices of the trajectories of a snapshot.
-use Rattle.std.proofs.Common.{◌≡◌, ◌≢◌, ⊎_elim, ℕ, zero, suc, ◌+◌, ◌*◌, ◌/◌, ◌<◌, List, Option, None, length, get_or, replicate, refl, sym, ◌∙◌, ap, subst, length-set, arith}
+use Rattle.std.proofs.Common.{◌≡◌, ◌≢◌, ⊎_elim, ℕ, zero, suc, ◌+◌, ◌*◌, ◌/◌, ◌<◌, List, Option, Some, None, length, get_or, replicate, refl, sym, ◌∙◌, ap, subst, length-set, arith}
 use Rattle.std.proofs.Math.ListN.{set}
 use Rattle.std.proofs.lemmas.Bool.{cases_eq}
 use Rattle.std.proofs.lemmas.List.{get_or-set_same, get_or-set_other, length-replicate}
@@ -9,8 +9,9 @@ use Rattle.mt_base.specs.declared.rules.Rules.{Rules}
 use Rattle.mt_cover.specs.Sliced.{Sliced}
 use Rattle.mt_probe.specs.declared.flight.Flight.{Flight}
 use Rattle.mt_meet.specs.declared.table.Met.{Met}
-use Rattle.mt_meet.specs.Meeting.{AreMet}
-use Rattle.mt_probe.specs.Boxed.{AreMetItems, Holds, slices_at, slices_by, table_with}
+use Rattle.mt_meet.specs.Meeting.{AreMet, IsNextMet}
+use Rattle.mt_meet.proofs.Meetings.{within}
+use Rattle.mt_probe.specs.Boxed.{AreMetItems, Holds, IsNextMetOf, slices_at, slices_by, table_with}
 use Rattle.mt_probe.specs.Items.{kind_at}
 use Rattle.mt_probe.specs.Shot.{Shot}
 use Rattle.mt_probe.proofs.Covered.{even_half, even_kind, odd_half, odd_kind}
@@ -90,4 +91,14 @@ met_items shot mine table list holds met = record {
   rising = met.rising;
   exact = λ m held. let is = met.exact m held in record { theirs = is.theirs; there = sym (holds.held m.item) ∙ is.there; hull = is.hull };
   complete = λ item theirs k there meet. met.complete item theirs k (holds.held item ∙ there) meet;
+}
+
+pub next_met : (shot : Shot) (mine : Sliced) (table : List (Option Sliced)) (from : ℕ) (next : Option Met) → Holds shot.setup.rules shot.slots table
+    → IsNextMet shot.setup.rules mine table from next → IsNextMetOf shot mine from next
+next_met shot mine table from None holds none = λ item late theirs k there meet.
+    let at = holds.held item ∙ there in none item late (within table item theirs at) theirs k at meet
+next_met shot mine table from (Some met) holds first = record {
+  begun = first.begun;
+  is = record { theirs = first.is.theirs; there = sym (holds.held met.item) ∙ first.is.there; hull = first.is.hull };
+  none_before = λ item late below theirs k there meet. first.none_before item late below theirs k (holds.held item ∙ there) meet;
 }

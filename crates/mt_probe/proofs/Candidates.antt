@@ -1,5 +1,5 @@
 -- The trajectories whose slices meet those of a new one: each is near, and what loses separation is among them.
-use Rattle.std.proofs.Common.{◌≡◌, ◌≢◌, ℕ, zero, suc, ◌+◌, ◌/◌, ◌<◌, ◌≤◌, ⊎_elim, List, [], ◌∷◌, ◌++◌, Option, Some, None, Contains, length, get_or, take, option_map, Bool, true, false, refl, sym, ◌∙◌, ap, subst, if◌then◌else◌, length-append, arith}
+use Rattle.std.proofs.Common.{◌≡◌, ◌≢◌, ℕ, zero, suc, min, max, ◌+◌, ◌*◌, ◌/◌, ◌<◌, ◌≤◌, ⊎_elim, List, [], ◌∷◌, ◌++◌, Option, Some, None, Contains, length, get_or, take, option_map, Bool, true, false, refl, sym, ◌∙◌, ap, subst, if◌then◌else◌, length-append, arith}
 use Rattle.std.proofs.lemmas.Bool.{cases_eq}
 use Rattle.std.proofs.lemmas.List.{flat_map_more, take_more}
 use Rattle.std.proofs.lemmas.List.Elements.{All-contains}
@@ -26,6 +26,7 @@ use Rattle.mt_probe.specs.Narrow.{all_end}
 use Rattle.mt_probe.specs.Shot.{Shot, made_named}
 use Rattle.mt_probe.specs.Standing.{IsSoundShot}
 use Rattle.mt_probe.proofs.Nearby.{kept_by}
+use Rattle.mt_probe.proofs.Placed.{filled_inside}
 
 -- the trajectory whose slices these are
 record IsPathAt (rules : Rules) (kind : Kind) (at : Option Flight) (theirs : Sliced) : Type 0 where
@@ -116,6 +117,26 @@ lost_within shot t met call other k sound laid is held loss =
 
 pub early : (shot : Shot) (t : Trajectory) (met : Met) → IsStrand t → IsMetOf shot (slices_of shot.setup.rules t) met → met.last < all_end
 early shot t met laid is = let within = is.hull.last_is.left.within in omega (arith, within, laid.early)
+
+-- what is met is at a place
+pub met_inside : (shot : Shot) (mine : Sliced) (met : Met) → IsMetOf shot mine met → met.item < 2 * length shot.slots
+met_inside shot mine met is =
+    let it = path_at shot.setup.rules (kind_at met.item) (get_or shot.slots (met.item / 2) None) is.theirs is.there in
+    let inside = filled_inside shot.slots (met.item / 2) it.flight it.at_is in
+    omega (arith, inside)
+
+-- the conflict in those seconds of a range is the conflict in the range
+pub part_by_hull : (rules : Rules) (a b : Trajectory) (first last from to begin end : ℕ) (r : Option (ℕ × ℕ)) → begin ≡ max from first → end ≡ min to (last + 1)
+    → ((k : ℕ) → IsLossSecond rules a b k → (first ≤ k) × (k ≤ last)) → IsConflict rules a b begin end r → IsConflict rules a b from to r
+part_by_hull rules a b first last from to begin end None begin_is end_is inside none = λ k low high loss.
+    let between = inside k loss in none k (omega (arith, between.0, low, begin_is)) (omega (arith, between.1, high, end_is)) loss
+part_by_hull rules a b first last from to begin end (Some span) begin_is end_is inside some = record {
+  inside = (omega (arith, some.inside.0, begin_is), some.inside.1, omega (arith, some.inside.2, end_is));
+  first_is = some.first_is;
+  last_is = some.last_is;
+  none_outside = λ k low high loss. let between = inside k loss in
+      some.none_outside k (omega (arith, between.0, low, begin_is)) (omega (arith, between.1, high, end_is)) loss;
+}
 
 -- the conflict in these seconds is the whole conflict
 pub whole_by_hull : (rules : Rules) (a b : Trajectory) (first last : ℕ) (r : Option (ℕ × ℕ)) → ((k : ℕ) → IsLossSecond rules a b k → (first ≤ k) × (k ≤ last))

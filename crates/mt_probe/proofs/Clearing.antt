@@ -1,20 +1,29 @@
 -- A new trajectory has a hit, or is clear of all places.
-use Rattle.std.proofs.Common.{◌≡◌, ◌≢◌, ◌<◌, ◌+◌, true, false, Bool, ℕ, List, Option, Some, None, length, nat_eq, option_map, refl, sym, ◌∙◌, ap, subst, arith}
-use Rattle.std.proofs.lemmas.Bool.Decides.{nat_tests}
+use Rattle.std.proofs.Common.{◌≡◌, ◌≢◌, ◌<◌, ◌+◌, ◌*◌, ◌/◌, ⊎_elim, true, false, ℕ, List, [], Option, Some, None, length, option_map, refl, sym, ◌∙◌, ap, subst, arith}
+use Rattle.std.proofs.lemmas.Bool.{cases_lt}
 use Rattle.std.specs.Arc.{arc_value}
 use Rattle.std.specs.Prelude.{is_some, option_and_then}
 use Rattle.mt_base.specs.declared.conflict.Kind.TheVariants.{Actual}
 use Rattle.mt_base.specs.declared.flight.Record.{Record}
 use Rattle.mt_base.specs.Conflict.{IsConflict}
-use Rattle.mt_base.specs.Picture.{trajectory_of, window_end}
+use Rattle.mt_base.specs.Picture.{NamedTrajectory, trajectory_of, window_end}
 use Rattle.mt_base.specs.Trajectory.{Trajectory}
 use Rattle.mt_base.specs.WhatIf.{HasHit}
+use Rattle.mt_base.proofs.Members.{Contains-head}
+use Rattle.mt_cover.specs.Sliced.{slices_of}
+use Rattle.mt_meet.specs.declared.table.Met.{Met}
+use Rattle.mt_meet.proofs.Meetings.{losing_meet}
+use Rattle.mt_track.specs.Laid.{IsStrand}
 use Rattle.mt_probe.specs.declared.flight.Flight.{Flight}
+use Rattle.mt_probe.specs.Boxed.{IsFirstMetOf, IsNextMetOf, IsNotMet, slices_by}
 use Rattle.mt_probe.specs.Clear.{IsClearAt}
-use Rattle.mt_probe.specs.Items.{path_of}
+use Rattle.mt_probe.specs.Items.{kind_at, path_of}
 use Rattle.mt_probe.specs.Shot.{Shot, flight_at, state_of}
 use Rattle.mt_probe.specs.Standing.{IsSoundShot}
+use Rattle.mt_probe.proofs.Boxes.{slices_even}
+use Rattle.mt_probe.proofs.Covered.{even_half, even_kind}
 use Rattle.mt_probe.proofs.Looking.{flown_is}
+use Rattle.mt_probe.proofs.Nearby.{kept_by}
 use Rattle.mt_probe.proofs.Placed.{filled_inside, record_placed, record_there}
 
 module _ (shot : Shot) (call : List ℕ) (t : Trajectory) where
@@ -84,12 +93,34 @@ module _ (shot : Shot) (call : List ℕ) (t : Trajectory) where
   clear_of_path slot none f at apart =
       let some : Some (arc_value f.actual.strand) ≡ None = ap (option_and_then (path_of Actual)) (sym at) ∙ none in absurd (cc)
 
-  -- one place more
-  pub clear_more : (n : ℕ) → ((j : ℕ) → j < n → IsClearAt shot call t j) → IsClearAt shot call t n → (j : ℕ) → j < n + 1 → IsClearAt shot call t j
-  clear_more n before last j below = by_test (nat_eq j n) refl where
-    by_test : (b : Bool) → nat_eq j n ≡ b → IsClearAt shot call t j
-    by_test true e = let same : n ≡ j = grind (arith, nat_tests) in subst (IsClearAt shot call t) same last
-    by_test false e = let other : j ≢ n = grind (arith, nat_tests) in before j (omega (arith, below, other))
+  -- the flight at a place whose slices its own don't meet is no hit
+  clear_of_unmet : (slot : ℕ) → IsSoundShot shot → IsStrand t → IsNotMet shot (slices_of shot.setup.rules t) (2 * slot) → IsClearAt shot call t slot
+  clear_of_unmet slot sound laid unmet f at apart =
+      let rules = shot.setup.rules in
+      let named : NamedTrajectory = record { call = f.card.call; kind = Actual; path = arc_value f.actual.strand } in
+      let path_laid = sound.laid slot f named at (kept_by f Actual named (Contains-head named [])) in
+      let there = slices_even rules shot.slots slot ∙ ap (slices_by rules Actual) at in
+      subst (λ (u : Trajectory). IsConflict rules t u shot.now (window_end shot.now) None) (flown_is shot.setup f (sound.sound slot f at).kept)
+      (λ k low high loss. unmet (slices_of rules (arc_value f.actual.strand)) k there
+      (losing_meet rules t (arc_value f.actual.strand) k sound.rules laid path_laid loss))
+
+  -- one more that is met is tested, and those before it aren't met
+  pub clear_next : (from : ℕ) (met : Met) → IsSoundShot shot → IsStrand t → IsFirstMetOf shot (slices_of shot.setup.rules t) from met
+      → ((j : ℕ) → 2 * j < from → IsClearAt shot call t j) → (kind_at met.item ≡ Actual → IsClearAt shot call t (met.item / 2))
+      → (j : ℕ) → 2 * j < met.item + 1 → IsClearAt shot call t j
+  clear_next from met sound laid first before here j below = ⊎_elim
+      (λ early. before j early)
+      (λ late. ⊎_elim
+      (λ between. clear_of_unmet j sound laid (first.none_before (2 * j) late between))
+      (λ last. let same : met.item ≡ 2 * j = omega (arith, below, last) in
+      subst (IsClearAt shot call t) (ap (λ (n : ℕ). n / 2) same ∙ even_half j) (here (ap kind_at same ∙ even_kind j)))
+      (cases_lt (2 * j) met.item))
+      (cases_lt (2 * j) from)
+
+  pub clear_behind : (from : ℕ) → IsSoundShot shot → IsStrand t → IsNextMetOf shot (slices_of shot.setup.rules t) from None
+      → ((j : ℕ) → 2 * j < from → IsClearAt shot call t j) → (j : ℕ) → IsClearAt shot call t j
+  clear_behind from sound laid none before j = ⊎_elim
+      (λ early. before j early) (λ late. clear_of_unmet j sound laid (none (2 * j) late)) (cases_lt (2 * j) from)
 
   -- where each place is clear there is no hit
   pub clear_of_all : ((slot : ℕ) → slot < length shot.slots → IsClearAt shot call t slot) → ¬ HasHit shot.setup (state_of shot) call t

@@ -1,5 +1,5 @@
 -- How a snapshot keeps the slices of its trajectories. No public contract cites these.
-use Rattle.std.specs.Prelude.{◌≡◌, ℕ, ◌+◌, ◌*◌, ◌/◌, ◌<◌, List, Option, Some, None, Contains, AllPairs, get_or, length, option_map, slice_set}
+use Rattle.std.specs.Prelude.{◌≡◌, ℕ, ◌+◌, ◌*◌, ◌/◌, ◌<◌, ◌≤◌, List, Option, Some, None, Contains, AllPairs, get_or, length, option_map, slice_set}
 use Rattle.mt_base.specs.declared.conflict.Kind.{Kind}
 use Rattle.mt_base.specs.declared.conflict.Kind.TheVariants.{Actual, Tentative}
 use Rattle.mt_base.specs.declared.rules.Rules.{Rules}
@@ -48,6 +48,21 @@ pub record IsMetOf (shot : Shot) (mine : Sliced) (met : Met) : Type 0 where
   pub theirs : Sliced
   pub there : slices_at shot.setup.rules shot.slots met.item ≡ Some theirs
   pub hull : IsHullOf (MeetAt shot.setup.rules mine theirs) met.first met.last
+
+-- the trajectory that an item names, where it names one, has no slices that meet some
+abbrev pub IsNotMet : Shot → Sliced → ℕ → Type 0
+IsNotMet shot mine item = (theirs : Sliced) (k : ℕ) → slices_at shot.setup.rules shot.slots item ≡ Some theirs → ¬ MeetAt shot.setup.rules mine theirs k
+
+-- it is the first item, from one on, whose trajectory has slices that meet some
+pub record IsFirstMetOf (shot : Shot) (mine : Sliced) (from : ℕ) (met : Met) : Type 0 where
+  pub begun : from ≤ met.item
+  pub is : IsMetOf shot mine met
+  pub none_before : (item : ℕ) → from ≤ item → item < met.item → IsNotMet shot mine item
+
+-- the first item, from one on, whose trajectory has slices that meet some; or none has
+abbrev pub IsNextMetOf : Shot → Sliced → ℕ → Option Met → Type 0
+IsNextMetOf shot mine from (Some met) = IsFirstMetOf shot mine from met
+IsNextMetOf shot mine from None = (item : ℕ) → from ≤ item → IsNotMet shot mine item
 
 -- The items whose trajectories have slices that meet some, rising, each once.
 pub record AreMetItems (shot : Shot) (mine : Sliced) (list : List Met) : Type 0 where

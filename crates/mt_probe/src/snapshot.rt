@@ -6,7 +6,7 @@ ghost use Rattle.mt_base.specs.Picture.{flight_of, opening};
 ghost use Rattle.mt_change.specs.Sound.{IsSoundState};
 ghost use Rattle.mt_cover.specs.Sliced.{slices_of};
 ghost use Rattle.mt_probe.specs.Body.{shot_of};
-ghost use Rattle.mt_probe.specs.Boxed.{AreMetItems, IsKept};
+ghost use Rattle.mt_probe.specs.Boxed.{AreMetItems, IsKept, IsNextMetOf};
 ghost use Rattle.mt_probe.specs.Items.{AreNearItems, IsNearItem, path_of};
 ghost use Rattle.mt_probe.specs.Putting.{Fits, records_put, with_flight, with_moment};
 ghost use Rattle.mt_probe.specs.Shot.{IsFreeIn, flight_at, kept_of, made_of, records_in, state_of};
@@ -18,7 +18,7 @@ use crate::index::Index;
 use crate::nearness::share;
 use crate::placing::moved;
 use mt_base::{Callsign, Kind, Memory, Record, Rules, Second};
-use mt_cover::{Cover, cover, slices};
+use mt_cover::{Cover, Slices, cover, slices};
 use mt_meet::{Met, SliceTable};
 use mt_paged::Paged;
 use mt_tables::Tables;
@@ -267,8 +267,23 @@ impl Snapshot {
     pub(crate) fn meeting(&self, strand: &Strand) -> Result<Vec<Met>, Memory>
         ensures { IfOk result (λ list. AreMetItems self.now (slices_of self.now.setup.rules strand.now) list.items) }
     {
-        let mine = slices(self.body.alloc, strand, self.rules())?;
+        let mine = self.sliced(strand)?;
         self.body.table.meeting(&mine, self.rules())
+    }
+
+    /// The slices of a new trajectory.
+    pub(crate) fn sliced(&self, strand: &Strand) -> Result<Slices, Memory>
+        ensures { IfOk result (λ mine. mine ≡ slices_of self.now.setup.rules strand.now) }
+    {
+        slices(self.body.alloc, strand, self.rules())
+    }
+
+    /// The first of the items, from one on, whose trajectories have slices that meet some, with the first and the last second in which they do;
+    /// `None` exactly where there is none.
+    pub(crate) fn next_meeting(&self, from: u32, mine: &Slices) -> Option<Met>
+        ensures { IsNextMetOf self.now mine.now from result }
+    {
+        self.body.table.next_meeting(from, mine, self.rules())
     }
 
     /// The picture with that flight at a place, or none, one version later. This snapshot stays as it is.

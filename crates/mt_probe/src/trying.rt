@@ -192,7 +192,8 @@ fn free_probe(
 {
     let _version = snapshot.version();
     let strand = strand_of(alloc, snapshot, &card, Kind::Actual)?;
-    if has_hit(snapshot, card.call, &strand, tests) {
+    let hit = has_hit(snapshot, card.call, &strand, tests)?;
+    if hit {
         return Ok(None);
     }
     let probe = probe_of(alloc, snapshot, call, clearance, eff, card, strand, tests)?;
@@ -204,7 +205,7 @@ fn free_probe(
 /// made only of one that is free.
 ///
 /// It asks that a level is at most 600, and `eff` at most 10,000,000. The trajectory that the clearance would leave is tested in the window alone,
-/// with one flight after the other, up to the first with a conflict.
+/// with one flight after the other whose slices meet its own, up to the first with a conflict.
 pub fn probe_if_free(
     alloc: Global,
     snapshot: &Snapshot,

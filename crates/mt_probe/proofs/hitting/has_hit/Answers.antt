@@ -1,14 +1,35 @@
 use Rattle.std.proofs.Common.{arith}
-use Rattle.mt_probe.proofs.Clearing.{clear_more, clear_of_all}
+use Rattle.std.proofs.lemmas.Int.{ints}
+use Rattle.mt_probe.proofs.Candidates.{met_inside}
+use Rattle.mt_probe.proofs.Clearing.{clear_behind, clear_next, clear_of_all}
 use Rattle.mt_probe.proofs.hitting.has_hit.Goals as goal
 
-pub loop-slot-preserved : goal.loop-slot-preserved
-loop-slot-preserved c =
-    clear_more c.args.snapshot.now c.args.call c.args.strand.now c.loop-slot.slot c.loop-slot.invariant (c.is_hit_at.ensures.clear c.if-is_hit_at.false)
+pub is_hit_with-requires : goal.is_hit_with-requires
+is_hit_with-requires c = rw c.in_ok-mine.ensures at c.in-Some.ensures.is
+
+pub overflow_add-from : goal.overflow_add-from
+overflow_add-from c =
+    let shot = c.args.snapshot.now in
+    let sound = c.version-version.ensures.kept in
+    let inside = met_inside shot c.in_ok-mine.mine c.in-Some.met c.in-Some.ensures.is in
+    omega (arith, ints, inside, sound.places, sound.rules.flights.most)
+
+pub loop-met-smaller : goal.loop-met-smaller
+loop-met-smaller c =
+    let inside = met_inside c.args.snapshot.now c.in_ok-mine.mine c.in-Some.met c.in-Some.ensures.is in
+    omega (arith, inside, c.in-Some.ensures.begun)
+
+pub loop-met-preserved : goal.loop-met-preserved
+loop-met-preserved c =
+    let first = rw c.in_ok-mine.ensures at c.in-Some.ensures in
+    clear_next c.args.snapshot.now c.args.call c.args.strand.now c.loop-met.from c.in-Some.met c.version-version.ensures.kept c.end-end.ensures.kept first
+    c.loop-met.invariant (c.is_hit_with.ensures.clear c.if-is_hit_with.false)
 
 pub returns : goal.returns
-returns c = (
-  (λ is. absurd (cc)),
-  (λ has. absurd (clear_of_all c.args.snapshot.now c.args.call c.args.strand.now
-      (λ j below. c.loop-slot.invariant j (omega (arith, below, c.slots-slot-end.ensures, c.loop-slot.auto.slot-end, c.loop-slot-test.false))) has)),
-)
+returns c =
+    let none = rw c.in_ok-mine.ensures at c.in_default.ensures in (
+      (λ is. absurd (cc)),
+      (λ has. absurd (clear_of_all c.args.snapshot.now c.args.call c.args.strand.now
+          (λ j below. clear_behind c.args.snapshot.now c.args.call c.args.strand.now c.loop-met.from c.version-version.ensures.kept c.end-end.ensures.kept none
+          c.loop-met.invariant j) has)),
+    )
