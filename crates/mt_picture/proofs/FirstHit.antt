@@ -4,6 +4,7 @@ use Rattle.std.specs.Arc.{arc_value}
 use Rattle.std.specs.Prelude.{IfOk, IfSome, is_some, Result, Ok, Err}
 use Rattle.mt_base.specs.declared.command.Command.{Command}
 use Rattle.mt_base.specs.declared.command.Command.TheVariants.{Accept, External, Plan}
+use Rattle.mt_base.specs.declared.command.Entry.{Entry}
 use Rattle.mt_base.specs.declared.flight.Path.{Path}
 use Rattle.mt_base.specs.declared.flight.Path.TheVariants.{Outer, Planned}
 use Rattle.mt_base.specs.declared.flight.Record.{Record}
@@ -26,6 +27,7 @@ use Rattle.mt_probe.specs.Standing.{IsSoundEntry, IsSoundShot}
 use Rattle.mt_probe.proofs.Placed.{filled_inside, found_there}
 use Rattle.mt_picture.specs.Entries.{IsFiling, is_probed}
 use Rattle.mt_picture.specs.Hits.{IsFirstAmong}
+use Rattle.mt_picture.specs.Holding.{AddsOrStops, EntersOrStops, Holding, entry_now, held_story, story_after}
 use Rattle.mt_picture.specs.Places.{all_places}
 use Rattle.mt_picture.specs.Putting.{IsFirstOf}
 use Rattle.mt_picture.proofs.Entered.{altered_by, own_actual}
@@ -105,3 +107,10 @@ both_ok (Err e) P Q R f p q = tt
 pub none_is : {X : Type 0} (x : Option X) → is_some x ≡ false → x ≡ None
 none_is None e = refl
 none_is (Some x) e = absurd (cc)
+
+-- with its first hit, what adds an entry or stops enters its command or stops
+pub enters_or_stops : {E : Type 0} (before after : Holding) (who : ℕ) (c : Command) (e : Entry) (r : Result (Option Hit) E) → e ≡ entry_now before.snapshot who c
+    → AddsOrStops before after e r → IfOk r (IsFirstHit before.snapshot.setup (state_in before.snapshot) c) → EntersOrStops before after who c r
+enters_or_stops before after who c e (Ok first) is added hits =
+    record { story = added ∙ ap (λ (x : Entry). story_after (held_story before) x first) is; hits = hits }
+enters_or_stops before after who c e (Err err) is added hits = added

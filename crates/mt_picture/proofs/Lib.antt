@@ -18,6 +18,7 @@ pub mod Moved
 pub mod Opening
 pub mod Owning
 pub mod Passing
+pub mod Preparing
 pub mod Published
 pub mod Remade
 pub mod Since

@@ -13,7 +13,7 @@ use Rattle.mt_base.specs.declared.hit.Hit.{Hit}
 use Rattle.mt_base.specs.declared.rules.Rules.{Rules}
 use Rattle.mt_base.specs.declared.verdict.Verdict.{Verdict}
 use Rattle.mt_base.specs.Checks.{judged}
-use Rattle.mt_base.specs.History.{HasHits, IsDecided, IsInTime, IsLegal, IsReplayable, WasFree, checks, entered_by, filled, look_at, state_of, verdict_in}
+use Rattle.mt_base.specs.History.{IsDecided, IsInTime, IsLegal, IsReplayable, WasFree, checks, entered_by, filled, look_at, state_of, verdict_in}
 use Rattle.mt_base.specs.Picture.{IsPublished, IsPublishedOf, NamedTrajectory, State, trajectories}
 use Rattle.mt_base.specs.Tables.{Setup}
 use Rattle.mt_base.proofs.HistoryLemmas.{legal_push, replayable_push, version_is}
@@ -31,6 +31,7 @@ use Rattle.mt_probe.specs.Shot.{state_of as state_in}
 use Rattle.mt_probe.specs.Standing.{IsSoundShot}
 use Rattle.mt_probe.proofs.Gathered.{at_kept, kept_at}
 use Rattle.mt_base.proofs.Members.{Contains-cases, Contains-none}
+use Rattle.mt_picture.specs.Holding.{HasEnteredOrStopped, Holding, IsPassed, entry_now, held_story}
 use Rattle.mt_picture.specs.Places.{all_places, first_of, made_of_kind, second_of}
 use Rattle.mt_picture.specs.Stamps.{IsPicture}
 use Rattle.mt_picture.specs.Story.{IsEntered, IsRefused, Story}
@@ -105,23 +106,25 @@ verdict_filled : (setup : Setup) (s : State) (now : ℕ) (c : Command) → verdi
 verdict_filled setup s now (Marks call clearance eff) = refl
 verdict_filled setup s now c = refl
 
-pub entered_now : (shot after : Shot) (h later : List Entry) (who : ℕ) (c : Command) (version : ℕ) (verdict : Option Verdict) → state_in shot ≡ state_of shot.setup h
-    → judged (checks shot.setup (look_at (state_in shot) c) who c) (tt {0}) ≡ Ok (tt {0}) → HasHits shot.setup (state_in shot) c [] → after.setup ≡ shot.setup
-    → later ≡ h ++ record { who = who; command = filled shot.now c } ∷ [] → state_in after ≡ state_of after.setup later → version ≡ after.version
-    → verdict ≡ verdict_in shot.setup (state_in shot) c
-    → IsEntered (record { setup = shot.setup; history = h }) (record { setup = after.setup; history = later }) who c (record { version = version; verdict = verdict })
-entered_now shot after h later who c version verdict stands passed hits setup_is later_is stands_after version_is verdict_is =
-    let e : Entry = record { who = who; command = filled shot.now c } in
-    let s = state_of shot.setup h in
+pub entered_now : (before after : Holding) (who : ℕ) (c : Command) (version : ℕ) (verdict : Option Verdict)
+    → state_in before.snapshot ≡ state_of before.snapshot.setup before.history → IsPassed before.snapshot who c → HasEnteredOrStopped before after who c None
+    → state_in after.snapshot ≡ state_of after.snapshot.setup after.history → version ≡ after.snapshot.version
+    → verdict ≡ verdict_in before.snapshot.setup (state_in before.snapshot) c
+    → IsEntered (held_story before) (held_story after) who c (record { version = version; verdict = verdict })
+entered_now before after who c version verdict stands passed is stands_after version_is verdict_is =
+    let shot = before.snapshot in
+    let h = before.history in
+    let e : Entry = entry_now shot who c in
+    let longer : after.history ≡ h ++ e ∷ [] = ap (λ (s : Story). s.history) is.story in
     let n : version ≡ (state_in shot).version + 1 =
-    version_is ∙ version_now after later stands_after ∙ ap length later_is ∙ length-append h (e ∷ []) ∙ ap (λ (k : ℕ). k + 1) (sym (version_now shot h stands)) in
+    version_is ∙ version_now after.snapshot after.history stands_after ∙ ap length longer ∙ length-append h (e ∷ []) ∙ ap (λ (k : ℕ). k + 1) (sym (version_now shot h stands)) in
     let v : verdict ≡ verdict_in shot.setup (state_in shot) e.command = verdict_is ∙ verdict_filled shot.setup (state_in shot) shot.now c in
     let here : record { version = version; verdict = verdict } ≡ entered_by shot.setup (state_in shot) e = λ i. record { version = n i; verdict = v i } in
     record {
       entry = e;
-      decided = subst (λ (q : State). IsDecided shot.setup q who c (Ok e)) stands (entered shot.setup (state_in shot) who c passed hits);
-      same = setup_is;
-      longer = later_is;
+      decided = subst (λ (q : State). IsDecided shot.setup q who c (Ok e)) stands (entered shot.setup (state_in shot) who c passed is.hits);
+      same = ap (λ (s : Story). s.setup) is.story;
+      longer = longer;
       answered = here ∙ ap (λ (q : State). entered_by shot.setup q e) stands;
     }
 

@@ -1,25 +1,23 @@
 //! Entering a command that passes its checks.
-ghost use Rattle.std.specs.Prelude.{◌≡◌, ◌↔◌, ◌⊎◌, ◌++◌, ◌∷◌, [], IsTrue, IfOk, Ok, OnErr, OnOk, None, Some, option_copied, option_map, true};
+ghost use Rattle.std.specs.Prelude.{◌≡◌, ◌↔◌, ◌⊎◌, IsTrue, IfOk, None, Some, option_copied, option_map};
 ghost use Rattle.mt_base.specs.Bounds.{IsBoundedCommand};
-ghost use Rattle.mt_base.specs.Checks.{judged};
-ghost use Rattle.mt_base.specs.History.{checks, filled, look_at};
 ghost use Rattle.mt_change.specs.Altered.{Alters};
-ghost use Rattle.mt_machine.specs.Deciding.{IsFirstHit};
 ghost use Rattle.mt_probe.specs.Prepared.{IsLeft, MakesStrand};
 ghost use Rattle.mt_probe.specs.Shot.{flight_at};
 ghost use Rattle.mt_probe.specs.Shot.{state_of as state_in};
 ghost use Rattle.mt_picture.specs.Asked.{IsWithinBound, IsWithinPreps};
 ghost use Rattle.mt_picture.specs.Asking.{WasAskedFor};
+ghost use Rattle.mt_picture.specs.Brought.{IsPreparedNow};
 ghost use Rattle.mt_picture.specs.Entries.{IsFiling, IsReport, IsWithdrawal};
-ghost use Rattle.mt_picture.specs.Putting.{history_after};
-ghost use Rattle.mt_picture.specs.Stamps.{HaveStood, IsPicture};
+ghost use Rattle.mt_picture.specs.Holding.{AddsEntry, EntersOrStops, IsPassed, entry_now, held_story};
 ghost use Rattle.mt_picture.specs.Story.{IsGivenFor, IsPrepFor};
 
 use crate::entering::{file, remake, report, withdraw};
-use crate::held::{Held, remove, tick};
+use crate::held::Held;
+use crate::keeping::is_prepared;
 use crate::usable::is_usable;
 use mt_base::{Command, Hit, Memory, Record, Tally};
-use mt_probe::{Prep, Snapshot, altered_flight, left_of};
+use mt_probe::{Prep, altered_flight, left_of};
 use std::alloc::Global;
 
 // Whether a command files a flight.
@@ -44,38 +42,27 @@ fn enter_filing(
     known: bool,
     tests: &mut Tally,
 ) -> Result<Option<Hit>, Memory>
-    requires held { IsPicture held.old.snapshot held.old.history.items held.old.kept }
-    requires passed { judged (checks held.old.snapshot.setup (look_at (state_in held.old.snapshot) command.now) who command.now) (tt {0}) ≡ Ok (tt {0}) }
+    requires passed { IsPassed held.old.snapshot who command.now }
     requires filing { IsFiling command.now }
     requires bounded { IsBoundedCommand command.now }
-    requires left { IsLeft held.old.snapshot.setup (state_in held.old.snapshot) who command.now card }
-    requires setup { prep.now.setup ≡ held.old.snapshot.setup }
-    requires of { prep.now.card.call ≡ card.call }
-    requires command { prep.now.command ≡ command.now }
-    requires known { known ≡ true → card ≡ prep.now.card }
-    requires stood { HaveStood held.old.snapshot prep.now }
-    ensures held { IsPicture held.new.snapshot held.new.history.items held.new.kept }
-    ensures setup { held.new.snapshot.setup ≡ held.old.snapshot.setup }
-    ensures ok { IfOk result (λ first. held.new.history.items ≡ history_after held.old.history.items
-        (record { who = who; command = filled held.old.snapshot.now command.now }) first) }
-    ensures err { OnErr result (held.new.history.items ≡ held.old.history.items) }
-    ensures hits { IfOk result (IsFirstHit held.old.snapshot.setup (state_in held.old.snapshot) command.now) }
+    requires prepared { IsPreparedNow held.old.snapshot who command.now card prep.now known }
+    ensures entered { EntersOrStops held.old held.new who command.now result }
     ensures counted { WasAskedFor held.old.snapshot prep.now known who command.now tests.old tests.new }
 {
-    let _version = held.snapshot.version();
-    let Some(slot) = held.snapshot.free() else {
+    held.keeps();
+    let Some(slot) = held.snapshot().free() else {
         unreachable!()
     };
     file(held, alloc, slot, who, command, card, prep, known, tests)
 }
 
 // The slot of the flight that a command alters.
-fn slot_of(snapshot: &Snapshot, who: u32, command: &Command, card: &Record) -> u32
+fn slot_of(held: &Held, who: u32, command: &Command, card: &Record) -> u32
     requires alters { Alters command.now }
-    requires left { IsLeft snapshot.now.setup (state_in snapshot.now) who command.now card.now }
-    ensures { option_map (λ f. f.card.call) (flight_at snapshot.now result) ≡ Some card.now.call }
+    requires left { IsLeft held.now.snapshot.setup (state_in held.now.snapshot) who command.now card.now }
+    ensures { option_map (λ f. f.card.call) (flight_at held.now.snapshot result) ≡ Some card.now.call }
 {
-    let Some(slot) = snapshot.find(card.call) else {
+    let Some(slot) = held.snapshot().find(card.call) else {
         unreachable!()
     };
     slot
@@ -89,17 +76,18 @@ fn card_left(
     command: &Command,
     prep: &Prep,
 ) -> Result<Record, Memory>
-    requires held { IsPicture held.now.snapshot held.now.history.items held.now.kept }
-    requires passed { judged (checks held.now.snapshot.setup (look_at (state_in held.now.snapshot) command.now) who command.now) (tt {0}) ≡ Ok (tt {0}) }
+    requires passed { IsPassed held.now.snapshot who command.now }
     requires bounded { IsBoundedCommand command.now }
-    requires prepared { IsPrepFor (record { setup = held.now.snapshot.setup; history = held.now.history.items }) who command.now prep.now }
+    requires prepared { IsPrepFor (held_story held.now) who command.now prep.now }
     ensures { IfOk result (IsLeft held.now.snapshot.setup (state_in held.now.snapshot) who command.now) }
 {
-    let version = held.snapshot.version();
+    held.keeps();
+    let snapshot = held.snapshot();
+    let version = snapshot.version();
     if prep.version() == version {
         return prep.card().copy(alloc);
     }
-    let Ok(card) = left_of(alloc, &held.snapshot, who, command)? else {
+    let Ok(card) = left_of(alloc, snapshot, who, command)? else {
         unreachable!()
     };
     Ok(card)
@@ -114,44 +102,33 @@ fn enter_strand(
     prep: &Prep,
     tests: &mut Tally,
 ) -> Result<Option<Hit>, Memory>
-    requires held { IsPicture held.old.snapshot held.old.history.items held.old.kept }
-    requires passed { judged (checks held.old.snapshot.setup (look_at (state_in held.old.snapshot) command.now) who command.now) (tt {0}) ≡ Ok (tt {0}) }
+    requires passed { IsPassed held.old.snapshot who command.now }
     requires bounded { IsBoundedCommand command.now }
-    requires prepared { IsPrepFor (record { setup = held.old.snapshot.setup; history = held.old.history.items }) who command.now prep.now }
-    ensures held { IsPicture held.new.snapshot held.new.history.items held.new.kept }
-    ensures setup { held.new.snapshot.setup ≡ held.old.snapshot.setup }
-    ensures ok { IfOk result (λ first. held.new.history.items ≡ history_after held.old.history.items
-        (record { who = who; command = filled held.old.snapshot.now command.now }) first) }
-    ensures err { OnErr result (held.new.history.items ≡ held.old.history.items) }
-    ensures hits { IfOk result (IsFirstHit held.old.snapshot.setup (state_in held.old.snapshot) command.now) }
-    ensures counted { IsWithinPreps (record { setup = held.old.snapshot.setup; history = held.old.history.items }) who command.now (Some prep.now) tests.old tests.new }
+    requires prepared { IsPrepFor (held_story held.old) who command.now prep.now }
+    ensures entered { EntersOrStops held.old held.new who command.now result }
+    ensures counted { IsWithinPreps (held_story held.old) who command.now (Some prep.now) tests.old tests.new }
 {
-    let _version = held.snapshot.version();
-    let _prepared = prep.version();
+    held.keeps();
+    is_prepared(prep);
     let card = card_left(held, alloc, who, command, prep)?;
-    let known = is_usable(&held.snapshot, &held.history, who, command, prep);
+    let known = is_usable(held, who, command, prep);
     if is_filing(command) {
         return enter_filing(held, alloc, who, command, card, prep, known, tests);
     }
-    let slot = slot_of(&held.snapshot, who, command, &card);
+    let slot = slot_of(held, who, command, &card);
     remake(held, alloc, slot, who, command, card, prep, known, tests)
 }
 
 // Enters a command that alters a flight and makes no trajectory.
 fn enter_card(held: &mut Held, alloc: Global, who: u32, command: &Command) -> Result<(), Memory>
-    requires held { IsPicture held.old.snapshot held.old.history.items held.old.kept }
-    requires passed { judged (checks held.old.snapshot.setup (look_at (state_in held.old.snapshot) command.now) who command.now) (tt {0}) ≡ Ok (tt {0}) }
+    requires passed { IsPassed held.old.snapshot who command.now }
     requires bounded { IsBoundedCommand command.now }
     requires alters { IsReport command.now ⊎ IsWithdrawal command.now }
-    ensures held { IsPicture held.new.snapshot held.new.history.items held.new.kept }
-    ensures setup { held.new.snapshot.setup ≡ held.old.snapshot.setup }
-    ensures ok { OnOk result (held.new.history.items
-        ≡ held.old.history.items ++ (record { who = who; command = filled held.old.snapshot.now command.now }) ∷ []) }
-    ensures err { OnErr result (held.new.history.items ≡ held.old.history.items) }
+    ensures entered { AddsEntry held.old held.new (entry_now held.old.snapshot who command.now) result }
 {
-    let _version = held.snapshot.version();
-    let card = altered_flight(alloc, &held.snapshot, who, command)?;
-    let slot = slot_of(&held.snapshot, who, command, &card);
+    held.keeps();
+    let card = altered_flight(alloc, held.snapshot(), who, command)?;
+    let slot = slot_of(held, who, command, &card);
     if is_report(command) {
         report(held, alloc, slot, who, command, card)
     } else {
@@ -177,25 +154,20 @@ fn enter_plain(
     command: &Command,
     tests: &mut Tally,
 ) -> Result<(), Memory>
-    requires held { IsPicture held.old.snapshot held.old.history.items held.old.kept }
-    requires passed { judged (checks held.old.snapshot.setup (look_at (state_in held.old.snapshot) command.now) who command.now) (tt {0}) ≡ Ok (tt {0}) }
+    requires passed { IsPassed held.old.snapshot who command.now }
     requires bounded { IsBoundedCommand command.now }
     requires plain { MakesStrand command.now → ⊥ }
-    ensures held { IsPicture held.new.snapshot held.new.history.items held.new.kept }
-    ensures setup { held.new.snapshot.setup ≡ held.old.snapshot.setup }
-    ensures ok { OnOk result (held.new.history.items
-        ≡ held.old.history.items ++ (record { who = who; command = filled held.old.snapshot.now command.now }) ∷ []) }
-    ensures err { OnErr result (held.new.history.items ≡ held.old.history.items) }
-    ensures counted { IsWithinBound (record { setup = held.old.snapshot.setup; history = held.old.history.items }) who command.now None tests.old tests.new }
+    ensures entered { AddsEntry held.old held.new (entry_now held.old.snapshot who command.now) result }
+    ensures counted { IsWithinBound (held_story held.old) who command.now None tests.old tests.new }
 {
-    let _version = held.snapshot.version();
+    held.keeps();
     match command {
-        Command::Tick { now } => tick(held, alloc, who, *now, tests),
+        Command::Tick { now } => held.tick(alloc, who, *now, tests),
         Command::Drop { call } => {
-            let Some(slot) = held.snapshot.find(*call) else {
+            let Some(slot) = held.snapshot().find(*call) else {
                 unreachable!()
             };
-            remove(held, slot, who, *call)
+            held.remove(slot, who, *call)
         }
         _ => enter_card(held, alloc, who, command),
     }
@@ -210,17 +182,11 @@ pub(crate) fn enter(
     prep: Option<&Prep>,
     tests: &mut Tally,
 ) -> Result<Option<Hit>, Memory>
-    requires held { IsPicture held.old.snapshot held.old.history.items held.old.kept }
-    requires passed { judged (checks held.old.snapshot.setup (look_at (state_in held.old.snapshot) command.now) who command.now) (tt {0}) ≡ Ok (tt {0}) }
+    requires passed { IsPassed held.old.snapshot who command.now }
     requires bounded { IsBoundedCommand command.now }
-    requires prepared { IsGivenFor (record { setup = held.old.snapshot.setup; history = held.old.history.items }) who command.now (option_copied prep) }
-    ensures held { IsPicture held.new.snapshot held.new.history.items held.new.kept }
-    ensures setup { held.new.snapshot.setup ≡ held.old.snapshot.setup }
-    ensures ok { IfOk result (λ first. held.new.history.items ≡ history_after held.old.history.items
-        (record { who = who; command = filled held.old.snapshot.now command.now }) first) }
-    ensures err { OnErr result (held.new.history.items ≡ held.old.history.items) }
-    ensures hits { IfOk result (IsFirstHit held.old.snapshot.setup (state_in held.old.snapshot) command.now) }
-    ensures counted { IsWithinBound (record { setup = held.old.snapshot.setup; history = held.old.history.items }) who command.now (option_copied prep.entry) tests.old tests.new }
+    requires prepared { IsGivenFor (held_story held.old) who command.now (option_copied prep) }
+    ensures entered { EntersOrStops held.old held.new who command.now result }
+    ensures counted { IsWithinBound (held_story held.old) who command.now (option_copied prep.entry) tests.old tests.new }
 {
     match prep {
         Some(prep) => enter_strand(held, alloc, who, command, prep, tests),

@@ -1,26 +1,25 @@
 //! Entering a command that names a flight: what it leaves in the flight's slot.
-ghost use Rattle.std.specs.Prelude.{◌≡◌, ◌<◌, ◌+◌, ◌++◌, ◌∷◌, ◌^◌, [], None, Some, IfOk, OnOk, OnErr, is_some, length, option_and_then, option_map, false, true};
+ghost use Rattle.std.specs.Prelude.{◌≡◌, ◌<◌, ◌+◌, ◌^◌, None, Some, IfOk, is_some, length, option_and_then, option_map, false, true};
 ghost use Rattle.std.specs.Arc.{arc_value};
 ghost use Rattle.mt_base.specs.Bounds.{IsBoundedCommand, IsSoundFlight};
 ghost use Rattle.mt_base.specs.Complete.{IsComplete};
-ghost use Rattle.mt_base.specs.History.{filled};
 ghost use Rattle.mt_base.specs.Picture.{NamedTrajectory};
-ghost use Rattle.mt_machine.specs.Deciding.{IsFirstHit};
 ghost use Rattle.mt_probe.specs.Prepared.{IsLeft, kind_made, path_made};
 ghost use Rattle.mt_probe.specs.Shot.{flight_at, made_of};
 ghost use Rattle.mt_probe.specs.Shot.{state_of as state_in};
 ghost use Rattle.mt_picture.specs.Asking.{WasAskedFor, WasAskedOf};
+ghost use Rattle.mt_picture.specs.Brought.{BringsNew, IsPreparedNow};
 ghost use Rattle.mt_picture.specs.Entries.{IsFiling, IsRemaking, IsReport, IsWithdrawal, is_probed};
-ghost use Rattle.mt_picture.specs.Places.{place_kind, place_other};
-ghost use Rattle.mt_picture.specs.Putting.{IsFirstOf, IsKeptFlight, IsPutBy, IsRemade, history_after};
-ghost use Rattle.mt_picture.specs.Stamps.{HaveStood, IsPicture};
-ghost use Rattle.mt_picture.specs.Verdicts.{IsPreps};
+ghost use Rattle.mt_picture.specs.Holding.{AddsEntry, AddsOrStops, EntersOrStops, entry_now};
+ghost use Rattle.mt_picture.specs.Places.{place_kind};
+ghost use Rattle.mt_picture.specs.Putting.{IsFirstOf, IsKeptFlight, IsPutBy, IsRemade};
 
 use crate::change::{change_bare, change_for};
-use crate::held::{Held, put_card, put_change};
+use crate::held::Held;
 use crate::hits::first_hit;
+use crate::keeping::is_prepared;
 use mt_base::{Callsign, Command, Entry, Hit, Kind, Memory, Record, Tally};
-use mt_probe::{Flight, Made, Prep, Snapshot, strand_of};
+use mt_probe::{Flight, Made, Prep, strand_of};
 use mt_track::Strand;
 use std::alloc::Global;
 use std::sync::Arc;
@@ -46,80 +45,62 @@ fn put_made(
     probed: bool,
     tests: &mut Tally,
 ) -> Result<Option<Hit>, Memory>
-    requires held { IsPicture held.old.snapshot held.old.history.items held.old.kept }
     requires counted { held.old.snapshot.version < 2 ^ 40 }
     requires put { IsPutBy held.old.snapshot slot flight entry }
     requires complete { IsComplete entry }
-    requires setup { prep.now.setup ≡ held.old.snapshot.setup }
-    requires call { flight.card.call ≡ prep.now.card.call }
-    requires new { (m : NamedTrajectory) → place_kind kind (Some flight) ≡ Some m → IsPreps prep.now known m.path }
-    requires other { (m : NamedTrajectory) → place_other kind (Some flight) ≡ Some m
-        → place_other kind (flight_at held.old.snapshot slot) ≡ Some m }
-    requires stood { HaveStood held.old.snapshot prep.now }
-    ensures held { IsPicture held.new.snapshot held.new.history.items held.new.kept }
-    ensures setup { held.new.snapshot.setup ≡ held.old.snapshot.setup }
-    ensures ok { IfOk result (λ first. held.new.history.items ≡ history_after held.old.history.items entry first) }
-    ensures err { OnErr result (held.new.history.items ≡ held.old.history.items) }
+    requires new { BringsNew held.old.snapshot slot flight kind prep.now known }
+    ensures entered { AddsOrStops held.old held.new entry result }
     ensures hits { IfOk result (λ first. probed ≡ true → IsFirstOf held.old.snapshot.setup (state_in held.old.snapshot) flight.card.call
         (arc_value flight.actual.strand) first) }
     ensures free { IfOk result (λ first. probed ≡ false → first ≡ None) }
-    ensures counted { (m : NamedTrajectory) → place_kind kind (Some flight) ≡ Some m → WasAskedOf held.old.snapshot prep.now known m tests.old tests.new }
+    ensures counted { (m : NamedTrajectory) → place_kind kind (Some flight) ≡ Some m
+        → WasAskedOf held.old.snapshot prep.now known m tests.old tests.new }
 {
-    let _version = held.snapshot.version();
+    held.keeps();
+    let now = held.snapshot().now();
     let call = callsign(&flight);
-    let change = change_for(
-        alloc,
-        &held.kept,
-        &held.snapshot,
-        &held.history,
-        slot,
-        &flight,
-        kind,
-        prep,
-        known,
-        tests,
-    )?;
-    let now = held.snapshot.now();
+    let change = change_for(alloc, held, slot, &flight, kind, prep, known, tests)?;
     let first = first_hit(alloc, &change.finds, call, now, probed)?;
     if first.is_some() {
         return Ok(first);
     }
-    put_change(held, slot, flight, entry, change)?;
+    held.put_change(slot, flight, entry, change)?;
     Ok(None)
 }
 
 // The trajectory of a kind of a flight: the prep's, where that is known to be of use, or a new one.
 fn strand_for(
     alloc: Global,
-    snapshot: &Snapshot,
+    held: &Held,
     card: &Record,
     kind: Kind,
     prep: &Prep,
     known: bool,
 ) -> Result<Arc<Strand>, Memory>
-    requires sound { IsSoundFlight snapshot.now.setup card.now }
-    requires makes { is_some (path_made snapshot.now.setup card.now kind) ≡ true }
-    requires setup { prep.now.setup ≡ snapshot.now.setup }
+    requires sound { IsSoundFlight held.now.snapshot.setup card.now }
+    requires makes { is_some (path_made held.now.snapshot.setup card.now kind) ≡ true }
+    requires setup { prep.now.setup ≡ held.now.snapshot.setup }
     requires kind { kind ≡ kind_made prep.now.command }
     requires known { known ≡ true → card.now ≡ prep.now.card }
-    ensures made { IfOk result (λ strand. path_made snapshot.now.setup card.now kind ≡ Some (arc_value strand)) }
+    ensures made { IfOk result (λ strand. path_made held.now.snapshot.setup card.now kind ≡ Some (arc_value strand)) }
     ensures known { IfOk result (λ strand. known ≡ true → arc_value strand ≡ prep.now.strand) }
 {
-    let _prepared = prep.version();
+    is_prepared(prep);
     if known {
         Ok(Arc::try_clone(prep.strand())?)
     } else {
-        strand_of(alloc, snapshot, card, kind)
+        strand_of(alloc, held.snapshot(), card, kind)
     }
 }
 
 // The trajectory of a kind of the flight in a slot once more, with its stamp.
-fn made_again(snapshot: &Snapshot, slot: u32, kind: Kind) -> Result<Option<Made>, Memory>
+fn made_again(held: &Held, slot: u32, kind: Kind) -> Result<Option<Made>, Memory>
     ensures strand { IfOk result (λ again. option_map (λ m. arc_value m.strand) again
-        ≡ option_map (λ m. arc_value m.strand) (option_and_then (λ f. made_of f kind) (flight_at snapshot.now slot))) }
+        ≡ option_map (λ m. arc_value m.strand) (option_and_then (λ f. made_of f kind) (flight_at held.now.snapshot slot))) }
     ensures stamp { IfOk result (λ again. option_map (λ m. m.stamp) again
-        ≡ option_map (λ m. m.stamp) (option_and_then (λ f. made_of f kind) (flight_at snapshot.now slot))) }
+        ≡ option_map (λ m. m.stamp) (option_and_then (λ f. made_of f kind) (flight_at held.now.snapshot slot))) }
 {
+    let snapshot = held.snapshot();
     let Some(strand) = snapshot.strand(slot, kind) else {
         return Ok(None);
     };
@@ -131,19 +112,14 @@ fn made_again(snapshot: &Snapshot, slot: u32, kind: Kind) -> Result<Option<Made>
 }
 
 // The entry of a command.
-fn entry_of(
-    alloc: Global,
-    snapshot: &Snapshot,
-    who: u32,
-    command: &Command,
-) -> Result<Entry, Memory>
+fn entry_of(alloc: Global, held: &Held, who: u32, command: &Command) -> Result<Entry, Memory>
     requires { IsBoundedCommand command.now }
-    ensures entry { IfOk result (λ entry. entry ≡ record { who = who; command = filled snapshot.now.now command.now }) }
+    ensures entry { IfOk result (λ entry. entry ≡ entry_now held.now.snapshot who command.now) }
     ensures complete { IfOk result IsComplete }
 {
-    let _version = snapshot.version();
+    held.keeps();
     command.is_named();
-    let command = command.filled(alloc, snapshot.now())?;
+    let command = command.filled(alloc, held.snapshot().now())?;
     Ok(Entry { who, command })
 }
 
@@ -159,29 +135,19 @@ pub(crate) fn file(
     known: bool,
     tests: &mut Tally,
 ) -> Result<Option<Hit>, Memory>
-    requires held { IsPicture held.old.snapshot held.old.history.items held.old.kept }
     requires counted { held.old.snapshot.version < 2 ^ 40 }
     requires slot { slot < length held.old.snapshot.slots }
     requires free { flight_at held.old.snapshot slot ≡ None }
     requires filing { IsFiling command.now }
     requires bounded { IsBoundedCommand command.now }
-    requires left { IsLeft held.old.snapshot.setup (state_in held.old.snapshot) who command.now card }
-    requires setup { prep.now.setup ≡ held.old.snapshot.setup }
-    requires of { prep.now.card.call ≡ card.call }
-    requires command { prep.now.command ≡ command.now }
-    requires known { known ≡ true → card ≡ prep.now.card }
-    requires stood { HaveStood held.old.snapshot prep.now }
-    ensures held { IsPicture held.new.snapshot held.new.history.items held.new.kept }
-    ensures setup { held.new.snapshot.setup ≡ held.old.snapshot.setup }
-    ensures ok { IfOk result (λ first. held.new.history.items ≡ history_after held.old.history.items
-        (record { who = who; command = filled held.old.snapshot.now command.now }) first) }
-    ensures err { OnErr result (held.new.history.items ≡ held.old.history.items) }
-    ensures hits { IfOk result (IsFirstHit held.old.snapshot.setup (state_in held.old.snapshot) command.now) }
+    requires prepared { IsPreparedNow held.old.snapshot who command.now card prep.now known }
+    ensures entered { EntersOrStops held.old held.new who command.now result }
     ensures counted { WasAskedFor held.old.snapshot prep.now known who command.now tests.old tests.new }
 {
-    let version = held.snapshot.version();
-    let strand = strand_for(alloc, &held.snapshot, &card, Kind::Actual, prep, known)?;
-    let entry = entry_of(alloc, &held.snapshot, who, command)?;
+    held.keeps();
+    let version = held.snapshot().version();
+    let strand = strand_for(alloc, held, &card, Kind::Actual, prep, known)?;
+    let entry = entry_of(alloc, held, who, command)?;
     let flight = Flight {
         card,
         filed: version + 1,
@@ -207,20 +173,21 @@ pub(crate) fn file(
 }
 
 // The flight in a slot with another record, and with all else that it has.
-fn kept_flight(snapshot: &Snapshot, slot: u32, card: Record) -> Result<Flight, Memory>
-    requires { option_map (λ f. f.card.call) (flight_at snapshot.now slot) ≡ Some card.call }
-    ensures { IfOk result (IsKeptFlight (flight_at snapshot.now slot) card) }
+fn kept_flight(held: &Held, slot: u32, card: Record) -> Result<Flight, Memory>
+    requires { option_map (λ f. f.card.call) (flight_at held.now.snapshot slot) ≡ Some card.call }
+    ensures { IfOk result (IsKeptFlight (flight_at held.now.snapshot slot) card) }
 {
+    let snapshot = held.snapshot();
     let Some(filed) = snapshot.filed(slot) else {
         unreachable!()
     };
     let Some(reported) = snapshot.reported(slot) else {
         unreachable!()
     };
-    let Some(actual) = made_again(snapshot, slot, Kind::Actual)? else {
+    let Some(actual) = made_again(held, slot, Kind::Actual)? else {
         unreachable!()
     };
-    let mark = made_again(snapshot, slot, Kind::Tentative)?;
+    let mark = made_again(held, slot, Kind::Tentative)?;
     Ok(Flight {
         card,
         filed,
@@ -232,18 +199,18 @@ fn kept_flight(snapshot: &Snapshot, slot: u32, card: Record) -> Result<Flight, M
 
 // The flight in a slot with a new trajectory, as a command leaves it.
 fn remade(
-    snapshot: &Snapshot,
+    held: &Held,
     slot: u32,
     command: &Command,
     card: Record,
     strand: Arc<Strand>,
 ) -> Result<Flight, Memory>
-    requires counted { snapshot.now.version < 2 ^ 40 }
-    requires there { option_map (λ f. f.card.call) (flight_at snapshot.now slot) ≡ Some card.call }
-    ensures { IfOk result (IsRemade (flight_at snapshot.now slot) (snapshot.now.version + 1) command.now card (arc_value strand)) }
+    requires counted { held.now.snapshot.version < 2 ^ 40 }
+    requires there { option_map (λ f. f.card.call) (flight_at held.now.snapshot slot) ≡ Some card.call }
+    ensures { IfOk result (IsRemade (flight_at held.now.snapshot slot) (held.now.snapshot.version + 1) command.now card (arc_value strand)) }
 {
-    let stamp = snapshot.version() + 1;
-    let mut flight = kept_flight(snapshot, slot, card)?;
+    let stamp = held.snapshot().version() + 1;
+    let mut flight = kept_flight(held, slot, card)?;
     let made = Made { strand, stamp };
     match command {
         Command::Tentative { .. } => {
@@ -295,30 +262,19 @@ pub(crate) fn remake(
     known: bool,
     tests: &mut Tally,
 ) -> Result<Option<Hit>, Memory>
-    requires held { IsPicture held.old.snapshot held.old.history.items held.old.kept }
     requires counted { held.old.snapshot.version < 2 ^ 40 }
     requires there { option_map (λ f. f.card.call) (flight_at held.old.snapshot slot) ≡ Some card.call }
     requires remaking { IsRemaking command.now }
     requires bounded { IsBoundedCommand command.now }
-    requires left { IsLeft held.old.snapshot.setup (state_in held.old.snapshot) who command.now card }
-    requires setup { prep.now.setup ≡ held.old.snapshot.setup }
-    requires of { prep.now.card.call ≡ card.call }
-    requires command { prep.now.command ≡ command.now }
-    requires known { known ≡ true → card ≡ prep.now.card }
-    requires stood { HaveStood held.old.snapshot prep.now }
-    ensures held { IsPicture held.new.snapshot held.new.history.items held.new.kept }
-    ensures setup { held.new.snapshot.setup ≡ held.old.snapshot.setup }
-    ensures ok { IfOk result (λ first. held.new.history.items ≡ history_after held.old.history.items
-        (record { who = who; command = filled held.old.snapshot.now command.now }) first) }
-    ensures err { OnErr result (held.new.history.items ≡ held.old.history.items) }
-    ensures hits { IfOk result (IsFirstHit held.old.snapshot.setup (state_in held.old.snapshot) command.now) }
+    requires prepared { IsPreparedNow held.old.snapshot who command.now card prep.now known }
+    ensures entered { EntersOrStops held.old held.new who command.now result }
     ensures counted { WasAskedFor held.old.snapshot prep.now known who command.now tests.old tests.new }
 {
-    let _version = held.snapshot.version();
+    held.keeps();
     let kind = kind_made(command);
-    let strand = strand_for(alloc, &held.snapshot, &card, kind, prep, known)?;
-    let entry = entry_of(alloc, &held.snapshot, who, command)?;
-    let flight = remade(&held.snapshot, slot, command, card, strand)?;
+    let strand = strand_for(alloc, held, &card, kind, prep, known)?;
+    let entry = entry_of(alloc, held, who, command)?;
+    let flight = remade(held, slot, command, card, strand)?;
     let probed = is_probed(command);
     put_made(
         held, alloc, slot, flight, kind, entry, prep, known, probed, tests,
@@ -334,22 +290,19 @@ pub(crate) fn report(
     command: &Command,
     card: Record,
 ) -> Result<(), Memory>
-    requires held { IsPicture held.old.snapshot held.old.history.items held.old.kept }
     requires counted { held.old.snapshot.version < 2 ^ 40 }
     requires there { option_map (λ f. f.card.call) (flight_at held.old.snapshot slot) ≡ Some card.call }
     requires reports { IsReport command.now }
     requires bounded { IsBoundedCommand command.now }
     requires left { IsLeft held.old.snapshot.setup (state_in held.old.snapshot) who command.now card }
-    ensures held { IsPicture held.new.snapshot held.new.history.items held.new.kept }
-    ensures setup { held.new.snapshot.setup ≡ held.old.snapshot.setup }
-    ensures ok { OnOk result (held.new.history.items ≡ held.old.history.items ++ (record { who = who; command = filled held.old.snapshot.now command.now }) ∷ []) }
-    ensures err { OnErr result (held.new.history.items ≡ held.old.history.items) }
+    ensures { AddsEntry held.old held.new (entry_now held.old.snapshot who command.now) result }
 {
-    let version = held.snapshot.version();
-    let mut flight = kept_flight(&held.snapshot, slot, card)?;
+    held.keeps();
+    let version = held.snapshot().version();
+    let mut flight = kept_flight(held, slot, card)?;
     flight.reported = version + 1;
-    let entry = entry_of(alloc, &held.snapshot, who, command)?;
-    put_card(held, slot, flight, entry)
+    let entry = entry_of(alloc, held, who, command)?;
+    held.put_card(slot, flight, entry)
 }
 
 /// Withdraws the tentative clearance of the flight in a slot.
@@ -361,21 +314,17 @@ pub(crate) fn withdraw(
     command: &Command,
     card: Record,
 ) -> Result<(), Memory>
-    requires held { IsPicture held.old.snapshot held.old.history.items held.old.kept }
     requires counted { held.old.snapshot.version < 2 ^ 40 }
     requires there { option_map (λ f. f.card.call) (flight_at held.old.snapshot slot) ≡ Some card.call }
     requires withdraws { IsWithdrawal command.now }
     requires bounded { IsBoundedCommand command.now }
     requires left { IsLeft held.old.snapshot.setup (state_in held.old.snapshot) who command.now card }
-    ensures held { IsPicture held.new.snapshot held.new.history.items held.new.kept }
-    ensures setup { held.new.snapshot.setup ≡ held.old.snapshot.setup }
-    ensures ok { OnOk result (held.new.history.items ≡ held.old.history.items ++ (record { who = who; command = filled held.old.snapshot.now command.now }) ∷ []) }
-    ensures err { OnErr result (held.new.history.items ≡ held.old.history.items) }
+    ensures { AddsEntry held.old held.new (entry_now held.old.snapshot who command.now) result }
 {
-    let _version = held.snapshot.version();
-    let mut flight = kept_flight(&held.snapshot, slot, card)?;
+    held.keeps();
+    let mut flight = kept_flight(held, slot, card)?;
     flight.mark = None;
-    let entry = entry_of(alloc, &held.snapshot, who, command)?;
-    let change = change_bare(alloc, &held.kept, &held.snapshot, slot, &flight)?;
-    put_change(held, slot, flight, entry, change)
+    let entry = entry_of(alloc, held, who, command)?;
+    let change = change_bare(alloc, held, slot, &flight)?;
+    held.put_change(slot, flight, entry, change)
 }

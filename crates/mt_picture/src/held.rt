@@ -1,22 +1,32 @@
 //! What a picture holds, and how its parts are changed together.
-ghost use Rattle.std.specs.Prelude.{◌≡◌, ◌<◌, ◌≤◌, ◌+◌, ◌++◌, ◌∷◌, ◌^◌, [], OnOk, OnErr, Some, length, option_map};
+ghost use Rattle.std.specs.Prelude.{◌≡◌, ◌<◌, ◌≤◌, ◌^◌, [], IfOk, Some, option_map};
+ghost use Rattle.std.specs.Arc.{arc_value};
 ghost use Rattle.mt_base.specs.declared.command.Command.TheVariants.{Drop, Tick};
+ghost use Rattle.mt_base.specs.Bounds.{AreWithinBounds};
 ghost use Rattle.mt_base.specs.Complete.{IsComplete};
-ghost use Rattle.mt_kept.specs.Finds.{AreFinds};
-ghost use Rattle.mt_kept.specs.Places.{seen, with_slot};
+ghost use Rattle.mt_base.specs.History.{state_of};
+ghost use Rattle.mt_base.specs.Picture.{IsPublished};
 ghost use Rattle.mt_kept.specs.Window.{WasTestedOnce};
 ghost use Rattle.mt_probe.specs.Shot.{flight_at};
+ghost use Rattle.mt_probe.specs.Shot.{state_of as state_in};
+ghost use Rattle.mt_probe.specs.Standing.{IsSoundShot};
+ghost use Rattle.mt_picture.specs.Brought.{IsChangeFor};
+ghost use Rattle.mt_picture.specs.Holding.{AddsEntry, held_story};
 ghost use Rattle.mt_picture.specs.Places.{all_places, first_of, second_of};
 ghost use Rattle.mt_picture.specs.Putting.{IsPutBy};
 ghost use Rattle.mt_picture.specs.Stamps.{IsPicture};
 
 use crate::change::Change;
-use mt_base::{Callsign, Command, Entry, Memory, Second, Steps, Tally};
+use crate::keeping::is_sound;
+use mt_base::{Callsign, Command, Conflict, Entry, Memory, Rules, Second, Steps, Tally};
 use mt_kept::Kept;
 use mt_probe::{Flight, Snapshot};
+use mt_tables::Tables;
 use std::alloc::Global;
+use std::marker::Model;
+use std::sync::Arc;
 
-/// What a picture holds: the snapshot now, the history, and the conflicts that are kept.
+/// What a picture holds: the snapshot now, the history, and the conflicts that are kept. They are of one state (`IsPicture`).
 #[derive(Drop)]
 pub(crate) struct Held {
     /// The snapshot.
@@ -27,122 +37,160 @@ pub(crate) struct Held {
     pub(crate) kept: Kept,
 }
 
-/// Enters a command that leaves this flight in a slot, with the change of the kept conflicts for it.
-pub(crate) fn put_change(
-    held: &mut Held,
-    slot: u32,
-    flight: Flight,
-    entry: Entry,
-    change: Change,
-) -> Result<(), Memory>
-    requires held { IsPicture held.old.snapshot held.old.history.items held.old.kept }
-    requires counted { held.old.snapshot.version < 2 ^ 40 }
-    requires put { IsPutBy held.old.snapshot slot flight entry }
-    requires complete { IsComplete entry }
-    requires first { seen change.first ≡ first_of (Some flight) }
-    requires second { seen change.second ≡ second_of (Some flight) }
-    requires finds { AreFinds held.old.kept.rules (with_slot held.old.kept.places slot (first_of (Some flight)) (second_of (Some flight)))
-        held.old.kept.moment slot change.finds.items }
-    ensures held { IsPicture held.new.snapshot held.new.history.items held.new.kept }
-    ensures setup { held.new.snapshot.setup ≡ held.old.snapshot.setup }
-    ensures ok { OnOk result (held.new.history.items ≡ held.old.history.items ++ entry ∷ []) }
-    ensures err { OnErr result (held.new.history.items ≡ held.old.history.items) }
-{
-    let _version = held.snapshot.version();
-    let Change {
-        first,
-        second,
-        finds,
-    } = change;
-    let snapshot = held.snapshot.put(slot, Some(flight))?;
-    let _next = snapshot.version();
-    held.history.reserve(1)?;
-    let mut steps = Steps::new();
-    held.kept.change(slot, first, second, &finds, &mut steps)?;
-    held.snapshot = snapshot;
-    held.history.push_reserved(entry);
-    Ok(())
+impl Model for Held {
+    ghost use Rattle.mt_picture.specs.Holding.{Holding};
+    ghost use Rattle.mt_picture.specs.Stamps.{IsPicture};
+
+    ghost Value = { Holding };
+
+    ghost view = { λ held. record { snapshot = held.snapshot; history = held.history.items; kept = held.kept } };
+
+    ghost invariant = { λ held. IsPicture held.snapshot held.history.items held.kept };
 }
 
-/// Enters a command that leaves this flight in a slot, with the trajectories that it had. The kept conflicts stay as they are.
-pub(crate) fn put_card(
-    held: &mut Held,
-    slot: u32,
-    flight: Flight,
-    entry: Entry,
-) -> Result<(), Memory>
-    requires held { IsPicture held.old.snapshot held.old.history.items held.old.kept }
-    requires counted { held.old.snapshot.version < 2 ^ 40 }
-    requires put { IsPutBy held.old.snapshot slot flight entry }
-    requires complete { IsComplete entry }
-    requires first { first_of (Some flight) ≡ first_of (flight_at held.old.snapshot slot) }
-    requires second { second_of (Some flight) ≡ second_of (flight_at held.old.snapshot slot) }
-    ensures held { IsPicture held.new.snapshot held.new.history.items held.new.kept }
-    ensures setup { held.new.snapshot.setup ≡ held.old.snapshot.setup }
-    ensures ok { OnOk result (held.new.history.items ≡ held.old.history.items ++ entry ∷ []) }
-    ensures err { OnErr result (held.new.history.items ≡ held.old.history.items) }
-{
-    let _version = held.snapshot.version();
-    let snapshot = held.snapshot.put_again(slot, flight)?;
-    let _next = snapshot.version();
-    held.history.reserve(1)?;
-    held.snapshot = snapshot;
-    held.history.push_reserved(entry);
-    Ok(())
-}
+impl Held {
+    /// What an opening picture holds.
+    pub(crate) fn opening(alloc: Global, rules: Rules, tables: Arc<Tables>) -> Result<Held, Memory>
+        requires { AreWithinBounds rules }
+        ensures { IfOk result (λ held. held_story held ≡ record { setup = record { rules = rules; tables = arc_value tables }; history = [] }) }
+    {
+        let snapshot = Snapshot::opening(alloc, rules, tables)?;
+        let kept = Kept::make(alloc, &rules, snapshot.slots())?;
+        Ok(Held {
+            snapshot,
+            history: Vec::new(alloc),
+            kept,
+        })
+    }
 
-/// Enters a tick.
-pub(crate) fn tick(
-    held: &mut Held,
-    alloc: Global,
-    who: u32,
-    now: Second,
-    tests: &mut Tally,
-) -> Result<(), Memory>
-    requires held { IsPicture held.old.snapshot held.old.history.items held.old.kept }
-    requires counted { held.old.snapshot.version < 2 ^ 40 }
-    requires later { held.old.snapshot.now ≤ now }
-    requires early { now ≤ 10000000 }
-    ensures held { IsPicture held.new.snapshot held.new.history.items held.new.kept }
-    ensures setup { held.new.snapshot.setup ≡ held.old.snapshot.setup }
-    ensures ok { OnOk result (held.new.history.items ≡ held.old.history.items ++ record { who = who; command = Tick now } ∷ []) }
-    ensures err { OnErr result (held.new.history.items ≡ held.old.history.items) }
-    ensures counted { WasTestedOnce held.old.snapshot.setup.rules (all_places held.old.snapshot.slots) now tests.old tests.new }
-{
-    let _version = held.snapshot.version();
-    let snapshot = held.snapshot.at(now)?;
-    let _next = snapshot.version();
-    held.history.reserve(1)?;
-    held.kept.move_to(alloc, now, tests)?;
-    held.snapshot = snapshot;
-    held.history.push_reserved(Entry {
-        who,
-        command: Command::Tick { now },
-    });
-    Ok(())
-}
+    /// What a picture holds is of one state, and its snapshot is sound. It does nothing.
+    pub(crate) fn keeps(&self)
+        ensures picture { IsPicture self.now.snapshot self.now.history self.now.kept }
+        ensures sound { IsSoundShot self.now.snapshot }
+    {
+        is_sound(&self.snapshot)
+    }
 
-/// Enters a drop of the flight in a slot.
-pub(crate) fn remove(held: &mut Held, slot: u32, who: u32, call: Callsign) -> Result<(), Memory>
-    requires held { IsPicture held.old.snapshot held.old.history.items held.old.kept }
-    requires counted { held.old.snapshot.version < 2 ^ 40 }
-    requires there { option_map (λ f. f.card.call) (flight_at held.old.snapshot slot) ≡ Some call }
-    ensures held { IsPicture held.new.snapshot held.new.history.items held.new.kept }
-    ensures setup { held.new.snapshot.setup ≡ held.old.snapshot.setup }
-    ensures ok { OnOk result (held.new.history.items ≡ held.old.history.items ++ record { who = who; command = Drop call } ∷ []) }
-    ensures err { OnErr result (held.new.history.items ≡ held.old.history.items) }
-{
-    let _version = held.snapshot.version();
-    let _letters = call.bytes();
-    let snapshot = held.snapshot.put(slot, None)?;
-    let _next = snapshot.version();
-    held.history.reserve(1)?;
-    let mut steps = Steps::new();
-    held.kept.remove(slot, &mut steps)?;
-    held.snapshot = snapshot;
-    held.history.push_reserved(Entry {
-        who,
-        command: Command::Drop { call },
-    });
-    Ok(())
+    /// The snapshot, which stands for the state of the history.
+    pub(crate) fn snapshot(&self) -> &Snapshot
+        ensures value { result.now ≡ self.now.snapshot }
+        ensures stands { state_in self.now.snapshot ≡ state_of self.now.snapshot.setup self.now.history }
+    {
+        &self.snapshot
+    }
+
+    /// The history.
+    pub(crate) fn history(&self) -> &[Entry]
+        ensures { result.now ≡ self.now.history }
+    {
+        self.history.as_slice()
+    }
+
+    /// The conflicts.
+    pub(crate) fn kept(&self) -> &Kept
+        ensures { result.now ≡ self.now.kept }
+    {
+        &self.kept
+    }
+
+    /// What is published: all conflicts of the state of the history, and no other.
+    pub(crate) fn published(&self) -> &[Conflict]
+        ensures { IsPublished self.now.snapshot.setup (state_of self.now.snapshot.setup self.now.history) result.now }
+    {
+        is_sound(&self.snapshot);
+        self.kept.published()
+    }
+
+    /// Enters a command that leaves this flight in a slot, with the change of the kept conflicts for it.
+    pub(crate) fn put_change(
+        &mut self,
+        slot: u32,
+        flight: Flight,
+        entry: Entry,
+        change: Change,
+    ) -> Result<(), Memory>
+        requires counted { self.old.snapshot.version < 2 ^ 40 }
+        requires put { IsPutBy self.old.snapshot slot flight entry }
+        requires complete { IsComplete entry }
+        requires change { IsChangeFor self.old.kept slot flight change }
+        ensures { AddsEntry self.old self.new entry result }
+    {
+        is_sound(&self.snapshot);
+        let Change {
+            first,
+            second,
+            finds,
+        } = change;
+        let snapshot = self.snapshot.put(slot, Some(flight))?;
+        is_sound(&snapshot);
+        self.history.reserve(1)?;
+        let mut steps = Steps::new();
+        self.kept.change(slot, first, second, &finds, &mut steps)?;
+        self.snapshot = snapshot;
+        self.history.push_reserved(entry);
+        Ok(())
+    }
+
+    /// Enters a command that leaves this flight in a slot, with the trajectories that it had. The kept conflicts stay as they are.
+    pub(crate) fn put_card(&mut self, slot: u32, flight: Flight, entry: Entry) -> Result<(), Memory>
+        requires counted { self.old.snapshot.version < 2 ^ 40 }
+        requires put { IsPutBy self.old.snapshot slot flight entry }
+        requires complete { IsComplete entry }
+        requires first { first_of (Some flight) ≡ first_of (flight_at self.old.snapshot slot) }
+        requires second { second_of (Some flight) ≡ second_of (flight_at self.old.snapshot slot) }
+        ensures { AddsEntry self.old self.new entry result }
+    {
+        is_sound(&self.snapshot);
+        let snapshot = self.snapshot.put_again(slot, flight)?;
+        is_sound(&snapshot);
+        self.history.reserve(1)?;
+        self.snapshot = snapshot;
+        self.history.push_reserved(entry);
+        Ok(())
+    }
+
+    /// Enters a tick.
+    pub(crate) fn tick(
+        &mut self,
+        alloc: Global,
+        who: u32,
+        now: Second,
+        tests: &mut Tally,
+    ) -> Result<(), Memory>
+        requires counted { self.old.snapshot.version < 2 ^ 40 }
+        requires later { self.old.snapshot.now ≤ now }
+        requires early { now ≤ 10000000 }
+        ensures entered { AddsEntry self.old self.new (record { who = who; command = Tick now }) result }
+        ensures counted { WasTestedOnce self.old.snapshot.setup.rules (all_places self.old.snapshot.slots) now tests.old tests.new }
+    {
+        is_sound(&self.snapshot);
+        let snapshot = self.snapshot.at(now)?;
+        is_sound(&snapshot);
+        self.history.reserve(1)?;
+        self.kept.move_to(alloc, now, tests)?;
+        self.snapshot = snapshot;
+        self.history.push_reserved(Entry {
+            who,
+            command: Command::Tick { now },
+        });
+        Ok(())
+    }
+
+    /// Enters a drop of the flight in a slot.
+    pub(crate) fn remove(&mut self, slot: u32, who: u32, call: Callsign) -> Result<(), Memory>
+        requires counted { self.old.snapshot.version < 2 ^ 40 }
+        requires there { option_map (λ f. f.card.call) (flight_at self.old.snapshot slot) ≡ Some call }
+        ensures { AddsEntry self.old self.new (record { who = who; command = Drop call }) result }
+    {
+        let command = Command::Drop { call };
+        command.is_named();
+        let snapshot = self.snapshot.put(slot, None)?;
+        is_sound(&snapshot);
+        self.history.reserve(1)?;
+        let mut steps = Steps::new();
+        self.kept.remove(slot, &mut steps)?;
+        self.snapshot = snapshot;
+        self.history.push_reserved(Entry { who, command });
+        Ok(())
+    }
 }

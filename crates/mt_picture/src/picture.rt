@@ -14,7 +14,6 @@ use crate::enter::enter;
 use crate::held::Held;
 use mt_base::{Command, Conflict, Entered, Entry, Memory, Refusal, Rules, Second, Tally};
 use mt_board::No;
-use mt_kept::Kept;
 use mt_probe::{Prep, Snapshot};
 use mt_tables::Tables;
 use std::alloc::Global;
@@ -28,14 +27,12 @@ pub struct Picture {
 }
 
 impl Model for Picture {
-    ghost use Rattle.mt_picture.specs.Stamps.{IsPicture};
+    ghost use Rattle.mt_picture.specs.Holding.{held_story};
     ghost use Rattle.mt_picture.specs.Story.{Story};
 
     ghost Value = { Story };
 
-    ghost view = { λ p. record { setup = p.held.snapshot.setup; history = p.held.history.items } };
-
-    ghost invariant = { λ p. IsPicture p.held.snapshot p.held.history.items p.held.kept };
+    ghost view = { λ p. held_story p.held };
 }
 
 impl Picture {
@@ -44,14 +41,8 @@ impl Picture {
         requires { AreWithinBounds rules }
         ensures { IfOk result (λ picture. picture ≡ record { setup = record { rules = rules; tables = arc_value tables }; history = [] }) }
     {
-        let snapshot = Snapshot::opening(alloc, rules, tables)?;
-        let kept = Kept::make(alloc, &rules, snapshot.slots())?;
         Ok(Picture {
-            held: Held {
-                snapshot,
-                history: Vec::new(alloc),
-                kept,
-            },
+            held: Held::opening(alloc, rules, tables)?,
         })
     }
 
@@ -60,28 +51,28 @@ impl Picture {
         ensures setup { IfOk result (λ shot. shot.setup ≡ self.now.setup) }
         ensures state { IfOk result (λ shot. state_in shot ≡ state_of self.now.setup self.now.history) }
     {
-        self.held.snapshot.share()
+        self.held.snapshot().share()
     }
 
     /// The version: how many entries there are.
     pub fn version(&self) -> u64
         ensures { result ≡ length self.now.history }
     {
-        self.held.snapshot.version()
+        self.held.snapshot().version()
     }
 
     /// How many flights there are.
     pub fn flights(&self) -> u32
         ensures { result ≡ length (state_of self.now.setup self.now.history).records }
     {
-        self.held.snapshot.flights()
+        self.held.snapshot().flights()
     }
 
     /// The moment.
     pub fn now(&self) -> Second
         ensures { result ≡ (state_of self.now.setup self.now.history).now }
     {
-        self.held.snapshot.now()
+        self.held.snapshot().now()
     }
 
     /// What is published: each conflict, in the window of 1,200 seconds from the moment, of two trajectories of different flights of the state
@@ -89,15 +80,14 @@ impl Picture {
     pub fn published(&self) -> &[Conflict]
         ensures { IsPublished self.now.setup (state_of self.now.setup self.now.history) result.now }
     {
-        let _version = self.held.snapshot.version();
-        self.held.kept.published()
+        self.held.published()
     }
 
     /// The entry at a place of the history, counted from 0; `None` exactly where there are no more entries than that.
     pub fn entry(&self, place: u64) -> Option<&Entry>
         ensures { option_copied result ≡ slice_get self.now.history place }
     {
-        self.held.history.get(place as usize)
+        self.held.history().get(place as usize)
     }
 
     /// The history. What every picture keeps is said here too: its entries are complete.
@@ -105,7 +95,8 @@ impl Picture {
         ensures history { result.now ≡ self.now.history }
         ensures complete { All IsComplete self.now.history }
     {
-        self.held.history.as_slice()
+        self.held.keeps();
+        self.held.history()
     }
 
     /// The rules.
@@ -113,14 +104,14 @@ impl Picture {
         ensures rules { result ≡ self.now.setup.rules }
         ensures kept { AreWithinBounds result }
     {
-        *self.held.snapshot.rules()
+        *self.held.snapshot().rules()
     }
 
     /// The tables.
     pub fn tables(&self) -> &Tables
         ensures { result.now ≡ self.now.setup.tables }
     {
-        self.held.snapshot.tables()
+        self.held.snapshot().tables()
     }
 
     /// Decides a command of an actor on the state now, and enters it where it isn't refused: then the history is longer by its entry, and it is
@@ -154,11 +145,12 @@ impl Picture {
             → IsLegal self.new.setup self.new.history) }
         ensures counted { IsWithinBound self.old who command.now (option_copied prep.entry) tests.old tests.new }
     {
-        let version = self.held.snapshot.version();
-        if let Err(refusal) = decide(&self.held.snapshot, who, command) {
+        let snapshot = self.held.snapshot();
+        let version = snapshot.version();
+        if let Err(refusal) = decide(snapshot, who, command) {
             return Err(No::Refused { refusal, version });
         }
-        let verdict = verdict_on(&self.held.snapshot, command);
+        let verdict = verdict_on(snapshot, command);
         if let Some(hit) = enter(&mut self.held, alloc, who, command, prep, tests)? {
             return Err(No::Refused {
                 refusal: Refusal::Stale { first: hit },
@@ -166,7 +158,7 @@ impl Picture {
             });
         }
         Ok(Entered {
-            version: self.held.snapshot.version(),
+            version: self.held.snapshot().version(),
             verdict,
         })
     }

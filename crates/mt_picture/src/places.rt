@@ -3,6 +3,7 @@ ghost use Rattle.std.specs.Prelude.{◌≡◌, ◌/◌, ◌<◌, ℕ, IfSome, So
 ghost use Rattle.mt_probe.specs.Items.{kind_at};
 ghost use Rattle.mt_picture.specs.Candidates.{Stands};
 
+use crate::keeping::is_sound;
 use mt_base::{Callsign, Kind};
 use mt_probe::Snapshot;
 
@@ -30,9 +31,10 @@ fn place_of(slot: u32, kind: Kind) -> u32
 /// Where the trajectory of a kind of the flight of that callsign stands; `None` exactly where it stands nowhere.
 pub(crate) fn find_trajectory(snapshot: &Snapshot, call: Callsign, kind: Kind) -> Option<Standing>
     ensures there { IfSome result (λ it. Stands snapshot.now.slots it.place call kind it.stamp) }
-    ensures only { (place stamp : ℕ) → Stands snapshot.now.slots place call kind stamp → result ≡ Some (record { place = place; stamp = stamp }) }
+    ensures only { (place stamp : ℕ) → Stands snapshot.now.slots place call kind stamp
+        → result ≡ Some (record { place = place; stamp = stamp }) }
 {
-    let _version = snapshot.version();
+    is_sound(snapshot);
     let slot = snapshot.find(call)?;
     let stamp = snapshot.stamp(slot, kind)?;
     let place = place_of(slot, kind);

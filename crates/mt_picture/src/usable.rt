@@ -1,9 +1,11 @@
 //! Whether a prep of an earlier version is of use.
 ghost use Rattle.std.specs.Prelude.{◌≡◌, ◌↔◌, IsTrue, Some, false, true};
-ghost use Rattle.mt_base.specs.History.{call_of, filled, state_of};
-ghost use Rattle.mt_probe.specs.Shot.{state_of as state_in};
+ghost use Rattle.mt_base.specs.History.{call_of, filled};
+ghost use Rattle.mt_picture.specs.Holding.{held_story};
 ghost use Rattle.mt_picture.specs.Story.{IsNamedAfter, IsPrepFor, IsUsable};
 
+use crate::held::Held;
+use crate::keeping::is_prepared;
 use mt_base::{Callsign, Command, Entry};
 use mt_probe::{Prep, Snapshot};
 
@@ -43,24 +45,18 @@ fn is_same_moment(snapshot: &Snapshot, command: &Command, prep: &Prep) -> bool
 }
 
 /// Whether a prep is usable.
-pub(crate) fn is_usable(
-    snapshot: &Snapshot,
-    history: &[Entry],
-    who: u32,
-    command: &Command,
-    prep: &Prep,
-) -> bool
-    requires stands { state_in snapshot.now ≡ state_of snapshot.now.setup history.now }
-    requires prepared { IsPrepFor (record { setup = snapshot.now.setup; history = history.now }) who command.now prep.now }
-    ensures usable { result ≡ true → IsUsable (record { setup = snapshot.now.setup; history = history.now }) command.now prep.now }
-    ensures unusable { result ≡ false → ¬ IsUsable (record { setup = snapshot.now.setup; history = history.now }) command.now prep.now }
+pub(crate) fn is_usable(held: &Held, who: u32, command: &Command, prep: &Prep) -> bool
+    requires { IsPrepFor (held_story held.now) who command.now prep.now }
+    ensures usable { result ≡ true → IsUsable (held_story held.now) command.now prep.now }
+    ensures unusable { result ≡ false → ¬ IsUsable (held_story held.now) command.now prep.now }
 {
-    let _version = prep.version();
+    is_prepared(prep);
     let Some(call) = command.call() else {
         return false;
     };
+    let history = held.history();
     if is_named_after(history, prep.version() as usize, call) {
         return false;
     }
-    is_same_moment(snapshot, command, prep)
+    is_same_moment(held.snapshot(), command, prep)
 }

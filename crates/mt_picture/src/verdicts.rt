@@ -5,6 +5,7 @@ ghost use Rattle.mt_picture.specs.Candidates.{AreAllNear, AreStill, IsStill, Sta
 ghost use Rattle.mt_picture.specs.Stamps.{AreStamped, HaveStood};
 ghost use Rattle.mt_picture.specs.Verdicts.{AreNear, IsPreps};
 
+use crate::keeping::{is_sound, is_trajectory};
 use crate::later::later_places;
 use crate::near::near_ones;
 use crate::places::find_trajectory;
@@ -86,8 +87,8 @@ pub(crate) fn candidates(
     requires stood { HaveStood snapshot.now prep.now }
     ensures { IfOk result (λ list. AreNear snapshot.now strand.now prep.now known list.items) }
 {
-    let _version = snapshot.version();
-    let _end = strand.end();
+    is_sound(snapshot);
+    is_trajectory(strand);
     if !known {
         return all_near(alloc, snapshot, strand);
     }

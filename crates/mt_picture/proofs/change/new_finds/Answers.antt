@@ -11,22 +11,25 @@ use Rattle.mt_picture.proofs.change.new_finds.Goals as goal
 pub candidates-requires-clause-preps : goal.candidates-requires-clause-preps
 candidates-requires-clause-preps c = rw c.deref.ensures (c.requires.known (named c.in-Some.item) (ap seen c.in-Some.is))
 
+pub candidates-requires-clause-stamped : goal.candidates-requires-clause-stamped
+candidates-requires-clause-stamped c = rw (c.snapshot-snapshot.ensures.value, c.history.ensures) c.keeps.ensures.picture.stamped
+
 pub gather-requires : goal.gather-requires
 gather-requires c =
-    let s = c.args.snapshot.now in
+    let s = c.args.held.now.snapshot in
     let mine = named c.in-Some.item in
     let is = ap seen c.in-Some.is in
-    let near = rw c.deref.ensures at c.in_ok-candidates.ensures in
-    rw (c.requires.rules, c.requires.places, c.deref-2.ensures.value)
+    let near = rw (c.deref.ensures, c.snapshot-snapshot.ensures.value) at c.in_ok-candidates.ensures in
+    rw (c.kept.ensures, c.keeps.ensures.picture.rules_are, c.keeps.ensures.picture.places_are, c.deref-2.ensures.value)
     (candidates_right s c.args.place mine c.args.prep.now c.args.known c.in_ok-candidates.candidates.items
     (ap (λ (u : Setup). u.rules) c.requires.setup) (c.requires.call mine is) (c.requires.known mine is) near)
 
 pub returns-clause-finds : goal.returns-clause-finds
 returns-clause-finds c =
-    let k = c.args.kept.now in
+    let k = c.args.held.now.kept in
     let mine = named c.in-Some.item in
     let is = ap seen c.in-Some.is in
-    IfOk-weaker c.gather.result _ _ (λ finds found after at_is agree. found after (agree mine is)) c.gather.ensures.finds
+    IfOk-weaker c.gather.result _ _ (λ finds found after at_is agree. found after (agree mine is)) (rw c.kept.ensures at c.gather.ensures.finds)
 
 pub returns-in_default-clause-counted : goal.returns-in_default-clause-counted
 returns-in_default-clause-counted c = λ m is. absurd (let e = ap seen c.in_default.is in let both = sym e ∙ is in cc)
@@ -36,9 +39,9 @@ returns-in_err-candidates-clause-counted c = λ m is. inl refl
 
 pub returns-clause-counted : goal.returns-clause-counted
 returns-clause-counted c = λ m is.
-    let s = c.args.snapshot.now in
+    let s = c.args.held.now.snapshot in
     let own : named c.in-Some.item ≡ m = (let both = sym (ap seen c.in-Some.is) ∙ is in cc) in
-    let near = rw c.deref.ensures at c.in_ok-candidates.ensures in
-    let rose = rw (c.requires.places, c.requires.moment, c.deref-2.ensures.value) at c.gather.ensures.counted in
+    let near = rw (c.deref.ensures, c.snapshot-snapshot.ensures.value) at c.in_ok-candidates.ensures in
+    let rose = rw (c.kept.ensures, c.keeps.ensures.picture.places_are, c.keeps.ensures.picture.moment_is, c.deref-2.ensures.value) at c.gather.ensures.counted in
     subst (λ (u : NamedTrajectory). WasAsked s c.args.prep.now c.args.known c.args.place u c.args.tests.now c.gather.new.tests) own
     (inr (record { xs = c.in_ok-candidates.candidates.items; near = near; rose = rose }))

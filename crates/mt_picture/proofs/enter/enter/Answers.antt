@@ -2,7 +2,10 @@ use Rattle.mt_probe.specs.Shot.{state_of as state_in}
 use Rattle.mt_picture.proofs.Passing.{plain_free}
 use Rattle.mt_picture.proofs.enter.enter.Goals as goal
 
-pub returns-in_ok-enter_plain-in-None-clause-hits : goal.returns-in_ok-enter_plain-in-None-clause-hits
-returns-in_ok-enter_plain-in-None-clause-hits c =
+pub returns-in_ok-enter_plain-in-None-clause-entered : goal.returns-in_ok-enter_plain-in-None-clause-entered
+returns-in_ok-enter_plain-in-None-clause-entered c =
     let shot = c.args.held.now.snapshot in
-    plain_free shot.setup (state_in shot) c.args.command.now (rw c.in-None.is at c.requires.prepared)
+    record {
+      story = c.in_ok-enter_plain-in-None.ensures.entered;
+      hits = plain_free shot.setup (state_in shot) c.args.command.now (rw c.in-None.is at c.requires.prepared);
+    }

@@ -13,7 +13,7 @@ altered_flight-requires-clause-bounded c = bounded_besides c.args.command.now c.
 pub altered_flight-requires-clause-passed : goal.altered_flight-requires-clause-passed
 altered_flight-requires-clause-passed c =
     let shot = c.args.held.now.snapshot in
-    aside_passes shot.setup (state_in shot) c.args.who c.version-version.ensures.kept.rules c.args.command.now c.requires.passed
+    rw c.snapshot.ensures.value (aside_passes shot.setup (state_in shot) c.args.who c.keeps.ensures.sound.rules c.args.command.now c.requires.passed)
 
 pub slot_of-slot-requires-clause-alters : goal.slot_of-slot-requires-clause-alters
 slot_of-slot-requires-clause-alters c = report_alters c.args.command.now c.requires.alters
@@ -21,12 +21,12 @@ slot_of-slot-requires-clause-alters c = report_alters c.args.command.now c.requi
 pub report-requires-clause-counted : goal.report-requires-clause-counted
 report-requires-clause-counted c =
     let shot = c.args.held.now.snapshot in
-    few_entries shot.setup (state_in shot) c.args.who c.version-version.ensures.kept.rules c.args.command.now c.requires.passed
+    few_entries shot.setup (state_in shot) c.args.who c.keeps.ensures.sound.rules c.args.command.now c.requires.passed
 
 pub withdraw-requires-clause-counted : goal.withdraw-requires-clause-counted
 withdraw-requires-clause-counted c =
     let shot = c.args.held.now.snapshot in
-    few_entries shot.setup (state_in shot) c.args.who c.version-version.ensures.kept.rules c.args.command.now c.requires.passed
+    few_entries shot.setup (state_in shot) c.args.who c.keeps.ensures.sound.rules c.args.command.now c.requires.passed
 
 pub withdraw-requires-clause-withdraws : goal.withdraw-requires-clause-withdraws
 withdraw-requires-clause-withdraws c = withdraws c.args.command.now c.requires.alters (λ reports. (let t = c.is_report.ensures.1 reports in let f = c.if-is_report.false in cc))

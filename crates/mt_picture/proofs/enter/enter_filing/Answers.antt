@@ -6,11 +6,11 @@ use Rattle.mt_picture.proofs.enter.enter_filing.Goals as goal
 pub unreachable-requires : goal.unreachable-requires
 unreachable-requires c =
     let shot = c.args.held.now.snapshot in
-    let kept = c.version-version.ensures.kept in
+    let kept = c.keeps.ensures.sound in
     full_not (length (state_in shot).records) (length shot.slots) shot.setup.rules.flights kept.places
-    (seat_passed shot.setup (state_in shot) c.args.who kept.rules c.args.command.now c.requires.filing c.requires.passed) c.in_default.ensures
+    (seat_passed shot.setup (state_in shot) c.args.who kept.rules c.args.command.now c.requires.filing c.requires.passed) (rw c.snapshot.ensures.value at c.in_default.ensures)
 
 pub file-requires-clause-counted : goal.file-requires-clause-counted
 file-requires-clause-counted c =
     let shot = c.args.held.now.snapshot in
-    few_entries shot.setup (state_in shot) c.args.who c.version-version.ensures.kept.rules c.args.command.now c.requires.passed
+    few_entries shot.setup (state_in shot) c.args.who c.keeps.ensures.sound.rules c.args.command.now c.requires.passed

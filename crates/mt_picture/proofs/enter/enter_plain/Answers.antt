@@ -9,32 +9,32 @@ use Rattle.mt_picture.proofs.enter.enter_plain.Goals as goal
 pub tick-requires-clause-counted : goal.tick-requires-clause-counted
 tick-requires-clause-counted c =
     let shot = c.args.held.now.snapshot in
-    few_entries shot.setup (state_in shot) c.args.who c.version-version.ensures.kept.rules c.args.command.now c.requires.passed
+    few_entries shot.setup (state_in shot) c.args.who c.keeps.ensures.sound.rules c.args.command.now c.requires.passed
 
 pub tick-requires-clause-later : goal.tick-requires-clause-later
 tick-requires-clause-later c =
     let shot = c.args.held.now.snapshot in
-    let later = tick_later shot.setup (state_in shot) c.args.who c.version-version.ensures.kept.rules c.in-Tick.now (rw c.in-Tick.is at c.requires.passed) in
+    let later = tick_later shot.setup (state_in shot) c.args.who c.keeps.ensures.sound.rules c.in-Tick.now (rw c.in-Tick.is at c.requires.passed) in
     omega (arith, later)
 
 pub unreachable-requires : goal.unreachable-requires
 unreachable-requires c =
     let shot = c.args.held.now.snapshot in
-    let some = drop_there shot.setup (state_in shot) c.args.who c.version-version.ensures.kept.rules c.in-Drop.call (rw c.in-Drop.is at c.requires.passed) in
-    let none = ap is_some c.in_default-find.ensures.flight in
+    let some = drop_there shot.setup (state_in shot) c.args.who c.keeps.ensures.sound.rules c.in-Drop.call (rw c.in-Drop.is at c.requires.passed) in
+    let none = ap is_some (rw c.snapshot.ensures.value at c.in_default-find.ensures.flight) in
     let both = sym none ∙ some in
     cc
 
 pub remove-requires-clause-counted : goal.remove-requires-clause-counted
 remove-requires-clause-counted c =
     let shot = c.args.held.now.snapshot in
-    few_entries shot.setup (state_in shot) c.args.who c.version-version.ensures.kept.rules c.args.command.now c.requires.passed
+    few_entries shot.setup (state_in shot) c.args.who c.keeps.ensures.sound.rules c.args.command.now c.requires.passed
 
 pub remove-requires-clause-there : goal.remove-requires-clause-there
 remove-requires-clause-there c =
     let shot = c.args.held.now.snapshot in
-    let some = drop_there shot.setup (state_in shot) c.args.who c.version-version.ensures.kept.rules c.in-Drop.call (rw c.in-Drop.is at c.requires.passed) in
-    found_place (records_in shot.slots) c.in-Drop.call (flight_at shot c.in-Some.slot) some c.in-Some.ensures.flight
+    let some = drop_there shot.setup (state_in shot) c.args.who c.keeps.ensures.sound.rules c.in-Drop.call (rw c.in-Drop.is at c.requires.passed) in
+    found_place (records_in shot.slots) c.in-Drop.call (flight_at shot c.in-Some.slot) some (rw c.snapshot.ensures.value at c.in-Some.ensures.flight)
 
 pub enter_card-requires-clause-alters : goal.enter_card-requires-clause-alters
 enter_card-requires-clause-alters c = plain_other c.args.command.now c.requires.plain c.in_default.not-Tick c.in_default.not-Drop
@@ -42,10 +42,10 @@ enter_card-requires-clause-alters c = plain_other c.args.command.now c.requires.
 pub returns-in-Tick-clause-counted : goal.returns-in-Tick-clause-counted
 returns-in-Tick-clause-counted c =
     let shot = c.args.held.now.snapshot in
-    rw c.in-Tick.is (ticked shot c.version-version.ensures.kept (record { setup = shot.setup; history = c.args.held.now.history.items }) c.in-Tick.now _ _ refl
-    c.requires.held.stands c.tick.ensures.counted)
+    rw c.in-Tick.is (ticked shot c.keeps.ensures.sound (record { setup = shot.setup; history = c.args.held.now.history }) c.in-Tick.now _ _ refl
+    c.keeps.ensures.picture.stands c.tick.ensures.counted)
 
 pub returns-in_default-clause-counted : goal.returns-in_default-clause-counted
 returns-in_default-clause-counted c =
     let shot = c.args.held.now.snapshot in
-    none_within (record { setup = shot.setup; history = c.args.held.now.history.items }) c.args.who c.args.command.now None _ _ refl
+    none_within (record { setup = shot.setup; history = c.args.held.now.history }) c.args.who c.args.command.now None _ _ refl

@@ -10,14 +10,14 @@ use Rattle.mt_picture.proofs.Entered.{put_filed}
 use Rattle.std.specs.Arc.{arc_value}
 use Rattle.mt_probe.specs.Prepared.{named, path_made}
 use Rattle.mt_picture.proofs.Bounding.{made_known}
-use Rattle.mt_picture.proofs.FirstHit.{filing_unprobed, no_first}
+use Rattle.mt_picture.proofs.FirstHit.{enters_or_stops, filing_unprobed, no_first}
 use Rattle.mt_picture.proofs.Making.{filing_kind}
 use Rattle.mt_picture.proofs.entering.file.Goals as goal
 
 pub put_made-requires-clause-put : goal.put_made-requires-clause-put
 put_made-requires-clause-put c =
     let shot = c.args.held.now.snapshot in
-    let v = c.version-version.ensures.version in
+    let v = rw c.snapshot.ensures.value at c.version-version.ensures.version in
     let f : Flight = record {
       card = c.args.card;
       filed = c.version-version.result + 1;
@@ -26,11 +26,11 @@ put_made-requires-clause-put c =
       mark = None;
     } in
     rw c.in_ok-entry.ensures.entry
-    (put_filed shot c.args.slot f c.args.who c.args.command.now c.version-version.ensures.kept c.requires.slot c.requires.free c.requires.filing c.requires.left refl
-    c.in_ok-strand.ensures.made (ap (λ n. n + 1) v) (ap (λ n. n + 1) v) c.requires.held.filed)
+    (put_filed shot c.args.slot f c.args.who c.args.command.now c.keeps.ensures.sound c.requires.slot c.requires.free c.requires.filing c.requires.prepared.left refl
+    c.in_ok-strand.ensures.made (ap (λ n. n + 1) v) (ap (λ n. n + 1) v) c.keeps.ensures.picture.filed)
 
 pub put_made-requires-clause-new : goal.put_made-requires-clause-new
-put_made-requires-clause-new c = λ m is known.
+put_made-requires-clause-new c =
     let f : Flight = record {
       card = c.args.card;
       filed = c.version-version.result + 1;
@@ -38,17 +38,22 @@ put_made-requires-clause-new c = λ m is known.
       actual = record { strand = c.in_ok-strand.strand; stamp = c.version-version.result + 1 };
       mark = None;
     } in
-    let e : made_of_kind f Actual f.actual ≡ m = cc in
-    ap (λ (u : NamedTrajectory). u.path) (sym e) ∙ c.in_ok-strand.ensures.known known
+    record {
+      inside = c.requires.slot;
+      was = λ g is. absurd (let both = sym c.requires.free ∙ is in cc);
+      setup_is = c.requires.prepared.setup_is;
+      call_is = sym c.requires.prepared.call_is;
+      new = λ m is known. (let e : made_of_kind f Actual f.actual ≡ m = cc in ap (λ (u : NamedTrajectory). u.path) (sym e) ∙ c.in_ok-strand.ensures.known known);
+      other = λ m is. absurd (cc);
+      stood = c.requires.prepared.stood;
+    }
 
-pub returns-clause-ok : goal.returns-clause-ok
-returns-clause-ok c = rw c.in_ok-entry.ensures.entry at c.put_made.ensures.ok
-
-pub returns-clause-hits : goal.returns-clause-hits
-returns-clause-hits c =
+pub returns-clause-entered : goal.returns-clause-entered
+returns-clause-entered c =
     let shot = c.args.held.now.snapshot in
-    IfOk-weaker c.put_made.result _ _ (λ first none. no_first shot.setup (state_in shot) c.args.command.now first
-    (filing_unprobed c.args.command.now c.requires.filing) (none refl)) c.put_made.ensures.free
+    enters_or_stops c.args.held.now c.put_made.new.held c.args.who c.args.command.now c.in_ok-entry.entry c.put_made.result c.in_ok-entry.ensures.entry
+    c.put_made.ensures.entered (IfOk-weaker c.put_made.result _ _ (λ first none. no_first shot.setup (state_in shot) c.args.command.now first
+    (filing_unprobed c.args.command.now c.requires.filing) (none refl)) c.put_made.ensures.free)
 
 pub returns-in_err-strand-clause-counted : goal.returns-in_err-strand-clause-counted
 returns-in_err-strand-clause-counted c = λ mine made. record { place = 0; was = inl refl }
@@ -61,6 +66,6 @@ returns-clause-counted c = λ mine made.
     let shot = c.args.held.now.snapshot in
     let kind = filing_kind c.args.command.now c.requires.filing in
     let t = arc_value c.in_ok-strand.strand in
-    let one = made_known shot.setup (state_in shot) c.args.who c.args.command.now c.args.card t mine c.requires.left
+    let one = made_known shot.setup (state_in shot) c.args.who c.args.command.now c.args.card t mine c.requires.prepared.left
     (subst (λ (k : Kind). path_made shot.setup c.args.card k ≡ Some t) (sym kind) c.in_ok-strand.ensures.made) made in
     c.put_made.ensures.counted mine (ap (λ (k : Kind). Some (named c.args.card k t)) (sym kind) ∙ ap Some one)

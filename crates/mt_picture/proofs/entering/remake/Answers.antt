@@ -7,7 +7,7 @@ use Rattle.mt_probe.specs.Shot.{state_of as state_in}
 use Rattle.mt_probe.specs.Prepared.{IsLeft, named}
 use Rattle.mt_picture.proofs.Bounding.{made_known}
 use Rattle.mt_picture.proofs.Entered.{there}
-use Rattle.mt_picture.proofs.FirstHit.{both_ok, first_of_put}
+use Rattle.mt_picture.proofs.FirstHit.{both_ok, enters_or_stops, first_of_put}
 use Rattle.mt_picture.proofs.Remade.{new_stands, new_there, other_there, put_remade, remaking_alters}
 use Rattle.mt_picture.proofs.entering.remake.Goals as goal
 
@@ -15,41 +15,41 @@ pub put_made-requires-clause-put : goal.put_made-requires-clause-put
 put_made-requires-clause-put c =
     let shot = c.args.held.now.snapshot in
     rw c.in_ok-entry.ensures.entry
-    (put_remade shot c.args.slot c.in_ok-flight.flight c.args.who c.args.command.now c.args.card (arc_value c.in_ok-strand.strand) c.version-version.ensures.kept
-    c.requires.there c.requires.remaking c.requires.left c.requires.held.filed (rw c.kind_made-kind.ensures at c.in_ok-strand.ensures.made) c.in_ok-flight.ensures)
-
-pub put_made-requires-clause-call : goal.put_made-requires-clause-call
-put_made-requires-clause-call c = ap (λ (r : Record). r.call) c.in_ok-flight.ensures.card_is ∙ sym c.requires.of
+    (put_remade shot c.args.slot c.in_ok-flight.flight c.args.who c.args.command.now c.args.card (arc_value c.in_ok-strand.strand) c.keeps.ensures.sound
+    c.requires.there c.requires.remaking c.requires.prepared.left c.keeps.ensures.picture.filed (rw c.kind_made-kind.ensures at c.in_ok-strand.ensures.made) c.in_ok-flight.ensures)
 
 pub put_made-requires-clause-new : goal.put_made-requires-clause-new
-put_made-requires-clause-new c = λ m is known.
+put_made-requires-clause-new c =
     let shot = c.args.held.now.snapshot in
-    new_there (flight_at shot c.args.slot) (shot.version + 1) c.args.command.now c.args.card (arc_value c.in_ok-strand.strand) c.in_ok-flight.flight c.kind_made-kind.result m
-    c.kind_made-kind.ensures c.in_ok-flight.ensures is ∙ c.in_ok-strand.ensures.known known
+    let put = put_remade shot c.args.slot c.in_ok-flight.flight c.args.who c.args.command.now c.args.card (arc_value c.in_ok-strand.strand) c.keeps.ensures.sound
+    c.requires.there c.requires.remaking c.requires.prepared.left c.keeps.ensures.picture.filed (rw c.kind_made-kind.ensures at c.in_ok-strand.ensures.made) c.in_ok-flight.ensures in
+    record {
+      inside = put.inside;
+      was = put.was;
+      setup_is = c.requires.prepared.setup_is;
+      call_is = ap (λ (r : Record). r.call) c.in_ok-flight.ensures.card_is ∙ sym c.requires.prepared.call_is;
+      new = λ m is known. new_there (flight_at shot c.args.slot) (shot.version + 1) c.args.command.now c.args.card (arc_value c.in_ok-strand.strand)
+          c.in_ok-flight.flight c.kind_made-kind.result m c.kind_made-kind.ensures c.in_ok-flight.ensures is ∙ c.in_ok-strand.ensures.known known;
+      other = λ m is. other_there (flight_at shot c.args.slot) (shot.version + 1) c.args.command.now c.args.card (arc_value c.in_ok-strand.strand)
+          c.in_ok-flight.flight c.kind_made-kind.result m c.kind_made-kind.ensures c.in_ok-flight.ensures is;
+      stood = c.requires.prepared.stood;
+    }
 
-pub put_made-requires-clause-other : goal.put_made-requires-clause-other
-put_made-requires-clause-other c = λ m is.
-    let shot = c.args.held.now.snapshot in
-    other_there (flight_at shot c.args.slot) (shot.version + 1) c.args.command.now c.args.card (arc_value c.in_ok-strand.strand) c.in_ok-flight.flight c.kind_made-kind.result m
-    c.kind_made-kind.ensures c.in_ok-flight.ensures is
-
-pub returns-clause-ok : goal.returns-clause-ok
-returns-clause-ok c = rw c.in_ok-entry.ensures.entry at c.put_made.ensures.ok
-
-pub returns-clause-hits : goal.returns-clause-hits
-returns-clause-hits c =
+pub returns-clause-entered : goal.returns-clause-entered
+returns-clause-entered c =
     let shot = c.args.held.now.snapshot in
     let f = c.in_ok-flight.flight in
     let it = there (flight_at shot c.args.slot) c.args.card.call c.requires.there in
     let card_is = c.in_ok-flight.ensures.card_is in
-    let put = put_remade shot c.args.slot f c.args.who c.args.command.now c.args.card (arc_value c.in_ok-strand.strand) c.version-version.ensures.kept
-    c.requires.there c.requires.remaking c.requires.left c.requires.held.filed (rw c.kind_made-kind.ensures at c.in_ok-strand.ensures.made) c.in_ok-flight.ensures in
-    let left = subst (IsLeft shot.setup (state_in shot) c.args.who c.args.command.now) (sym card_is) c.requires.left in
-    both_ok c.put_made.result _ _ _ (λ first here none.
-    first_of_put shot c.args.slot c.args.who it.flight f c.args.command.now first c.version-version.ensures.kept it.at_is
+    let put = put_remade shot c.args.slot f c.args.who c.args.command.now c.args.card (arc_value c.in_ok-strand.strand) c.keeps.ensures.sound
+    c.requires.there c.requires.remaking c.requires.prepared.left c.keeps.ensures.picture.filed (rw c.kind_made-kind.ensures at c.in_ok-strand.ensures.made) c.in_ok-flight.ensures in
+    let left = subst (IsLeft shot.setup (state_in shot) c.args.who c.args.command.now) (sym card_is) c.requires.prepared.left in
+    enters_or_stops c.args.held.now c.put_made.new.held c.args.who c.args.command.now c.in_ok-entry.entry c.put_made.result c.in_ok-entry.ensures.entry
+    c.put_made.ensures.entered (both_ok c.put_made.result _ _ _ (λ first here none.
+    first_of_put shot c.args.slot c.args.who it.flight f c.args.command.now first c.keeps.ensures.sound it.at_is
     (it.own ∙ ap (λ (r : Record). r.call) (sym card_is)) (remaking_alters c.args.command.now c.requires.remaking) left put.fits.entry
     (λ probed. here (c.is_probed-probed.ensures ∙ probed)) (λ unprobed. none (c.is_probed-probed.ensures ∙ unprobed)))
-    c.put_made.ensures.hits c.put_made.ensures.free
+    c.put_made.ensures.hits c.put_made.ensures.free)
 
 pub returns-in_err-strand-clause-counted : goal.returns-in_err-strand-clause-counted
 returns-in_err-strand-clause-counted c = λ mine made. record { place = 0; was = inl refl }
@@ -65,7 +65,7 @@ returns-clause-counted c = λ mine made.
     let shot = c.args.held.now.snapshot in
     let t = arc_value c.in_ok-strand.strand in
     let kind = c.kind_made-kind.ensures in
-    let one = made_known shot.setup (state_in shot) c.args.who c.args.command.now c.args.card t mine c.requires.left
+    let one = made_known shot.setup (state_in shot) c.args.who c.args.command.now c.args.card t mine c.requires.prepared.left
     (rw kind at c.in_ok-strand.ensures.made) made in
     c.put_made.ensures.counted mine
     (new_stands (flight_at shot c.args.slot) (shot.version + 1) c.args.command.now c.args.card t c.in_ok-flight.flight c.kind_made-kind.result kind c.in_ok-flight.ensures

@@ -5,4 +5,4 @@ use Rattle.mt_picture.proofs.picture.Picture.version.Goals as goal
 pub returns : goal.returns
 returns c =
     let p = c.self.inside.held in
-    rw (← c.self.view_is) (c.version.ensures.version ∙ version_now p.snapshot p.history.items c.self.invariant.stands)
+    rw (← c.self.view_is) (rw c.snapshot.ensures.value at c.version.ensures.version ∙ version_now p.snapshot p.history c.snapshot.ensures.stands)
