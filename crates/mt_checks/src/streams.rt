@@ -155,6 +155,21 @@ fn a_fault_in_mid_stream(rt: HostRuntime) {
     check_fault(&rt, &mut reader, &mut source);
 }
 
+#[test]
+fn a_whole_line_ahead(rt: HostRuntime) {
+    // nothing was read yet, then "cd" and 0x0A are ahead, then "e" alone, then nothing
+    let bytes = b"ab\ncd\ne".to_vec(rt.alloc()).expect(&rt, "memory");
+    let mut source = MemSource::of(bytes);
+    let mut reader = LineReader::make(rt.alloc()).expect(&rt, "memory");
+    assert!(rt; !reader.has_line());
+    assert!(rt; is_next(&mut reader, &mut source, b"ab"));
+    assert!(rt; reader.has_line());
+    assert!(rt; is_next(&mut reader, &mut source, b"cd"));
+    assert!(rt; !reader.has_line());
+    assert!(rt; is_next(&mut reader, &mut source, b"e"));
+    assert!(rt; !reader.has_line());
+}
+
 /// What a sink holds that takes one byte a call, whose call of that number fails, and how many faults it counted.
 fn check_write(rt: &(impl AllocGlobal + Abort), number: u64, held: &[u8], faults: u64) {
     let sink = MemSink::make(rt.alloc(), 8).expect(rt, "memory");

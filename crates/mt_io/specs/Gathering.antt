@@ -1,5 +1,5 @@
 -- The parts of a reader's work: reading more, moving a piece to the line, gathering a whole line.
-use Rattle.std.specs.Prelude.{◌≡◌, ◌<◌, ◌≤◌, ℕ, ◌+◌, ◌^◌, Bool, true, false, List, [], ◌∷◌, ◌++◌, length, Some, None, MatchResult}
+use Rattle.std.specs.Prelude.{◌≡◌, ◌≢◌, ◌<◌, ◌≤◌, ℕ, ◌+◌, ◌-◌, ◌^◌, Bool, true, false, List, [], ◌∷◌, ◌++◌, length, slice_index, Some, None, MatchResult}
 use Rattle.std.specs.Io.KnownBytes.{Keeps, Consumes, IsAtEnd}
 use Rattle.std.specs.declared.option.Option.{Option}
 use Rattle.mt_io.specs.Lines.{IsPart}
@@ -9,6 +9,12 @@ use Rattle.mt_io.specs.declared.line.Step.{Step}
 use Rattle.mt_io.specs.declared.line.Step.TheVariants.{Short, Skipped, Finished}
 use Rattle.mt_io.specs.declared.line.LineFault.{LineFault}
 use Rattle.mt_io.specs.declared.line.LineFault.TheVariants.{ReadFault, Spent}
+
+-- Of a buffer's bytes, of which those from `at` to `end` are ahead, the last 0x0A stands right before `whole`, if one is ahead.
+pub record EndsWhole (bytes : List ℕ) (at whole end : ℕ) : Type 0 where
+  pub within : whole ≤ end
+  pub last : at < whole → slice_index bytes (whole - 1) ≡ 10
+  pub none : (k : ℕ) → whole ≤ k → k < end → slice_index bytes k ≢ 10
 
 -- Nothing was ahead, and what was read is ahead now. Where there was no more, the source has ended.
 pub record Fills (old new : Store) (before after : Option (List ℕ)) (more : Bool) : Type 0 where

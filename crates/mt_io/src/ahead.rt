@@ -1,9 +1,9 @@
 //! The bytes of a source that were read and not yet given.
-ghost use Rattle.std.specs.Prelude.{◌≡◌, ◌≢◌, ◌<◌, ◌≤◌, ◌↔◌, ◌^◌, ℕ, [], false, true, length, drop, slice_index, vec_len, EachIndex, IfOk, OnErr, IsTrue, MatchOption, MatchResult};
+ghost use Rattle.std.specs.Prelude.{◌≡◌, ◌≢◌, ◌<◌, ◌≤◌, ◌↔◌, ◌^◌, ℕ, [], false, true, length, drop, slice_index, vec_len, Contains, EachIndex, IfOk, OnErr, IsTrue, MatchOption, MatchResult};
 ghost use Rattle.std.specs.Io.KnownBytes.{ReadConsumes};
 ghost use Rattle.mt_io.specs.Causes.{HasCause, Rose};
 ghost use Rattle.mt_io.specs.Reading.{Store};
-ghost use Rattle.mt_io.specs.Gathering.{Fills, Moves, StopsFill};
+ghost use Rattle.mt_io.specs.Gathering.{EndsWhole, Fills, Moves, StopsFill};
 
 use crate::gathered::Gathered;
 use crate::line::LineFault;
@@ -18,11 +18,13 @@ const CHUNK: usize = 65_536;
 /// How many bytes a reader takes of its source in all.
 const LIMIT: u64 = 1 << 32;
 
-/// The bytes of a source that were read and not yet given, in a buffer of fixed size.
+/// The bytes of a source that were read and not yet given, in a buffer of fixed size: those from `at` to `end`. The last 0x0A of the buffer's
+/// bytes stands right before `whole`, which is 0 where there is none.
 #[derive(Drop)]
 pub struct Ahead {
     chunk: Vec<u8>,
     at: usize,
+    whole: usize,
     end: usize,
     taken: u64,
     ended: bool,
@@ -30,13 +32,14 @@ pub struct Ahead {
 
 impl Model for Ahead {
     ghost use Rattle.std.specs.Prelude.{◌<◌, ◌≤◌, slice_range, vec_len};
+    ghost use Rattle.mt_io.specs.Gathering.{EndsWhole};
     ghost use Rattle.mt_io.specs.Reading.{Store};
 
     ghost Value = { Store };
 
     ghost view = { λ a. record { ahead = slice_range a.chunk.items a.at a.end; taken = a.taken; ended = a.ended } };
 
-    ghost invariant = { λ a. (a.at ≤ a.end) × (a.end ≤ vec_len a.chunk) × (0 < vec_len a.chunk) };
+    ghost invariant = { λ a. (a.at ≤ a.end) × (a.end ≤ vec_len a.chunk) × (0 < vec_len a.chunk) × EndsWhole a.chunk.items a.at a.whole a.end };
 }
 
 impl Ahead {
@@ -47,6 +50,7 @@ impl Ahead {
         Ok(Ahead {
             chunk: vec![in alloc; 0; CHUNK]?,
             at: 0,
+            whole: 0,
             end: 0,
             taken: 0,
             ended: false,
@@ -58,6 +62,13 @@ impl Ahead {
         ensures { result ≡ self.now.ended }
     {
         self.ended
+    }
+
+    /// Whether a 0x0A is ahead. It costs the same however many bytes are.
+    pub fn has_line(&self) -> bool
+        ensures { IsTrue result ↔ Contains self.now.ahead 10 }
+    {
+        self.at < self.whole
     }
 
     /// Reads more where nothing is ahead. Says whether bytes are ahead then; if not, the source has ended.
@@ -91,6 +102,7 @@ impl Ahead {
         ensures kept { S.reads_to source.old source.new }
     {
         self.at = 0;
+        self.whole = 0;
         self.end = 0;
         if self.taken == LIMIT {
             return Err(LineFault::Spent);
@@ -102,6 +114,7 @@ impl Ahead {
                 Ok(false)
             }
             Ok(count) => {
+                self.whole = whole_end(&self.chunk[..count]);
                 self.end = count;
                 self.taken += count as u64;
                 Ok(true)
@@ -150,6 +163,17 @@ fn break_in(bytes: &[u8]) -> Option<usize>
         (λ place. (place < length bytes.now) × (slice_index bytes.now place ≡ 10) × ((k : ℕ) → k < place → slice_index bytes.now k ≢ 10)) }
 {
     bytes.iter().position(|byte| *byte == b'\n')
+}
+
+// The place behind the last 0x0A, or 0 where there is none.
+fn whole_end(bytes: &[u8]) -> usize
+    ensures { EndsWhole bytes.now 0 result (length bytes.now) }
+{
+    let mut end = bytes.len();
+    while end > 0 && bytes[end - 1] != b'\n' {
+        end -= 1;
+    }
+    end
 }
 
 // Reads at most `room` bytes to the front of the buffer.

@@ -1,5 +1,5 @@
 //! A reader of lines over any source.
-ghost use Rattle.std.specs.Prelude.{◌≡◌, ◌≤◌, ◌^◌, None, IfOk, MatchResult};
+ghost use Rattle.std.specs.Prelude.{◌≡◌, ◌≤◌, ◌↔◌, ◌^◌, None, Contains, IfOk, IsTrue, MatchResult};
 ghost use Rattle.std.specs.Borrow.{sem};
 ghost use Rattle.std.specs.Io.BufRead.{Rests};
 ghost use Rattle.mt_io.specs.Causes.{Rose};
@@ -62,6 +62,14 @@ impl LineReader {
             Ok(Step::Finished) => Ok(Line::End),
             Err(fault) => Err(fault),
         }
+    }
+
+    /// Whether a whole line is ahead: then the next one is given without a read of the source. It costs the same whatever is ahead.
+    pub fn has_line(&self) -> bool
+        ensures ahead { IsTrue result ↔ Contains self.now.store.ahead 10 }
+        ensures bound { self.now.store.taken ≤ 2 ^ 32 }
+    {
+        self.ahead.has_line()
     }
 
     /// How many lines it gave, the long ones too.

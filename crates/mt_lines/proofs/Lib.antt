@@ -1,2 +1,5 @@
 pub mod Answering
 pub mod Brief
+pub mod Cutting
+pub mod Fronts
+pub mod Leaving

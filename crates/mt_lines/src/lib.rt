@@ -4,6 +4,9 @@
 //! A script and a session are instances; their runs are put together by the lemmas of `proofs/`, which speak of the same.
 #![tactic(auto)]
 
+mod given_text;
 mod reply_out;
+mod waiting;
 
 pub use reply_out::give;
+pub use waiting::Waiting;

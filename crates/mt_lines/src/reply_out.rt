@@ -1,13 +1,12 @@
 //! Replies on their way out.
-ghost use Rattle.std.specs.Prelude.{◌≡◌, ◌≤◌, vec_capacity, true};
+ghost use Rattle.std.specs.Prelude.{◌≤◌, vec_capacity};
 ghost use Rattle.mt_io.specs.Causes.{HasCause};
-ghost use Rattle.mt_write.specs.Short.{AreShortCalls, IsShort, IsShortAdvice, IsShortProbe};
-ghost use Rattle.mt_lines.specs.Fit.{AreBrief, AreBriefCalls, IsBriefAdvice, IsFit};
-ghost use Rattle.mt_lines.specs.Given.{Gives, Sends, is_brief, is_farewell};
+ghost use Rattle.mt_lines.specs.Fit.{IsFit};
+ghost use Rattle.mt_lines.specs.Given.{Gives, Sends};
 
-use mt_base::{Callsign, Hit, Second};
+use crate::given_text::text_of;
 use mt_io::{Sink, WriteFault, put_all};
-use mt_write::{AdviceItem, DoneWord, Reply, write_reply, write_short};
+use mt_write::Reply;
 use std::alloc::Global;
 
 /// Gives a reply: writes its text, or that of `memory` where a text that isn't brief finds none. Says whether it was the last one.
@@ -28,93 +27,8 @@ pub fn give<K: Sink>(
     ensures cause { HasCause (K.faults output.old) (K.faults output.new) result }
     ensures kept { K.writes_to output.old output.new }
 {
-    room.clear();
-    if is_brief(reply) {
-        write_short(reply, room);
-        return send(room, is_farewell(reply), output);
-    }
-    match write_reply(alloc, reply) {
-        Ok(text) => send(&text, is_farewell(reply), output),
-        Err(_) => {
-            write_short(&Reply::Memory, room);
-            send(room, false, output)
-        }
-    }
-}
-
-fn is_brief(reply: &Reply) -> bool
-    requires { IsFit reply.now }
-    ensures brief { result ≡ is_brief reply.now }
-    ensures short { result ≡ true → IsShort reply.now }
-{
-    match reply {
-        Reply::Done(_) => true,
-        Reply::Hello(_) => true,
-        Reply::Entered(entered) => {
-            let _version = entered.version;
-            true
-        }
-        Reply::Taken { version } => {
-            let _version = *version;
-            true
-        }
-        Reply::Probe {
-            conflicts,
-            eff,
-            probe,
-            version,
-        } => is_short(conflicts.items(), *eff, *probe, *version),
-        Reply::Advice {
-            advice,
-            call,
-            eff,
-            version,
-        } => is_short_advice(advice.items(), *call, *eff, *version),
-        Reply::Settled { left, version } => are_short(left.items(), *version),
-        Reply::Json | Reply::Long | Reply::Begun | Reply::Unbegun => true,
-        Reply::Bands | Reply::TablesFull | Reply::Memory => true,
-        Reply::Shape | Reply::AreasFull => true,
-        Reply::List { .. } | Reply::Flight(_) | Reply::Due { .. } | Reply::History { .. } => false,
-        Reply::Areas { .. } => false,
-        Reply::Form(_) | Reply::Range(_) | Reply::TakenFix(_) | Reply::TakenType(_) => false,
-        Reply::Refused { .. } | Reply::Illegal { .. } | Reply::Late { .. } => false,
-    }
-}
-
-// Whether the reply of a probe is brief: it is.
-fn is_short(conflicts: &[Hit], eff: Second, probe: u64, version: u64) -> bool
-    requires { AreBrief conflicts.now }
-    ensures short { IsShortProbe conflicts.now eff probe version }
-    ensures brief { result ≡ true }
-{
-    true
-}
-
-// Whether the reply of an advice is brief: it is.
-fn is_short_advice(advice: &[AdviceItem], call: Callsign, eff: Second, version: u64) -> bool
-    requires { IsBriefAdvice advice.now call }
-    ensures short { IsShortAdvice advice.now call eff version }
-    ensures brief { result ≡ true }
-{
-    true
-}
-
-// Whether the reply of settling is brief: it is.
-fn are_short(left: &[Callsign], version: u64) -> bool
-    requires { AreBriefCalls left.now }
-    ensures short { AreShortCalls left.now version }
-    ensures brief { result ≡ true }
-{
-    true
-}
-
-fn is_farewell(reply: &Reply) -> bool
-    ensures { result ≡ is_farewell reply.now }
-{
-    match reply {
-        Reply::Done(DoneWord::Bye) => true,
-        _ => false,
-    }
+    let text = text_of(alloc, reply, room);
+    send(text.bytes(room), text.is_last, output)
 }
 
 // Writes a text, and says whether it was the last one.

@@ -1,3 +1,5 @@
+pub mod Closing
+pub mod Idle
 pub mod OneReply
 pub mod Opened
 pub mod Replying

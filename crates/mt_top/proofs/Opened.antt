@@ -32,7 +32,7 @@ module _ (before after held held_after : Option (List ℕ)) (w : World) where
   whole HasReply Done input left written answers = ⊎_elim (λ all. inl (w, all.0)) (λ last. inr (w, last)) answers
   whole HasReply ReadFault input left written (taken, answers) = (taken, (w, answers))
   whole HasReply Spent input left written (taken, all, answers) = (taken, all, (w, answers))
-  whole HasReply WriteFault input left written answers = (w, answers)
+  whole HasReply WriteFault input left written answers = answers
   whole HasReply Usage input left written none = none
   whole HasReply Setup input left written none = none
   whole HasReply DoorFault input left written none = none
@@ -67,7 +67,7 @@ module _ (before after held held_after : Option (List ℕ)) (w : World) where
   failed Done other input left written answers = absurd (true≢false other)
   failed ReadFault other input left written (taken, answers) = (w, taken, answers)
   failed Spent other input left written (taken, all, answers) = (w, taken, all, answers)
-  failed WriteFault other input left written answers = (w, answers)
+  failed WriteFault other input left written answers = answers
   failed Usage other input left written none = none
   failed Setup other input left written none = absurd none
   failed DoorFault other input left written none = none

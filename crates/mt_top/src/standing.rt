@@ -1,9 +1,10 @@
 //! A primary's history followed from the input, each line answered on the output.
-ghost use Rattle.std.specs.Prelude.{◌≡◌, ◌≤◌, IfOk, vec_capacity};
+ghost use Rattle.std.specs.Prelude.{◌≡◌, ◌≤◌, [], IfOk, vec_capacity};
 ghost use Rattle.std.specs.Thread.{IsSync};
 ghost use Rattle.mt_io.specs.Causes.{Rose};
 ghost use Rattle.mt_io.specs.Reading.{fresh};
 ghost use Rattle.mt_lines.specs.Answering.{Explains};
+ghost use Rattle.mt_lines.specs.Waits.{waits};
 ghost use Rattle.mt_top.specs.Run.{StandbyMeans};
 ghost use Rattle.mt_top.specs.declared.status.Status.TheVariants.{ReadFault, WriteFault};
 ghost use Rattle.mt_world.specs.World.{opening_world};
@@ -21,6 +22,7 @@ fn standby_lines(alloc: Global) -> Result<Lines<Follower>, Memory>
     ensures reader { IfOk result (λ lines. lines.reader ≡ fresh) }
     ensures script { IfOk result (λ lines. lines.script ≡ opening_world) }
     ensures room { IfOk result (λ lines. 65536 ≤ vec_capacity lines.room) }
+    ensures waiting { IfOk result (λ lines. waits lines.waiting ≡ []) }
 {
     Lines::make(alloc, Follower::make(alloc)?)
 }

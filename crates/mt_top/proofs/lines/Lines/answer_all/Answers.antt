@@ -1,10 +1,12 @@
-use Rattle.std.proofs.Common.{refl, arith}
+use Rattle.std.proofs.Common.{refl, arith, []}
+use Rattle.mt_io.proofs.Known.{appends_none}
+use Rattle.mt_top.proofs.Closing.{closed, closed_short, goes_on}
 use Rattle.mt_top.proofs.Turning.{starts}
 use Rattle.mt_top.proofs.lines.Lines.answer_all.Goals as goal
 
 pub loop-status-init : goal.loop-status-init
-loop-status-init g c = rw (c.requires.first.0, c.requires.first.1) (record {
-  so_far = starts g.A.Answers.replied c.args.until_begun _ _;
+loop-status-init g c = rw (c.requires.first.0, c.requires.first.1, c.requires.none) (record {
+  so_far = ([], appends_none _, starts g.A.Answers.replied c.args.until_begun _);
   sound = refl;
   bound = omega arith;
   room = c.requires.room;
@@ -20,7 +22,7 @@ loop-status-preserved g c =
     let so_far = c.loop-status.invariant in
     let turn = c.in_default.ensures in
     record {
-      so_far = turn.turned _ _ so_far.so_far;
+      so_far = goes_on g.A.Answers.replied c.args.until_begun _ _ _ _ _ _ _ _ _ _ _ _ so_far.so_far turn.turned;
       sound = turn.rises.2;
       bound = turn.rises.1;
       room = c.turn.ensures.room;
@@ -31,11 +33,12 @@ loop-status-preserved g c =
       writes = g.met.K.Sink.writes_on _ _ _ so_far.writes c.turn.ensures.writes;
     }
 
-pub returns-in-Some-clause-reads : goal.returns-in-Some-clause-reads
-returns-in-Some-clause-reads g c = g.met.S.Source.reads_on _ _ _ c.loop-status.invariant.reads c.turn.ensures.reads
+pub returns-in-Ok-clause-means : goal.returns-in-Ok-clause-means
+returns-in-Ok-clause-means g c =
+    let (sent, first, so_far) = c.loop-status.invariant.so_far in
+    closed g.A.Answers.replied c.args.until_begun _ _ _ _ _ _ sent _ _ _ _ first (c.in-Some.ensures.turned _ sent so_far) c.in-Ok.ensures.ok
 
-pub returns-in-Some-clause-writes : goal.returns-in-Some-clause-writes
-returns-in-Some-clause-writes g c = g.met.K.Sink.writes_on _ _ _ c.loop-status.invariant.writes c.turn.ensures.writes
-
-pub returns-in-Some-clause-means : goal.returns-in-Some-clause-means
-returns-in-Some-clause-means g c = c.in-Some.ensures.turned _ _ c.loop-status.invariant.so_far
+pub returns-in-Err-clause-means : goal.returns-in-Err-clause-means
+returns-in-Err-clause-means g c =
+    let (sent, first, so_far) = c.loop-status.invariant.so_far in
+    closed_short g.A.Answers.replied c.args.until_begun _ _ _ _ _ _ sent _ _ _ c.in-Some.status first (c.in-Some.ensures.turned _ sent so_far) c.in-Err.ensures.err

@@ -1,36 +1,11 @@
-use Rattle.std.proofs.Common.{false}
-use Rattle.mt_io.specs.declared.line.LineFault.TheVariants as faults
-use Rattle.mt_write.specs.declared.reply.Reply.TheVariants as replies
-use Rattle.mt_top.proofs.Turning.{ended, last_given, long_goes_on, stopped, turned}
+use Rattle.mt_top.proofs.Turning.{behind_ready, cut_ready}
 use Rattle.mt_top.proofs.lines.Lines.turn.Goals as goal
 
-pub returns-in-Ok-Text-clause-turned : goal.returns-in-Ok-Text-clause-turned
-returns-in-Ok-Text-clause-turned g c =
-    let line = rw (c.in-Ok-Text.is, c.in-Ok-Text.field-0-is) at c.next.follows.holds-at-none in
-    λ before held so_far. rw (c.ending.ensures, c.is_set_up.ensures) (turned g.A.Answers.replied c.args.until_begun before _ _ held _ _ _ (g.A.Answers.world c.args.self.now.script)
-    c.reply_law.ensures.given _ (g.A.Answers.world c.answer-reply.new.self) c.in-Ok-Text.line.now
-    c.answer-reply.result c.give-given.result _ so_far line.1 c.answer-reply.ensures.replied
-    (last_given c.args.until_begun (g.A.Answers.world c.answer-reply.new.self) c.answer-reply.result (λ until. (c.answer-reply.ensures.begins (c.requires.unbegun until)).0)) (λ _. line.0) c.give-given.ensures.given)
+pub returns-in-Ok-clause-turned : goal.returns-in-Ok-clause-turned
+returns-in-Ok-clause-turned g c = λ before sent so_far.
+    behind_ready g.A.Answers.replied c.args.until_begun before _ _ sent _ _ (g.A.Answers.world c.args.self.now.script) _ _ _ _ _ _ _ _ c.in-Ok.ensures.ok c.answer_next.ensures.turned so_far
 
-pub returns-in-Ok-Long-clause-turned : goal.returns-in-Ok-Long-clause-turned
-returns-in-Ok-Long-clause-turned g c =
-    let (line, long, takes) = rw (c.in-Ok-Long.is, c.in-Ok-Long.field-0-is) at c.next.follows.holds-at-none in
-    λ before held so_far. rw c.ending-in-Ok-Long.ensures (turned g.A.Answers.replied c.args.until_begun before _ _ held _ _ _ (g.A.Answers.world c.args.self.now.script)
-    c.reply_law.ensures.given _ (g.A.Answers.world c.args.self.now.script) line replies.Long
-    c.give.result false so_far takes (c.reply_law.ensures.too_long (g.A.Answers.world c.args.self.now.script) line long)
-    (long_goes_on c.args.until_begun (g.A.Answers.world c.args.self.now.script) c.requires.unbegun) (λ not_brief. cc) c.give.ensures.given)
-
-pub returns-in-Ok-End-clause-turned : goal.returns-in-Ok-End-clause-turned
-returns-in-Ok-End-clause-turned g c =
-    let done = rw (c.in-Ok-End.is, c.in-Ok-End.field-0-is) at c.next.follows.holds-at-none in
-    λ before held so_far. ended g.A.Answers.replied c.args.until_begun before _ _ held _ _ _ _ so_far c.requires.unbegun done
-
-pub returns-in-Err-ReadFault-clause-turned : goal.returns-in-Err-ReadFault-clause-turned
-returns-in-Err-ReadFault-clause-turned g c =
-    let stop = rw (c.in-Err-ReadFault.is, c.in-Err-ReadFault.field-0-is) at c.next.follows.holds-at-none in
-    λ before held so_far. stopped g.A.Answers.replied c.args.until_begun before _ _ held _ _ _ _ faults.ReadFault so_far stop
-
-pub returns-in-Err-Spent-clause-turned : goal.returns-in-Err-Spent-clause-turned
-returns-in-Err-Spent-clause-turned g c =
-    let stop = rw (c.in-Err-Spent.is, c.in-Err-Spent.field-0-is) at c.next.follows.holds-at-none in
-    λ before held so_far. stopped g.A.Answers.replied c.args.until_begun before _ _ held _ _ _ _ faults.Spent so_far stop
+pub returns-in-Err-clause-turned : goal.returns-in-Err-clause-turned
+returns-in-Err-clause-turned g c = λ before sent so_far.
+    cut_ready g.A.Answers.replied c.args.until_begun before (g.S.Source.left c.args.input.now) (g.S.Source.left c.args.input.now) sent c.args.self.now.reader c.args.self.now.reader
+    (g.A.Answers.world c.args.self.now.script) _ _ _ _ c.in-Err.ensures.err c.in-Err.ensures.lost c.has_line-has_line.ensures.bound so_far

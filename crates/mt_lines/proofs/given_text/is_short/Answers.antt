@@ -1,4 +1,4 @@
-use Rattle.mt_lines.proofs.reply_out.is_short.Goals as goal
+use Rattle.mt_lines.proofs.given_text.is_short.Goals as goal
 
 pub returns-clause-short : goal.returns-clause-short
 returns-clause-short c = record {

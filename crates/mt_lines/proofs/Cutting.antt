@@ -1,0 +1,208 @@
+-- Bytes that answer lines, cut anywhere: what stands before the cut answers the first of the lines, but that the last reply is cut short.
+use Rattle.std.proofs.Common.{◌≡◌, ◌<◌, ◌≤◌, ◌^◌, ℕ, Bool, List, [], ◌∷◌, ◌++◌, length, take, drop, refl, sym, ◌∙◌, ap, inl, inr, arith, append_assoc, append-nil, length-append, take-append-drop, Some}
+use Rattle.std.proofs.lemmas.Bool.{cases_lt}
+use Rattle.std.proofs.lemmas.List.{drop-append-le, take-append-le}
+use Rattle.std.proofs.Math.Seq.{drop-append_seam, take-append_seam}
+use Rattle.std.specs.declared.option.Option.{Option}
+use Rattle.mt_io.specs.HasRead.{AreRead}
+use Rattle.mt_io.specs.Reading.{Reading, Takes}
+use Rattle.mt_io.proofs.HasRead.{are_read, read_more, told}
+use Rattle.mt_lines.specs.Answering.{AnswersFront, AnswersToLast, AreReplied, AreRepliedTo, Explains, SoFar}
+use Rattle.mt_lines.proofs.Fronts.{first_read}
+
+-- two ways to cut the same bytes: what stands between the cuts
+record Between (xs ys us vs : List ℕ) : Type 0 where
+  bytes : List ℕ
+  front_is : xs ≡ us ++ bytes
+  rest_is : vs ≡ bytes ++ ys
+
+between : (xs ys us vs : List ℕ) → xs ++ ys ≡ us ++ vs → length us ≤ length xs → Between xs ys us vs
+between xs ys us vs same le =
+    let front : take (length us) xs ≡ us =
+    sym (take-append-le (length us) xs ys le) ∙ ap (λ zs. take (length us) zs) same ∙ take-append_seam us vs in
+    record {
+      bytes = drop (length us) xs;
+      front_is = sym (take-append-drop (length us) xs) ∙ ap (λ zs. zs ++ drop (length us) xs) front;
+      rest_is = sym (drop-append_seam us vs) ∙ ap (λ zs. drop (length us) zs) (sym same) ∙ drop-append-le (length us) xs ys le;
+    }
+
+-- something stands behind the first cut
+left_behind : (xs ys us vs : List ℕ) (cut : Between xs ys us vs) → length us < length xs → 0 < length vs
+left_behind xs ys us vs cut longer = omega (arith, longer, ap length cut.front_is, length-append us cut.bytes, ap length cut.rest_is, length-append cut.bytes ys)
+
+module _ {W R : Type 0} (text : R → List ℕ) (is_last : R → Bool) (IsReplied : W → List ℕ → R → W → Type 0) (IsFollowed : W → List ℕ → R → W → W → Type 0) where
+  -- at some world: a fault may have cut off lines that were answered
+  abbrev pub AnswersSomeFront : W → List ℕ → List ℕ → List ℕ → Type 0
+  AnswersSomeFront start input left written = (end : W) × AnswersFront text is_last IsReplied IsFollowed start input left written end
+
+  -- these bytes answer the first of these lines, the last one of them in part
+  record IsCutAt (start : W) (lines : List (List ℕ)) (written : List ℕ) : Type 0 where
+    first : List (List ℕ)
+    line : List ℕ
+    more : List (List ℕ)
+    lines_are : lines ≡ (first ++ line ∷ []) ++ more
+    bytes : List ℕ
+    reply : R
+    end : W
+    replied : AreRepliedTo text is_last IsReplied IsFollowed start first line bytes reply end
+    front : List ℕ
+    rest : List ℕ
+    text_is : text reply ≡ front ++ rest
+    written_is : written ≡ bytes ++ front
+
+  cut_at : (start : W) (lines : List (List ℕ)) (all written rest : List ℕ) (end : W) → AreReplied text is_last IsReplied IsFollowed start lines all end
+      → all ≡ written ++ rest → 0 < length all → IsCutAt start lines written
+  cut_at start [] all written rest end (none, same) is some = absurd (omega (arith, some, ap length none))
+  cut_at start (line ∷ lines) all written rest end (reply, behind, middle, next, replied, goes, followed, all_is, others) is some =
+      elim (cases_lt (length (text reply)) (length written)) [
+        | inl longer ↦
+            let cut = between written rest (text reply) behind (sym is ∙ all_is) (omega (arith, longer)) in
+            let left = left_behind written rest (text reply) behind cut longer in
+            let c = cut_at next lines behind cut.bytes rest end others cut.rest_is left in
+            record {
+              first = line ∷ c.first;
+              line = c.line;
+              more = c.more;
+              lines_are = ap (λ ls. line ∷ ls) c.lines_are;
+              bytes = text reply ++ c.bytes;
+              reply = c.reply;
+              end = c.end;
+              replied = record {
+                middle = c.replied.middle;
+                replied = (reply, c.bytes, middle, next, replied, goes, followed, refl, c.replied.replied);
+                last = c.replied.last;
+              };
+              front = c.front;
+              rest = c.rest;
+              text_is = c.text_is;
+              written_is = cut.front_is ∙ ap (λ bs. text reply ++ bs) c.written_is ∙ sym (append_assoc (text reply) c.bytes c.front);
+            }
+        | inr within ↦
+            let cut = between (text reply) behind written rest (sym all_is ∙ is) within in
+            record {
+              first = [];
+              line = line;
+              more = lines;
+              lines_are = refl;
+              bytes = [];
+              reply = reply;
+              end = middle;
+              replied = record { middle = start; replied = (refl, refl); last = replied };
+              front = written;
+              rest = cut.bytes;
+              text_is = cut.front_is;
+              written_is = refl;
+            }
+      ]
+
+  -- the same where one line more is answered, which may be the last one
+  cut_to : (start : W) (lines : List (List ℕ)) (line bytes written rest : List ℕ) (reply : R) (end : W)
+      → AreRepliedTo text is_last IsReplied IsFollowed start lines line bytes reply end → bytes ++ text reply ≡ written ++ rest
+      → IsCutAt start (lines ++ line ∷ []) written
+  cut_to start lines line bytes written rest reply end to is =
+      elim (cases_lt (length written) (length bytes)) [
+        | inl shorter ↦
+            let cut = between bytes (text reply) written rest is (omega (arith, shorter)) in
+            let c = cut_at start lines bytes written cut.bytes to.middle to.replied cut.front_is (omega (arith, shorter)) in
+            record {
+              first = c.first;
+              line = c.line;
+              more = c.more ++ line ∷ [];
+              lines_are = ap (λ ls. ls ++ line ∷ []) c.lines_are ∙ append_assoc (c.first ++ c.line ∷ []) c.more (line ∷ []);
+              bytes = c.bytes;
+              reply = c.reply;
+              end = c.end;
+              replied = c.replied;
+              front = c.front;
+              rest = c.rest;
+              text_is = c.text_is;
+              written_is = c.written_is;
+            }
+        | inr longer ↦
+            let cut = between written rest bytes (text reply) (sym is) longer in
+            record {
+              first = lines;
+              line = line;
+              more = [];
+              lines_are = sym (append-nil (lines ++ line ∷ []));
+              bytes = bytes;
+              reply = reply;
+              end = end;
+              replied = to;
+              front = cut.bytes;
+              rest = rest;
+              text_is = cut.rest_is;
+              written_is = cut.front_is;
+            }
+      ]
+
+  cut_read : (start : W) (input left : List ℕ) (lines : List (List ℕ)) (written : List ℕ) → AreRead input left lines → IsCutAt start lines written
+      → AnswersSomeFront start input left written
+  cut_read start input left lines written read c = (
+    c.end,
+    record {
+      lines = c.first;
+      line = c.line;
+      read = first_read input left (c.first ++ c.line ∷ []) c.more (rw c.lines_are at read);
+      bytes = c.bytes;
+      reply = c.reply;
+      replied = c.replied;
+      front = c.front;
+      rest = c.rest;
+      text_is = c.text_is;
+      written_is = c.written_is;
+    },
+  )
+
+  -- the answers of lines up to the last one, cut
+  pub last_cut : (start : W) (input left written rest : List ℕ) (end : W)
+      → AnswersToLast text is_last IsReplied IsFollowed start input left (written ++ rest) end → AnswersSomeFront start input left written
+  last_cut start input left written rest end to =
+      cut_read start input left (to.lines ++ to.line ∷ []) written to.read
+      (cut_to start to.lines to.line to.bytes written rest to.reply end to.replied (sym to.written_is))
+
+  abbrev Runs : W → Option (List ℕ) → Option (List ℕ) → Option (List ℕ) → Option (List ℕ) → Reading → W → Type 0
+  Runs start before now held held_now reader w = SoFar text is_last IsReplied IsFollowed start before now held held_now reader w
+
+  module _ (start : W) (before now : Option (List ℕ)) (reader : Reading) (w : W) where
+    -- the output failed before the next line was read
+    pub cut_so_far : (all written rest : List ℕ) → Runs start before now (Some []) (Some all) reader w → reader.store.taken ≤ 2 ^ 32
+        → all ≡ written ++ rest → 0 < length all
+        → Explains (AnswersSomeFront start) before now (Some []) (Some written)
+    cut_so_far all written rest so_far few is some =
+        let (left, tells, tells_after, at_end) = told before now so_far.taken so_far.read.from in
+        let read = are_read before now reader so_far.lines so_far.taken left so_far.read few at_end in
+        let bytes_are : so_far.bytes ≡ all = sym so_far.written in
+        record {
+          input = so_far.taken ++ left;
+          left = left;
+          written = written;
+          told = tells;
+          told_after = tells_after;
+          appended = refl;
+          means = cut_read start (so_far.taken ++ left) left so_far.lines written read
+              (cut_at start so_far.lines so_far.bytes written rest w so_far.replied (bytes_are ∙ is) (rw bytes_are some));
+        }
+
+    -- the output failed when one line more had been answered
+    pub cut_behind : (after : Option (List ℕ)) (new : Reading) (all written rest line : List ℕ) (reply : R) (end : W)
+        → Runs start before now (Some []) (Some all) reader w → Takes reader new now after line → IsReplied w line reply end
+        → all ++ text reply ≡ written ++ rest
+        → Explains (AnswersSomeFront start) before after (Some []) (Some written)
+    cut_behind after new all written rest line reply end so_far takes replied is =
+        let read = read_more before now after reader new so_far.lines so_far.taken line so_far.read takes in
+        let taken = so_far.taken ++ takes.passes.read in
+        let (left, tells, tells_after, at_end) = told before after taken read.from in
+        let are = are_read before after new (so_far.lines ++ line ∷ []) taken left read takes.passes.limit at_end in
+        let bytes_are : so_far.bytes ≡ all = sym so_far.written in
+        record {
+          input = taken ++ left;
+          left = left;
+          written = written;
+          told = tells;
+          told_after = tells_after;
+          appended = refl;
+          means = cut_read start (taken ++ left) left (so_far.lines ++ line ∷ []) written are
+              (cut_to start so_far.lines line so_far.bytes written rest reply end
+              (record { middle = w; replied = so_far.replied; last = replied }) (ap (λ bs. bs ++ text reply) bytes_are ∙ is));
+        }

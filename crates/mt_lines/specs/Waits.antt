@@ -1,0 +1,7 @@
+-- What waits to be written.
+use Rattle.std.specs.Prelude.{ℕ, List}
+use Rattle.mt_lines.specs.declared.waiting.Waiting.{Waiting}
+
+-- its bytes, in the order in which they were given
+abbrev pub waits : Waiting → List ℕ
+waits waiting = waiting.bytes.items
