@@ -18,10 +18,11 @@ pub struct TcpLink {
 }
 
 impl TcpLink {
-    /// A connection, with no fault counted.
+    /// A connection, with no fault counted. What it writes is sent at once; where the system doesn't take that wish, it is sent when the system likes.
     pub fn of(stream: TcpStream) -> TcpLink
         ensures { (⟦<TcpLink as Source>⟧.faults result ≡ 0) × (⟦<TcpLink as Sink>⟧.faults result ≡ 0) }
     {
+        let _ = stream.set_nodelay(true);
         TcpLink {
             stream,
             reads: 0,

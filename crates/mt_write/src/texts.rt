@@ -10,11 +10,14 @@ use mt_base::Entry;
 use mt_memory::Memory;
 use std::alloc::Global;
 
+/// The room that a text gets at first: most replies fit, and so grow no more.
+const SHORT: usize = 128;
+
 /// The text of a reply: one compact object, its keys in byte order, and 0x0A at its end.
 pub fn write_reply(alloc: Global, reply: &Reply) -> Result<Vec<u8>, Memory>
     ensures { IfOk result (λ line. line.items ≡ reply_text reply.now) }
 {
-    let mut line = Vec::new(alloc);
+    let mut line = Vec::with_capacity(alloc, SHORT)?;
     put_reply(&mut line, reply)?;
     Ok(line)
 }

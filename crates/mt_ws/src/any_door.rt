@@ -87,6 +87,8 @@ impl<N: Net<Listener = TcpListener, Stream = TcpStream>> Door for AnyDoor<N> {
             for _ in 0..u64::MAX {
                 match listener.accept() {
                     Ok((stream, _)) => {
+                        // (as a link of lines: a reply is sent at once)
+                        let _ = stream.set_nodelay(true);
                         self.given += 1;
                         return Ok(Some(AnyLink::of(self.alloc, stream)));
                     }
