@@ -20,7 +20,7 @@ use Rattle.mt_base.specs.declared.flight.Straight.{Straight}
 use Rattle.mt_base.specs.declared.route.RouteNo.{RouteNo}
 use Rattle.mt_base.specs.Bounds.{AreBoundedBands, AreBoundedTables, IsBoundedBand, IsBoundedClearance, IsSoundCourse}
 use Rattle.mt_base.specs.Checks.{check, judged}
-use Rattle.mt_base.specs.Cleared.{place_behind}
+use Rattle.mt_base.specs.Cleared.{place_further_on}
 use Rattle.mt_base.specs.History.{refusal_of, route_checks}
 use Rattle.mt_base.specs.Picture.{State, flight_of}
 use Rattle.mt_base.specs.Tables.{Setup, Tables, bands_of, ceiling_of, fix_of, fix_checks, length_checks}
@@ -35,7 +35,7 @@ ceiling_for tables course = ceiling_of (unwrap_or (bands_of tables course.kind) 
 
 abbrev IsCandidate : Tables → Course → Base → Clearance → Type 0
 IsCandidate tables course base (Level level) = nat_le level (ceiling_for tables course) ≡ true
-IsCandidate tables course base (Direct fix) = (is_some (fix_of tables fix) ≡ true) × (is_some (place_behind course.route base.next fix) ≡ true)
+IsCandidate tables course base (Direct fix) = (is_some (fix_of tables fix) ≡ true) × (is_some (place_further_on course.route base.next fix) ≡ true)
 
 level_is : (tables : Tables) (course : Course) (base : Base) (level : ℕ) → AllByRecursion (IsCandidate tables course base) (level_up_to (ceiling_for tables course) level)
 level_is tables course base level = by_test (nat_le level (ceiling_for tables course)) refl where
@@ -110,7 +110,7 @@ directs : (tables : Tables) (course : Course) (base : Base) (ns : List (List ℕ
 directs tables course base [] known stand = tt
 directs tables course base (n ∷ ns) known stand =
     ((known.0, behind stand.0), directs tables course base ns known.1 stand.1) where
-      behind : StandsIn (drop (suc base.next) course.route) n → is_some (place_behind course.route base.next n) ≡ true
+      behind : StandsIn (drop (suc base.next) course.route) n → is_some (place_further_on course.route base.next n) ≡ true
       behind below =
           let e : nat_lt (position_or_len (bytes_eq n) (drop (suc base.next) course.route)) (length (drop (suc base.next) course.route)) ≡ true = grind (arith, nat_tests) in
           rw e refl

@@ -7,7 +7,7 @@ use mt_base::{Clearance, FixName, Memory, Route};
 /// How many places of the route are looked at.
 const AHEAD: usize = 8;
 
-/// The names at the next eight places of a route behind a place.
+/// The names at the next eight places of a route after a place.
 pub(crate) fn next_names(route: &Route, place: u32) -> &[FixName]
     ensures { result.now ≡ take 8 (drop (suc place) route.now) }
 {
@@ -17,7 +17,7 @@ pub(crate) fn next_names(route: &Route, place: u32) -> &[FixName]
     &ahead[..AHEAD.min(ahead.len())]
 }
 
-/// Puts clearances direct to some fixes behind the others, each fix once.
+/// Puts clearances direct to some fixes after the others, each fix once.
 pub(crate) fn put_directs(list: &mut Vec<Clearance>, names: &[FixName]) -> Result<(), Memory>
     ensures { OnOk result (list.new.items ≡ list.old.items ++ map Direct (each_once names.now)) }
 {

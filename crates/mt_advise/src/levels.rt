@@ -4,7 +4,7 @@ ghost use Rattle.mt_base.specs.Advice.{level_up_to, levels_beside, levels_near};
 use mt_base::{Clearance, Memory};
 use std::alloc::Global;
 
-/// Puts a level behind the other clearances, where it isn't above the ceiling.
+/// Puts a level after the other clearances, where it isn't above the ceiling.
 fn put_level(list: &mut Vec<Clearance>, ceiling: u32, level: u32) -> Result<(), Memory>
     ensures { OnOk result (list.new.items ≡ list.old.items ++ level_up_to ceiling level) }
 {
@@ -14,7 +14,7 @@ fn put_level(list: &mut Vec<Clearance>, ceiling: u32, level: u32) -> Result<(), 
     Ok(())
 }
 
-/// Puts the level so much above a level behind the other clearances, then the one so much below it where that is 0 or more.
+/// Puts the level so much above a level after the other clearances, then the one so much below it where that is 0 or more.
 fn put_levels(list: &mut Vec<Clearance>, ceiling: u32, level: u32, step: u32) -> Result<(), Memory>
     requires { (level ≤ 600) × (step ≤ 40) }
     ensures { OnOk result (list.new.items ≡ list.old.items ++ levels_beside ceiling level step) }

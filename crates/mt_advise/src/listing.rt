@@ -20,7 +20,7 @@ fn ceiling_of(tables: &Tables, kind: TypeName) -> u32
 
 /// The clearances that are tried for a flight that flies on from a base: the levels 10, 20, 30 and 40 above and below its own, from 0 up to
 /// the ceiling of its type, the nearest first and each above before the one below; then direct to each of the next eight places of its route
-/// behind the one that it flies to, by name, each name once. There are at most sixteen.
+/// after the one that it flies to, by name, each name once. There are at most sixteen.
 ///
 /// In whatever state the flight flies on so, each of them is bounded, and no check refuses it at the moment. It asks that the flight's level is
 /// at most 600, as that of a sound flight is. The definition is `candidates`.

@@ -11,7 +11,7 @@ use Rattle.mt_base.specs.Area.{IsBoundedArea, IsInsideAt}
 use Rattle.mt_frac.specs.declared.linear.Line.{Line}
 use Rattle.mt_frac.specs.Meeting.{AreBelow, IsBoundedSide}
 use Rattle.mt_frac.specs.Polynomials.{line_value}
-use Rattle.mt_area.specs.Lines.{AreCrossed, IsDuring, IsLineOf, Says, StaysAbove, StaysBelow}
+use Rattle.mt_area.specs.Lines.{AreCrossed, IsDuringOrAtEnd, IsLineOf, Says, StaysAboveLine, StaysBelow}
 
 -- what a line is at both ends of some seconds it is during all of them
 below_during : (b c e n d : ℤ) → pos 0 <ℤ d → pos 0 ≤ℤ n → n ≤ℤ (e *ℤ d) → c <ℤ pos 0 → (b *ℤ e +ℤ c) <ℤ pos 0 → line_value b c n d <ℤ pos 0
@@ -61,7 +61,7 @@ inside_says area row n d at k = record { left = λ place. at.left k place; above
 -- The lines so far are below 0 together exactly where the first places hold.
 pub record AreFirst (area : Area) (row : Row) (seconds i : ℕ) (lines : List Line) : Type 0 where
   pub bounded : All IsBoundedSide lines
-  pub exact : (n d : ℤ) → IsDuring seconds n d → AreBelow lines n d ↔ FirstSay area row i n d
+  pub exact : (n d : ℤ) → IsDuringOrAtEnd seconds n d → AreBelow lines n d ↔ FirstSay area row i n d
 
 -- a line that stays below 0 isn't needed
 pub AreFirst-skip : (area : Area) (row : Row) (seconds i : ℕ) (lines : List Line) (line : Line) → IsLineOf area row i line → StaysBelow line seconds
@@ -76,14 +76,14 @@ AreFirst-skip area row seconds i lines line is below first = record {
 }
 
 -- where one stays at 0 or above, nothing is inside
-pub none_crossed : (area : Area) (row : Row) (seconds i : ℕ) (line : Line) → IsLineOf area row i line → StaysAbove line seconds
-    → (n d : ℤ) → IsDuring seconds n d → ¬ IsInsideAt area row n d
+pub none_crossed : (area : Area) (row : Row) (seconds i : ℕ) (line : Line) → IsLineOf area row i line → StaysAboveLine line seconds
+    → (n d : ℤ) → IsDuringOrAtEnd seconds n d → ¬ IsInsideAt area row n d
 none_crossed area row seconds i line is above n d during inside =
     let low = (is n d during.positive).1 (inside_says area row n d inside i) in
     let high = above_during line.b line.c (pos seconds) n d during.positive during.begun during.within above.0 above.1 in
     absurd (omega (arith, lin, low, high))
 
--- every other line is put behind those before it
+-- every other line is put after those before it
 abbrev IsBelow : ℤ → ℤ → Line → Type 0
 IsBelow n d line = line_value line.b line.c n d <ℤ pos 0
 

@@ -11,8 +11,8 @@ use Rattle.mt_base.specs.Instant.{value_at}
 use Rattle.mt_track.specs.Rows.{row_after}
 use Rattle.mt_area.specs.declared.reach.Extent.{Extent}
 use Rattle.mt_area.specs.declared.reach.Reach.{Reach}
-use Rattle.mt_area.specs.Lines.{IsDuring}
-use Rattle.mt_area.specs.Reach.{AreHeightsApart, AreSouthOrNorth, AreWestOrEast, Holds, HoldsAt, HoldsRow, HoldsRowAt, IsPlaced, IsWider, IsWiderReach, LieApart}
+use Rattle.mt_area.specs.Lines.{IsDuringOrAtEnd}
+use Rattle.mt_area.specs.Reach.{AreHeightsApart, AreSouthOrNorth, AreWestOrEast, IsWithinExtent, HoldsAt, HoldsRow, HoldsRowAt, IsPlaced, IsWiderExtent, IsWiderReach, AreBoxesApart}
 use Rattle.mt_area.proofs.Instants.{during, moved}
 use Rattle.mt_area.proofs.Rounds.{along, none_beyond}
 use Rattle.mt_area.proofs.Sides.{in_64, plane_size, read_64}
@@ -42,13 +42,13 @@ not_above h z v e n d d+ begun within first last = ⊎_elim
     omega (arith, lin, simp spread at p, simp spread at q))
     (cases_ℤ v)
 
-HoldsAt-between : (r : Extent) (z v k : ℤ) (seconds : ℕ) (n d : ℤ) → IsDuring seconds (n +ℤ k *ℤ d) d → Holds r z → Holds r (z +ℤ v *ℤ pos seconds) → HoldsAt r (z +ℤ v *ℤ k) v n d
+HoldsAt-between : (r : Extent) (z v k : ℤ) (seconds : ℕ) (n d : ℤ) → IsDuringOrAtEnd seconds (n +ℤ k *ℤ d) d → IsWithinExtent r z → IsWithinExtent r (z +ℤ v *ℤ pos seconds) → HoldsAt r (z +ℤ v *ℤ k) v n d
 HoldsAt-between r z v k seconds n d at first last = record {
   low = rw (moved z v k n d) (not_below r.low z v (pos seconds) (n +ℤ k *ℤ d) d (weaken at.positive) at.begun at.within first.low last.low);
   high = rw (moved z v k n d) (not_above r.high z v (pos seconds) (n +ℤ k *ℤ d) d (weaken at.positive) at.begun at.within first.high last.high);
 }
 
--- what holds the first row of some seconds with the same gains and the row behind their last one holds every instant of them
+-- what holds the first row of some seconds with the same gains and the row after their last one holds every instant of them
 pub HoldsRowAt-between : (reach : Reach) (row : Row) (seconds k : ℕ) → HoldsRow reach row → HoldsRow reach (row_after row seconds) → k < seconds
     → (n d : ℤ) → pos 0 ≤ℤ n → n <ℤ d → HoldsRowAt reach (row_after row k) n d
 HoldsRowAt-between reach row seconds k first last ahead n d n+ within =
@@ -60,7 +60,7 @@ HoldsRowAt-between reach row seconds k first last ahead n d n+ within =
     }
 
 -- a number that an extent holds by its bits, and a row that keeps its bounds for some seconds
-pub Holds-by_bits : (e : Extent) (z : ℤ) → IsWithin (neg_ℤ (pos 3686400)) (pos 3686400) z → Holds e (in_64 z) → Holds e z
+pub Holds-by_bits : (e : Extent) (z : ℤ) → IsWithin (neg_ℤ (pos 3686400)) (pos 3686400) z → IsWithinExtent e (in_64 z) → IsWithinExtent e z
 Holds-by_bits e z kept h = rw (read_64 z (plane_size z kept) (lit< tt)) at h
 
 pub height_in_plane : (z : ℤ) → IsHeight z → IsWithin (neg_ℤ (pos 3686400)) (pos 3686400) z
@@ -70,7 +70,7 @@ pub placed_after : (row : Row) (seconds : ℕ) → IsBoundedOver row seconds →
 placed_after row seconds kept = ((kept.x.end, kept.y.end), kept.z.end)
 
 -- what an extent, or a reach, holds a wider one does
-Holds-wider : (r s : Extent) (z : ℤ) → IsWider r s → Holds r z → Holds s z
+Holds-wider : (r s : Extent) (z : ℤ) → IsWiderExtent r s → IsWithinExtent r z → IsWithinExtent s z
 Holds-wider r s z more h = record { low = omega (arith, lin, more.low, h.low); high = omega (arith, lin, more.high, h.high) }
 
 pub HoldsRow-wider : (reach wider : Reach) (row : Row) → IsWiderReach reach wider → HoldsRow reach row → HoldsRow wider row
@@ -86,7 +86,7 @@ lower l m v d d+ more h = let p = mul_nonneg (l -ℤ m) d (omega (arith, lin)) d
 higher : (h k v d : ℤ) → pos 0 ≤ℤ d → h ≤ℤ k → v ≤ℤ (h *ℤ d) → v ≤ℤ (k *ℤ d)
 higher h k v d d+ more at = let p = mul_nonneg (k -ℤ h) d (omega (arith, lin)) d+ in omega (arith, lin, simp spread at p, at)
 
-HoldsAt-wider : (r s : Extent) (z v n d : ℤ) → pos 0 ≤ℤ d → IsWider r s → HoldsAt r z v n d → HoldsAt s z v n d
+HoldsAt-wider : (r s : Extent) (z v n d : ℤ) → pos 0 ≤ℤ d → IsWiderExtent r s → HoldsAt r z v n d → HoldsAt s z v n d
 HoldsAt-wider r s z v n d d+ more h = record { low = lower r.low s.low _ d d+ more.low h.low; high = higher r.high s.high _ d d+ more.high h.high }
 
 pub HoldsRowAt-wider : (reach wider : Reach) (row : Row) (n d : ℤ) → pos 0 ≤ℤ d → IsWiderReach reach wider → HoldsRowAt reach row n d → HoldsRowAt wider row n d
@@ -96,7 +96,7 @@ HoldsRowAt-wider reach wider row n d d+ more h = record {
   z = HoldsAt-wider reach.z wider.z row.z row.vz n d d+ more.z h.z;
 }
 
-IsWider-twice : (a b c : Extent) → IsWider a b → IsWider b c → IsWider a c
+IsWider-twice : (a b c : Extent) → IsWiderExtent a b → IsWiderExtent b c → IsWiderExtent a c
 IsWider-twice a b c f g = record { low = omega (arith, lin, f.low, g.low); high = omega (arith, lin, f.high, g.high) }
 
 pub IsWiderReach-twice : (a b c : Reach) → IsWiderReach a b → IsWiderReach b c → IsWiderReach a c
@@ -177,7 +177,7 @@ module _ (area : Area) (reach : Reach) (row : Row) (n d : ℤ) (kept : IsBounded
       (λ over. let p = lower reach.z.low (pos (6000 * area.top)) _ d (omega (arith, lin)) over held.z.low in absurd (omega (arith, lin, p, inside.below)))
       apart
 
-  pub none_inside : LieApart area reach → ¬ IsInsideAt area row n d
+  pub none_inside : AreBoxesApart area reach → ¬ IsInsideAt area row n d
   none_inside apart inside = ⊎_elim
       (λ heights. none_over heights inside)
       (λ either. ⊎_elim (λ beside. none_beside_in_x beside inside) (λ beside. none_beside_in_y beside inside) either)

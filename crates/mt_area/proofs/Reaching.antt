@@ -8,11 +8,11 @@ use Rattle.mt_base.specs.declared.row.Row.{Row}
 use Rattle.mt_base.specs.Area.{IsBoundedArea, IsPierce}
 use Rattle.mt_base.specs.Trajectory.{Trajectory, row_at}
 use Rattle.mt_track.specs.declared.segment.Segment.{Segment}
-use Rattle.mt_track.specs.Laid.{Holds, edge}
+use Rattle.mt_track.specs.Laid.{CoversSecond, edge}
 use Rattle.mt_track.specs.Rows.{row_after}
 use Rattle.mt_track.proofs.Straight.{row_after-add}
 use Rattle.mt_area.specs.declared.reach.Reach.{Reach}
-use Rattle.mt_area.specs.Reach.{HoldsRowAt, HoldsRow, HoldsSecond, IsWiderReach, LieApart}
+use Rattle.mt_area.specs.Reach.{HoldsRowAt, HoldsRow, HoldsSecond, IsWiderReach, AreBoxesApart}
 use Rattle.mt_area.proofs.Reaches.{HoldsRowAt-between, HoldsRowAt-wider, none_inside}
 use Rattle.mt_area.proofs.Walks.{Reads}
 
@@ -39,7 +39,7 @@ HoldsSecond-wider : (reach wider : Reach) (t : Trajectory) (k : ℕ) → IsWider
 HoldsSecond-wider reach wider t k more held row is n d n+ within =
     HoldsRowAt-wider reach wider row n d (omega (arith, lin, n+, within)) more (held row is n d n+ within)
 
-HoldsSecond-segment : (reach : Reach) (t : Trajectory) (s : Segment) (begin end k : ℕ) → s.from ≤ begin → begin ≤ k → k < end → Holds t k s
+HoldsSecond-segment : (reach : Reach) (t : Trajectory) (s : Segment) (begin end k : ℕ) → s.from ≤ begin → begin ≤ k → k < end → CoversSecond t k s
     → HoldsRow reach (row_after s.first (begin - s.from)) → HoldsRow reach (row_after s.first (end - s.from)) → HoldsSecond reach t k
 HoldsSecond-segment reach t s begin end k later begun ahead holds first last row is n d n+ within =
     let at = holds.row in
@@ -73,7 +73,7 @@ HoldsBefore-skip reach t ss i s from to at none before k ahead low high = ⊎_el
     (cases_lt k (edge t.start ss i))
 
 -- an area that lies apart from it
-pub none_pierced : (t : Trajectory) (area : Area) (reach : Reach) (from to : ℕ) → IsBoundedArea area → LieApart area reach
+pub none_pierced : (t : Trajectory) (area : Area) (reach : Reach) (from to : ℕ) → IsBoundedArea area → AreBoxesApart area reach
     → ((k : ℕ) → from ≤ k → k < to → HoldsSecond reach t k) → IsPierce t area from to None
 none_pierced t area reach from to kept apart held k low high second =
     let at = second.inside in

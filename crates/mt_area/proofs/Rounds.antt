@@ -4,7 +4,7 @@ use Rattle.std.proofs.Common.{◌≡◌, ℕ, zero, suc, ◌+◌, ◌-◌, ◌<�
 use Rattle.std.proofs.lemmas.Bool.{le-ltb, lt-ltb}
 use Rattle.mt_ring.proofs.Ring.{lin, spread}
 use Rattle.mt_ring.proofs.Signs.{below_cancel, mul_pos}
-use Rattle.mt_base.specs.Area.{IsLeft, corner, cross, place_after}
+use Rattle.mt_base.specs.Area.{LiesLeft, corner, cross, place_after}
 
 -- how far a vector goes in the direction (p, q)
 abbrev pub along : ℤ → ℤ → ℤ → ℤ → ℤ
@@ -43,7 +43,7 @@ module _ (corners : List (ℤ × ℤ)) (p q x y d : ℤ) where
   pub record IsBeyond : Type 0 where
     pub some : 2 ≤ length corners
     pub positive : pos 0 <ℤ d
-    pub left : (i : ℕ) → i < length corners → IsLeft (corner corners i) (corner corners (place_after corners i)) x y d
+    pub left : (i : ℕ) → i < length corners → LiesLeft (corner corners i) (corner corners (place_after corners i)) x y d
     pub behind : (i : ℕ) → i < length corners → along p q (d *ℤ (corner corners i).0 -ℤ x) (d *ℤ (corner corners i).1 -ℤ y) <ℤ pos 0
 
   side : IsBeyond → (i : ℕ) → i < length corners → pos 0 <ℤ turned i (place_after corners i)

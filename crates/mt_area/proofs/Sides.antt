@@ -6,14 +6,14 @@ use mir.Syntax.{w128}
 use Rattle.mt_ring.proofs.Ring.{lin, spread}
 use Rattle.mt_ring.proofs.Sizes.{Abs, abs_add, abs_mul, abs_sub, abs_to, fits_64, fits_128}
 use Rattle.mt_base.specs.declared.area.Area.{Area}
-use Rattle.mt_base.specs.Area.{IsBoundedArea, IsLeft, corner, cross, place_after}
+use Rattle.mt_base.specs.Area.{IsBoundedArea, LiesLeft, corner, cross, place_after}
 use Rattle.mt_base.specs.Bounds.{IsBoundedRow, IsInPlane, IsWithin}
 use Rattle.mt_base.specs.Instant.{value_at}
 use Rattle.mt_base.specs.declared.row.Row.{Row}
 use Rattle.mt_frac.specs.declared.linear.Line.{Line}
 use Rattle.mt_frac.specs.Meeting.{IsBoundedSide}
 use Rattle.mt_frac.specs.Polynomials.{line_value}
-use Rattle.mt_area.specs.Lines.{IsLineOf, ceiling_of, floor_of, side_of}
+use Rattle.mt_area.specs.Lines.{IsLineOf, line_to_ceiling, floor_of, side_of}
 
 -- what lies from a corner to the position, across the way from that corner to the next
 side_value : (x vx i y vy j e f n d : ℤ) → line_value (vx *ℤ f -ℤ vy *ℤ e) ((x -ℤ i) *ℤ f -ℤ (y -ℤ j) *ℤ e) n d
@@ -24,7 +24,7 @@ below_neg : (l z : ℤ) → l ≡ neg_ℤ z → (l <ℤ pos 0) ↔ (pos 0 <ℤ z
 below_neg l z e = ((λ h. omega (arith, lin)), (λ h. omega (arith, lin)))
 
 pub side_below : (row : Row) (i j : ℤ × ℤ) (n d : ℤ) → (line_value (side_of row i j).b (side_of row i j).c n d <ℤ pos 0)
-    ↔ IsLeft i j (value_at row.x row.vx n d) (value_at row.y row.vy n d) d
+    ↔ LiesLeft i j (value_at row.x row.vx n d) (value_at row.y row.vy n d) d
 side_below row i j n d = below_neg _ _ (side_value row.x row.vx i.0 row.y row.vy i.1 (j.0 -ℤ i.0) (j.1 -ℤ i.1) n d)
 
 floor_value : (z v k n d : ℤ) → line_value (neg_ℤ v) (k -ℤ z) n d ≡ k *ℤ d -ℤ (z *ℤ d +ℤ v *ℤ n)
@@ -40,7 +40,7 @@ pub floor_below : (row : Row) (level : ℕ) (n d : ℤ) → (line_value (floor_o
     ↔ ((pos (6000 * level) *ℤ d) <ℤ value_at row.z row.vz n d)
 floor_below row level n d = below_is _ _ _ (floor_value row.z row.vz (pos (6000 * level)) n d)
 
-pub ceiling_below : (row : Row) (level : ℕ) (n d : ℤ) → (line_value (ceiling_of row level).b (ceiling_of row level).c n d <ℤ pos 0)
+pub ceiling_below : (row : Row) (level : ℕ) (n d : ℤ) → (line_value (line_to_ceiling row level).b (line_to_ceiling row level).c n d <ℤ pos 0)
     ↔ (value_at row.z row.vz n d <ℤ (pos (6000 * level) *ℤ d))
 ceiling_below row level n d = below_is _ _ _ (ceiling_value row.z row.vz (pos (6000 * level)) n d)
 
@@ -175,7 +175,7 @@ floor_says area row cs i same past is = λ n d d+.
       (λ says. floor.1 (says.above is)),
     )
 
-pub ceiling_says : (area : Area) (row : Row) (cs : List (ℤ × ℤ)) (i : ℕ) → cs ≡ area.corners → length cs ≤ i → i ≡ 17 → IsLineOf area row i (ceiling_of row area.top)
+pub ceiling_says : (area : Area) (row : Row) (cs : List (ℤ × ℤ)) (i : ℕ) → cs ≡ area.corners → length cs ≤ i → i ≡ 17 → IsLineOf area row i (line_to_ceiling row area.top)
 ceiling_says area row cs i same past is = λ n d d+.
     let ceiling = ceiling_below row area.top n d in
     let behind : length area.corners ≤ i = rw same at past in (

@@ -14,19 +14,19 @@ use Rattle.mt_base.specs.Span.{IsSpanOf}
 use Rattle.mt_base.proofs.Members.{Contains-map, Contains-map_cases, Contains-none}
 use Rattle.mt_track.specs.declared.roster.Item.{Item}
 use Rattle.mt_track.specs.Named.{named}
-use Rattle.mt_area.specs.Telling.{Adds, AreOfAll, IsInOne, IsPiercedByOne}
+use Rattle.mt_area.specs.Telling.{AddsPierced, AreOfAll, IsInOne, IsPiercedByOne}
 
 -- nothing, one more, and one step after another
-pub Adds-none : (P : Pierced → Type 0) (ps : List Pierced) → ((p : Pierced) → ¬ P p) → Adds P ps ps
+pub Adds-none : (P : Pierced → Type 0) (ps : List Pierced) → ((p : Pierced) → ¬ P p) → AddsPierced P ps ps
 Adds-none P ps none = λ p. ((λ held. inl held), (λ either. ⊎_elim (λ held. held) (λ is. absurd (none p is)) either))
 
-pub Adds-one : (P : Pierced → Type 0) (ps : List Pierced) (one : Pierced) → P one → ((p : Pierced) → P p → one ≡ p) → Adds P ps (ps ++ one ∷ [])
+pub Adds-one : (P : Pierced → Type 0) (ps : List Pierced) (one : Pierced) → P one → ((p : Pierced) → P p → one ≡ p) → AddsPierced P ps (ps ++ one ∷ [])
 Adds-one P ps one is only = λ p. (
   (λ held. ⊎_elim (λ before. inl before) (λ e. inr (subst P e is)) (Contains-push_cases ps one p held)),
   (λ either. ⊎_elim (λ before. Contains-append_left ps (one ∷ []) p before) (λ is_p. subst (Contains (ps ++ one ∷ [])) (only p is_p) (Contains-push ps one)) either),
 )
 
-pub Adds-more : (P Q R : Pierced → Type 0) (old mid new : List Pierced) → ((p : Pierced) → R p ↔ (P p ⊎ Q p)) → Adds P old mid → Adds Q mid new → Adds R old new
+pub Adds-more : (P Q R : Pierced → Type 0) (old mid new : List Pierced) → ((p : Pierced) → R p ↔ (P p ⊎ Q p)) → AddsPierced P old mid → AddsPierced Q mid new → AddsPierced R old new
 Adds-more P Q R old mid new parts first second = λ p. (
   (λ held. ⊎_elim
       (λ before. ⊎_elim (λ was. inl was) (λ is. inr ((parts p).1 (inl is))) ((first p).0 before))
@@ -62,7 +62,7 @@ one_told now area t p q is also =
     }
 
 pub Adds-told : (now : ℕ) (area : Area) (t : NamedTrajectory) (first last : ℕ) (old new : List Pierced)
-    → IsSpanOf (IsInsideSecond t.path area) now (window_end now) first last → new ≡ old ++ told_of area t first last ∷ [] → Adds (IsPiercedBy now area t) old new
+    → IsSpanOf (IsInsideSecond t.path area) now (window_end now) first last → new ≡ old ++ told_of area t first last ∷ [] → AddsPierced (IsPiercedBy now area t) old new
 Adds-told now area t first last old new span pushed =
     let is : IsPiercedBy now area t (told_of area t first last) = record { names = (refl, refl, refl); span = span } in
     rw pushed (Adds-one (IsPiercedBy now area t) old _ is (λ p other. one_told now area t _ p is other))
@@ -79,7 +79,7 @@ one_area_more now areas area t p = (
       (λ is. record { area = area; area_in = Contains-push areas area; is = is }) either),
 )
 
-pub from_nothing : (P : Pierced → Type 0) (found : List Pierced) → Adds P [] found → (p : Pierced) → Contains found p ↔ P p
+pub from_nothing : (P : Pierced → Type 0) (found : List Pierced) → AddsPierced P [] found → (p : Pierced) → Contains found p ↔ P p
 from_nothing P found adds p = (
   (λ held. ⊎_elim (λ none. absurd (Contains-none p none)) (λ is. is) ((adds p).0 held)),
   (λ is. (adds p).1 (inr is)),
@@ -92,7 +92,7 @@ one_held_more ps told p = (
   (λ either. ⊎_elim (λ before. Contains-append_left ps (told ∷ []) p before) (λ same. subst (Contains (ps ++ told ∷ [])) same (Contains-push ps told)) either),
 )
 
-pub Adds-pushed : (old : List Pierced) (told : Pierced) (new : List Pierced) → new ≡ old ++ told ∷ [] → Adds (λ p. told ≡ p) old new
+pub Adds-pushed : (old : List Pierced) (told : Pierced) (new : List Pierced) → new ≡ old ++ told ∷ [] → AddsPierced (λ p. told ≡ p) old new
 Adds-pushed old told new pushed = rw pushed (λ p. one_held_more old told p)
 
 -- no part, and one part more
@@ -110,7 +110,7 @@ one_part_more parts part p = (
 )
 
 pub gathered_more : (tries : List (Result (List Pierced) Memory)) (t : Result (List Pierced) Memory) (part found new : List Pierced) → AreOfAll tries found → t ≡ Ok part
-    → Adds (Contains part) found new → AreOfAll (tries ++ t ∷ []) new
+    → AddsPierced (Contains part) found new → AreOfAll (tries ++ t ∷ []) new
 gathered_more tries t part found new of gives adds = record {
   parts = of.parts ++ part ∷ [];
   all = rw (of.all, gives) (sym (map-append Ok of.parts (part ∷ [])));

@@ -10,7 +10,7 @@ use Rattle.mt_base.specs.Span.{IsSpan}
 use Rattle.mt_base.specs.Bounds.{IsBoundedOver}
 use Rattle.mt_base.specs.Trajectory.{Trajectory, row_at}
 use Rattle.mt_track.specs.declared.segment.Segment.{Segment}
-use Rattle.mt_track.specs.Laid.{Adjoin, AreSegmentsOf, Holds, IsLaid, IsStrand, edge}
+use Rattle.mt_track.specs.Laid.{Adjoin, AreSegmentsOf, CoversSecond, IsLaid, IsStrand, edge}
 use Rattle.mt_track.specs.Rows.{row_after}
 use Rattle.mt_track.proofs.Apart.{few_segments}
 use Rattle.mt_track.proofs.Joined.{IsBoundedOver-segment}
@@ -29,7 +29,7 @@ at_place [] i d below = absurd (omega arith)
 at_place (s ∷ ss) zero d below = refl
 at_place (s ∷ ss) (suc i) d below = at_place ss i d (omega arith)
 
--- no segment ends behind the end
+-- no segment ends after the end
 edge_to : (from to : ℕ) (ss : List Segment) (i : ℕ) → Adjoin from ss to → i ≤ length ss → edge from ss i ≤ to
 edge_to from to ss zero lie below = let h = few_segments from to ss lie in omega (arith, h)
 edge_to from to [] (suc i) lie below = absurd (omega arith)
@@ -47,7 +47,7 @@ pub record Reads (t : Trajectory) (ss : List Segment) (i : ℕ) (s : Segment) : 
   pub to : s.to ≡ edge t.start ss (i + 1)
   pub last : s.to ≤ t.start + length t.rows
   pub first : t.start ≤ s.from
-  pub holds : (k : ℕ) → s.from ≤ k → k < s.to → Holds t k s
+  pub holds : (k : ℕ) → s.from ≤ k → k < s.to → CoversSecond t k s
   pub kept : (k : ℕ) → s.from ≤ k → k ≤ s.to → IsBoundedOver s.first (k - s.from)
 
 pub reads : (t : Trajectory) (ss : List Segment) (i : ℕ) → IsStrand t → AreSegmentsOf t ss → i < length ss → Reads t ss i (slice_index_or ss i blank)
@@ -59,8 +59,8 @@ reads t ss i kept are below =
     let last = edge_to t.start (t.start + length t.rows) ss (suc i) are.adjoin (omega arith) in
     let one : i + 1 ≡ suc i = omega arith in
     let s = slice_index_or ss i blank in
-    let holds : (k : ℕ) → s.from ≤ k → k < s.to → Holds t k s = λ k later sooner.
-    subst (λ (rows : List Row). Holds (record t { rows = rows }) k s) are.rows
+    let holds : (k : ℕ) → s.from ≤ k → k < s.to → CoversSecond t k s = λ k later sooner.
+    subst (λ (rows : List Row). CoversSecond (record t { rows = rows }) k s) are.rows
     (found t.start (t.start + length t.rows) t.rvsm ss i (suc i) k s all (omega arith) (omega arith) (omega arith)
     (omega (arith, first, lies.from, later)) (omega (arith, lies.from, later)) (omega (arith, lies.to, sooner)) is) in
     record {
@@ -86,7 +86,7 @@ inside_by t area k row at opened closed = (
 
 -- one segment more
 pub pierce_joined : (t : Trajectory) (area : Area) (s : Segment) (from reached until : ℕ) (span more : Option (ℕ × ℕ)) → from ≤ reached → reached ≤ until
-    → area.from ≤ from → until ≤ area.to → s.from ≤ reached → until ≤ s.to → ((k : ℕ) → s.from ≤ k → k < s.to → Holds t k s)
+    → area.from ≤ from → until ≤ area.to → s.from ≤ reached → until ≤ s.to → ((k : ℕ) → s.from ≤ k → k < s.to → CoversSecond t k s)
     → IsPierce t area from reached span → IsSpan (λ k. IsInside area (row_after s.first (k - s.from))) reached until more → IsPierce t area from until (joined span more)
 pierce_joined t area s from reached until span more ordered longer opened closed begun ahead holds is next =
     IsSpan-joined (IsInsideSecond t area) from reached until span more ordered longer is

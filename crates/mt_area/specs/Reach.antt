@@ -9,7 +9,7 @@ use Rattle.mt_area.specs.declared.reach.Extent.{Extent}
 use Rattle.mt_area.specs.declared.reach.Reach.{Reach}
 
 -- a number is within an extent; and so is a value with a gain at the instant n/d
-pub record Holds (e : Extent) (z : ℤ) : Type 0 where
+pub record IsWithinExtent (e : Extent) (z : ℤ) : Type 0 where
   pub low : e.low ≤ℤ z
   pub high : z ≤ℤ e.high
 
@@ -18,7 +18,7 @@ pub record HoldsAt (e : Extent) (z gain n d : ℤ) : Type 0 where
   pub high : value_at z gain n d ≤ℤ (e.high *ℤ d)
 
 -- the second of two extents holds what the first one does
-pub record IsWider (e wider : Extent) : Type 0 where
+pub record IsWiderExtent (e wider : Extent) : Type 0 where
   pub low : wider.low ≤ℤ e.low
   pub high : e.high ≤ℤ wider.high
 
@@ -28,9 +28,9 @@ IsPlaced row = IsInPlane row.x row.y × IsHeight row.z
 
 -- the position and the height of a row are within a reach, at the start of its second and at the instant n/d of it
 pub record HoldsRow (reach : Reach) (row : Row) : Type 0 where
-  pub x : Holds reach.x row.x
-  pub y : Holds reach.y row.y
-  pub z : Holds reach.z row.z
+  pub x : IsWithinExtent reach.x row.x
+  pub y : IsWithinExtent reach.y row.y
+  pub z : IsWithinExtent reach.z row.z
 
 pub record HoldsRowAt (reach : Reach) (row : Row) (n d : ℤ) : Type 0 where
   pub x : HoldsAt reach.x row.x row.vx n d
@@ -42,9 +42,9 @@ abbrev pub HoldsSecond : Reach → Trajectory → ℕ → Type 0
 HoldsSecond reach t k = (row : Row) → row_at t k ≡ Some row → (n d : ℤ) → pos 0 ≤ℤ n → n <ℤ d → HoldsRowAt reach row n d
 
 pub record IsWiderReach (reach wider : Reach) : Type 0 where
-  pub x : IsWider reach.x wider.x
-  pub y : IsWider reach.y wider.y
-  pub z : IsWider reach.z wider.z
+  pub x : IsWiderExtent reach.x wider.x
+  pub y : IsWiderExtent reach.y wider.y
+  pub z : IsWiderExtent reach.z wider.z
 
 -- an area ends below some heights or begins above them
 abbrev pub AreHeightsApart : Area → Extent → Type 0
@@ -58,5 +58,5 @@ abbrev pub AreSouthOrNorth : List (ℤ × ℤ) → Extent → Type 0
 AreSouthOrNorth corners y = All (λ (c : ℤ × ℤ). c.1 <ℤ y.low) corners ⊎ All (λ (c : ℤ × ℤ). y.high <ℤ c.1) corners
 
 -- the boxes of an area and of a reach lie apart
-abbrev pub LieApart : Area → Reach → Type 0
-LieApart area reach = AreHeightsApart area reach.z ⊎ (AreWestOrEast area.corners reach.x ⊎ AreSouthOrNorth area.corners reach.y)
+abbrev pub AreBoxesApart : Area → Reach → Type 0
+AreBoxesApart area reach = AreHeightsApart area reach.z ⊎ (AreWestOrEast area.corners reach.x ⊎ AreSouthOrNorth area.corners reach.y)

@@ -39,7 +39,7 @@ impl Areas {
         })
     }
 
-    /// Puts an area behind the others. `Taken` exactly where one of that name stands, else `Shape` exactly where its shape isn't right, else
+    /// Puts an area after the others. `Taken` exactly where one of that name stands, else `Shape` exactly where its shape isn't right, else
     /// `Full` exactly where 256 areas stand, else `Memory` where an allocation was refused. On an error the areas stay as they were.
     ///
     /// The shape is right where the bottom is below the top, the hours have a second, and the corners go round counterclockwise with no three on

@@ -1,16 +1,15 @@
-ghost use Rattle.std.specs.Prelude.{◌≡◌, ◌↔◌, ◌<◌, ◌≤◌, ℤ, pos, neg_ℤ, ◌-ℤ◌, ◌<ℤ◌, length, take, All, IfSome, IsNone, IsTrue};
+ghost use Rattle.std.specs.Prelude.{◌≡◌, ◌↔◌, ◌<◌, ◌≤◌, ℤ, ◌-ℤ◌, ◌<ℤ◌, take, IfSome, IsNone, IsTrue};
 ghost use Rattle.mt_base.specs.Area.{IsBoundedArea, IsInsideAt, cross, place_after};
-ghost use Rattle.mt_base.specs.Bounds.{IsBoundedRow, IsInPlane, IsWithin};
+ghost use Rattle.mt_base.specs.Bounds.{IsBoundedRow, IsInPlane};
 ghost use Rattle.mt_frac.specs.Meeting.{IsBoundedSide};
-ghost use Rattle.mt_frac.specs.Polynomials.{line_value};
-ghost use Rattle.mt_area.specs.Lines.{AreCrossed, IsDuring, IsLineOf, StaysAbove, StaysBelow, ceiling_of, floor_of, side_of, value_after};
+ghost use Rattle.mt_area.specs.Lines.{AreCrossed, IsDuringOrAtEnd, IsLineOf, StaysAboveLine, StaysBelow, line_to_ceiling, floor_of, side_of, value_after};
 
 use crate::crossing::{apart, cross, place_after};
 use crate::levels::height_of;
 use mt_base::{Area, Row, Second};
 use mt_frac::Line;
 
-/// The most sides of an area. The lines of its bottom and its top stand behind those of its sides.
+/// The most sides of an area. The lines of its bottom and its top stand after those of its sides.
 const SIDES: usize = 16;
 
 /// How many lines there are.
@@ -48,7 +47,7 @@ fn floor(row: &Row, level: u32) -> Line
 fn ceiling(row: &Row, level: u32) -> Line
     requires row_kept { IsBoundedRow row.now }
     requires level_kept { level ≤ 600 }
-    ensures is { result ≡ ceiling_of row.now level }
+    ensures is { result ≡ line_to_ceiling row.now level }
     ensures bounded { IsBoundedSide result }
 {
     Line {
@@ -101,7 +100,7 @@ fn stays_below(line: Line, seconds: Second) -> bool
 fn stays_above(line: Line, seconds: Second) -> bool
     requires bounded { IsBoundedSide line }
     requires short { seconds ≤ 14400 }
-    ensures { IsTrue result ↔ StaysAbove line seconds }
+    ensures { IsTrue result ↔ StaysAboveLine line seconds }
 {
     line.c >= 0 && value_after(line, seconds) >= 0
 }
@@ -113,7 +112,7 @@ pub(crate) fn crossed(area: &Area, row: &Row, seconds: Second) -> Option<([Line;
     requires row_kept { IsBoundedRow row.now }
     requires short { seconds ≤ 14400 }
     ensures some { IfSome result (λ found. (found.1 ≤ 18) × AreCrossed area.now row.now seconds (take found.1 found.0)) }
-    ensures none { IsNone result → (n d : ℤ) → IsDuring seconds n d → ¬ IsInsideAt area.now row.now n d }
+    ensures none { IsNone result → (n d : ℤ) → IsDuringOrAtEnd seconds n d → ¬ IsInsideAt area.now row.now n d }
 {
     let mut lines = [Line { b: 0, c: -1 }; LINES];
     let mut count = 0;

@@ -3,7 +3,7 @@ ghost use Rattle.mt_base.specs.Area.{IsBoundedArea};
 ghost use Rattle.mt_base.specs.declared.area.Pierced.{Pierced};
 ghost use Rattle.mt_base.specs.Pierced.{IsPiercedBy};
 ghost use Rattle.mt_track.specs.Named.{named};
-ghost use Rattle.mt_area.specs.Telling.{Adds, IsPiercedByOne};
+ghost use Rattle.mt_area.specs.Telling.{AddsPierced, IsPiercedByOne};
 
 use crate::piercing::pierce;
 use crate::reach::{lie_apart, reach_over};
@@ -18,7 +18,7 @@ const WINDOW: Second = 1200;
 fn add_passage(item: &Item, area: &Area, now: Second, found: &mut Pierces) -> Result<(), Memory>
     requires kept { IsBoundedArea area.now }
     requires early { now ≤ 10000000 }
-    ensures { OnOk result (Adds (IsPiercedBy now area.now (named item.now)) found.old found.new) }
+    ensures { OnOk result (AddsPierced (IsPiercedBy now area.now (named item.now)) found.old found.new) }
 {
     let Some((first, last)) = pierce(&item.strand, area, now, now + WINDOW) else {
         return Ok(());

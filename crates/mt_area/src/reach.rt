@@ -1,7 +1,7 @@
 //! Where a trajectory is in some seconds, as a box, and the areas that lie apart from that.
-ghost use Rattle.std.specs.Prelude.{◌≡◌, ◌↔◌, ◌<◌, ◌≤◌, ◌<ℤ◌, ℕ, ℤ, pos, IsTrue, All};
+ghost use Rattle.std.specs.Prelude.{◌≡◌, ◌↔◌, ◌<◌, ◌≤◌, ◌<ℤ◌, ℕ, ℤ, IsTrue, All};
 ghost use Rattle.mt_base.specs.Area.{IsBoundedArea};
-ghost use Rattle.mt_area.specs.Reach.{AreHeightsApart, AreSouthOrNorth, AreWestOrEast, Holds, HoldsRow, HoldsSecond, IsPlaced, IsWider, IsWiderReach, LieApart};
+ghost use Rattle.mt_area.specs.Reach.{AreHeightsApart, AreSouthOrNorth, AreWestOrEast, IsWithinExtent, HoldsRow, HoldsSecond, IsPlaced, IsWiderExtent, IsWiderReach, AreBoxesApart};
 
 use crate::levels::height_of;
 use mt_base::{Area, Row, Second};
@@ -16,8 +16,8 @@ pub(crate) struct Extent {
 
 /// An extent, so much wider that it holds a number.
 fn with(extent: Extent, z: i64) -> Extent
-    ensures holds { Holds result z }
-    ensures wider { IsWider extent result }
+    ensures holds { IsWithinExtent result z }
+    ensures wider { IsWiderExtent extent result }
 {
     Extent {
         low: extent.low.min(z),
@@ -138,7 +138,7 @@ fn are_south_or_north(corners: &[(i64, i64)], y: &Extent) -> bool
 /// Whether the boxes of an area and of a reach lie apart. Then nothing in the reach is inside the area.
 pub(crate) fn lie_apart(area: &Area, reach: &Reach) -> bool
     requires { IsBoundedArea area.now }
-    ensures { IsTrue result ↔ LieApart area.now reach.now }
+    ensures { IsTrue result ↔ AreBoxesApart area.now reach.now }
 {
     if are_heights_apart(area, &reach.z) {
         return true;

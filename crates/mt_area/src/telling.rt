@@ -1,9 +1,9 @@
-ghost use Rattle.std.specs.Prelude.{◌≡◌, ◌≤◌, ◌<◌, length, slice_index_or, IfOk, OnOk, OnErr, All, Contains, ◌↔◌, ◌⊎◌};
+ghost use Rattle.std.specs.Prelude.{◌≡◌, ◌≤◌, ◌<◌, length, slice_index_or, IfOk, OnOk, All, Contains, ◌↔◌, ◌⊎◌};
 ghost use Rattle.mt_base.specs.Area.{IsBoundedArea};
 ghost use Rattle.mt_base.specs.declared.area.Pierced.{Pierced};
 ghost use Rattle.mt_base.specs.Pierced.{ArePiercedOf};
 ghost use Rattle.mt_track.specs.Named.{named};
-ghost use Rattle.mt_area.specs.Telling.{Adds, AreOfAll, IsPiercedByOne};
+ghost use Rattle.mt_area.specs.Telling.{AddsPierced, AreOfAll, IsPiercedByOne};
 
 use crate::areas::Areas;
 use crate::passages::passages;
@@ -68,9 +68,9 @@ fn tries<R: Threads + Sync>(
     Ok(tries)
 }
 
-// Puts all of a list behind another.
+// Puts all of a list after another.
 fn add_all(found: &mut Pierces, part: &Pierces) -> Result<(), Memory>
-    ensures { OnOk result (Adds (Contains part.now) found.old found.new) }
+    ensures { OnOk result (AddsPierced (Contains part.now) found.old found.new) }
 {
     for told in part.items() {
         found.push(*told)?;

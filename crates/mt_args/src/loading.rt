@@ -44,7 +44,7 @@ impl Loading {
     }
 }
 
-/// Reads the words behind the first as the options of `load`.
+/// Reads the words after the first as the options of `load`.
 pub fn load(words: &Words) -> Result<Task, Usage>
     requires { 0 < length words.now }
     ensures task { MatchResult result (λ task. option_map load_task (set_by loading_with no_loading (drop 1 words.now)) ≡ Some task)

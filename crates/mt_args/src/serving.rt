@@ -49,7 +49,7 @@ impl Serving {
     }
 }
 
-/// Reads the words behind the first as the options of `serve`.
+/// Reads the words after the first as the options of `serve`.
 pub fn serve(words: &Words) -> Result<Task, Usage>
     requires { 0 < length words.now }
     ensures task { MatchResult result (λ task. option_map serve_task (set_by serving_with no_serving (drop 1 words.now)) ≡ Some task)

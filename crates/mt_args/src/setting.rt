@@ -10,7 +10,7 @@ pub struct Setting<'a> {
     pub name: &'a str,
     /// Its value.
     pub value: &'a str,
-    /// The place of the word behind it.
+    /// The place of the word after it.
     pub next: usize,
 }
 

@@ -36,7 +36,7 @@ pub fn read_words(words: &Words) -> Result<Task, Usage>
     Err(Usage)
 }
 
-// Reads the words behind the first as those of a task that has none.
+// Reads the words after the first as those of a task that has none.
 fn alone(words: &Words, task: Task) -> Result<Task, Usage>
     requires { 0 < length words.now }
     ensures { MatchResult result (λ given. (length (drop 1 words.now) ≡ 0) × (given ≡ task)) (λ _. 0 < length (drop 1 words.now)) }

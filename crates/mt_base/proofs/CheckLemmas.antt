@@ -46,7 +46,7 @@ pub next-ok : {F : Type 0} (r : Result ⊤ F) → next r (Ok (tt {0})) ≡ r
 next-ok (Ok _) = refl
 next-ok (Err e) = refl
 
--- checks behind others are made where those are passed
+-- checks after others are made where those are passed
 pub judged-append : {A F : Type 0} (cs ds : List (F × Bool)) (x : A) → judged (cs ++ ds) x ≡ next (judged cs (tt {0})) (judged ds x)
 judged-append [] ds x = refl
 judged-append {A = A} {F = F} (c ∷ cs) ds x = rw (judged-append cs ds x) (regroup (check c)) where

@@ -85,7 +85,7 @@ pub both_all : {X : Type 0} (P : X → Type 0) (xs ys : List X) → AllByRecursi
 both_all P [] ys all rest = rest
 both_all P (x ∷ xs) ys all rest = (all.0, both_all P xs ys all.1 rest)
 
--- no two elements of two lists, one behind the other, are equal
+-- no two elements of two lists, one after the other, are equal
 pub distinct_append : {X : Type 0} (R : X → X → Type 0) (xs ys : List X) → AllPairs R xs → AllPairs R ys
     → ((x y : X) → Contains xs x → Contains ys y → R x y) → AllPairs R (xs ++ ys)
 distinct_append R [] ys first second across = second

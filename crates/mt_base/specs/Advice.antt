@@ -34,12 +34,12 @@ abbrev pub each_once : List (List ℕ) → List (List ℕ)
 each_once [] = []
 each_once (n ∷ ns) = n ∷ filter (λ m. not (bytes_eq n m)) (each_once ns)
 
--- the names at the next eight places of a route behind a place, each once
+-- the names at the next eight places of a route after a place, each once
 abbrev pub names_ahead : List (List ℕ) → ℕ → List (List ℕ)
 names_ahead route place = each_once (take 8 (drop (suc place) route))
 
 -- The candidates for a flight that flies on from that base: the levels 10, 20, 30 and 40 above and below its own, from 0 up to the ceiling;
--- then direct to each of the next eight places of its route behind the one that it flies to, by name, each name once.
+-- then direct to each of the next eight places of its route after the one that it flies to, by name, each name once.
 abbrev pub candidates : Tables → Course → Base → List Clearance
 candidates tables course base =
     levels_near (ceiling_of (unwrap_or (bands_of tables course.kind) [])) course.level ++ map Direct (names_ahead course.route base.next)

@@ -19,13 +19,13 @@ abbrev pub place_after : List (ℤ × ℤ) → ℕ → ℕ
 place_after corners i = if nat_lt (i + 1) (length corners) then i + 1 else 0
 
 -- a point lies to the left of the way from one corner to another; it is given times d
-abbrev pub IsLeft : ℤ × ℤ → ℤ × ℤ → ℤ → ℤ → ℤ → Type 0
-IsLeft i j x y d = pos 0 <ℤ cross (j.0 -ℤ i.0) (j.1 -ℤ i.1) (x -ℤ d *ℤ i.0) (y -ℤ d *ℤ i.1)
+abbrev pub LiesLeft : ℤ × ℤ → ℤ × ℤ → ℤ → ℤ → ℤ → Type 0
+LiesLeft i j x y d = pos 0 <ℤ cross (j.0 -ℤ i.0) (j.1 -ℤ i.1) (x -ℤ d *ℤ i.0) (y -ℤ d *ℤ i.1)
 
 -- Each corner that is no end of the side that begins at a place lies to the left of it.
 abbrev pub HasAllLeft : List (ℤ × ℤ) → ℕ → Type 0
 HasAllLeft corners i = (k : ℕ) → k < length corners → k ≢ i → k ≢ place_after corners i
-    → IsLeft (corner corners i) (corner corners (place_after corners i)) (corner corners k).0 (corner corners k).1 (pos 1)
+    → LiesLeft (corner corners i) (corner corners (place_after corners i)) (corner corners k).0 (corner corners k).1 (pos 1)
 
 -- So it is for each side. Then the corners go round counterclockwise, and the polygon is strictly convex.
 abbrev pub AreConvex : List (ℤ × ℤ) → Type 0
@@ -52,7 +52,7 @@ pub record IsInsideAt (area : Area) (row : Row) (n d : ℤ) : Type 0 where
   pub above : (pos (6000 * area.bottom) *ℤ d) <ℤ value_at row.z row.vz n d
   pub below : value_at row.z row.vz n d <ℤ (pos (6000 * area.top) *ℤ d)
   pub left : (i : ℕ) → i < length area.corners
-      → IsLeft (corner area.corners i) (corner area.corners (place_after area.corners i)) (value_at row.x row.vx n d) (value_at row.y row.vy n d) d
+      → LiesLeft (corner area.corners i) (corner area.corners (place_after area.corners i)) (value_at row.x row.vx n d) (value_at row.y row.vy n d) d
 
 -- At some instant of the second it is.
 pub record IsInside (area : Area) (row : Row) : Type 0 where

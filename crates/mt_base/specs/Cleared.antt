@@ -22,9 +22,9 @@ base_by at row = record { at = at; x = row.x; y = row.y; z = row.z; r = row.r; w
 abbrev pub base_from : Base → Trajectory → ℕ → Option Base
 base_from base t eff = if nat_lt eff t.start then Some base else option_map (base_by eff) (row_at t eff)
 
--- the first place of a route behind a place at which a fix stands
-abbrev pub place_behind : List (List ℕ) → ℕ → List ℕ → Option ℕ
-place_behind route place fix = option_map (λ i. suc place + i) (position (bytes_eq fix) (drop (suc place) route))
+-- the first place of a route after a place at which a fix stands
+abbrev pub place_further_on : List (List ℕ) → ℕ → List ℕ → Option ℕ
+place_further_on route place fix = option_map (λ i. suc place + i) (position (bytes_eq fix) (drop (suc place) route))
 
 -- a level is not above the ceiling of a type
 abbrev pub is_below_ceiling : Tables → List ℕ → ℕ → Bool
@@ -32,7 +32,7 @@ is_below_ceiling tables kind level = nat_le level (ceiling_of (unwrap_or (bands_
 
 -- whether the fix stands ahead of the base from which a clearance holds
 abbrev pub is_ahead : Course → Trajectory → ℕ → List ℕ → Bool
-is_ahead course t eff fix = is_some (option_and_then (λ (base : Base). place_behind course.route base.next fix) (base_from course.base t eff))
+is_ahead course t eff fix = is_some (option_and_then (λ (base : Base). place_further_on course.route base.next fix) (base_from course.base t eff))
 
 -- What is checked of a clearance that holds from second `eff` on, in order: what it leaves, then that it is not above the moment `now`.
 abbrev pub aim_checks : Tables → Course → Trajectory → Clearance → ℕ → List (Refusal × Bool)
@@ -46,7 +46,7 @@ clearance_checks tables course t clearance eff now = aim_checks tables course t 
 
 -- a base that flies to that fix next
 abbrev pub direct_to : List (List ℕ) → List ℕ → Base → Base
-direct_to route fix base = record base { next = unwrap_or (place_behind route base.next fix) base.next }
+direct_to route fix base = record base { next = unwrap_or (place_further_on route base.next fix) base.next }
 
 -- What a clearance leaves: the base from which it holds, and the level; a level replaces the level, a fix is flown to next.
 abbrev pub aim_of : Course → Trajectory → Clearance → ℕ → Aim

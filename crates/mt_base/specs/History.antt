@@ -172,16 +172,16 @@ abbrev pub base_of : Rules → Point → ℕ → ℕ → Base
 base_of rules fix at from = record { at = at; x = fix.x; y = fix.y; z = pos (6000 * from); r = rules.r0; w = rules.w0; next = 1 }
 
 -- the first of some points
-abbrev pub first_of : List Point → Point
-first_of [] = record { x = pos 0; y = pos 0 }
-first_of (p ∷ ps) = p
+abbrev pub first_of_points : List Point → Point
+first_of_points [] = record { x = pos 0; y = pos 0 }
+first_of_points (p ∷ ps) = p
 
 -- the course of a plan
 abbrev pub course_of : Setup → List ℕ → List (List ℕ) → ℕ → ℕ → ℕ → Bool → Course
 course_of setup kind route at from level rvsm = record {
   kind = kind;
   route = route;
-  base = base_of setup.rules (first_of (points_of setup.tables route)) at from;
+  base = base_of setup.rules (first_of_points (points_of setup.tables route)) at from;
   level = level;
   last = None;
   due = false;
@@ -258,7 +258,7 @@ abbrev pub now_after : Command → ℕ → ℕ
 now_after (Tick next) now = next
 now_after command now = now
 
--- The effect of an entry: a plan or an external flight is filed behind the others, a dropped one is taken out, a tick moves the moment, and
+-- The effect of an entry: a plan or an external flight is filed after the others, a dropped one is taken out, a tick moves the moment, and
 -- any other command changes the path of the flight that it names; and the version rises by one.
 abbrev pub effect : Setup → State → Entry → State
 effect setup s e = record { now = now_after e.command s.now; records = records_after setup e.who e.command s.records; version = s.version + 1 }

@@ -48,7 +48,7 @@ leg_to bands number fix a = record {
 }
 
 -- A distance of q*T + r, with 0 <= r < T, is flown in T seconds by q in each, and one more in the last r: the gain of a second with n
--- seconds of the leg behind it.
+-- seconds of the leg after it.
 unfoldable pub gain_with : ℤ → ℕ → ℕ → ℤ
 gain_with total seconds n =
     if nat_lt n (unsigned_abs (int_rem_euclid total (pos seconds))) then int_div_euclid total (pos seconds) +ℤ pos 1
@@ -72,7 +72,7 @@ margin_gain rules climb w = int_min rules.gv (rules.wmax -ℤ w)
 
 -- ---- rows
 
--- the row of a second with n more of its leg behind it
+-- the row of a second with n more of its leg after it
 unfoldable pub row_on : Manner → Leg → ℕ → Place → Row
 row_on m leg n a = record {
   x = a.x;
@@ -111,7 +111,7 @@ abbrev pub rows_along : Manner → ℕ → List Point → Place → List Row
 rows_along m number [] a = []
 rows_along m number (fix ∷ fixes) a = rows_to m number fix a ++ rows_along m (suc number) fixes (end_after a (rows_to m number fix a))
 
--- The rows of a trajectory from a place along the fixes ahead. Those behind the first 14,400 are cut off.
+-- The rows of a trajectory from a place along the fixes ahead. Those after the first 14,400 are cut off.
 abbrev pub predicted : Manner → ℕ → List Point → Place → List Row
 predicted m number fixes a = take 14400 (rows_along m number fixes a)
 
@@ -121,8 +121,8 @@ predicted m number fixes a = take 14400 (rows_along m number fixes a)
 abbrev pub points_of : Tables → List (List ℕ) → List Point
 points_of tables route = map (λ name. unwrap_or (fix_of tables name) (record { x = pos 0; y = pos 0 })) route
 
-abbrev pub place_of : Base → Place
-place_of b = record { x = b.x; y = b.y; z = b.z; r = b.r; w = b.w }
+abbrev pub base_place : Base → Place
+base_place b = record { x = b.x; y = b.y; z = b.z; r = b.r; w = b.w }
 
 -- how a type flies to a level
 abbrev pub manner_of : Setup → List ℕ → ℕ → Manner
@@ -132,6 +132,6 @@ manner_of setup kind level = record { rules = setup.rules; bands = unwrap_or (ba
 abbrev pub flown : Setup → List ℕ → List (List ℕ) → Base → ℕ → Bool → Trajectory
 flown setup kind route base level rvsm = record {
   start = base.at;
-  rows = predicted (manner_of setup kind level) base.next (drop base.next (points_of setup.tables route)) (place_of base);
+  rows = predicted (manner_of setup kind level) base.next (drop base.next (points_of setup.tables route)) (base_place base);
   rvsm = rvsm;
 }

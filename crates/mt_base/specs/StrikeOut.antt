@@ -99,13 +99,13 @@ abbrev pub without : List ℕ → State → State
 without call s = record s { records = map (changed call bare_path) s.records }
 
 -- Two states are the same but for their versions.
-pub record AreSame (s t : State) : Type 0 where
+pub record AreSameButVersions (s t : State) : Type 0 where
   pub now : s.now ≡ t.now
   pub records : s.records ≡ t.records
 
 -- two states are the same but for their versions and the tentative clearance of that flight
 abbrev pub AreAlike : List ℕ → State → State → Type 0
-AreAlike call s t = AreSame (without call s) (without call t)
+AreAlike call s t = AreSameButVersions (without call s) (without call t)
 
 -- the trajectories that the flights fly, and the conflicts of these in the window
 abbrev pub flown_by : Setup → Record → NamedTrajectory

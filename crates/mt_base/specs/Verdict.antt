@@ -33,13 +33,13 @@ abbrev pub distance_squared : Row → Report → ℤ
 distance_squared row report = off_x row report *ℤ off_x row report +ℤ off_y row report *ℤ off_y row report
 
 -- whether the row's position stays
-abbrev pub stands : Row → Bool
-stands row = int_eq row.vx (pos 0) && int_eq row.vy (pos 0)
+abbrev pub is_still : Row → Bool
+is_still row = int_eq row.vx (pos 0) && int_eq row.vy (pos 0)
 
 -- Beyond a tolerance across the velocity, in any direction where there is none; and beyond one along it.
 abbrev pub is_lateral : Rules → Row → Report → Bool
 is_lateral rules row report =
-    if stands row then int_lt (rules.tc *ℤ rules.tc) (distance_squared row report)
+    if is_still row then int_lt (rules.tc *ℤ rules.tc) (distance_squared row report)
     else int_lt (rules.tc *ℤ rules.tc *ℤ speed_squared row) (across row report *ℤ across row report)
 
 abbrev pub is_along : Rules → Row → Report → Bool

@@ -35,7 +35,7 @@ impl<T: Drop> Listed<T> {
         Listed { values }
     }
 
-    /// Puts a value behind the others. On an error the list stays as it was.
+    /// Puts a value after the others. On an error the list stays as it was.
     pub fn push(&mut self, value: T) -> Result<(), Memory>
         ensures ok { OnOk result (self.new ≡ self.old ++ value ∷ []) }
         ensures err { OnErr result (self.new ≡ self.old) }

@@ -28,7 +28,7 @@ impl Words {
         })
     }
 
-    /// Puts a word behind the others. On an error the words stay as they were.
+    /// Puts a word after the others. On an error the words stay as they were.
     pub fn add(&mut self, alloc: Global, word: &str) -> Result<(), Memory>
         ensures ok { OnOk result (self.new ≡ self.old ++ word.now ∷ []) }
         ensures err { OnErr result (self.new ≡ self.old) }

@@ -19,7 +19,7 @@ use Rattle.mt_board.specs.Asking.{IsNotTold, IsRead}
 use Rattle.mt_board.specs.Changing.{HasEntered, IsChanged, IsDenied}
 use Rattle.mt_board.specs.Probing.{IsPast}
 use Rattle.mt_board.specs.Seat.{GoesOn, HasLooked, HasSeen, IsSameSeat, Seat, entries_by}
-use Rattle.mt_board.specs.Settling.{AreRenewed}
+use Rattle.mt_board.specs.Settling.{AreRenewalsAsked}
 
 -- a history that goes on from one that goes on, and one that stays
 pub goes_on : (a b c : List Entry) → GoesOn a b → GoesOn b c → GoesOn a c
@@ -99,7 +99,7 @@ pub change_goes_on : (s t : Seat) (command : Command) (result : Result Entered N
 change_goes_on s t command (Ok entered) e = (e.same, goes_on s.seen e.front t.seen e.begins (e.entry ∷ [], e.seen))
 change_goes_on s t command (Err denied) d = denied_goes_on s t _ denied d
 
-pub renewals_go_on : (s t : Seat) (calls : List (List ℕ)) (results : List (Result Entered No)) → AreRenewed s calls results t
+pub renewals_go_on : (s t : Seat) (calls : List (List ℕ)) (results : List (Result Entered No)) → AreRenewalsAsked s calls results t
     → IsSameSeat s t × GoesOn s.seen t.seen
 renewals_go_on s t [] [] is = rw is (same_itself s, goes_on_itself s.seen)
 renewals_go_on s t [] (r ∷ rs) never = absurd never
@@ -110,8 +110,8 @@ renewals_go_on s t (call ∷ calls) (r ∷ rs) (next, changed, rest) =
     (same_on s next t one.0 others.0, goes_on s.seen next.seen t.seen one.1 others.1)
 
 -- renewals after renewals
-pub renewals_add : (s t u : Seat) (calls more : List (List ℕ)) (results others : List (Result Entered No)) → AreRenewed s calls results t
-    → AreRenewed t more others u → AreRenewed s (calls ++ more) (results ++ others) u
+pub renewals_add : (s t u : Seat) (calls more : List (List ℕ)) (results others : List (Result Entered No)) → AreRenewalsAsked s calls results t
+    → AreRenewalsAsked t more others u → AreRenewalsAsked s (calls ++ more) (results ++ others) u
 renewals_add s t u [] more [] others is later = rw is at later
 renewals_add s t u [] more (r ∷ rs) others never later = absurd never
 renewals_add s t u (call ∷ calls) more [] others never later = absurd never

@@ -15,7 +15,7 @@ use Rattle.mt_board.specs.declared.ask.Ask.TheVariants as asks
 use Rattle.mt_board.specs.declared.no.No.{No}
 use Rattle.mt_board.specs.Changing.{IsDenied}
 use Rattle.mt_board.specs.Seat.{HasSeen, Seat}
-use Rattle.mt_board.specs.Short.{AreShortCalls}
+use Rattle.mt_board.specs.Short.{AreFewCalls}
 
 -- the version that an answer names
 abbrev pub version_of : Answer → ℕ
@@ -47,5 +47,5 @@ IsRead s asked (Err denied) t = IsDenied s (IsNotTold t.fixed t.seen asked) deni
 
 -- an answer of which a reply that follows a change is made fits the room that was taken for it
 abbrev pub IsShortAnswer : Answer → Type 0
-IsShortAnswer (answers.Due calls version) = AreShortCalls calls
+IsShortAnswer (answers.Due calls version) = AreFewCalls calls
 IsShortAnswer answer = ⊤

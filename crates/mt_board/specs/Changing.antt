@@ -7,7 +7,7 @@ use Rattle.mt_base.specs.declared.command.Refusal.{Refusal}
 use Rattle.mt_base.specs.History.{IsDecided, entered_by, state_of}
 use Rattle.mt_board.specs.declared.no.No.{No}
 use Rattle.mt_board.specs.declared.no.No.TheVariants.{Memory, Refused}
-use Rattle.mt_board.specs.Seat.{GoesOn, HasLooked, HasSeen, IsSameSeat, IsSound, Seat, state_seen}
+use Rattle.mt_board.specs.Seat.{GoesOn, HasLooked, HasSeen, IsSameSeat, IsSeatSound, Seat, state_seen}
 
 -- From s to t the seat's command was entered, once: it is the last of what the seat has seen, what is decided on the state of the entries
 -- before it, and the one entry more that is its own. It is answered by its version and, of a report, the verdict.
@@ -20,7 +20,7 @@ pub record HasEntered (s t : Seat) (command : Command) (entered : Entered) : Typ
   pub entered_is : entered ≡ entered_by s.fixed (state_of s.fixed front) entry
   pub seen : t.seen ≡ front ++ entry ∷ []
   pub mine : t.mine ≡ s.mine ++ entry ∷ []
-  pub sound : IsSound t
+  pub sound : IsSeatSound t
 
 -- A call gives nothing: it is refused, for this reason, at a version that the seat has seen then; or memory is wanted. Either way the seat
 -- has entered nothing.

@@ -39,7 +39,7 @@ pub record HasLooked (s t : Seat) : Type 0 where
   pub mine : t.mine ≡ s.mine
 
 -- What a seat has seen is a legal history, by rules that are within their bounds. Its own entries are those of its number there, in order.
-pub record IsSound (s : Seat) : Type 0 where
+pub record IsSeatSound (s : Seat) : Type 0 where
   pub rules : AreWithinBounds s.fixed.rules
   pub legal : IsLegal s.fixed s.seen
   pub mine : entries_by s.number s.seen ≡ s.mine
@@ -48,4 +48,4 @@ pub record IsSound (s : Seat) : Type 0 where
 pub record HasSeen (s t : Seat) (version : ℕ) : Type 0 where
   pub looked : HasLooked s t
   pub version_is : version ≡ length t.seen
-  pub sound : IsSound t
+  pub sound : IsSeatSound t

@@ -11,29 +11,29 @@ use Rattle.mt_board.specs.Changing.{IsChanged}
 use Rattle.mt_board.specs.Seat.{HasLooked, Seat}
 
 -- One flight after the other a seat asked to renew, and these are the answers.
-abbrev pub AreRenewed : Seat → List (List ℕ) → List (Result Entered No) → Seat → Type 0
-AreRenewed s [] [] t = t ≡ s
-AreRenewed s (call ∷ calls) (result ∷ results) t = (next : Seat) × IsChanged s (Renew call) result next × AreRenewed next calls results t
-AreRenewed s calls results t = ⊥
+abbrev pub AreRenewalsAsked : Seat → List (List ℕ) → List (Result Entered No) → Seat → Type 0
+AreRenewalsAsked s [] [] t = t ≡ s
+AreRenewalsAsked s (call ∷ calls) (result ∷ results) t = (next : Seat) × IsChanged s (Renew call) result next × AreRenewalsAsked next calls results t
+AreRenewalsAsked s calls results t = ⊥
 
 -- none of them is that memory was wanted: each flight was renewed, or refused and passed over
 abbrev pub AreMade : List (Result Entered No) → Type 0
 AreMade results = All (λ result. result ≢ Err Memory) results
 
 -- From s to t the flights that were due at first were renewed, in the order of filing, and no others; these are due at that version then.
-pub record IsSettled (s t : Seat) (left : List (List ℕ)) (version : ℕ) : Type 0 where
+pub record HasSettled (s t : Seat) (left : List (List ℕ)) (version : ℕ) : Type 0 where
   pub calls : List (List ℕ)
   pub was : ℕ
   pub first : Seat
   pub read : IsRead s asks.Due (Ok (answers.Due calls was)) first
   pub results : List (Result Entered No)
   pub last : Seat
-  pub renewed : AreRenewed first calls results last
+  pub renewed : AreRenewalsAsked first calls results last
   pub made : AreMade results
   pub told : IsRead last asks.Due (Ok (answers.Due left version)) t
 
 -- From s to t some of them were, the first ones, before memory was wanted.
-pub record IsSettledInPart (s t : Seat) : Type 0 where
+pub record HasSettledInPart (s t : Seat) : Type 0 where
   pub calls : List (List ℕ)
   pub rest : List (List ℕ)
   pub was : ℕ
@@ -41,10 +41,10 @@ pub record IsSettledInPart (s t : Seat) : Type 0 where
   pub read : IsRead s asks.Due (Ok (answers.Due (calls ++ rest) was)) first
   pub results : List (Result Entered No)
   pub last : Seat
-  pub renewed : AreRenewed first calls results last
+  pub renewed : AreRenewalsAsked first calls results last
   pub made : AreMade results
   pub looked : HasLooked last t
 
 -- what a settling leaves that memory was wanted for: the seat has seen more, or settled in part
 abbrev pub IsNotSettled : Seat → Seat → Type 0
-IsNotSettled s t = HasLooked s t ⊎ IsSettledInPart s t
+IsNotSettled s t = HasLooked s t ⊎ HasSettledInPart s t

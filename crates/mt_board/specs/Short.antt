@@ -9,6 +9,6 @@ pub record AreShortHits (hits : List Hit) : Type 0 where
   pub named : All (λ (hit : Hit). is_name 1 7 hit.with ≡ true) hits
 
 -- at most 1,024 callsigns
-pub record AreShortCalls (calls : List (List ℕ)) : Type 0 where
+pub record AreFewCalls (calls : List (List ℕ)) : Type 0 where
   pub few : length calls ≤ 1024
   pub named : All (λ call. is_name 1 7 call ≡ true) calls

@@ -11,7 +11,7 @@ ghost use Rattle.mt_board.specs.Asking.{IsRead};
 ghost use Rattle.mt_board.specs.Changing.{HasEntered, IsChanged};
 ghost use Rattle.mt_board.specs.Probing.{IsPast};
 ghost use Rattle.mt_board.specs.Seat.{GoesOn, HasLooked, HasSeen, IsSameSeat, Seat, entries_by};
-ghost use Rattle.mt_board.specs.Settling.{AreRenewed};
+ghost use Rattle.mt_board.specs.Settling.{AreRenewalsAsked};
 
 /// A command's answer after a look is its answer. Whatever it is answered, it is the same seat, and what it has seen
 /// goes on from what it had seen; so what is past for a seat stays past. What is entered has the version of all that the seat has seen then.
@@ -23,10 +23,10 @@ pub fn seat_laws()
     ensures read_goes_on { (s t : Seat) (asked : Ask) (result : Result Answer No) → IsRead s asked result t → IsSameSeat s t × GoesOn s.seen t.seen }
     ensures change_goes_on { (s t : Seat) (command : Command) (result : Result Entered No) → IsChanged s command result t
         → IsSameSeat s t × GoesOn s.seen t.seen }
-    ensures renewals_go_on { (s t : Seat) (calls : List (List ℕ)) (results : List (Result Entered No)) → AreRenewed s calls results t
+    ensures renewals_go_on { (s t : Seat) (calls : List (List ℕ)) (results : List (Result Entered No)) → AreRenewalsAsked s calls results t
         → IsSameSeat s t × GoesOn s.seen t.seen }
-    ensures renewals_add { (s t u : Seat) (calls more : List (List ℕ)) (results others : List (Result Entered No)) → AreRenewed s calls results t
-        → AreRenewed t more others u → AreRenewed s (calls ++ more) (results ++ others) u }
+    ensures renewals_add { (s t u : Seat) (calls more : List (List ℕ)) (results others : List (Result Entered No)) → AreRenewalsAsked s calls results t
+        → AreRenewalsAsked t more others u → AreRenewalsAsked s (calls ++ more) (results ++ others) u }
     ensures past { (s t : Seat) (fixed : Setup) (state : State) (version : ℕ) → IsPast s fixed state version → IsSameSeat s t → GoesOn s.seen t.seen
         → IsPast t fixed state version }
     ensures own { (s t : Seat) (version : ℕ) → HasSeen s t version → entries_by t.number t.seen ≡ t.mine }

@@ -10,7 +10,7 @@ use Rattle.mt_base.specs.declared.flight.Course.{Course}
 use Rattle.mt_base.specs.declared.route.RouteNo.{RouteNo}
 use Rattle.mt_base.specs.Bounds.{AreWithinBounds, IsInPlane, IsSoundCourse}
 use Rattle.mt_base.specs.Checks.{judged}
-use Rattle.mt_base.specs.History.{course_of, first_of, refusal_of, route_checks}
+use Rattle.mt_base.specs.History.{course_of, first_of_points, refusal_of, route_checks}
 use Rattle.mt_base.specs.Predictor.{points_of}
 use Rattle.mt_base.specs.Tables.{Setup, Tables, bands_of, fix_checks, length_checks}
 use Rattle.mt_base.proofs.CheckLemmas.{all_pass, all_passed}
@@ -35,7 +35,7 @@ few_names setup course sound =
 
 -- the course of a plan that passed its checks is sound
 pub sound_course : (setup : Setup) (kind : List ℕ) (route : List (List ℕ)) (at from level : ℕ) (rvsm : Bool) → AreWithinBounds setup.rules
-    → at ≤ 10000000 → from ≤ 600 → level ≤ 600 → IsInPlane (first_of (points_of setup.tables route)).x (first_of (points_of setup.tables route)).y
+    → at ≤ 10000000 → from ≤ 600 → level ≤ 600 → IsInPlane (first_of_points (points_of setup.tables route)).x (first_of_points (points_of setup.tables route)).y
     → is_some (bands_of setup.tables kind) ≡ true → AllByRecursion (λ c. c.1 ≡ true) (route_checks setup.tables route)
     → IsSoundCourse setup (course_of setup kind route at from level rvsm)
 sound_course setup kind route at from level rvsm rules at_early from_low level_low plane known tests = record {

@@ -16,5 +16,5 @@ pub record IsSoundState (setup : Setup) (s : State) : Type 0 where
   pub counted : s.version ≤ 4194304
 
 -- each check of an actor's command is passed in a state
-abbrev pub Passes : Setup → State → ℕ → Command → Type 0
-Passes setup s who command = AllByRecursion (λ c. c.1 ≡ true) (checks setup (look_at s command) who command)
+abbrev pub PassesChecks : Setup → State → ℕ → Command → Type 0
+PassesChecks setup s who command = AllByRecursion (λ c. c.1 ≡ true) (checks setup (look_at s command) who command)

@@ -1,7 +1,7 @@
 //! The course that a plan files.
 ghost use Rattle.std.specs.Prelude.{◌≡◌, ◌≤◌, IfOk};
 ghost use Rattle.mt_base.specs.Bounds.{IsInPlane};
-ghost use Rattle.mt_base.specs.History.{base_of, course_of, first_of};
+ghost use Rattle.mt_base.specs.History.{base_of, course_of, first_of_points};
 ghost use Rattle.mt_base.specs.Predictor.{points_of};
 ghost use Rattle.mt_base.specs.Tables.{setup_with};
 
@@ -14,7 +14,7 @@ const ORIGIN: Point = Point { x: 0, y: 0 };
 
 // Where a route begins.
 fn first_point(tables: &Tables, route: &Route) -> Point
-    ensures exact { result ≡ first_of (points_of tables.now route.now) }
+    ensures exact { result ≡ first_of_points (points_of tables.now route.now) }
     ensures bounded { IsInPlane result.x result.y }
 {
     match route.items().first() {
@@ -54,7 +54,7 @@ pub fn planned_course(
 ) -> Result<Course, Memory>
     requires { from ≤ 600 }
     ensures course { IfOk result (λ course. course ≡ course_of (setup_with rules.now tables.now) kind route.now at from level rvsm) }
-    ensures plane { IsInPlane (first_of (points_of tables.now route.now)).x (first_of (points_of tables.now route.now)).y }
+    ensures plane { IsInPlane (first_of_points (points_of tables.now route.now)).x (first_of_points (points_of tables.now route.now)).y }
 {
     let fix = first_point(tables, route);
     Ok(Course {

@@ -27,7 +27,7 @@ pub fn check_each<C: Check>(rt: &(impl Abort + AllocGlobal), table: &str) {
     }
 }
 
-/// The first column of a text, and those behind it.
+/// The first column of a text, and those after it.
 pub fn columns<'a>(rt: &impl Abort, text: &'a str) -> (&'a str, &'a str) {
     text.split_once(" | ").expect(rt, "a further column")
 }

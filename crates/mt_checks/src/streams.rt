@@ -83,7 +83,7 @@ fn lines_of_small_inputs(rt: HostRuntime) {
     laws_of_lines();
 }
 
-/// A line of so many bytes `x`, and what is behind it.
+/// A line of so many bytes `x`, and what is after it.
 fn long_line(rt: &(impl AllocGlobal + Abort), count: usize, behind: &[u8]) -> Vec<u8> {
     let mut bytes = vec![in rt.alloc(); b'x'; count].expect(rt, "memory");
     bytes.extend_from_slice(behind).expect(rt, "memory");

@@ -2,7 +2,7 @@
 //! program with whole numbers.
 ghost use Rattle.std.specs.Prelude.{◌≡◌, pos, IsTrue, All};
 ghost use Rattle.mt_base.specs.Bounds.{AreBoundedBands, IsBoundedBand, IsInPlane, IsWithin};
-ghost use Rattle.mt_predict.specs.Manners.{IsHeld};
+ghost use Rattle.mt_predict.specs.Manners.{IsFlownPlace};
 
 mod acceptances;
 mod climbing;
@@ -94,7 +94,7 @@ fn are_in_plane(fixes: &[Point]) -> bool
 }
 
 fn is_held(rules: &Rules, a: &Place) -> bool
-    ensures { IsTrue result → IsHeld rules.now a.now }
+    ensures { IsTrue result → IsFlownPlace rules.now a.now }
 {
     if !is_in_plane(&a.x, &a.y) || !is_within(0, 3_600_000, &a.z) {
         return false;

@@ -40,7 +40,7 @@ fn stream_of<'a>(rt: &impl AllocGlobal, bytes: &'a [u8]) -> Stream<'a> {
     }
 }
 
-/// A stream that gives these bytes, and behind them those.
+/// A stream that gives these bytes, and after them those.
 fn in_two<'a>(rt: &impl AllocGlobal, first: &'a [u8], then: &'a [u8]) -> TwoParts<'a> {
     Duplex {
         reader: first.chain(then),
@@ -55,7 +55,7 @@ fn link_over<'a>(rt: &(impl AllocGlobal + Abort), bytes: &'a [u8]) -> WsLink<Str
     WsLink::over(rt.alloc(), socket).expect(rt, "memory")
 }
 
-/// The lines of a link, each with a 0x0A behind it, `LONG` for one that is too long, and at the end `END` or `FAULT`.
+/// The lines of a link, each with a 0x0A after it, `LONG` for one that is too long, and at the end `END` or `FAULT`.
 fn lines_of<S: Source>(rt: &(impl AllocGlobal + Abort), link: &mut S) -> Vec<u8> {
     let mut lines = Vec::new(rt.alloc());
     let mut reader = LineReader::make(rt.alloc()).expect(rt, "memory");
@@ -177,7 +177,7 @@ fn a_line_of_131_072_bytes_is_sent_and_a_longer_one_is_not(rt: HostRuntime) {
     assert!(&rt; sent.starts_with(b"\x81\x7f\0\0\0\0\0\x02\0\0".as_slice()));
 }
 
-/// The frames of a client behind its request are these lines.
+/// The frames of a client after its request are these lines.
 fn check_web(rt: &(impl AllocGlobal + Abort), frames: &[u8], lines: &[u8]) {
     let request = request_of(rt, b"http://127.0.0.1:8000");
     let mut link = AnyLink::of(rt.alloc(), in_two(rt, &request, frames));

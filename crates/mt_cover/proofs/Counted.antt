@@ -5,7 +5,7 @@ use Rattle.std.proofs.lemmas.List.Concat.{flat_map-append}
 use Rattle.std.specs.List.{range_with_len}
 use Rattle.mt_cover.specs.declared.area.Extent.{Extent}
 use Rattle.mt_cover.specs.declared.stays.Stay.{Stay}
-use Rattle.mt_cover.specs.Cells.{cells, cells_in, place, places, stays_of}
+use Rattle.mt_cover.specs.Cells.{cells, cells_in, place, cells_between, stays_of}
 
 range_last : (a n : ℕ) → range_with_len a (suc n) ≡ range_with_len a n ++ (a + n) ∷ []
 range_last a zero = let e : a + 0 ≡ a = omega arith in rw e refl
@@ -46,12 +46,12 @@ stay line from to column = record { cell = 64 * line + column; from = from; to =
 pub line_is : (e : Extent) (line from to first k : ℕ) → first ≡ place e.low → k - first ≡ suc (place e.high) - place e.low
     → map (stay line from to) (range_with_len first (k - first)) ≡ stays_of from to (cells_in e line)
 line_is e line from to first k first_is number_is =
-    rw (number_is, first_is) (sym (map-map (λ (cell : ℕ). record { cell = cell; from = from; to = to }) (λ (column : ℕ). 64 * line + column) (places e)))
+    rw (number_is, first_is) (sym (map-map (λ (cell : ℕ). record { cell = cell; from = from; to = to }) (λ (column : ℕ). 64 * line + column) (cells_between e)))
 
 pub cells_is : (x y : Extent) (from to first k : ℕ) → first ≡ place y.low → k - first ≡ suc (place y.high) - place y.low
     → flat_map (λ (line : ℕ). stays_of from to (cells_in x line)) (range_with_len first (k - first)) ≡ stays_of from to (cells x y)
 cells_is x y from to first k first_is number_is =
-    rw (number_is, first_is) (sym (map-flat_map (λ (cell : ℕ). record { cell = cell; from = from; to = to }) (cells_in x) (places y)))
+    rw (number_is, first_is) (sym (map-flat_map (λ (cell : ℕ). record { cell = cell; from = from; to = to }) (cells_in x) (cells_between y)))
 
 pub flat_map_next : {X : Type 0} (f : ℕ → List X) (k : ℕ) → flat_map f (range_with_len 0 k) ++ f k ≡ flat_map f (range_with_len 0 (k + 1))
 flat_map_next {X} f k =

@@ -9,7 +9,7 @@ use Rattle.mt_base.specs.Trajectory.{Trajectory}
 use Rattle.mt_cover.specs.declared.area.Extent.{Extent}
 use Rattle.mt_cover.specs.declared.stays.Stay.{Stay}
 use Rattle.mt_cover.specs.Box.{area_over, half, wider}
-use Rattle.mt_cover.specs.Cells.{cells, cells_in, cells_of, place, place_from, places, slice_rows, stays_in, stays_over}
+use Rattle.mt_cover.specs.Cells.{cells, cells_in, cells_of, place, place_from, cells_between, slice_rows, stays_in, stays_over}
 
 place_from_few : (z : ℤ) → place_from z < 64
 place_from_few (pos n) = omega arith
@@ -24,7 +24,7 @@ All-flat_map : {X Y : Type 0} (P : Y → Type 0) (Q : X → Type 0) (f : X → L
 All-flat_map P Q f each [] all = All-nil P
 All-flat_map P Q f each (x ∷ xs) all = All-append P (f x) (flat_map f xs) (each x (All-head Q x xs all)) (All-flat_map P Q f each xs (All-tail Q x xs all))
 
-All-places : (e : Extent) → All (λ k. k < 64) (places e)
+All-places : (e : Extent) → All (λ k. k < 64) (cells_between e)
 All-places e =
     let a = place_from_few (e.low +ℤ pos 3686400) in
     let b = place_from_few (e.high +ℤ pos 3686400) in
@@ -32,8 +32,8 @@ All-places e =
 
 All-cells : (x y : Extent) → All (λ cell. cell < 4096) (cells x y)
 All-cells x y = All-flat_map (λ (cell : ℕ). cell < 4096) (λ (line : ℕ). line < 64) (cells_in x)
-    (λ line few. All-map (λ (cell : ℕ). cell < 4096) (λ (column : ℕ). 64 * line + column) (places x) (λ k d below. let c = All-places x k d below in omega (arith, c, few)))
-    (places y) (All-places y)
+    (λ line few. All-map (λ (cell : ℕ). cell < 4096) (λ (column : ℕ). 64 * line + column) (cells_between x) (λ k d below. let c = All-places x k d below in omega (arith, c, few)))
+    (cells_between y) (All-places y)
 
 All-stays_over : (rules : Rules) (from : ℕ) (rows : List Row) → All (λ (stay : Stay). stay.cell < 4096) (stays_over rules from rows)
 All-stays_over rules from [] = All-nil (λ (stay : Stay). stay.cell < 4096)

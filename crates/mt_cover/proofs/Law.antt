@@ -21,7 +21,7 @@ use Rattle.mt_cover.specs.declared.area.Extent.{Extent}
 use Rattle.mt_cover.specs.declared.sliced.Slice.{Slice}
 use Rattle.mt_cover.specs.declared.stays.Stay.{Stay}
 use Rattle.mt_cover.specs.Box.{area_of, area_over, half, wider}
-use Rattle.mt_cover.specs.Cells.{IsAt, MissesNone, ShareAt, cells, cells_in, cells_of, cover_of, place, place_from, places, slice_rows, stays_in, stays_of, stays_over}
+use Rattle.mt_cover.specs.Cells.{IsAt, MissesNone, ShareAt, cells, cells_in, cells_of, cover_of, place, place_from, cells_between, slice_rows, stays_in, stays_of, stays_over}
 use Rattle.mt_cover.specs.Sliced.{Have, Touch, TouchBoth, TouchingIsNear, no_slice, slice_at, slice_by, slice_in, slice_over, slices_of}
 use Rattle.mt_cover.proofs.Apart.{Holds, Meet, Rises, Spans, boxes_meet}
 use Rattle.mt_cover.proofs.Holding.{Holds-slice_get}
@@ -40,8 +40,8 @@ place_rises y z h = place_from_rises (y +ℤ pos 3686400) (z +ℤ pos 3686400) (
 -- extents that meet have a place in common
 record CommonPlace (e f : Extent) : Type 0 where
   place : ℕ
-  left : Contains (places e) place
-  right : Contains (places f) place
+  left : Contains (cells_between e) place
+  right : Contains (cells_between f) place
 
 common_place : (e f : Extent) → Meet e f → CommonPlace e f
 common_place e f meet =
@@ -56,9 +56,9 @@ common_place e f meet =
       right = Contains-range (place f.low) (suc (place f.high) - place f.low) p (omega arith) (omega (arith, b, c));
     }
 
-Contains-cells : (x y : Extent) (column line : ℕ) → Contains (places x) column → Contains (places y) line → Contains (cells x y) (64 * line + column)
+Contains-cells : (x y : Extent) (column line : ℕ) → Contains (cells_between x) column → Contains (cells_between y) line → Contains (cells x y) (64 * line + column)
 Contains-cells x y column line in_x in_y =
-    Contains-flat_map (cells_in x) (places y) line (64 * line + column) in_y (Contains-map (λ (c : ℕ). 64 * line + c) (places x) column in_x)
+    Contains-flat_map (cells_in x) (cells_between y) line (64 * line + column) in_y (Contains-map (λ (c : ℕ). 64 * line + c) (cells_between x) column in_x)
 
 -- stays cover a row in a second: there is a box, that of a slice, that holds the row, in each cell of which, made wider, one of them is
 record Covers (rules : Rules) (stays : List Stay) (slice : Slice) (row : Row) (k : ℕ) : Type 0 where

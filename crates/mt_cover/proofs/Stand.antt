@@ -14,7 +14,7 @@ use Rattle.mt_track.specs.Laid.{edge}
 use Rattle.mt_track.proofs.Straight.{IsBoundedRow-row_after, row_after-add}
 use Rattle.mt_cover.specs.declared.area.Area.{Area}
 use Rattle.mt_cover.specs.Box.{area_of, area_over, grown, grown_by}
-use Rattle.mt_cover.specs.Walk.{Stands, part}
+use Rattle.mt_cover.specs.Walk.{StandsAtSecond, part}
 use Rattle.mt_cover.proofs.Ends.{grown_by-append, grown_by-straight}
 use Rattle.mt_cover.proofs.Parts.{part-more, part-straight}
 
@@ -47,7 +47,7 @@ pub record Here (end : ℕ) (segments : List Segment) (index k : ℕ) (s : Segme
   pub bounded : IsBoundedOver s.first (s.to - s.from)
 
 -- before the end it is one of them
-pub stands_within : (start end : ℕ) (ss : List Segment) (index k : ℕ) → IsLaid start end ss → Stands start ss index k → k < end → index < length ss
+pub stands_within : (start end : ℕ) (ss : List Segment) (index k : ℕ) → IsLaid start end ss → StandsAtSecond start ss index k → k < end → index < length ss
 stands_within start end ss index k laid stands early = ⊎_elim (λ h. h)
     (λ past. let last : index ≡ length ss = omega (arith, stands.within) in
     let at_end = edge-length start end ss laid.adjoin in
@@ -62,7 +62,7 @@ edge_to from to [] (suc i) lie few = absurd (omega arith)
 edge_to from to (s ∷ ss) zero lie few = let later = edge_from s.to to ss 0 lie.2 in let on = edge_to s.to to ss 0 lie.2 (omega arith) in omega (arith, lie.0, lie.1, on)
 edge_to from to (s ∷ ss) (suc i) lie few = edge_to s.to to ss i lie.2 (omega arith)
 
-pub here : (start end : ℕ) (ss : List Segment) (index k : ℕ) (s : Segment) → IsLaid start end ss → Stands start ss index k → k < end → s ≡ get_or ss index s
+pub here : (start end : ℕ) (ss : List Segment) (index k : ℕ) (s : Segment) → IsLaid start end ss → StandsAtSecond start ss index k → k < end → s ≡ get_or ss index s
     → Here end ss index k s
 here start end ss index k s laid stands early is =
     let below = stands_within start end ss index k laid stands early in
@@ -77,14 +77,14 @@ here start end ss index k s laid stands early is =
     }
 
 -- the row there
-pub row_here : (start end : ℕ) (ss : List Segment) (index k : ℕ) (s : Segment) → IsLaid start end ss → Stands start ss index k → k < end → s ≡ get_or ss index s
+pub row_here : (start end : ℕ) (ss : List Segment) (index k : ℕ) (s : Segment) → IsLaid start end ss → StandsAtSecond start ss index k → k < end → s ≡ get_or ss index s
     → slice_get (all_rows ss) (k - start) ≡ Some (row_after s.first (k - s.from))
 row_here start end ss index k s laid stands early is =
     row_in start end ss index s k laid.adjoin is stands.begun (stands.ahead (stands_within start end ss index k laid stands early))
 
 -- a box that has the rows up to a second, with those of the segment up to another
 pub gathered_on : (start end : ℕ) (ss : List Segment) (index from at until : ℕ) (s : Segment) (row : Row) (a b : Area) → IsLaid start end ss
-    → Stands start ss index at → at < end → s ≡ get_or ss index s → start ≤ from → from ≤ at → at ≤ until → until ≤ s.to
+    → StandsAtSecond start ss index at → at < end → s ≡ get_or ss index s → start ≤ from → from ≤ at → at ≤ until → until ≤ s.to
     → a ≡ area_over (part (all_rows ss) (from - start) (at - from)) row → b ≡ grown_by a (straight_rows (row_after s.first (at - s.from)) (until - at))
     → b ≡ area_over (part (all_rows ss) (from - start) (until - from)) row
 gathered_on start end ss index from at until s row a b laid stands early is covered begun on within a_is b_is =
@@ -112,15 +112,15 @@ any_default (x ∷ xs) zero d e below = refl
 any_default (x ∷ xs) (suc i) d e below = any_default xs i d e (omega arith)
 
 -- the next second to be gathered
-pub stands_on : (start end : ℕ) (ss : List Segment) (index at until : ℕ) (s : Segment) → IsLaid start end ss → Stands start ss index at → at < end → s ≡ get_or ss index s
-    → at ≤ until → until < s.to → Stands start ss index until
+pub stands_on : (start end : ℕ) (ss : List Segment) (index at until : ℕ) (s : Segment) → IsLaid start end ss → StandsAtSecond start ss index at → at < end → s ≡ get_or ss index s
+    → at ≤ until → until < s.to → StandsAtSecond start ss index until
 stands_on start end ss index at until s laid stands early is on within =
     let below = stands_within start end ss index at laid stands early in
     let lies = lies_at start end ss index s laid.adjoin below is in
     record { within = stands.within; begun = omega (arith, stands.begun, on); ahead = λ _. omega (arith, lies.to, within) }
 
-pub stands_next : (start end : ℕ) (ss : List Segment) (index at : ℕ) (s t : Segment) → IsLaid start end ss → Stands start ss index at → at < end → s ≡ get_or ss index s
-    → Stands start ss (index + 1) s.to
+pub stands_next : (start end : ℕ) (ss : List Segment) (index at : ℕ) (s t : Segment) → IsLaid start end ss → StandsAtSecond start ss index at → at < end → s ≡ get_or ss index s
+    → StandsAtSecond start ss (index + 1) s.to
 stands_next start end ss index at s t laid stands early is =
     let below = stands_within start end ss index at laid stands early in
     let lies = lies_at start end ss index s laid.adjoin below is in
@@ -132,15 +132,15 @@ stands_next start end ss index at s t laid stands early is =
           (any_default ss (suc index) s (get_or ss (suc index) s) next) in omega (arith, more.some, more.from, more.to, lies.to);
     })
 
-pub at_element : (start end : ℕ) (ss : List Segment) (index k : ℕ) (d : Segment) → IsLaid start end ss → Stands start ss index k → k < end
+pub at_element : (start end : ℕ) (ss : List Segment) (index k : ℕ) (d : Segment) → IsLaid start end ss → StandsAtSecond start ss index k → k < end
     → get_or ss index d ≡ get_or ss index (get_or ss index d)
 at_element start end ss index k d laid stands early = any_default ss index d (get_or ss index d) (stands_within start end ss index k laid stands early)
 
-pub here_or : (start end : ℕ) (ss : List Segment) (index k : ℕ) (d : Segment) → IsLaid start end ss → Stands start ss index k → k < end
+pub here_or : (start end : ℕ) (ss : List Segment) (index k : ℕ) (d : Segment) → IsLaid start end ss → StandsAtSecond start ss index k → k < end
     → Here end ss index k (get_or ss index d)
 here_or start end ss index k d laid stands early = here start end ss index k (get_or ss index d) laid stands early (at_element start end ss index k d laid stands early)
 
-pub first_area : (start end : ℕ) (ss : List Segment) (index k n : ℕ) (row first : Row) (s : Segment) (area : Area) → IsLaid start end ss → Stands start ss index k → k < end
+pub first_area : (start end : ℕ) (ss : List Segment) (index k n : ℕ) (row first : Row) (s : Segment) (area : Area) → IsLaid start end ss → StandsAtSecond start ss index k → k < end
     → s ≡ get_or ss index s → n ≡ 0 → first ≡ row_after s.first (k - s.from) → area ≡ area_of first → slice_get (all_rows ss) (k - start) ≡ Some row
     → area ≡ area_over (part (all_rows ss) (k - start) n) row
 first_area start end ss index k n row first s area laid stands early is none first_is area_is at =
@@ -149,14 +149,14 @@ first_area start end ss index k n row first s area laid stands early is none fir
     rw none (area_is ∙ ap area_of same)
 
 -- at the end of the segment the next one holds; before it, the same one
-pub stands_past : (start end : ℕ) (ss : List Segment) (index at until to : ℕ) (s : Segment) → IsLaid start end ss → Stands start ss index at → at < end → s ≡ get_or ss index s
-    → until ≡ min s.to to → s.to ≤ to → Stands start ss (index + 1) until
+pub stands_past : (start end : ℕ) (ss : List Segment) (index at until to : ℕ) (s : Segment) → IsLaid start end ss → StandsAtSecond start ss index at → at < end → s ≡ get_or ss index s
+    → until ≡ min s.to to → s.to ≤ to → StandsAtSecond start ss (index + 1) until
 stands_past start end ss index at until to s laid stands early is until_is past =
     let e : until ≡ s.to = omega (arith, until_is) in
     rw e (stands_next start end ss index at s s laid stands early is)
 
-pub stands_still : (start end : ℕ) (ss : List Segment) (index at until to : ℕ) (s : Segment) → IsLaid start end ss → Stands start ss index at → at < end → s ≡ get_or ss index s
-    → at < to → until ≡ min s.to to → to < s.to → Stands start ss index until
+pub stands_still : (start end : ℕ) (ss : List Segment) (index at until to : ℕ) (s : Segment) → IsLaid start end ss → StandsAtSecond start ss index at → at < end → s ≡ get_or ss index s
+    → at < to → until ≡ min s.to to → to < s.to → StandsAtSecond start ss index until
 stands_still start end ss index at until to s laid stands early is more until_is past =
     stands_on start end ss index at until s laid stands early is (omega (arith, until_is)) (omega (arith, until_is))
 
@@ -165,7 +165,7 @@ pub record Goes (at until to : ℕ) : Type 0 where
   pub on : at < until
   pub within : until ≤ to
 
-pub goes : (start end : ℕ) (ss : List Segment) (index at until to : ℕ) (d : Segment) → IsLaid start end ss → Stands start ss index at → at < end → at < to
+pub goes : (start end : ℕ) (ss : List Segment) (index at until to : ℕ) (d : Segment) → IsLaid start end ss → StandsAtSecond start ss index at → at < end → at < to
     → until ≡ min (get_or ss index d).to to → Goes at until to
 goes start end ss index at until to d laid stands early more is =
     let h = here_or start end ss index at d laid stands early in

@@ -22,15 +22,15 @@ abbrev pub place : ℤ → ℕ
 place z = place_from (z +ℤ pos 3686400)
 
 -- the places from that of its lower to that of its upper end, in order
-abbrev pub places : Extent → List ℕ
-places e = range_with_len (place e.low) (suc (place e.high) - place e.low)
+abbrev pub cells_between : Extent → List ℕ
+cells_between e = range_with_len (place e.low) (suc (place e.high) - place e.low)
 
 -- the cells of one line of 64, and of the lines
 abbrev pub cells_in : Extent → ℕ → List ℕ
-cells_in e line = map (λ column. 64 * line + column) (places e)
+cells_in e line = map (λ column. 64 * line + column) (cells_between e)
 
 abbrev pub cells : Extent → Extent → List ℕ
-cells x y = flat_map (cells_in x) (places y)
+cells x y = flat_map (cells_in x) (cells_between y)
 
 -- the cells of a box, made wider on each side by its greatest margin and half of the horizontal minimum
 abbrev pub cells_of : Rules → Area → List ℕ

@@ -83,7 +83,7 @@ with_slice layer slice = both layer slice.layer
 abbrev pub layer_over : List Slice → Layer
 layer_over slices = fold with_slice no_layer slices
 
--- What slices keep: one for each 256 seconds, none of which begins behind second 10,014,400; numbers of a size that sums of them fit.
+-- What slices keep: one for each 256 seconds, none of which begins after second 10,014,400; numbers of a size that sums of them fit.
 pub record AreSlices (s : Sliced) : Type 0 where
   pub number : length s.list ≡ div_ceil (s.to - s.from) 256
   pub ordered : s.from ≤ s.to

@@ -7,8 +7,8 @@ use Rattle.mt_track.specs.Laid.{edge}
 abbrev pub part : {X : Type 0} → List X → ℕ → ℕ → List X
 part list place number = take number (drop place list)
 
--- segment `index` is the one that holds second k; or k is the end, and it is behind the last one
-pub record Stands (start : ℕ) (segments : List Segment) (index k : ℕ) : Type 0 where
+-- segment `index` is the one that holds second k; or k is the end, and it is after the last one
+pub record StandsAtSecond (start : ℕ) (segments : List Segment) (index k : ℕ) : Type 0 where
   pub within : index ≤ length segments
   pub begun : edge start segments index ≤ k
   pub ahead : index < length segments → k < edge start segments (suc index)

@@ -1,5 +1,5 @@
-ghost use Rattle.std.specs.Prelude.{◌≡◌, ◌≤◌, ◌<◌, ◌++◌, ◌∷◌, pos, neg_ℤ, [], OnOk};
-ghost use Rattle.mt_base.specs.Bounds.{AreWithinBounds, IsWithin};
+ghost use Rattle.std.specs.Prelude.{◌≡◌, ◌≤◌, ◌<◌, ◌++◌, ◌∷◌, [], OnOk};
+ghost use Rattle.mt_base.specs.Bounds.{AreWithinBounds};
 ghost use Rattle.mt_cover.specs.Box.{half, wider};
 ghost use Rattle.mt_cover.specs.Cells.{cells, cells_in, cells_of, stays_of};
 ghost use Rattle.mt_cover.specs.InPlane.{IsAreaInPlane, IsExtentNearPlane};
@@ -53,7 +53,7 @@ impl Cover {
         }
     }
 
-    /// Puts a stay behind the others.
+    /// Puts a stay after the others.
     fn push(&mut self, cell: u32, from: Second, to: Second) -> Result<(), Memory>
         ensures { OnOk result (self.new ≡ self.old ++ record { cell = cell; from = from; to = to } ∷ []) }
     {
@@ -61,7 +61,7 @@ impl Cover {
         Ok(())
     }
 
-    /// Puts a stay behind the others for each cell of a line that an extent meets.
+    /// Puts a stay after the others for each cell of a line that an extent meets.
     fn add_line(&mut self, x: Extent, line: u32, from: Second, to: Second) -> Result<(), Memory>
         requires kept { IsExtentNearPlane x }
         requires few { line < 64 }
@@ -75,7 +75,7 @@ impl Cover {
         Ok(())
     }
 
-    /// Puts a stay behind the others for each cell that two extents meet.
+    /// Puts a stay after the others for each cell that two extents meet.
     fn add_cells(&mut self, x: Extent, y: Extent, from: Second, to: Second) -> Result<(), Memory>
         requires x_kept { IsExtentNearPlane x }
         requires y_kept { IsExtentNearPlane y }
@@ -89,7 +89,7 @@ impl Cover {
         Ok(())
     }
 
-    /// Puts a stay behind the others for each cell that a box meets, made wider on each side by its margin and half of the horizontal
+    /// Puts a stay after the others for each cell that a box meets, made wider on each side by its margin and half of the horizontal
     /// minimum.
     pub(crate) fn add(
         &mut self,

@@ -9,7 +9,7 @@ ghost use Rattle.mt_cover.specs.Cells.{cover_of};
 ghost use Rattle.mt_cover.specs.InPlane.{IsAreaInPlane};
 ghost use Rattle.mt_cover.specs.Sliced.{slices_of};
 ghost use Rattle.mt_cover.specs.declared.stays.Stay.{Stay};
-ghost use Rattle.mt_cover.specs.Walk.{Stands, part};
+ghost use Rattle.mt_cover.specs.Walk.{StandsAtSecond, part};
 
 use crate::area::{Area, area_of, grown};
 use crate::heights::{both, no_layer};
@@ -52,14 +52,14 @@ fn gather(
     to: Second,
 ) -> Gathered
     requires laid { IsLaid start end segments.now }
-    requires stands { Stands start segments.now index from }
+    requires stands { StandsAtSecond start segments.now index from }
     requires begun { start ≤ from }
     requires some { from < to }
     requires within { to ≤ end }
     ensures is { (row : Row) → slice_get (all_rows segments.now) (from - start) ≡ Some row
         → result.area ≡ area_over (part (all_rows segments.now) (from - start) (to - from)) row }
     ensures kept { IsAreaInPlane result.area }
-    ensures stands { Stands start segments.now result.index to }
+    ensures stands { StandsAtSecond start segments.now result.index to }
 {
     let mut index = index;
     let mut at = from;

@@ -30,12 +30,12 @@ use Rattle.mt_board.specs.Asking.{IsRead}
 use Rattle.mt_board.specs.Changing.{IsChanged}
 use Rattle.mt_board.specs.Probing.{IsAdvised, IsNotAdvised, IsNotProbed, IsPast, IsProbed, acceptance}
 use Rattle.mt_board.specs.Seat.{HasSeen, Seat, state_seen}
-use Rattle.mt_picture.specs.Story.{IsGivenFor}
+use Rattle.mt_picture.specs.Story.{IsPrepGivenFor}
 use Rattle.mt_picture.proofs.Given.{prepared_for}
-use Rattle.mt_probe.specs.Hits.{IsProbe, IsTried, IsUnprobed, Tried, told_of}
+use Rattle.mt_probe.specs.Hits.{IsProbe, IsTried, IsUnprobed, Trial, told_of}
 use Rattle.mt_probe.specs.Prepared.{IsPrepOf, IsRefusedOn, MakesStrand, Prepared, judged_aside}
 use Rattle.mt_probe.specs.Shot.{Shot}
-use Rattle.mt_probe.specs.Shot.{state_of as state_in}
+use Rattle.mt_probe.specs.Shot.{state_in_shot as state_in}
 use Rattle.mt_probe.proofs.Aside.{aside_refused}
 use Rattle.mt_snapshot_advice.specs.Advised.{IsAdvisedOn, IsFreeFor, IsNotAdvisedOn}
 use Rattle.mt_desk.specs.Desk.{Hand, seat_of}
@@ -76,7 +76,7 @@ past_taken t shot fixed state for same is =
 
 -- what is prepared on it is a prep of what the seat has seen
 pub given_taken : (t : Seat) (shot : Shot) (who : ℕ) (c : Command) (p : Prepared) → StandsFor t shot → MakesStrand c → IsPrepOf shot who c p
-    → IsGivenFor (record { setup = t.fixed; history = t.seen }) who c (Some p)
+    → IsPrepGivenFor (record { setup = t.fixed; history = t.seen }) who c (Some p)
 given_taken t shot who c p for makes prep =
     let past = past_taken t shot p.setup p.state for prep.setup_is prep.state_is in
     record {
@@ -100,7 +100,7 @@ not_prepared s t shot c Memory seen for makes d = seen.looked
 
 -- ---- probes
 
-probed_taken : (s t : Seat) (shot : Shot) (call : List ℕ) (clearance : Clearance) (eff : Option ℕ) (p : Tried) → HasSeen s t (length t.seen)
+probed_taken : (s t : Seat) (shot : Shot) (call : List ℕ) (clearance : Clearance) (eff : Option ℕ) (p : Trial) → HasSeen s t (length t.seen)
     → StandsFor t shot → IsProbe shot call clearance eff p → IsProbed s t call clearance eff (told_of p)
 probed_taken s t shot call clearance eff p seen for is = record {
   seen = seen_at s t p.prep.state.version seen (ap (λ (x : State). x.version) is.prep_of.state_is ∙ counted t shot for);
@@ -110,7 +110,7 @@ probed_taken s t shot call clearance eff p seen for is = record {
   follows = there (λ (f : Setup) (x : State). IsWhatIf f x call clearance eff (Ok p.hits)) t shot for is.hits_are;
 }
 
-past_probed : (t : Seat) (shot : Shot) (call : List ℕ) (clearance : Clearance) (eff : Option ℕ) (p : Tried) → StandsFor t shot
+past_probed : (t : Seat) (shot : Shot) (call : List ℕ) (clearance : Clearance) (eff : Option ℕ) (p : Trial) → StandsFor t shot
     → IsProbe shot call clearance eff p → IsPast t p.prep.setup p.prep.state (told_of p).version
 past_probed t shot call clearance eff p for is = past_taken t shot p.prep.setup p.prep.state for is.prep_of.setup_is is.prep_of.state_is
 
@@ -123,7 +123,7 @@ unprobed_taken s t shot call clearance eff (Refused refusal version) seen for d 
 unprobed_taken s t shot call clearance eff Memory seen for d = seen.looked
 
 -- what is answered of a clearance that is tried on it
-module _ (s t : Seat) (shot : Shot) (call : List ℕ) (clearance : Clearance) (eff : Option ℕ) (result : Result Tried No) (seen : HasSeen s t (length t.seen))
+module _ (s t : Seat) (shot : Shot) (call : List ℕ) (clearance : Clearance) (eff : Option ℕ) (result : Result Trial No) (seen : HasSeen s t (length t.seen))
     (for : StandsFor t shot) where
   pub probed : IfOk result (IsProbe shot call clearance eff) → IfOk result (λ p. IsProbed s t call clearance eff (told_of p))
   probed = IfOk-weaker result (IsProbe shot call clearance eff) (λ p. IsProbed s t call clearance eff (told_of p))
@@ -135,13 +135,13 @@ module _ (s t : Seat) (shot : Shot) (call : List ℕ) (clearance : Clearance) (e
 
   pub unprobed : IfErr result (IsUnprobed shot call clearance eff) → IfErr result (IsNotProbed s t call clearance eff)
   unprobed = by result where
-    by : (r : Result Tried No) → IfErr r (IsUnprobed shot call clearance eff) → IfErr r (IsNotProbed s t call clearance eff)
+    by : (r : Result Trial No) → IfErr r (IsUnprobed shot call clearance eff) → IfErr r (IsNotProbed s t call clearance eff)
     by (Ok p) d = tt
     by (Err denied) d = unprobed_taken s t shot call clearance eff denied seen for d
 
 -- ---- advice
 
-advised_taken : (s t : Seat) (shot : Shot) (call : List ℕ) (eff version : ℕ) (probes : List Tried) → HasSeen s t (length t.seen) → StandsFor t shot
+advised_taken : (s t : Seat) (shot : Shot) (call : List ℕ) (eff version : ℕ) (probes : List Trial) → HasSeen s t (length t.seen) → StandsFor t shot
     → IsAdvisedOn shot call eff version probes → IsAdvised s t call eff version (map told_of probes)
 advised_taken s t shot call eff version probes seen for is = record {
   seen = seen_at s t version seen (is.version_is ∙ counted t shot for);
@@ -152,7 +152,7 @@ advised_taken s t shot call eff version probes seen for is = record {
   few = rw (length-map probes told_of) is.few;
 }
 
-pasts_advised : (t : Seat) (shot : Shot) (call : List ℕ) (eff version : ℕ) (probes : List Tried) → StandsFor t shot
+pasts_advised : (t : Seat) (shot : Shot) (call : List ℕ) (eff version : ℕ) (probes : List Trial) → StandsFor t shot
     → IsAdvisedOn shot call eff version probes → All (λ p. IsPast t p.prep.setup p.prep.state (told_of p).version) probes
 pasts_advised t shot call eff version probes for is =
     All-weaker (IsFreeFor shot call) (λ p. IsPast t p.prep.setup p.prep.state (told_of p).version)
@@ -165,7 +165,7 @@ unadvised_taken s t shot call (Refused refusal version) seen for d =
 unadvised_taken s t shot call Memory seen for d = seen.looked
 
 -- what is answered where advice is asked for on it, of whatever holds the second, the version and the probes
-module _ {A : Type 0} (second number : A → ℕ) (tried : A → List Tried) (s t : Seat) (shot : Shot) (call : List ℕ) (result : Result A No)
+module _ {A : Type 0} (second number : A → ℕ) (tried : A → List Trial) (s t : Seat) (shot : Shot) (call : List ℕ) (result : Result A No)
     (seen : HasSeen s t (length t.seen)) (for : StandsFor t shot) where
   pub advised : IfOk result (λ a. IsAdvisedOn shot call (second a) (number a) (tried a))
       → IfOk result (λ a. IsAdvised s t call (second a) (number a) (map told_of (tried a)))
@@ -233,7 +233,7 @@ no_flight_taken s t shot call sec version seen for is named =
 -- ---- acceptances
 
 -- A probe without hits, of what a hand's seat has seen, was free there.
-pub probed_free : (h k : Hand) (p : Tried) (c : Command) → h ≡ k → c ≡ acceptance (told_of p) → IsTried p
+pub probed_free : (h k : Hand) (p : Trial) (c : Command) → h ≡ k → c ≡ acceptance (told_of p) → IsTried p
     → IsPast (seat_of k.desk.fixed k.view) p.prep.setup p.prep.state (told_of p).version → p.hits ≡ [] → WasFree h.desk.fixed h.view.seen c
 probed_free h k p c same is tried past none =
     let free = subst (λ (hits : List Hit). IsWhatIf p.prep.setup p.prep.state p.call p.clearance (Some p.eff) (Ok hits)) none tried.follows in

@@ -12,7 +12,7 @@ use Rattle.mt_board.specs.declared.no.No.TheVariants.{Memory, Refused}
 use Rattle.mt_board.specs.Changing.{HasEntered, IsChanged}
 use Rattle.mt_board.proofs.SeatLemmas.{decided_who}
 use Rattle.mt_board.specs.Seat.{GoesOn, HasLooked, HasSeen, entries_by}
-use Rattle.mt_picture.specs.Story.{IsEntered, IsRefused, Story}
+use Rattle.mt_picture.specs.Story.{IsEntered, IsCommandRefused, Story}
 use Rattle.mt_turn.specs.declared.view.Phase.{Phase}
 use Rattle.mt_turn.specs.declared.view.Phase.TheVariants.{Holds}
 use Rattle.mt_turn.specs.declared.view.View.{View}
@@ -95,7 +95,7 @@ enters fixed v w h p q c entered is begins e kept l = record {
 }
 
 denies : (fixed : Setup) (v w : View Entry Setup) (h : Phase Entry) (p : Story) (c : Command) (denied : No) → p.setup ≡ fixed
-    → IsRefused p v.number c denied → IsLegalStory p → entries_by v.number v.seen ≡ v.mine → Left who_of (with_phase v h) p.history p.history w
+    → IsCommandRefused p v.number c denied → IsLegalStory p → entries_by v.number v.seen ≡ v.mine → Left who_of (with_phase v h) p.history p.history w
     → IsChanged (seat_of fixed v) c (Err denied) (seat_of fixed w)
 denies fixed v w h p c (Refused refusal version) is d kept tied l =
     (rw (d.1, ← l.seen) (sees fixed v w h p is kept tied l), rw (l.seen, l.same.0, ← is) d.0)
@@ -103,7 +103,7 @@ denies fixed v w h p c Memory is d kept tied l = looks fixed v w h p.history tie
 
 -- What a decision in the turn leaves of the seat.
 pub changes : (fixed : Setup) (v w : View Entry Setup) (h : Phase Entry) (p q : Story) (c : Command) (result : Result Entered No) → p.setup ≡ fixed
-    → GoesOn v.seen p.history → IfOk result (IsEntered p q v.number c) → IfErr result (IsRefused p v.number c) → OnErr result (q ≡ p)
+    → GoesOn v.seen p.history → IfOk result (IsEntered p q v.number c) → IfErr result (IsCommandRefused p v.number c) → OnErr result (q ≡ p)
     → IsLegalStory q → entries_by v.number v.seen ≡ v.mine → Left who_of (with_phase v h) p.history q.history w
     → IsChanged (seat_of fixed v) c result (seat_of fixed w)
 changes fixed v w h p q c (Ok entered) is begins ok err same kept tied l = enters fixed v w h p q c entered is begins ok kept l

@@ -15,7 +15,7 @@ pub record Desk : Type 0 where
   pub fixed : Setup
 
 -- A seat is one of the desk's, with its rules and tables, and doesn't have the turn.
-pub record IsReady (d : Desk) (p : Place Entry Setup) : Type 0 where
+pub record IsSeatOfDesk (d : Desk) (p : Place Entry Setup) : Type 0 where
   pub home_is : p.home ≡ d.home
   pub idle : p.view.phase ≡ Idle
   pub fixed_is : p.view.fixed ≡ Some d.fixed
@@ -30,8 +30,8 @@ pub record Hand : Type 0 where
   pub view : View Entry Setup
 
 -- the seat of a hand
-abbrev pub place_of : Hand → Place Entry Setup
-place_of h = record { home = h.desk.home; view = h.view }
+abbrev pub seat_of_hand : Hand → Place Entry Setup
+seat_of_hand h = record { home = h.desk.home; view = h.view }
 
 -- the picture of what a seat has seen
 abbrev pub story_seen : Setup → View Entry Setup → Story

@@ -5,7 +5,7 @@ use Rattle.mt_base.specs.History.{IsLegal}
 use Rattle.mt_board.specs.Seat.{Seat, state_seen}
 use Rattle.mt_picture.specs.Story.{Story}
 use Rattle.mt_probe.specs.Shot.{Shot}
-use Rattle.mt_probe.specs.Shot.{state_of as state_in}
+use Rattle.mt_probe.specs.Shot.{state_in_shot as state_in}
 
 -- A picture's history is legal, by rules that are within their bounds, and no longer than any rules allow.
 pub record IsLegalStory (story : Story) : Type 0 where

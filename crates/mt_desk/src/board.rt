@@ -6,8 +6,8 @@ ghost use Rattle.mt_board.specs.Changing.{IsChanged};
 ghost use Rattle.mt_board.specs.Probing.{acceptance};
 ghost use Rattle.mt_probe.specs.Hits.{told_of};
 ghost use Rattle.mt_probe.specs.Prepared.{MakesStrand};
-ghost use Rattle.mt_turn.specs.Lending.{IsSameSeat};
-ghost use Rattle.mt_desk.specs.Desk.{IsReady, seat_of};
+ghost use Rattle.mt_turn.specs.Lending.{AreViewsOfOneSeat};
+ghost use Rattle.mt_desk.specs.Desk.{IsSeatOfDesk, seat_of};
 
 use crate::desk::{Desk, Seat};
 use crate::hand::Hand;
@@ -41,12 +41,12 @@ fn change_prepared<R: Threads + Wait + Sync, G: Gate>(
     gate: &G,
 ) -> Result<Entered, No>
     requires sync { IsSync R.row }
-    requires ready { IsReady desk.now seat.old }
+    requires ready { IsSeatOfDesk desk.now seat.old }
     requires bounded { IsBoundedCommand command.now }
     requires asked_for { IsAskedFor command.now }
     requires makes { MakesStrand command.now }
-    ensures ready { IsReady desk.now seat.new }
-    ensures same { IsSameSeat seat.old.view seat.new.view }
+    ensures ready { IsSeatOfDesk desk.now seat.new }
+    ensures same { AreViewsOfOneSeat seat.old.view seat.new.view }
     ensures changed { IsChanged (seat_of desk.now.fixed seat.old.view) command.now result (seat_of desk.now.fixed seat.new.view) }
 {
     let snapshot = desk.take(rt, seat)?;

@@ -1,9 +1,9 @@
 //! The desk: how it begins, is shared and ends.
 ghost use Rattle.std.specs.Prelude.{◌≡◌, ◌<◌, ◌^◌, [], length, IfOk, IfErr};
 ghost use Rattle.mt_base.specs.History.{IsLegal};
-ghost use Rattle.mt_turn.specs.Lending.{AllJoined, Closes};
+ghost use Rattle.mt_turn.specs.Lending.{AllJoined, ClosesHistory};
 ghost use Rattle.mt_turn.specs.Views.{first_view, giver, newcomer, taker, up_to};
-ghost use Rattle.mt_desk.specs.Desk.{IsReady};
+ghost use Rattle.mt_desk.specs.Desk.{IsSeatOfDesk};
 
 use crate::hand::Hand;
 use crate::legal::Legal;
@@ -40,7 +40,7 @@ impl Desk {
     pub fn make(alloc: Global, picture: Picture) -> Result<(Desk, Seat), (Picture, Memory)>
         requires empty { picture.history ≡ [] }
         ensures fixed { IfOk result (λ r. r.0.fixed ≡ picture.setup) }
-        ensures ready { IfOk result (λ r. IsReady r.0 r.1) }
+        ensures ready { IfOk result (λ r. IsSeatOfDesk r.0 r.1) }
         ensures first { IfOk result (λ r. r.1.view ≡ first_view picture.setup) }
         ensures err { IfErr result (λ e. e.0 ≡ picture) }
     {
@@ -62,7 +62,7 @@ impl Desk {
 
     /// A hand with a seat of this desk. It takes no memory.
     pub fn hand(&self, seat: Seat) -> Hand<'_>
-        requires ready { IsReady self.now seat }
+        requires ready { IsSeatOfDesk self.now seat }
         ensures { result ≡ record { desk = self.now; view = seat.view } }
     {
         Hand { desk: self, seat }
@@ -72,10 +72,10 @@ impl Desk {
     ///
     /// The numbers are 1, 2, 3 and so on, at most 2^31 of them. `giver` and `newcomer` say what the two seats know.
     pub fn split(&self, seat: &mut Seat) -> Seat
-        requires ready { IsReady self.now seat.old }
+        requires ready { IsSeatOfDesk self.now seat.old }
         requires first { seat.old.view.number ≡ 0 }
         requires room { length seat.old.view.gave < 2 ^ 31 }
-        ensures ready { IsReady self.now seat.new × IsReady self.now result }
+        ensures ready { IsSeatOfDesk self.now seat.new × IsSeatOfDesk self.now result }
         ensures gives { seat.new.view ≡ giver seat.old.view }
         ensures comes { result.view ≡ newcomer seat.old.view }
         ensures in_order { seat.new.view.gave ≡ up_to result.view.number }
@@ -87,9 +87,9 @@ impl Desk {
     ///
     /// `taker` says what the first seat knows then: the other's number, seen and mine are among its joined.
     pub fn join(&self, seat: &mut Seat, other: Seat)
-        requires ready { IsReady self.now seat.old × IsReady self.now other }
+        requires ready { IsSeatOfDesk self.now seat.old × IsSeatOfDesk self.now other }
         requires first { seat.old.view.number ≡ 0 }
-        ensures ready { IsReady self.now seat.new }
+        ensures ready { IsSeatOfDesk self.now seat.new }
         ensures joins { seat.new.view ≡ taker seat.old.view other.view }
     {
         self.turn.join(seat, other);
@@ -97,13 +97,13 @@ impl Desk {
 
     /// Gives the picture, where every seat that was split off is joined again, as `AllJoined` says. It takes no memory.
     ///
-    /// Its history is legal under the desk's rules and tables, and `Closes` says what it is: it begins with what each seat has seen, has each
+    /// Its history is legal under the desk's rules and tables, and `ClosesHistory` says what it is: it begins with what each seat has seen, has each
     /// seat's entries and no others.
     pub fn close(self, seat: Seat) -> Picture
-        requires ready { IsReady self seat }
+        requires ready { IsSeatOfDesk self seat }
         requires first { seat.view.number ≡ 0 }
         requires joined { AllJoined seat.view }
-        ensures history { Closes (λ e. e.who) seat.view result.history }
+        ensures history { ClosesHistory (λ e. e.who) seat.view result.history }
         ensures fixed { result.setup ≡ self.fixed }
         ensures legal { IsLegal result.setup result.history }
     {

@@ -1,6 +1,6 @@
 //! A seat in the hand of a thread.
 ghost use Rattle.std.specs.Prelude.{◌≡◌};
-ghost use Rattle.mt_desk.specs.Desk.{IsReady, place_of};
+ghost use Rattle.mt_desk.specs.Desk.{IsSeatOfDesk, seat_of_hand};
 
 use crate::desk::{Desk, Seat};
 use std::marker::Model;
@@ -14,20 +14,20 @@ pub struct Hand<'a> {
 }
 
 impl<'a> Model for Hand<'a> {
-    ghost use Rattle.mt_desk.specs.Desk.{Hand, IsReady};
+    ghost use Rattle.mt_desk.specs.Desk.{Hand, IsSeatOfDesk};
 
     ghost Value = { Hand };
 
     ghost view = { λ h. record { desk = h.desk.now; view = h.seat.view } };
 
-    ghost invariant = { λ h. IsReady h.desk.now h.seat };
+    ghost invariant = { λ h. IsSeatOfDesk h.desk.now h.seat };
 }
 
 impl<'a> Hand<'a> {
     /// Its seat. It takes no memory.
     pub fn back(self) -> Seat
-        ensures seat { result ≡ place_of self.entry }
-        ensures ready { IsReady self.entry.desk result }
+        ensures seat { result ≡ seat_of_hand self.entry }
+        ensures ready { IsSeatOfDesk self.entry.desk result }
     {
         let Hand { desk: _, seat } = self;
         seat

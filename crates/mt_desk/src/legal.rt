@@ -3,8 +3,8 @@ ghost use Rattle.std.specs.Prelude.{◌≡◌, ◌-◌, [], drop, length, take, 
 ghost use Rattle.mt_base.specs.History.{IsInTime, WasFree, state_of};
 ghost use Rattle.mt_base.specs.Picture.{IsPublished};
 ghost use Rattle.mt_change.specs.Altered.{IsBoundedBesides};
-ghost use Rattle.mt_picture.specs.Story.{IsEntered, IsGivenFor, IsRefused};
-ghost use Rattle.mt_probe.specs.Shot.{state_of as state_in};
+ghost use Rattle.mt_picture.specs.Story.{IsEntered, IsPrepGivenFor, IsCommandRefused};
+ghost use Rattle.mt_probe.specs.Shot.{state_in_shot as state_in};
 ghost use Rattle.mt_desk.specs.Taken.{IsLegalStory};
 
 use crate::copying::{copied, part};
@@ -113,9 +113,9 @@ impl Legal {
         requires bounded { IsBoundedBesides command.now }
         requires in_time { IsInTime (length self.old.history) command.now }
         requires free { WasFree self.old.setup self.old.history command.now }
-        requires prepared { IsGivenFor self.old who command.now (option_copied prep) }
+        requires prepared { IsPrepGivenFor self.old who command.now (option_copied prep) }
         ensures entered { IfOk result (IsEntered self.old self.new who command.now) }
-        ensures refused { IfErr result (IsRefused self.old who command.now) }
+        ensures refused { IfErr result (IsCommandRefused self.old who command.now) }
         ensures unchanged { OnErr result (self.new ≡ self.old) }
     {
         self.picture.publish(alloc, who, command, prep, tests)

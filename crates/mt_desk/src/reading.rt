@@ -2,8 +2,8 @@
 ghost use Rattle.std.specs.Prelude.{◌≡◌, IfOk};
 ghost use Rattle.mt_board.specs.declared.ask.Ask.TheVariants as asks;
 ghost use Rattle.mt_board.specs.Asking.{IsRead, IsShortAnswer};
-ghost use Rattle.mt_turn.specs.Lending.{IsSameSeat};
-ghost use Rattle.mt_desk.specs.Desk.{IsReady, seat_of};
+ghost use Rattle.mt_turn.specs.Lending.{AreViewsOfOneSeat};
+ghost use Rattle.mt_desk.specs.Desk.{IsSeatOfDesk, seat_of};
 
 use crate::desk::{Desk, Seat};
 use mt_base::{Callsign, Refusal, Second, Tally};
@@ -19,9 +19,9 @@ impl Desk {
         rt: &R,
         seat: &mut Seat,
     ) -> Result<Answer, No>
-        requires ready { IsReady self.now seat.old }
-        ensures ready { IsReady self.now seat.new }
-        ensures same { IsSameSeat seat.old.view seat.new.view }
+        requires ready { IsSeatOfDesk self.now seat.old }
+        ensures ready { IsSeatOfDesk self.now seat.new }
+        ensures same { AreViewsOfOneSeat seat.old.view seat.new.view }
         ensures read { IsRead (seat_of self.now.fixed seat.old.view) asks.Check result (seat_of self.now.fixed seat.new.view) }
         ensures short { IfOk result IsShortAnswer }
     {
@@ -35,9 +35,9 @@ impl Desk {
 
     // The flights that are due.
     pub(crate) fn due<R: Wait>(&self, rt: &R, seat: &mut Seat) -> Result<Answer, No>
-        requires ready { IsReady self.now seat.old }
-        ensures ready { IsReady self.now seat.new }
-        ensures same { IsSameSeat seat.old.view seat.new.view }
+        requires ready { IsSeatOfDesk self.now seat.old }
+        ensures ready { IsSeatOfDesk self.now seat.new }
+        ensures same { AreViewsOfOneSeat seat.old.view seat.new.view }
         ensures read { IsRead (seat_of self.now.fixed seat.old.view) asks.Due result (seat_of self.now.fixed seat.new.view) }
         ensures short { IfOk result IsShortAnswer }
     {
@@ -56,9 +56,9 @@ impl Desk {
         call: Callsign,
         sec: Option<Second>,
     ) -> Result<Answer, No>
-        requires ready { IsReady self.now seat.old }
-        ensures ready { IsReady self.now seat.new }
-        ensures same { IsSameSeat seat.old.view seat.new.view }
+        requires ready { IsSeatOfDesk self.now seat.old }
+        ensures ready { IsSeatOfDesk self.now seat.new }
+        ensures same { AreViewsOfOneSeat seat.old.view seat.new.view }
         ensures read { IsRead (seat_of self.now.fixed seat.old.view) (asks.Flight call sec) result (seat_of self.now.fixed seat.new.view) }
         ensures short { IfOk result IsShortAnswer }
     {

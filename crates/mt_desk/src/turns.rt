@@ -6,9 +6,9 @@ ghost use Rattle.mt_board.specs.Asking.{IsRead, IsShortAnswer};
 ghost use Rattle.mt_board.specs.Changing.{IsChanged};
 ghost use Rattle.mt_board.specs.Seat.{HasSeen};
 ghost use Rattle.mt_change.specs.Altered.{IsBoundedBesides};
-ghost use Rattle.mt_picture.specs.Story.{IsGivenFor};
-ghost use Rattle.mt_turn.specs.Lending.{IsSameSeat};
-ghost use Rattle.mt_desk.specs.Desk.{IsReady, seat_of, story_seen};
+ghost use Rattle.mt_picture.specs.Story.{IsPrepGivenFor};
+ghost use Rattle.mt_turn.specs.Lending.{AreViewsOfOneSeat};
+ghost use Rattle.mt_desk.specs.Desk.{IsSeatOfDesk, seat_of, story_seen};
 ghost use Rattle.mt_desk.specs.Taken.{StandsFor};
 
 use crate::desk::{Desk, Seat};
@@ -21,9 +21,9 @@ use std::thread::Threads;
 impl Desk {
     // Takes a snapshot, which stands for all that the seat has seen then. It copies no list.
     pub(crate) fn take<R: Wait>(&self, rt: &R, seat: &mut Seat) -> Result<Snapshot, Memory>
-        requires ready { IsReady self.now seat.old }
-        ensures ready { IsReady self.now seat.new }
-        ensures same { IsSameSeat seat.old.view seat.new.view }
+        requires ready { IsSeatOfDesk self.now seat.old }
+        ensures ready { IsSeatOfDesk self.now seat.new }
+        ensures same { AreViewsOfOneSeat seat.old.view seat.new.view }
         ensures seen { HasSeen (seat_of self.now.fixed seat.old.view) (seat_of self.now.fixed seat.new.view) (length seat.new.view.seen) }
         ensures taken { IfOk result (StandsFor (seat_of self.now.fixed seat.new.view)) }
     {
@@ -37,9 +37,9 @@ impl Desk {
 
     // What is published, as it is kept.
     pub(crate) fn list<R: Wait>(&self, rt: &R, seat: &mut Seat) -> Result<Answer, No>
-        requires ready { IsReady self.now seat.old }
-        ensures ready { IsReady self.now seat.new }
-        ensures same { IsSameSeat seat.old.view seat.new.view }
+        requires ready { IsSeatOfDesk self.now seat.old }
+        ensures ready { IsSeatOfDesk self.now seat.new }
+        ensures same { AreViewsOfOneSeat seat.old.view seat.new.view }
         ensures read { IsRead (seat_of self.now.fixed seat.old.view) asks.List result (seat_of self.now.fixed seat.new.view) }
         ensures short { IfOk result IsShortAnswer }
     {
@@ -62,9 +62,9 @@ impl Desk {
         from: u64,
         to: u64,
     ) -> Result<Answer, No>
-        requires ready { IsReady self.now seat.old }
-        ensures ready { IsReady self.now seat.new }
-        ensures same { IsSameSeat seat.old.view seat.new.view }
+        requires ready { IsSeatOfDesk self.now seat.old }
+        ensures ready { IsSeatOfDesk self.now seat.new }
+        ensures same { AreViewsOfOneSeat seat.old.view seat.new.view }
         ensures read { IsRead (seat_of self.now.fixed seat.old.view) (asks.History from to) result (seat_of self.now.fixed seat.new.view) }
         ensures short { IfOk result IsShortAnswer }
     {
@@ -88,13 +88,13 @@ impl Desk {
         command: &Command,
         prep: Option<&Prep>,
     ) -> Result<Entered, No>
-        requires ready { IsReady self.now seat.old }
+        requires ready { IsSeatOfDesk self.now seat.old }
         requires bounded { IsBoundedBesides command.now }
         requires in_time { IsInTime (length seat.old.view.seen) command.now }
         requires free { WasFree self.now.fixed seat.old.view.seen command.now }
-        requires prepared { IsGivenFor (story_seen self.now.fixed seat.old.view) seat.old.view.number command.now (option_copied prep) }
-        ensures ready { IsReady self.now seat.new }
-        ensures same { IsSameSeat seat.old.view seat.new.view }
+        requires prepared { IsPrepGivenFor (story_seen self.now.fixed seat.old.view) seat.old.view.number command.now (option_copied prep) }
+        ensures ready { IsSeatOfDesk self.now seat.new }
+        ensures same { AreViewsOfOneSeat seat.old.view seat.new.view }
         ensures changed { IsChanged (seat_of self.now.fixed seat.old.view) command.now result (seat_of self.now.fixed seat.new.view) }
     {
         let mut tests = Tally::new(rt);

@@ -4,7 +4,7 @@ use Rattle.std.proofs.lemmas.Bool.{cases_eq, eq-eqb, ne_eqb}
 use Rattle.mt_edges.specs.declared.edge.Edge.{Edge}
 use Rattle.mt_edges.specs.Laid.{CanLink, Has, IsHead, IsLinked, Laid}
 use Rattle.mt_edges.specs.Pairs.{IsEdge}
-use Rattle.mt_edges.specs.Kept.{IsKept, Ties, head_of, node_at, with_place}
+use Rattle.mt_edges.specs.Kept.{AreEdgesKept, Ties, head_of, node_at, with_place}
 use Rattle.mt_edges.proofs.Chains.{behind_in, laid_linked}
 use Rattle.mt_edges.proofs.Nodes.{filled_from}
 use Rattle.mt_edges.proofs.Walks.{head_in}
@@ -133,7 +133,7 @@ pub record Three (ends base : ℕ) (nodes : List (Option Edge)) (next prev next1
       → IsLinked next2 prev2 next3 prev3 (1 + ends + e.first / 256) (base + 3 * i + 2) → Laid next3 prev3 base (with_three ends base i e lists)
 
 pub three : (ends base : ℕ) (nodes : List (Option Edge)) (free : List ℕ) (spare : ℕ) (next prev next1 prev1 next2 prev2 : List ℕ) (i : ℕ) (e : Edge)
-    → (k : IsKept ends base nodes free spare next prev) → IsEdge ends e → i < length nodes → node_at nodes i ≡ None
+    → (k : AreEdgesKept ends base nodes free spare next prev) → IsEdge ends e → i < length nodes → node_at nodes i ≡ None
     → Three ends base nodes next prev next1 prev1 next2 prev2 k.lists i e
 three ends base nodes free spare next prev next1 prev1 next2 prev2 i e k sound within empty =
     let h0 = head_in ends base e 0 k.shape.base_is sound (omega arith) in

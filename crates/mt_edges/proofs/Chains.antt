@@ -1,21 +1,21 @@
 -- What a write of one link leaves of the chains.
 use Rattle.std.proofs.Common.{◌≡◌, ◌≢◌, ℕ, ◌<◌, ◌≤◌, ◌⊎◌, List, [], ◌∷◌, length, get_or, refl, sym, ap, ◌∙◌, subst, inl, inr, arith}
 use Rattle.std.proofs.lemmas.Bool.{cases_eq, eq-eqb, ne_eqb}
-use Rattle.mt_edges.specs.Laid.{AreDistinct, Chain, Has, IsHead, IsLinked, IsUnlinked, Laid, without}
+use Rattle.mt_edges.specs.Laid.{AreDistinct, Chain, Has, IsHead, IsLinked, IsUnlinked, Laid, without_place}
 
 -- two places differ where one stands in a list and the other does not
 pub differ : (xs : List ℕ) (p q : ℕ) → Has xs p → (Has xs q → ⊥) → p ≢ q
 differ xs p q has lacks = λ e. lacks (subst (Has xs) e has)
 
 -- a list without a place that it lacks
-pub without-absent : (xs : List ℕ) (p : ℕ) → (Has xs p → ⊥) → without p xs ≡ xs
+pub without-absent : (xs : List ℕ) (p : ℕ) → (Has xs p → ⊥) → without_place p xs ≡ xs
 without-absent [] p lacks = refl
 without-absent (x ∷ xs) p lacks =
     let other : x ≡ p → ⊥ = λ e. lacks (inl (sym e)) in
     rw (ne_eqb x p other, without-absent xs p (λ h. lacks (inr h))) refl
 
 -- what stands in it
-pub Has-without : (xs : List ℕ) (p q : ℕ) → Has (without p xs) q → Has xs q × (q ≢ p)
+pub Has-without : (xs : List ℕ) (p q : ℕ) → Has (without_place p xs) q → Has xs q × (q ≢ p)
 Has-without [] p q has = absurd has
 Has-without (x ∷ xs) p q has =
     elim (cases_eq x p) [
@@ -26,7 +26,7 @@ Has-without (x ∷ xs) p q has =
       ]
     ]
 
-pub without-Has : (xs : List ℕ) (p q : ℕ) → Has xs q → q ≢ p → Has (without p xs) q
+pub without-Has : (xs : List ℕ) (p q : ℕ) → Has xs q → q ≢ p → Has (without_place p xs) q
 without-Has [] p q has other = absurd has
 without-Has (x ∷ xs) p q has other =
     elim (cases_eq x p) [
@@ -34,7 +34,7 @@ without-Has (x ∷ xs) p q has other =
       | inr n ↦ rw (ne_eqb x p n) (elim has [ inl k ↦ inl k | inr h ↦ inr (without-Has xs p q h other) ])
     ]
 
-pub AreDistinct-without : (xs : List ℕ) (p : ℕ) → AreDistinct xs → AreDistinct (without p xs)
+pub AreDistinct-without : (xs : List ℕ) (p : ℕ) → AreDistinct xs → AreDistinct (without_place p xs)
 AreDistinct-without [] p apart = tt
 AreDistinct-without (x ∷ xs) p apart =
     elim (cases_eq x p) [
@@ -54,7 +54,7 @@ chain_kept next prev next' prev' u (x ∷ xs) n p chain = (
   chain_kept next prev next' prev' x xs (λ y h. n y (inr h)) (λ y h. p y (inr h)) chain.2,
 )
 
--- what stands before a place of a chain, and behind it
+-- what stands before a place of a chain, and after it
 pub before_in : (next prev : List ℕ) (u : ℕ) (xs : List ℕ) (p : ℕ) → Chain next prev u xs → Has xs p → Has (u ∷ xs) (get_or prev p 0)
 before_in next prev u [] p chain has = absurd has
 before_in next prev u (x ∷ xs) p chain has =
@@ -72,7 +72,7 @@ behind_in next prev u (x ∷ xs) p chain has =
       | inr h ↦ elim (behind_in next prev x xs p chain.2 h) [ inl z ↦ inl z | inr k ↦ inr (inr k) ]
     ]
 
--- a place is put behind the head
+-- a place is put after the head
 pub chain_linked : (next prev next' prev' : List ℕ) (h p : ℕ) (xs : List ℕ) → IsLinked next prev next' prev' h p → Chain next prev h xs
     → AreDistinct xs → (Has xs h → ⊥) → (Has xs p → ⊥) → Chain next' prev' h (p ∷ xs)
 chain_linked next prev next' prev' h p [] w chain apart no_head fresh = (w.first, w.back, w.rest ∙ chain)
@@ -91,7 +91,7 @@ chain_linked next prev next' prev' h p (x ∷ xs) w chain apart no_head fresh = 
 
 -- the first place is taken out
 chain_first : (next prev next' prev' : List ℕ) (u x : ℕ) (xs : List ℕ) (p : ℕ) → IsUnlinked next prev next' prev' p → x ≡ p
-    → Chain next prev u (x ∷ xs) → AreDistinct (u ∷ x ∷ xs) → Chain next' prev' u (without p xs)
+    → Chain next prev u (x ∷ xs) → AreDistinct (u ∷ x ∷ xs) → Chain next' prev' u (without_place p xs)
 chain_first next prev next' prev' u x [] p w e chain apart =
     let pu : get_or prev p 0 ≡ u = subst (λ (z : ℕ). get_or prev z 0 ≡ u) e chain.1 in
     let q : get_or next p 0 ≡ 0 = subst (λ (z : ℕ). get_or next z 0 ≡ 0) e chain.2 in
@@ -111,7 +111,7 @@ chain_first next prev next' prev' u x (y ∷ ys) p w e chain apart =
 
 -- a place is taken out
 pub chain_unlinked : (next prev next' prev' : List ℕ) (u : ℕ) (xs : List ℕ) (p : ℕ) → IsUnlinked next prev next' prev' p
-    → Chain next prev u xs → Has xs p → AreDistinct (u ∷ xs) → (Has xs 0 → ⊥) → Chain next' prev' u (without p xs)
+    → Chain next prev u xs → Has xs p → AreDistinct (u ∷ xs) → (Has xs 0 → ⊥) → Chain next' prev' u (without_place p xs)
 chain_unlinked next prev next' prev' u [] p w chain has apart positive = absurd has
 chain_unlinked next prev next' prev' u (x ∷ xs) p w chain has apart positive =
     elim (cases_eq x p) [
@@ -200,7 +200,7 @@ laid_linked next prev next' prev' base lists lists' h p w l head node within fre
 -- a place is taken out of its list
 pub laid_unlinked : (next prev next' prev' : List ℕ) (base : ℕ) (lists : ℕ → List ℕ) (h p : ℕ) → IsUnlinked next prev next' prev' p
     → Laid next prev base lists → IsHead base h → Has (lists h) p
-    → Laid next' prev' base (λ k. without p (lists k))
+    → Laid next' prev' base (λ k. without_place p (lists k))
 laid_unlinked next prev next' prev' base lists h p w l head has =
     let whole : AreDistinct (h ∷ lists h) = (head_apart next prev base lists h h l head head, l.once h head) in
     record {
@@ -208,7 +208,7 @@ laid_unlinked next prev next' prev' base lists h p w l head has =
       heads = omega (arith, l.heads, w.lengths.0);
       both = omega (arith, l.both, w.lengths.0, w.lengths.1);
       chain = λ k i. elim (cases_eq k h) [
-        | inl e ↦ subst (λ (z : ℕ). Chain next' prev' z (without p (lists z))) (sym e)
+        | inl e ↦ subst (λ (z : ℕ). Chain next' prev' z (without_place p (lists z))) (sym e)
             (chain_unlinked next prev next' prev' h (lists h) p w (l.chain h head) has whole (zero_apart next prev base lists h l head))
         | inr n ↦ subst (λ (xs : List ℕ). Chain next' prev' k xs) (sym (without-absent (lists k) p (λ r. n (sym (l.apart h k p head i has r)))))
             (other_chain next prev next' prev' base lists k l i

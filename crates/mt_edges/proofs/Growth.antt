@@ -4,7 +4,7 @@ use Rattle.std.proofs.lemmas.Bool.{cases_eq, cases_lt}
 use Rattle.std.proofs.lemmas.List.{get_or-replicate, get_or_append_left, get_or-append_right, get_or_past, get_or-set_other, get_or-set_same, length-replicate}
 use Rattle.mt_edges.specs.declared.edge.Edge.{Edge}
 use Rattle.mt_edges.specs.Laid.{IsLonger, Laid}
-use Rattle.mt_edges.specs.Kept.{IsKept, IsRoomier, Spares, node_at, standing}
+use Rattle.mt_edges.specs.Kept.{AreEdgesKept, IsRoomier, Spares, node_at, standing_pairs}
 use Rattle.mt_edges.proofs.Chains.{chain_kept}
 
 pub laid_longer : (next prev next' prev' : List ℕ) (base : ℕ) (lists : ℕ → List ℕ) → IsLonger next prev next' prev' → Laid next prev base lists → Laid next' prev' base lists
@@ -22,7 +22,7 @@ laid_longer next prev next' prev' base lists w l = record {
 }
 
 -- no lists and no nodes yet
-pub made : (ends base : ℕ) (next prev : List ℕ) → base ≡ ends + 39120 → next ≡ replicate base 0 → prev ≡ replicate base 0 → IsKept ends base [] [] 0 next prev
+pub made : (ends base : ℕ) (next prev : List ℕ) → base ≡ ends + 39120 → next ≡ replicate base 0 → prev ≡ replicate base 0 → AreEdgesKept ends base [] [] 0 next prev
 made ends base next prev is n p =
     let long : length next ≡ base = ap (λ (xs : List ℕ). length xs) n ∙ length-replicate base 0 in
     let back : length prev ≡ base = ap (λ (xs : List ℕ). length xs) p ∙ length-replicate base 0 in
@@ -62,7 +62,7 @@ spares_longer nodes free free' spare s w =
     }
 
 -- a node more changes none
-pub standing_more : (nodes : List (Option Edge)) → standing (nodes ++ None ∷ []) ≡ standing nodes
+pub standing_more : (nodes : List (Option Edge)) → standing_pairs (nodes ++ None ∷ []) ≡ standing_pairs nodes
 standing_more [] = refl
 standing_more (None ∷ nodes) = standing_more nodes
 standing_more (Some e ∷ nodes) = ap (λ (z : List Edge). e ∷ z) (standing_more nodes)
@@ -76,7 +76,7 @@ node_more nodes i =
 
 -- more places change nothing
 pub kept_longer : (ends base : ℕ) (nodes : List (Option Edge)) (free free' : List ℕ) (spare : ℕ) (next prev next' prev' : List ℕ)
-    → IsKept ends base nodes free spare next prev → IsLonger next prev next' prev' → IsRoomier free free' → IsKept ends base nodes free' spare next' prev'
+    → AreEdgesKept ends base nodes free spare next prev → IsLonger next prev next' prev' → IsRoomier free free' → AreEdgesKept ends base nodes free' spare next' prev'
 kept_longer ends base nodes free free' spare next prev next' prev' k w roomier = record {
   shape = record {
     base_is = k.shape.base_is;
@@ -91,8 +91,8 @@ kept_longer ends base nodes free free' spare next prev next' prev' k w roomier =
 
 -- a free node more
 pub kept_more : (ends base : ℕ) (nodes : List (Option Edge)) (free : List ℕ) (spare : ℕ) (next prev : List ℕ)
-    → IsKept ends base nodes free spare next prev → length nodes < length free → base + 3 * length nodes + 3 ≤ length next
-    → IsKept ends base (nodes ++ None ∷ []) (set free spare (length nodes)) (spare + 1) next prev
+    → AreEdgesKept ends base nodes free spare next prev → length nodes < length free → base + 3 * length nodes + 3 ≤ length next
+    → AreEdgesKept ends base (nodes ++ None ∷ []) (set free spare (length nodes)) (spare + 1) next prev
 kept_more ends base nodes free spare next prev k more longer =
     let s = k.shape.spares in
     let same = standing_more nodes in

@@ -4,9 +4,9 @@ use Rattle.std.proofs.lemmas.Bool.{cases_eq, cases_lt, ne_eqb}
 use Rattle.std.proofs.lemmas.List.{get_or_past, get_or_read}
 use Rattle.std.proofs.lemmas.List.Elements.{Contains-append_right, filter-append}
 use Rattle.mt_edges.specs.declared.edge.Edge.{Edge}
-use Rattle.mt_edges.specs.Pairs.{AreSame, IsEdge, IsWith, degree, touches, without_end}
+use Rattle.mt_edges.specs.Pairs.{HaveSameEnds, IsEdge, IsWith, degree, touches, without_end}
 use Rattle.mt_edges.specs.Laid.{Has}
-use Rattle.mt_edges.specs.Kept.{IsDropped, Shape, Sound, Spares, Ties, head_of, node_at, standing}
+use Rattle.mt_edges.specs.Kept.{IsDropped, Shape, Sound, Spares, Ties, head_of, node_at, standing_pairs}
 
 -- a node that holds a pair is in range
 pub in_range : (nodes : List (Option Edge)) (i : ℕ) (e : Edge) → node_at nodes i ≡ Some e → i < length nodes
@@ -34,7 +34,7 @@ emptied_from nodes i j e f here there =
     ]
 
 -- the list of the pairs without that of one node
-pub with_node : (nodes : List (Option Edge)) (i : ℕ) (e : Edge) → node_at nodes i ≡ Some e → IsWith (standing (set nodes i None)) e (standing nodes)
+pub with_node : (nodes : List (Option Edge)) (i : ℕ) (e : Edge) → node_at nodes i ≡ Some e → IsWith (standing_pairs (set nodes i None)) e (standing_pairs nodes)
 with_node [] i e here = absurd cc
 with_node (None ∷ nodes) zero e here = absurd cc
 with_node (None ∷ nodes) (suc i) e here =
@@ -42,7 +42,7 @@ with_node (None ∷ nodes) (suc i) e here =
     record { front = w.front; back = w.back; was = w.was; is = w.is }
 with_node (Some f ∷ nodes) zero e here =
     let same : f ≡ e = cc in
-    record { front = []; back = standing nodes; was = refl; is = ap (λ (z : Edge). z ∷ standing nodes) same }
+    record { front = []; back = standing_pairs nodes; was = refl; is = ap (λ (z : Edge). z ∷ standing_pairs nodes) same }
 with_node (Some f ∷ nodes) (suc i) e here =
     let w = with_node nodes i e here in
     record { front = f ∷ w.front; back = w.back; was = ap (λ (z : List Edge). f ∷ z) w.was; is = ap (λ (z : List Edge). f ∷ z) w.is }
@@ -63,7 +63,7 @@ pub spares_dropped : (nodes : List (Option Edge)) (free : List ℕ) (spare i : �
 spares_dropped nodes free spare i e s here =
     let w = with_node nodes i e here in
     let within = in_range nodes i e here in
-    let more : length (standing nodes) ≡ length (standing (set nodes i None)) + 1 =
+    let more : length (standing_pairs nodes) ≡ length (standing_pairs (set nodes i None)) + 1 =
     rw (w.was, w.is) (omega (arith, length-append w.front (e ∷ w.back), length-append w.front w.back)) in
     let few : spare < length free = omega (arith, s.count, s.room) in (
       few,
@@ -125,16 +125,16 @@ outside ends nodes end sound past i e here =
 
 -- where no pair has this end, none is left out
 pub none_touches : (nodes : List (Option Edge)) (end : ℕ) → ((i : ℕ) (e : Edge) → node_at nodes i ≡ Some e → touches end e ≡ false)
-    → without_end end (standing nodes) ≡ standing nodes
+    → without_end end (standing_pairs nodes) ≡ standing_pairs nodes
 none_touches [] end none = refl
 none_touches (None ∷ nodes) end none = none_touches nodes end (λ i e here. none (suc i) e here)
 none_touches (Some e ∷ nodes) end none =
     rw (none 0 e refl) (ap (λ (z : List Edge). e ∷ z) (none_touches nodes end (λ i f here. none (suc i) f here)))
 
 -- the list of the pairs with that of one node more
-pub with_new : (nodes : List (Option Edge)) (i : ℕ) (e : Edge) → i < length nodes → node_at nodes i ≡ None → IsWith (standing nodes) e (standing (set nodes i (Some e)))
+pub with_new : (nodes : List (Option Edge)) (i : ℕ) (e : Edge) → i < length nodes → node_at nodes i ≡ None → IsWith (standing_pairs nodes) e (standing_pairs (set nodes i (Some e)))
 with_new [] i e within free = absurd (omega arith)
-with_new (None ∷ nodes) zero e within free = record { front = []; back = standing nodes; was = refl; is = refl }
+with_new (None ∷ nodes) zero e within free = record { front = []; back = standing_pairs nodes; was = refl; is = refl }
 with_new (Some f ∷ nodes) zero e within free = absurd cc
 with_new (None ∷ nodes) (suc i) e within free =
     let w = with_new nodes i e (omega arith) free in
@@ -159,7 +159,7 @@ pub spares_filled : (nodes : List (Option Edge)) (free : List ℕ) (spare less :
 spares_filled nodes free spare less e s is =
     let last = s.empty less (omega arith) in
     let w = with_new nodes (get_or free less 0) e last.0 last.1 in
-    let more : length (standing (set nodes (get_or free less 0) (Some e))) ≡ length (standing nodes) + 1 =
+    let more : length (standing_pairs (set nodes (get_or free less 0) (Some e))) ≡ length (standing_pairs nodes) + 1 =
     rw (w.was, w.is) (omega (arith, length-append w.front (e ∷ w.back), length-append w.front w.back)) in
     record {
       count = omega (arith, s.count, length-set nodes (get_or free less 0) (Some e));
@@ -172,7 +172,7 @@ spares_filled nodes free spare less e s is =
     }
 
 pub sound_filled : (ends : ℕ) (nodes : List (Option Edge)) (i : ℕ) (e : Edge) → Sound ends nodes → i < length nodes → IsEdge ends e
-    → ((j : ℕ) (f : Edge) → node_at nodes j ≡ Some f → ¬ AreSame f e) → Sound ends (set nodes i (Some e))
+    → ((j : ℕ) (f : Edge) → node_at nodes j ≡ Some f → ¬ HaveSameEnds f e) → Sound ends (set nodes i (Some e))
 sound_filled ends nodes i e s within sound new = record {
   each = λ j f there. elim (filled_from nodes i j e f within there) [
     | inl k ↦ subst (IsEdge ends) k.1 sound
@@ -181,10 +181,10 @@ sound_filled ends nodes i e s within sound new = record {
   once = λ j k f g there there' same. elim (filled_from nodes i j e f within there) [
     | inl a ↦ elim (filled_from nodes i k e g within there') [
       | inl b ↦ a.0 ∙ sym b.0
-      | inr b ↦ absurd (new k g b.1 (subst (λ (z : Edge). AreSame g z) (sym a.1) (sym same.0, sym same.1)))
+      | inr b ↦ absurd (new k g b.1 (subst (λ (z : Edge). HaveSameEnds g z) (sym a.1) (sym same.0, sym same.1)))
     ]
     | inr a ↦ elim (filled_from nodes i k e g within there') [
-      | inl b ↦ absurd (new j f a.1 (subst (λ (z : Edge). AreSame f z) (sym b.1) same))
+      | inl b ↦ absurd (new j f a.1 (subst (λ (z : Edge). HaveSameEnds f z) (sym b.1) same))
       | inr b ↦ s.once j k f g a.1 b.1 same
     ]
   ];
@@ -210,22 +210,22 @@ spares_popped nodes free spare i e s some is =
     subst (λ (z : ℕ). Spares (set nodes z (Some e)) free (spare - 1)) (sym is) (spares_filled nodes free spare (spare - 1) e s (omega arith))
 
 -- a pair of a node stands in the list, and each of the list in a node
-pub stands : (nodes : List (Option Edge)) (i : ℕ) (e : Edge) → node_at nodes i ≡ Some e → Contains (standing nodes) e
+pub stands : (nodes : List (Option Edge)) (i : ℕ) (e : Edge) → node_at nodes i ≡ Some e → Contains (standing_pairs nodes) e
 stands nodes i e here =
     let w = with_node nodes i e here in
     let zero_in : 0 < length (e ∷ w.back) = omega arith in
     subst (λ (z : List Edge). Contains z e) (sym w.is) (Contains-append_right w.front (e ∷ w.back) e (0, zero_in, refl))
 
-found_at : (nodes : List (Option Edge)) (k : ℕ) (e : Edge) → k < length (standing nodes) → get_or (standing nodes) k e ≡ e → (i : ℕ) × (node_at nodes i ≡ Some e)
+found_at : (nodes : List (Option Edge)) (k : ℕ) (e : Edge) → k < length (standing_pairs nodes) → get_or (standing_pairs nodes) k e ≡ e → (i : ℕ) × (node_at nodes i ≡ Some e)
 found_at [] k e within is = absurd (omega arith)
 found_at (None ∷ nodes) k e within is = let f = found_at nodes k e within is in (suc f.0, f.1)
 found_at (Some f ∷ nodes) zero e within is = (0, ap (λ (z : Edge). Some z) is)
 found_at (Some f ∷ nodes) (suc k) e within is = let f = found_at nodes k e (omega arith) is in (suc f.0, f.1)
 
-pub found : (nodes : List (Option Edge)) (e : Edge) → Contains (standing nodes) e → (i : ℕ) × (node_at nodes i ≡ Some e)
+pub found : (nodes : List (Option Edge)) (e : Edge) → Contains (standing_pairs nodes) e → (i : ℕ) × (node_at nodes i ≡ Some e)
 found nodes e has = found_at nodes has.0 e has.1 has.2
 
-pub none_degree : (nodes : List (Option Edge)) (end : ℕ) → ((i : ℕ) (e : Edge) → node_at nodes i ≡ Some e → touches end e ≡ false) → degree end (standing nodes) ≡ 0
+pub none_degree : (nodes : List (Option Edge)) (end : ℕ) → ((i : ℕ) (e : Edge) → node_at nodes i ≡ Some e → touches end e ≡ false) → degree end (standing_pairs nodes) ≡ 0
 none_degree [] end none = refl
 none_degree (None ∷ nodes) end none = none_degree nodes end (λ i e here. none (suc i) e here)
 none_degree (Some e ∷ nodes) end none = rw (none 0 e refl) (none_degree nodes end (λ i f here. none (suc i) f here))

@@ -4,15 +4,15 @@ use Rattle.std.proofs.lemmas.Bool.{eqb-true, or_cases, or_left, or_right, and_pa
 use Rattle.std.proofs.lemmas.List.{append-nil, get_or_append_left, get_or-append_right}
 use Rattle.std.proofs.lemmas.List.Elements.{All-contains_itself, All-weaker, Contains-append_cases, Contains-append_left, Contains-append_right, Contains-get_or}
 use Rattle.mt_edges.specs.declared.edge.Edge.{Edge}
-use Rattle.mt_edges.specs.Laid.{AreDistinct, Chain, Has, IsHead, Laid, without}
-use Rattle.mt_edges.specs.Pairs.{AreApart, AreSame, IsEach, IsEdge, touches}
-use Rattle.mt_edges.specs.Kept.{IsGathered, IsKept, Owned, Reads, Sound, StandsIn, Ties, first_of, gathered, head_of, in_range_of, left_at, node_at, standing}
+use Rattle.mt_edges.specs.Laid.{AreDistinct, Chain, Has, IsHead, Laid, without_place}
+use Rattle.mt_edges.specs.Pairs.{AreDistinctPairs, HaveSameEnds, IsEach, IsEdge, touches}
+use Rattle.mt_edges.specs.Kept.{AreEdgesGathered, AreEdgesKept, Owned, ReadsWalk, Sound, StandsIn, Ties, first_place, gathered, head_of, in_range_of, left_at, node_at, standing_pairs}
 use Rattle.mt_edges.proofs.Chains.{AreDistinct-without, Has-without, without-absent, zero_apart}
 use Rattle.mt_edges.proofs.Nodes.{found, stands}
 use Rattle.mt_edges.proofs.Walks.{begins, chain_at, first_some, side_cases}
 
 -- a list of places below n that stand once has at most n of them
-without_length : (xs : List ℕ) (p : ℕ) → AreDistinct xs → length xs ≤ length (without p xs) + 1
+without_length : (xs : List ℕ) (p : ℕ) → AreDistinct xs → length xs ≤ length (without_place p xs) + 1
 without_length [] p once = omega arith
 without_length (x ∷ xs) p once =
     elim (cases_eq x p) [
@@ -24,12 +24,12 @@ pub few_below : (n : ℕ) (xs : List ℕ) → AreDistinct xs → ((p : ℕ) → 
 few_below zero [] once below = omega arith
 few_below zero (x ∷ xs) once below = absurd (omega (arith, below x (inl refl)))
 few_below (suc n) xs once below =
-    let less = few_below n (without n xs) (AreDistinct-without xs n once)
+    let less = few_below n (without_place n xs) (AreDistinct-without xs n once)
     (λ p h. (let old = Has-without xs n p h in omega (arith, below p old.0, old.1))) in
     omega (arith, less, without_length xs n once)
 
 -- the measure of a walk
-pub left_is : (next prev : List ℕ) (fuel u : ℕ) (xs : List ℕ) → Chain next prev u xs → (Has xs 0 → ⊥) → length xs < fuel → left_at next fuel (first_of xs) ≡ length xs
+pub left_is : (next prev : List ℕ) (fuel u : ℕ) (xs : List ℕ) → Chain next prev u xs → (Has xs 0 → ⊥) → length xs < fuel → left_at next fuel (first_place xs) ≡ length xs
 left_is next prev zero u xs chain some fits = absurd (omega arith)
 left_is next prev (suc fuel) u [] chain some fits = refl
 left_is next prev (suc fuel) u (x ∷ xs) chain some fits =
@@ -38,7 +38,7 @@ left_is next prev (suc fuel) u (x ∷ xs) chain some fits =
     (ap (left_at next fuel) (begins next prev x xs chain.2) ∙ left_is next prev fuel x xs chain.2 (λ h. some (inr h)) (omega arith)))
 
 -- two lists whose pairs differ, also from one to the other
-pub apart_joined : (xs ys : List Edge) → AreApart xs → AreApart ys → ((e f : Edge) → Contains xs e → Contains ys f → ¬ AreSame e f) → AreApart (xs ++ ys)
+pub apart_joined : (xs ys : List Edge) → AreDistinctPairs xs → AreDistinctPairs ys → ((e f : Edge) → Contains xs e → Contains ys f → ¬ HaveSameEnds e f) → AreDistinctPairs (xs ++ ys)
 apart_joined xs ys one two across = λ i j d less within.
     elim (cases_lt j (length xs)) [
       | inl l ↦ (let a = get_or_append_left xs ys d i (omega arith) in let b = get_or_append_left xs ys d j l in
@@ -119,7 +119,7 @@ owner_at ends base nodes h p e o here =
     let there : node_at nodes ((p - base) / 3) ≡ Some o.edge = subst (λ (z : ℕ). node_at nodes z ≡ Some o.edge) n o.here in
     (n, cc)
 
-apart_one : (from to : ℕ) (o : Option Edge) → AreApart (in_range_of from to o)
+apart_one : (from to : ℕ) (o : Option Edge) → AreDistinctPairs (in_range_of from to o)
 apart_one from to None = λ i j d less within. absurd (omega (arith, within))
 apart_one from to (Some e) =
     elim (cases_Bool (leb from e.first && ltb e.first to)) [
@@ -128,7 +128,7 @@ apart_one from to (Some e) =
     ]
 
 gathered_apart : (ends base : ℕ) (nodes : List (Option Edge)) (h from to : ℕ) (ps : List ℕ) → Sound ends nodes → AreDistinct ps
-    → ((p : ℕ) → Has ps p → Owned ends base nodes h p) → AreApart (gathered nodes base from to ps)
+    → ((p : ℕ) → Has ps p → Owned ends base nodes h p) → AreDistinctPairs (gathered nodes base from to ps)
 gathered_apart ends base nodes h from to [] sound once owned = λ i j d less within. absurd (omega (arith, within))
 gathered_apart ends base nodes h from to (p ∷ ps) sound once owned =
     apart_joined (in_range_of from to (node_at nodes ((p - base) / 3))) (gathered nodes base from to ps)
@@ -153,7 +153,7 @@ gathered_apart ends base nodes h from to (p ∷ ps) sound once owned =
 
 -- a whole list, gathered
 pub gathered_each : (ends base : ℕ) (nodes : List (Option Edge)) (lists : ℕ → List ℕ) (h from to : ℕ) → Sound ends nodes → Ties ends base nodes lists → IsHead base h → AreDistinct (lists h)
-    → IsEach (λ e. StandsIn ends h e × (from ≤ e.first) × (e.first < to)) (standing nodes) (gathered nodes base from to (lists h))
+    → IsEach (λ e. StandsIn ends h e × (from ≤ e.first) × (e.first < to)) (standing_pairs nodes) (gathered nodes base from to (lists h))
 gathered_each ends base nodes lists h from to sound ties head once = record {
   exact = λ e. (
     λ has.
@@ -173,7 +173,7 @@ gathered_each ends base nodes lists h from to sound ties head once = record {
 
 -- the walk begins
 pub reads_begin : (ends base : ℕ) (nodes : List (Option Edge)) (free : List ℕ) (spare : ℕ) (next prev : List ℕ) (head : ℕ)
-    → IsKept ends base nodes free spare next prev → IsHead base head → (place : ℕ) → place ≡ get_or next head 0 → (r : Reads ends base nodes free spare next prev head place) × (r.done ≡ [])
+    → AreEdgesKept ends base nodes free spare next prev → IsHead base head → (place : ℕ) → place ≡ get_or next head 0 → (r : ReadsWalk ends base nodes free spare next prev head place) × (r.done ≡ [])
 reads_begin ends base nodes free spare next prev head k i place is =
     (record { kept = k; head_is = i; done = []; todo = k.lists head; here = refl; reached = is ∙ begins next prev head (k.lists head) (k.laid.chain head i) }, refl)
 
@@ -192,11 +192,11 @@ pub record ReadTurn (ends base : ℕ) (nodes : List (Option Edge)) (free : List 
   pub edge : Edge
   pub here : node_at nodes ((place - base) / 3) ≡ Some edge
   pub owned : Owned ends base nodes head place
-  pub on : (place' : ℕ) → place' ≡ get_or next place 0 → (r : Reads ends base nodes free spare next prev head place') × (r.done ≡ done ++ place ∷ [])
+  pub on : (place' : ℕ) → place' ≡ get_or next place 0 → (r : ReadsWalk ends base nodes free spare next prev head place') × (r.done ≡ done ++ place ∷ [])
   pub smaller : left_at next (suc (length next)) (get_or next place 0) < left_at next (suc (length next)) place
 
 left_of : (next prev : List ℕ) (base : ℕ) (lists : ℕ → List ℕ) (head : ℕ) (done todo : List ℕ) → Laid next prev base lists → IsHead base head → lists head ≡ done ++ todo
-    → left_at next (suc (length next)) (first_of todo) ≡ length todo
+    → left_at next (suc (length next)) (first_place todo) ≡ length todo
 left_of next prev base lists head done todo l i here =
     let whole = subst (λ (xs : List ℕ). Chain next prev head xs) here (l.chain head i) in
     let at = chain_behind next prev head done todo whole in
@@ -205,7 +205,7 @@ left_of next prev base lists head done todo l i here =
     left_is next prev (suc (length next)) at.0 todo at.1 none (omega (arith, few, ap (λ (xs : List ℕ). length xs) here, length-append done todo))
 
 pub read_turn : (ends base : ℕ) (nodes : List (Option Edge)) (free : List ℕ) (spare : ℕ) (next prev : List ℕ) (head place : ℕ)
-    → (r : Reads ends base nodes free spare next prev head place) → place ≢ 0 → ReadTurn ends base nodes free spare next prev head place r.done
+    → (r : ReadsWalk ends base nodes free spare next prev head place) → place ≢ 0 → ReadTurn ends base nodes free spare next prev head place r.done
 read_turn ends base nodes free spare next prev head place r some =
     let f = first_some r.todo (λ z. some (r.reached ∙ z)) in
     let list : r.todo ≡ place ∷ f.0 = f.1 ∙ ap (λ (z : ℕ). z ∷ f.0) (sym r.reached) in
@@ -214,7 +214,7 @@ read_turn ends base nodes free spare next prev head place r some =
     let o = r.kept.ties.listed head place r.head_is has in
     let n : o.node ≡ (place - base) / 3 = omega (arith, o.place, o.few) in
     let longer : r.kept.lists head ≡ (r.done ++ place ∷ []) ++ f.0 = whole ∙ sym (append_assoc r.done (place ∷ []) f.0) in
-    let next_is : get_or next place 0 ≡ first_of f.0 = chain_at next prev head r.done place f.0 (subst (λ (xs : List ℕ). Chain next prev head xs) whole (r.kept.laid.chain head r.head_is)) in
+    let next_is : get_or next place 0 ≡ first_place f.0 = chain_at next prev head r.done place f.0 (subst (λ (xs : List ℕ). Chain next prev head xs) whole (r.kept.laid.chain head r.head_is)) in
     let before = left_of next prev base r.kept.lists head r.done (place ∷ f.0) r.kept.laid r.head_is whole in
     let after = left_of next prev base r.kept.lists head (r.done ++ place ∷ []) f.0 r.kept.laid r.head_is longer in
     let less : length f.0 < length (place ∷ f.0) = omega arith in
@@ -229,26 +229,26 @@ read_turn ends base nodes free spare next prev head place r some =
     }
 
 -- the walk is at its end
-read_all : (base : ℕ) (xs : List ℕ) → 0 < base → 0 ≡ first_of xs → ((p : ℕ) → Has xs p → base ≤ p) → xs ≡ []
+read_all : (base : ℕ) (xs : List ℕ) → 0 < base → 0 ≡ first_place xs → ((p : ℕ) → Has xs p → base ≤ p) → xs ≡ []
 read_all base [] some is above = refl
 read_all base (x ∷ xs) some is above = absurd (omega (arith, is, above x (inl refl)))
 
 pub reads_end : (ends base : ℕ) (nodes : List (Option Edge)) (free : List ℕ) (spare : ℕ) (next prev : List ℕ) (head place : ℕ)
-    → (r : Reads ends base nodes free spare next prev head place) → place ≡ 0 → r.kept.lists head ≡ r.done
+    → (r : ReadsWalk ends base nodes free spare next prev head place) → place ≡ 0 → r.kept.lists head ≡ r.done
 reads_end ends base nodes free spare next prev head place r over =
     let above : (p : ℕ) → Has r.todo p → base ≤ p = λ p has.
     (r.kept.laid.nodes head p r.head_is (subst (λ (xs : List ℕ). Has xs p) (sym r.here) (Has-front r.done r.todo p has))).0 in
     r.here ∙ ap (λ (xs : List ℕ). r.done ++ xs) (read_all base r.todo r.kept.laid.some (sym over ∙ r.reached) above) ∙ append-nil r.done
 
 pub gathered_all : (ends base : ℕ) (nodes : List (Option Edge)) (free : List ℕ) (spare : ℕ) (next prev : List ℕ) (head place from to : ℕ) (old new : List Edge)
-    → (r : Reads ends base nodes free spare next prev head place) → place ≡ 0 → new ≡ old ++ gathered nodes base from to r.done
-    → IsGathered ends head from to (standing nodes) old new
+    → (r : ReadsWalk ends base nodes free spare next prev head place) → place ≡ 0 → new ≡ old ++ gathered nodes base from to r.done
+    → AreEdgesGathered ends head from to (standing_pairs nodes) old new
 gathered_all ends base nodes free spare next prev head place from to old new r over is =
     let all = reads_end ends base nodes free spare next prev head place r over in
     record {
       found = gathered nodes base from to r.done;
       is = is;
-      each = subst (λ (xs : List ℕ). IsEach (λ e. StandsIn ends head e × (from ≤ e.first) × (e.first < to)) (standing nodes) (gathered nodes base from to xs)) all
+      each = subst (λ (xs : List ℕ). IsEach (λ e. StandsIn ends head e × (from ≤ e.first) × (e.first < to)) (standing_pairs nodes) (gathered nodes base from to xs)) all
           (gathered_each ends base nodes r.kept.lists head from to r.kept.shape.sound r.kept.ties r.head_is (r.kept.laid.once head r.head_is));
     }
 
@@ -280,24 +280,24 @@ none_more nodes base a b done done' place e so_far longer here other p f has the
     ]
 
 pub none_found : (ends base : ℕ) (nodes : List (Option Edge)) (free : List ℕ) (spare : ℕ) (next prev : List ℕ) (a b place : ℕ)
-    → (r : Reads ends base nodes free spare next prev (1 + a) place) → place ≡ 0 → NoneYet nodes base a b r.done
-    → All (λ e. ¬ ((e.a ≡ a) × (e.b ≡ b))) (standing nodes)
+    → (r : ReadsWalk ends base nodes free spare next prev (1 + a) place) → place ≡ 0 → NoneYet nodes base a b r.done
+    → All (λ e. ¬ ((e.a ≡ a) × (e.b ≡ b))) (standing_pairs nodes)
 none_found ends base nodes free spare next prev a b place r over so_far =
     let all = reads_end ends base nodes free spare next prev (1 + a) place r over in
-    All-weaker (Contains (standing nodes)) (λ (e : Edge). ¬ ((e.a ≡ a) × (e.b ≡ b)))
+    All-weaker (Contains (standing_pairs nodes)) (λ (e : Edge). ¬ ((e.a ≡ a) × (e.b ≡ b)))
     (λ e has same.
     (let f = found nodes e has in
     let in_list : Has (r.kept.lists (1 + e.a)) (base + 3 * f.0 + 0) = r.kept.ties.owned f.0 e 0 f.1 (omega arith) in
     let in_done : Has r.done (base + 3 * f.0 + 0) = subst (λ (xs : List ℕ). Has xs (base + 3 * f.0 + 0)) (ap (λ (z : ℕ). r.kept.lists (1 + z)) same.0 ∙ all) in_list in
     let n : f.0 ≡ (base + 3 * f.0 + 0 - base) / 3 = omega arith in
     so_far (base + 3 * f.0 + 0) e in_done (subst (λ (z : ℕ). node_at nodes z ≡ Some e) n f.1) same))
-    (standing nodes) (All-contains_itself (standing nodes))
+    (standing_pairs nodes) (All-contains_itself (standing_pairs nodes))
 
 -- what is known of a pair that stands
-pub sound_of : (ends : ℕ) (nodes : List (Option Edge)) (e : Edge) → Sound ends nodes → Contains (standing nodes) e → IsEdge ends e
+pub sound_of : (ends : ℕ) (nodes : List (Option Edge)) (e : Edge) → Sound ends nodes → Contains (standing_pairs nodes) e → IsEdge ends e
 sound_of ends nodes e s has = let f = found nodes e has in s.each f.0 e f.1
 
-pub one_of : (ends : ℕ) (nodes : List (Option Edge)) (e f : Edge) → Sound ends nodes → Contains (standing nodes) e → Contains (standing nodes) f → AreSame e f → e ≡ f
+pub one_of : (ends : ℕ) (nodes : List (Option Edge)) (e f : Edge) → Sound ends nodes → Contains (standing_pairs nodes) e → Contains (standing_pairs nodes) f → HaveSameEnds e f → e ≡ f
 one_of ends nodes e f s has has' same =
     let i = found nodes e has in
     let j = found nodes f has' in
@@ -307,11 +307,11 @@ one_of ends nodes e f s has has' same =
     cc
 
 -- no two pairs that stand have the same ends
-pub standing_apart : (ends : ℕ) (nodes : List (Option Edge)) → ((i j : ℕ) (e f : Edge) → node_at nodes i ≡ Some e → node_at nodes j ≡ Some f → AreSame e f → i ≡ j) → AreApart (standing nodes)
+pub standing_apart : (ends : ℕ) (nodes : List (Option Edge)) → ((i j : ℕ) (e f : Edge) → node_at nodes i ≡ Some e → node_at nodes j ≡ Some f → HaveSameEnds e f → i ≡ j) → AreDistinctPairs (standing_pairs nodes)
 standing_apart ends [] once = λ i j d less within. absurd (omega (arith, within))
 standing_apart ends (None ∷ nodes) once = standing_apart ends nodes (λ i j e f a b same. omega (arith, once (suc i) (suc j) e f a b same))
 standing_apart ends (Some e ∷ nodes) once =
-    apart_joined (e ∷ []) (standing nodes) (λ i j d less within. absurd (omega (arith, less, within)))
+    apart_joined (e ∷ []) (standing_pairs nodes) (λ i j d less within. absurd (omega (arith, less, within)))
     (standing_apart ends nodes (λ i j g f a b same. omega (arith, once (suc i) (suc j) g f a b same)))
     (λ g f in_one in_rest same.
     let first : in_one.0 ≡ 0 = omega (arith, in_one.1) in
@@ -321,7 +321,7 @@ standing_apart ends (Some e ∷ nodes) once =
 
 -- an end that is none has no pairs
 pub none_each : (nodes : List (Option Edge)) (end : ℕ) → ((i : ℕ) (e : Edge) → node_at nodes i ≡ Some e → touches end e ≡ false)
-    → IsEach (λ e. touches end e ≡ true) (standing nodes) []
+    → IsEach (λ e. touches end e ≡ true) (standing_pairs nodes) []
 none_each nodes end none = record {
   exact = λ e. ((λ has. absurd (let below = has.1 in omega (arith, below))), (λ has. absurd (let at = found nodes e has.0 in let not = none at.0 e at.1 in let is = has.1 in cc)));
   apart = λ i j d before below. absurd (omega arith);
@@ -329,9 +329,9 @@ none_each nodes end none = record {
 
 -- the pairs of an end
 pub of_each : (ends : ℕ) (nodes : List (Option Edge)) (end : ℕ) (new : List Edge) → Sound ends nodes → end < ends
-    → IsGathered ends (1 + end) 0 4294967295 (standing nodes) [] new → IsEach (λ e. touches end e ≡ true) (standing nodes) new
+    → AreEdgesGathered ends (1 + end) 0 4294967295 (standing_pairs nodes) [] new → IsEach (λ e. touches end e ≡ true) (standing_pairs nodes) new
 of_each ends nodes end new s within g =
-    subst (IsEach (λ e. touches end e ≡ true) (standing nodes)) (sym g.is) (record {
+    subst (IsEach (λ e. touches end e ≡ true) (standing_pairs nodes)) (sym g.is) (record {
       exact = λ e. (
         λ has.
             (let k = g.each.exact e in let old = k.0 has in (
@@ -367,10 +367,10 @@ bucket_side ends b e (suc (suc s)) sound few is = omega arith
 
 -- the pairs that are due, of the buckets so far
 abbrev pub DueBelow : List (Option Edge) → ℕ → ℕ → ℕ → List Edge → Type 0
-DueBelow nodes from to b found = IsEach (λ e. (from ≤ e.first) × (e.first < to) × (e.first / 256 < b)) (standing nodes) found
+DueBelow nodes from to b found = IsEach (λ e. (from ≤ e.first) × (e.first < to) × (e.first / 256 < b)) (standing_pairs nodes) found
 
 pub due_more : (ends : ℕ) (nodes : List (Option Edge)) (from to b : ℕ) (old new : List Edge) → Sound ends nodes → DueBelow nodes from to b old
-    → IsGathered ends (1 + ends + b) from to (standing nodes) old new → DueBelow nodes from to (b + 1) new
+    → AreEdgesGathered ends (1 + ends + b) from to (standing_pairs nodes) old new → DueBelow nodes from to (b + 1) new
 due_more ends nodes from to b old new s before g =
     subst (DueBelow nodes from to (b + 1)) (sym g.is) (record {
       exact = λ e. (
@@ -400,7 +400,7 @@ due_more ends nodes from to b old new s before g =
 
 pub due_all : (ends : ℕ) (nodes : List (Option Edge)) (from to b : ℕ) (found : List Edge) → Sound ends nodes → DueBelow nodes from to b found
     → ((e : Edge) → IsEdge ends e → e.first < to → from ≤ e.first → e.first / 256 < b)
-    → IsEach (λ e. (from ≤ e.first) × (e.first < to)) (standing nodes) found
+    → IsEach (λ e. (from ≤ e.first) × (e.first < to)) (standing_pairs nodes) found
 due_all ends nodes from to b found s below all = record {
   exact = λ e. (
     λ has. (let k = below.exact e in let was = k.0 has in (was.0, (was.1.0, was.1.1))),
@@ -409,20 +409,20 @@ due_all ends nodes from to b found s below all = record {
   apart = below.apart;
 }
 
-pub all_sound : (ends : ℕ) (nodes : List (Option Edge)) → Sound ends nodes → All (IsEdge ends) (standing nodes)
-all_sound ends nodes s = All-weaker (Contains (standing nodes)) (IsEdge ends) (λ e has. sound_of ends nodes e s has) (standing nodes) (All-contains_itself (standing nodes))
+pub all_sound : (ends : ℕ) (nodes : List (Option Edge)) → Sound ends nodes → All (IsEdge ends) (standing_pairs nodes)
+all_sound ends nodes s = All-weaker (Contains (standing_pairs nodes)) (IsEdge ends) (λ e has. sound_of ends nodes e s has) (standing_pairs nodes) (All-contains_itself (standing_pairs nodes))
 
-pub all_apart : (ends : ℕ) (nodes : List (Option Edge)) → Sound ends nodes → AreApart (standing nodes)
+pub all_apart : (ends : ℕ) (nodes : List (Option Edge)) → Sound ends nodes → AreDistinctPairs (standing_pairs nodes)
 all_apart ends nodes s = standing_apart ends nodes s.once
 
 -- an end out of range has no pair
-pub out_of_range : (ends : ℕ) (nodes : List (Option Edge)) (a b : ℕ) → Sound ends nodes → ends ≤ a → All (λ e. ¬ ((e.a ≡ a) × (e.b ≡ b))) (standing nodes)
+pub out_of_range : (ends : ℕ) (nodes : List (Option Edge)) (a b : ℕ) → Sound ends nodes → ends ≤ a → All (λ e. ¬ ((e.a ≡ a) × (e.b ≡ b))) (standing_pairs nodes)
 out_of_range ends nodes a b s past =
-    All-weaker (Contains (standing nodes)) (λ (e : Edge). ¬ ((e.a ≡ a) × (e.b ≡ b)))
-    (λ e has same. (let k = sound_of ends nodes e s has in absurd (omega (arith, k.order, k.ends_in, same.0)))) (standing nodes) (All-contains_itself (standing nodes))
+    All-weaker (Contains (standing_pairs nodes)) (λ (e : Edge). ¬ ((e.a ≡ a) × (e.b ≡ b)))
+    (λ e has same. (let k = sound_of ends nodes e s has in absurd (omega (arith, k.order, k.ends_in, same.0)))) (standing_pairs nodes) (All-contains_itself (standing_pairs nodes))
 
 -- no pair is due in an empty range
-pub none_due : (ends : ℕ) (nodes : List (Option Edge)) (from to end : ℕ) → Sound ends nodes → end ≤ from → (to ≤ end) ⊎ (10014400 ≤ end) → IsEach (λ e. (from ≤ e.first) × (e.first < to)) (standing nodes) []
+pub none_due : (ends : ℕ) (nodes : List (Option Edge)) (from to end : ℕ) → Sound ends nodes → end ≤ from → (to ≤ end) ⊎ (10014400 ≤ end) → IsEach (λ e. (from ≤ e.first) × (e.first < to)) (standing_pairs nodes) []
 none_due ends nodes from to end s past is = record {
   exact = λ e. (
     λ has. absurd (omega (arith, has.1)),

@@ -2,9 +2,9 @@
 use Rattle.std.proofs.Common.{◌≡◌, ◌≢◌, ℕ, zero, suc, ◌+◌, ◌-◌, ◌*◌, ◌/◌, ◌<◌, ◌≤◌, ◌⊎◌, List, [], ◌∷◌, ◌++◌, Option, None, Some, length, get_or, set, refl, sym, ap, ◌∙◌, subst, inl, inr, arith, append_assoc, eq-eqb, length-set}
 use Rattle.std.proofs.lemmas.Bool.{cases_eq}
 use Rattle.mt_edges.specs.declared.edge.Edge.{Edge}
-use Rattle.mt_edges.specs.Laid.{AreDistinct, CanUnlink, Chain, Has, IsHead, IsUnlinked, Laid, without}
+use Rattle.mt_edges.specs.Laid.{AreDistinct, CanUnlink, Chain, Has, IsHead, IsUnlinked, Laid, without_place}
 use Rattle.mt_edges.specs.Pairs.{IsEdge, degree, without_end}
-use Rattle.mt_edges.specs.Kept.{IsKept, Walk, first_of, head_of, node_at, standing}
+use Rattle.mt_edges.specs.Kept.{AreEdgesKept, Walk, first_place, head_of, node_at, standing_pairs}
 use Rattle.mt_edges.proofs.Chains.{Has-without, before_in, behind_in, laid_cleared, laid_unlinked, without-Has, without-absent}
 use Rattle.mt_edges.proofs.Nodes.{in_range, none_degree, none_touches, sound_dropped, spares_dropped, ties_dropped, untouched}
 
@@ -39,7 +39,7 @@ side_cases ends end e zero within few is = inl (refl, omega arith)
 side_cases ends end e (suc zero) within few is = inr (refl, omega arith)
 side_cases ends end e (suc (suc s)) within few is = absurd (omega arith)
 
-pub first_some : (xs : List ℕ) → first_of xs ≢ 0 → (rest : List ℕ) × (xs ≡ first_of xs ∷ rest)
+pub first_some : (xs : List ℕ) → first_place xs ≢ 0 → (rest : List ℕ) × (xs ≡ first_place xs ∷ rest)
 first_some [] n = absurd (n refl)
 first_some (x ∷ xs) n = (xs, refl)
 
@@ -137,7 +137,7 @@ rest_of ends base nodes free spare next prev end place n other w within t is =
           })
     ]
 
--- what stands behind some places
+-- what stands after some places
 Has-behind : (xs ys : List ℕ) (p : ℕ) → Has ys p → Has (xs ++ ys) p
 Has-behind [] ys p has = has
 Has-behind (x ∷ xs) ys p has = inr (Has-behind xs ys p has)
@@ -146,13 +146,13 @@ apart_behind : (xs ys : List ℕ) → AreDistinct (xs ++ ys) → AreDistinct ys
 apart_behind [] ys a = a
 apart_behind (x ∷ xs) ys a = apart_behind xs ys a.1
 
--- behind a place of a chain stands the next one, or 0
-pub chain_at : (next prev : List ℕ) (u : ℕ) (done : List ℕ) (p : ℕ) (rest : List ℕ) → Chain next prev u (done ++ p ∷ rest) → get_or next p 0 ≡ first_of rest
+-- after a place of a chain stands the next one, or 0
+pub chain_at : (next prev : List ℕ) (u : ℕ) (done : List ℕ) (p : ℕ) (rest : List ℕ) → Chain next prev u (done ++ p ∷ rest) → get_or next p 0 ≡ first_place rest
 chain_at next prev u [] p [] chain = chain.2
 chain_at next prev u [] p (y ∷ ys) chain = chain.2.0
 chain_at next prev u (d ∷ done) p rest chain = chain_at next prev d done p rest chain.2
 
-without_first : (p : ℕ) (xs : List ℕ) → (Has xs p → ⊥) → without p (p ∷ xs) ≡ xs
+without_first : (p : ℕ) (xs : List ℕ) → (Has xs p → ⊥) → without_place p (p ∷ xs) ≡ xs
 without_first p xs lacks = rw (eq-eqb p p refl, without-absent xs p lacks) refl
 
 third_other : (base n place other : ℕ) → IsOther base place n other → base + 3 * n + 2 ≢ other
@@ -160,18 +160,18 @@ third_other base n place other is = λ t. elim is [ inl i ↦ omega (arith, i.1,
 
 -- the place in the bucket still stands in its list when the other place is out
 pub third_in : (base : ℕ) (linked : ℕ → List ℕ) (end place n other : ℕ) → (r : Rest base linked end place n other) → IsOther base place n other
-    → Has (without other (linked r.third_head)) (base + 3 * n + 2)
+    → Has (without_place other (linked r.third_head)) (base + 3 * n + 2)
 third_in base linked end place n other r is = without-Has (linked r.third_head) other (base + 3 * n + 2) r.third_has (third_other base n place other is)
 
 pub laid_one : (next prev next1 prev1 : List ℕ) (base : ℕ) (linked : ℕ → List ℕ) (end place n other : ℕ) → Laid next prev base linked
-    → (r : Rest base linked end place n other) → IsUnlinked next prev next1 prev1 other → Laid next1 prev1 base (λ k. without other (linked k))
+    → (r : Rest base linked end place n other) → IsUnlinked next prev next1 prev1 other → Laid next1 prev1 base (λ k. without_place other (linked k))
 laid_one next prev next1 prev1 base linked end place n other l r u = laid_unlinked next prev next1 prev1 base linked r.other_head other u l r.other_is r.other_has
 
 pub laid_two : (next prev next1 prev1 next2 prev2 : List ℕ) (base : ℕ) (linked : ℕ → List ℕ) (end place n other : ℕ) → Laid next prev base linked
     → (r : Rest base linked end place n other) → IsOther base place n other → IsUnlinked next prev next1 prev1 other → IsUnlinked next1 prev1 next2 prev2 (base + 3 * n + 2)
-    → Laid next2 prev2 base (λ k. without (base + 3 * n + 2) (without other (linked k)))
+    → Laid next2 prev2 base (λ k. without_place (base + 3 * n + 2) (without_place other (linked k)))
 laid_two next prev next1 prev1 next2 prev2 base linked end place n other l r is u v =
-    laid_unlinked next1 prev1 next2 prev2 base (λ k. without other (linked k)) r.third_head (base + 3 * n + 2) v
+    laid_unlinked next1 prev1 next2 prev2 base (λ k. without_place other (linked k)) r.third_head (base + 3 * n + 2) v
     (laid_one next prev next1 prev1 base linked end place n other l r u) r.third_is (third_in base linked end place n other r is)
 
 -- the walk goes on
@@ -186,12 +186,12 @@ walk_on ends base nodes free spare next prev next1 prev1 next2 prev2 end place n
     let whole : w.linked (1 + end) ≡ w.done ++ place ∷ t.rest = w.here ∙ ap (λ (xs : List ℕ). w.done ++ xs) t.list in
     let no_other : Has (w.linked (1 + end)) other → ⊥ = λ h. r.other_away (w.laid.apart r.other_head (1 + end) other r.other_is w.head_is r.other_has h) in
     let no_third : Has (w.linked (1 + end)) third → ⊥ = λ h. r.third_away (w.laid.apart r.third_head (1 + end) third r.third_is w.head_is r.third_has h) in
-    let stays : without third (without other (w.linked (1 + end))) ≡ w.done ++ place ∷ t.rest =
+    let stays : without_place third (without_place other (w.linked (1 + end))) ≡ w.done ++ place ∷ t.rest =
     rw (without-absent (w.linked (1 + end)) other no_other, without-absent (w.linked (1 + end)) third no_third) whole in
     let into : (x : ℕ) → Has (w.lists (1 + end)) x → Has (w.linked (1 + end)) x = λ x h. subst (λ (xs : List ℕ). Has xs x) (sym w.here) (Has-behind w.done (w.lists (1 + end)) x h) in
     let here_linked : Has (w.linked (1 + end)) place = into place (subst (λ (xs : List ℕ). Has xs place) (sym t.list) (inl refl)) in
     let once : Has t.rest place → ⊥ = (apart_behind w.done (place ∷ t.rest) (subst AreDistinct whole (w.laid.once (1 + end) w.head_is))).0 in
-    let left : without place (without third (without other (w.lists (1 + end)))) ≡ t.rest =
+    let left : without_place place (without_place third (without_place other (w.lists (1 + end)))) ≡ t.rest =
     rw (without-absent (w.lists (1 + end)) other (λ h. no_other (into other h)), without-absent (w.lists (1 + end)) third (λ h. no_third (into third h)), t.list)
     (without_first place t.rest once) in
     let spares = (spares_dropped nodes free spare n t.edge w.shape.spares t.here).1 in
@@ -203,13 +203,13 @@ walk_on ends base nodes free spare next prev next1 prev1 next2 prev2 end place n
         spares = spares;
       };
       head_is = w.head_is;
-      linked = λ k. without third (without other (w.linked k));
+      linked = λ k. without_place third (without_place other (w.linked k));
       laid = laid;
-      lists = λ k. without place (without third (without other (w.lists k)));
-      ties = ties_dropped ends base nodes w.lists (λ k. without place (without third (without other (w.lists k)))) n t.edge w.ties t.here
+      lists = λ k. without_place place (without_place third (without_place other (w.lists k)));
+      ties = ties_dropped ends base nodes w.lists (λ k. without_place place (without_place third (without_place other (w.lists k)))) n t.edge w.ties t.here
           (λ h p has.
-          let a = Has-without (without third (without other (w.lists h))) place p has in
-          let b = Has-without (without other (w.lists h)) third p a.0 in
+          let a = Has-without (without_place third (without_place other (w.lists h))) place p has in
+          let b = Has-without (without_place other (w.lists h)) third p a.0 in
           let d = Has-without (w.lists h) other p b.0 in (
             d.0,
             λ s few e. elim (r.all s few) [
@@ -218,27 +218,27 @@ walk_on ends base nodes free spare next prev next1 prev1 next2 prev2 end place n
             ],
           ))
           (λ h p has no.
-          without-Has (without third (without other (w.lists h))) place p
-          (without-Has (without other (w.lists h)) third p (without-Has (w.lists h) other p has (λ e. elim is [ inl i ↦ no 1 (omega arith) (e ∙ i.1) | inr i ↦ no 0 (omega arith) (omega (arith, e, i.1)) ]))
+          without-Has (without_place third (without_place other (w.lists h))) place p
+          (without-Has (without_place other (w.lists h)) third p (without-Has (w.lists h) other p has (λ e. elim is [ inl i ↦ no 1 (omega arith) (e ∙ i.1) | inr i ↦ no 0 (omega arith) (omega (arith, e, i.1)) ]))
           (no 2 (omega arith))) (λ e. elim t.side [ inl i ↦ no 0 (omega arith) (omega (arith, e, i.0)) | inr i ↦ no 1 (omega arith) (e ∙ i.0) ]));
       done = w.done ++ place ∷ [];
       here = stays ∙ sym (append_assoc w.done (place ∷ []) t.rest) ∙ ap (λ (xs : List ℕ). (w.done ++ place ∷ []) ++ xs) (sym left);
       others = λ k i m.
-          let gone : Has (without third (without other (w.lists k))) place → ⊥ = λ h.
-          (let b = Has-without (without other (w.lists k)) third place h in
+          let gone : Has (without_place third (without_place other (w.lists k))) place → ⊥ = λ h.
+          (let b = Has-without (without_place other (w.lists k)) third place h in
           let d = Has-without (w.lists k) other place b.0 in
           m (w.laid.apart k (1 + end) place i w.head_is (subst (λ (xs : List ℕ). Has xs place) (sym (w.others k i m)) d.0) here_linked)) in
-          ap (λ (xs : List ℕ). without third (without other xs)) (w.others k i m) ∙ sym (without-absent (without third (without other (w.lists k))) place gone);
-      reached = chain_at next2 prev2 (1 + end) w.done place t.rest (subst (λ (xs : List ℕ). Chain next2 prev2 (1 + end) xs) stays (laid.chain (1 + end) w.head_is)) ∙ ap first_of (sym left);
+          ap (λ (xs : List ℕ). without_place third (without_place other xs)) (w.others k i m) ∙ sym (without-absent (without_place third (without_place other (w.lists k))) place gone);
+      reached = chain_at next2 prev2 (1 + end) w.done place t.rest (subst (λ (xs : List ℕ). Chain next2 prev2 (1 + end) xs) stays (laid.chain (1 + end) w.head_is)) ∙ ap first_place (sym left);
     }
 
-pub begins : (next prev : List ℕ) (u : ℕ) (xs : List ℕ) → Chain next prev u xs → get_or next u 0 ≡ first_of xs
+pub begins : (next prev : List ℕ) (u : ℕ) (xs : List ℕ) → Chain next prev u xs → get_or next u 0 ≡ first_place xs
 begins next prev u [] chain = chain
 begins next prev u (x ∷ xs) chain = chain.0
 
 -- the walk begins
 pub walk_begins : (ends base : ℕ) (nodes : List (Option Edge)) (free : List ℕ) (spare : ℕ) (next prev : List ℕ) (end : ℕ)
-    → IsKept ends base nodes free spare next prev → end < ends → Walk ends base nodes free spare next prev (1 + end) (get_or next (1 + end) 0)
+    → AreEdgesKept ends base nodes free spare next prev → end < ends → Walk ends base nodes free spare next prev (1 + end) (get_or next (1 + end) 0)
 walk_begins ends base nodes free spare next prev end k within =
     let head : IsHead base (1 + end) = (omega arith, omega (arith, k.shape.base_is)) in
     record {
@@ -255,14 +255,14 @@ walk_begins ends base nodes free spare next prev end k within =
     }
 
 -- the walk ends: nothing is left of the list
-emptied : (base : ℕ) (xs : List ℕ) → 0 < base → 0 ≡ first_of xs → ((p : ℕ) → Has xs p → base ≤ p) → xs ≡ []
+emptied : (base : ℕ) (xs : List ℕ) → 0 < base → 0 ≡ first_place xs → ((p : ℕ) → Has xs p → base ≤ p) → xs ≡ []
 emptied base [] some is above = refl
 emptied base (x ∷ xs) some is above = absurd (omega (arith, is, above x (inl refl)))
 
 pub walk_ends : (ends base : ℕ) (nodes : List (Option Edge)) (free : List ℕ) (spare : ℕ) (next prev next' : List ℕ) (end place : ℕ)
     → Walk ends base nodes free spare next prev (1 + end) place → place ≡ 0 → end < ends
     → length next' ≡ length next → get_or next' (1 + end) 0 ≡ 0 → ((y : ℕ) → y ≢ 1 + end → get_or next' y 0 ≡ get_or next y 0)
-    → IsKept ends base nodes free spare next' prev × (without_end end (standing nodes) ≡ standing nodes) × (degree end (standing nodes) ≡ 0)
+    → AreEdgesKept ends base nodes free spare next' prev × (without_end end (standing_pairs nodes) ≡ standing_pairs nodes) × (degree end (standing_pairs nodes) ≡ 0)
 walk_ends ends base nodes free spare next prev next' end place w over within same first kept =
     let above : (p : ℕ) → Has (w.lists (1 + end)) p → base ≤ p = λ p has.
     (w.laid.nodes (1 + end) p w.head_is (subst (λ (xs : List ℕ). Has xs p) (sym w.here) (Has-behind w.done (w.lists (1 + end)) p has))).0 in

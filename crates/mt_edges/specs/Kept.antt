@@ -3,13 +3,13 @@ use Rattle.std.specs.Prelude.{◌≡◌, ◌≢◌, ℕ, zero, suc, ◌+◌, ◌
 use Rattle.mt_edges.specs.declared.edge.Edge.{Edge}
 use Rattle.mt_edges.specs.declared.table.Table.{Table}
 use Rattle.mt_edges.specs.Laid.{Has, IsHead, Laid}
-use Rattle.mt_edges.specs.Pairs.{AreSame, IsEach, IsEdge, degree, without_end}
+use Rattle.mt_edges.specs.Pairs.{HaveSameEnds, IsEach, IsEdge, degree, without_end}
 
 -- the pairs that stand in the nodes, in the order of the nodes
-abbrev pub standing : List (Option Edge) → List Edge
-standing [] = []
-standing (None ∷ nodes) = standing nodes
-standing (Some e ∷ nodes) = e ∷ standing nodes
+abbrev pub standing_pairs : List (Option Edge) → List Edge
+standing_pairs [] = []
+standing_pairs (None ∷ nodes) = standing_pairs nodes
+standing_pairs (Some e ∷ nodes) = e ∷ standing_pairs nodes
 
 -- the node at a place, None past the end
 abbrev pub node_at : List (Option Edge) → ℕ → Option Edge
@@ -39,11 +39,11 @@ pub record Ties (ends base : ℕ) (nodes : List (Option Edge)) (lists : ℕ → 
 -- the pairs in the nodes are sound, and no two have the same ends
 pub record Sound (ends : ℕ) (nodes : List (Option Edge)) : Type 0 where
   pub each : (i : ℕ) (e : Edge) → node_at nodes i ≡ Some e → IsEdge ends e
-  pub once : (i j : ℕ) (e f : Edge) → node_at nodes i ≡ Some e → node_at nodes j ≡ Some f → AreSame e f → i ≡ j
+  pub once : (i j : ℕ) (e f : Edge) → node_at nodes i ≡ Some e → node_at nodes j ≡ Some f → HaveSameEnds e f → i ≡ j
 
 -- the stack holds free nodes, each once, and there are as many as it says
 pub record Spares (nodes : List (Option Edge)) (free : List ℕ) (spare : ℕ) : Type 0 where
-  pub count : spare + length (standing nodes) ≡ length nodes
+  pub count : spare + length (standing_pairs nodes) ≡ length nodes
   pub room : length nodes ≤ length free
   pub empty : (k : ℕ) → k < spare → (slice_index free k < length nodes) × (node_at nodes (slice_index free k) ≡ None)
   pub once : (j k : ℕ) → j < k → k < spare → slice_index free j ≢ slice_index free k
@@ -56,7 +56,7 @@ pub record Shape (ends base : ℕ) (nodes : List (Option Edge)) (free : List ℕ
   pub spares : Spares nodes free spare
 
 -- all that is kept
-pub record IsKept (ends base : ℕ) (nodes : List (Option Edge)) (free : List ℕ) (spare : ℕ) (next prev : List ℕ) : Type 0 where
+pub record AreEdgesKept (ends base : ℕ) (nodes : List (Option Edge)) (free : List ℕ) (spare : ℕ) (next prev : List ℕ) : Type 0 where
   pub shape : Shape ends base nodes free spare next
   pub lists : ℕ → List ℕ
   pub laid : Laid next prev base lists
@@ -64,7 +64,7 @@ pub record IsKept (ends base : ℕ) (nodes : List (Option Edge)) (free : List �
 
 -- a table that keeps all of it
 abbrev pub IsTable : Table → Type 0
-IsTable t = IsKept t.ends t.base t.nodes.items t.free.items t.spare t.links.next.items t.links.prev.items
+IsTable t = AreEdgesKept t.ends t.base t.nodes.items t.free.items t.spare t.links.next.items t.links.prev.items
 
 -- a list that is at least as long as another, and the same as far as that goes
 pub record IsRoomier (old new : List ℕ) : Type 0 where
@@ -78,9 +78,9 @@ pub record HasRoom (t : Table) (count : ℕ) : Type 0 where
   pub links : t.base + 3 * (length t.nodes.items + count) ≤ length t.links.next.items
 
 -- the first place of a list, 0 where it has none
-abbrev pub first_of : List ℕ → ℕ
-first_of [] = 0
-first_of (x ∷ xs) = x
+abbrev pub first_place : List ℕ → ℕ
+first_place [] = 0
+first_place (x ∷ xs) = x
 
 -- Between two turns of the walk that drops a list: the places before the one that is reached are linked still, though their pairs are gone.
 pub record Walk (ends base : ℕ) (nodes : List (Option Edge)) (free : List ℕ) (spare : ℕ) (next prev : List ℕ) (head place : ℕ) : Type 0 where
@@ -93,15 +93,15 @@ pub record Walk (ends base : ℕ) (nodes : List (Option Edge)) (free : List ℕ)
   pub done : List ℕ
   pub here : linked head ≡ done ++ lists head
   pub others : (k : ℕ) → IsHead base k → k ≢ head → linked k ≡ lists k
-  pub reached : place ≡ first_of (lists head)
+  pub reached : place ≡ first_place (lists head)
 
 abbrev pub IsWalk : Table → ℕ → ℕ → Type 0
 IsWalk t head place = Walk t.ends t.base t.nodes.items t.free.items t.spare t.links.next.items t.links.prev.items head place
 
 -- One pair of an end is gone, and no pair that has another end.
 pub record IsDropped (end : ℕ) (nodes nodes' : List (Option Edge)) : Type 0 where
-  pub kept : without_end end (standing nodes') ≡ without_end end (standing nodes)
-  pub one : degree end (standing nodes) ≡ degree end (standing nodes') + 1
+  pub kept : without_end end (standing_pairs nodes') ≡ without_end end (standing_pairs nodes)
+  pub one : degree end (standing_pairs nodes) ≡ degree end (standing_pairs nodes') + 1
 
 -- the lists with a place in front of one of them
 abbrev pub with_place : ℕ → ℕ → (ℕ → List ℕ) → ℕ → List ℕ
@@ -123,20 +123,20 @@ gathered nodes base from to [] = []
 gathered nodes base from to (p ∷ ps) = in_range_of from to (node_at nodes ((p - base) / 3)) ++ gathered nodes base from to ps
 
 -- Between two turns of a walk that reads a list.
-pub record Reads (ends base : ℕ) (nodes : List (Option Edge)) (free : List ℕ) (spare : ℕ) (next prev : List ℕ) (head place : ℕ) : Type 0 where
-  pub kept : IsKept ends base nodes free spare next prev
+pub record ReadsWalk (ends base : ℕ) (nodes : List (Option Edge)) (free : List ℕ) (spare : ℕ) (next prev : List ℕ) (head place : ℕ) : Type 0 where
+  pub kept : AreEdgesKept ends base nodes free spare next prev
   pub head_is : IsHead base head
   pub done : List ℕ
   pub todo : List ℕ
   pub here : kept.lists head ≡ done ++ todo
-  pub reached : place ≡ first_of todo
+  pub reached : place ≡ first_place todo
 
 -- a pair stands in the list of that head
 abbrev pub StandsIn : ℕ → ℕ → Edge → Type 0
 StandsIn ends head e = (s : ℕ) × (s < 3) × (head ≡ head_of ends e s)
 
 -- The list grew by the pairs of one head whose first second is in the range, each once.
-pub record IsGathered (ends head from to : ℕ) (edges old new : List Edge) : Type 0 where
+pub record AreEdgesGathered (ends head from to : ℕ) (edges old new : List Edge) : Type 0 where
   pub found : List Edge
   pub is : new ≡ old ++ found
   pub each : IsEach (λ e. StandsIn ends head e × (from ≤ e.first) × (e.first < to)) edges found

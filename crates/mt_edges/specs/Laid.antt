@@ -12,9 +12,9 @@ AreDistinct [] = Unit {0}
 AreDistinct (x ∷ xs) = (¬ Has xs x) × AreDistinct xs
 
 -- the list without a place
-abbrev pub without : ℕ → List ℕ → List ℕ
-without p [] = []
-without p (x ∷ xs) = if x == p then without p xs else x ∷ without p xs
+abbrev pub without_place : ℕ → List ℕ → List ℕ
+without_place p [] = []
+without_place p (x ∷ xs) = if x == p then without_place p xs else x ∷ without_place p xs
 
 -- From place u the links lead through these places, and there back; after the last one stands 0.
 abbrev pub Chain : List ℕ → List ℕ → ℕ → List ℕ → Type 0
@@ -35,7 +35,7 @@ pub record Laid (next prev : List ℕ) (base : ℕ) (lists : ℕ → List ℕ) :
   pub once : (h : ℕ) → IsHead base h → AreDistinct (lists h)
   pub apart : (h k p : ℕ) → IsHead base h → IsHead base k → Has (lists h) p → Has (lists k) p → h ≡ k
 
--- Place p is put behind place h.
+-- Place p is put after place h.
 pub record IsLinked (next prev next' prev' : List ℕ) (h p : ℕ) : Type 0 where
   pub lengths : (length next' ≡ length next) × (length prev' ≡ length prev)
   pub first : slice_index next' h ≡ p
@@ -66,7 +66,7 @@ pub record CanUnlink (next prev : List ℕ) (p : ℕ) : Type 0 where
   pub before : slice_index prev p < length next
   pub behind : slice_index next p < length prev
 
--- The links are those that were, and perhaps some more behind them.
+-- The links are those that were, and perhaps some more after them.
 pub record IsLonger (next prev next' prev' : List ℕ) : Type 0 where
   pub next_length : length next ≤ length next'
   pub both : length next ≤ length prev → length next' ≤ length prev'

@@ -28,12 +28,12 @@ pub record IsEdge (ends : ℕ) (e : Edge) : Type 0 where
   pub early : e.last < 10014400
 
 -- two pairs have the same ends
-abbrev pub AreSame : Edge → Edge → Type 0
-AreSame e f = (e.a ≡ f.a) × (e.b ≡ f.b)
+abbrev pub HaveSameEnds : Edge → Edge → Type 0
+HaveSameEnds e f = (e.a ≡ f.a) × (e.b ≡ f.b)
 
 -- no two pairs of the list have the same ends
-abbrev pub AreApart : List Edge → Type 0
-AreApart edges = AllPairs (λ e f. ¬ AreSame e f) edges
+abbrev pub AreDistinctPairs : List Edge → Type 0
+AreDistinctPairs edges = AllPairs (λ e f. ¬ HaveSameEnds e f) edges
 
 -- the list with a pair more, at some place
 pub record IsWith (old : List Edge) (e : Edge) (new : List Edge) : Type 0 where
@@ -45,4 +45,4 @@ pub record IsWith (old : List Edge) (e : Edge) (new : List Edge) : Type 0 where
 -- a list holds just those pairs that pass, each once, in no order that is told
 pub record IsEach (P : Edge → Type 0) (edges found : List Edge) : Type 0 where
   pub exact : (e : Edge) → Contains found e ↔ (Contains edges e × P e)
-  pub apart : AreApart found
+  pub apart : AreDistinctPairs found

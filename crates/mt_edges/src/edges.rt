@@ -1,5 +1,5 @@
 ghost use Rattle.std.specs.Prelude.{◌≡◌, ◌+◌, ◌*◌, ◌<◌, ◌≤◌, true, All, Contains, [], OnOk, OnErr, IfOk, IfSome, IfNone};
-ghost use Rattle.mt_edges.specs.Pairs.{AreApart, AreSame, IsEach, IsEdge, IsWith, degree, touches, without_end};
+ghost use Rattle.mt_edges.specs.Pairs.{AreDistinctPairs, HaveSameEnds, IsEach, IsEdge, IsWith, degree, touches, without_end};
 
 use crate::edge::Edge;
 use crate::table::{BUCKET, Table};
@@ -20,11 +20,11 @@ pub struct Edges {
 
 impl Model for Edges {
     ghost use Rattle.mt_edges.specs.Pairs.{Pairs};
-    ghost use Rattle.mt_edges.specs.Kept.{IsTable, standing};
+    ghost use Rattle.mt_edges.specs.Kept.{IsTable, standing_pairs};
 
     ghost Value = { Pairs };
 
-    ghost view = { λ s. record { edges = standing s.table.nodes.items; spare = s.table.spare; ends = s.table.ends } };
+    ghost view = { λ s. record { edges = standing_pairs s.table.nodes.items; spare = s.table.spare; ends = s.table.ends } };
 
     ghost invariant = { λ s. IsTable s.table };
 }
@@ -59,7 +59,7 @@ impl Edges {
     /// It makes at most six steps for each pair of that end, and one; a step is one link written or one node visited.
     pub fn drop_all(&mut self, end: u32, steps: &mut Steps)
         ensures edges { self.new.edges ≡ without_end end self.old.edges }
-        ensures apart { AreApart self.new.edges }
+        ensures apart { AreDistinctPairs self.new.edges }
         ensures sound { All (IsEdge self.new.ends) self.new.edges }
         ensures spare { self.new.spare ≡ self.old.spare + degree end self.old.edges }
         ensures ends { self.new.ends ≡ self.old.ends }
@@ -75,7 +75,7 @@ impl Edges {
     fn drop_list(&mut self, end: u32, steps: &mut Steps)
         requires end { end < self.old.ends }
         ensures edges { self.new.edges ≡ without_end end self.old.edges }
-        ensures apart { AreApart self.new.edges }
+        ensures apart { AreDistinctPairs self.new.edges }
         ensures sound { All (IsEdge self.new.ends) self.new.edges }
         ensures spare { self.new.spare ≡ self.old.spare + degree end self.old.edges }
         ensures ends { self.new.ends ≡ self.old.ends }
@@ -93,9 +93,9 @@ impl Edges {
     pub fn add(&mut self, edge: Edge)
         requires spare { 0 < self.old.spare }
         requires sound { IsEdge self.old.ends edge }
-        requires new { All (λ e. ¬ AreSame e edge) self.old.edges }
+        requires new { All (λ e. ¬ HaveSameEnds e edge) self.old.edges }
         ensures edges { IsWith self.old.edges edge self.new.edges }
-        ensures apart { AreApart self.new.edges }
+        ensures apart { AreDistinctPairs self.new.edges }
         ensures sound { All (IsEdge self.new.ends) self.new.edges }
         ensures spare { self.new.spare + 1 ≡ self.old.spare }
         ensures ends { self.new.ends ≡ self.old.ends }
@@ -108,7 +108,7 @@ impl Edges {
     pub fn get(&self, a: u32, b: u32) -> Option<Edge>
         ensures some { IfSome result (λ e. Contains self.now.edges e × (e.a ≡ a) × (e.b ≡ b)) }
         ensures none { IfNone result (All (λ e. ¬ ((e.a ≡ a) × (e.b ≡ b))) self.now.edges) }
-        ensures apart { AreApart self.now.edges }
+        ensures apart { AreDistinctPairs self.now.edges }
         ensures sound { All (IsEdge self.now.ends) self.now.edges }
     {
         if a as usize >= self.table.ends {

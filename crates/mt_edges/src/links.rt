@@ -5,7 +5,7 @@ use mt_base::Steps;
 use mt_memory::Memory;
 use std::alloc::Global;
 
-/// Lists of places, linked in both directions. Place 0 ends every list; the places behind it are the heads of the lists, and the others
+/// Lists of places, linked in both directions. Place 0 ends every list; the places after it are the heads of the lists, and the others
 /// stand in one list or in none. What place 0 leads back to is written and never read, so neither end of a list is a case of its own.
 #[derive(Drop)]
 pub(crate) struct Links {
@@ -39,7 +39,7 @@ impl Links {
         Ok(())
     }
 
-    /// The place behind a place; 0 at the end of its list.
+    /// The place after a place; 0 at the end of its list.
     pub(crate) fn behind(&self, place: usize) -> usize
         requires { place < length self.now.next.items }
         ensures { result ≡ slice_index self.now.next.items place }

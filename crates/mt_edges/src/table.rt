@@ -1,7 +1,7 @@
-ghost use Rattle.std.specs.Prelude.{◌≡◌, ◌≢◌, ℕ, ◌+◌, ◌-◌, ◌/◌, ◌^◌, ◌<◌, ◌≤◌, ◌++◌, Some, length, slice_index, vec_len, [], OnOk, OnErr, IfOk, IfSome, IfNone, Contains, All};
-ghost use Rattle.mt_edges.specs.Kept.{HasRoom, IsDropped, IsGathered, IsRoomier, IsTable, IsWalk, in_range_of, node_at, standing};
+ghost use Rattle.std.specs.Prelude.{◌≡◌, ◌≢◌, ℕ, ◌+◌, ◌-◌, ◌/◌, ◌^◌, ◌<◌, ◌≤◌, ◌++◌, Some, length, [], OnOk, OnErr, IfOk, IfSome, IfNone, Contains, All};
+ghost use Rattle.mt_edges.specs.Kept.{HasRoom, IsDropped, AreEdgesGathered, IsRoomier, IsTable, IsWalk, in_range_of, node_at, standing_pairs};
 ghost use Rattle.mt_edges.specs.Laid.{IsHead};
-ghost use Rattle.mt_edges.specs.Pairs.{AreSame, IsEdge, IsWith};
+ghost use Rattle.mt_edges.specs.Pairs.{HaveSameEnds, IsEdge, IsWith};
 ghost use Rattle.mt_edges.specs.declared.edge.Edge.{Edge};
 
 use crate::edge::Edge;
@@ -17,7 +17,7 @@ pub(crate) const BUCKET: u32 = 256;
 const BUCKETS: usize = 39_119;
 
 /// Nodes, each with a pair or free. A pair stands in three lists: that of its lesser end, that of its greater end, and that of its bucket,
-/// the 256 seconds in which it begins. Place 0 of the links is the end of all lists; behind it come the heads of the ends and of the
+/// the 256 seconds in which it begins. Place 0 of the links is the end of all lists; after it come the heads of the ends and of the
 /// buckets, and from `base` on three places for each node, for these three lists.
 #[derive(Drop)]
 pub(crate) struct Table {
@@ -35,7 +35,7 @@ pub(crate) struct Table {
     pub(crate) links: Links,
 }
 
-/// Puts a pair behind others, if it begins in a range of seconds.
+/// Puts a pair after others, if it begins in a range of seconds.
 fn keep(edge: Edge, from: Second, to: Second, out: &mut Vec<Edge>) -> Result<(), Memory>
     ensures { OnOk result (out.new.items ≡ out.old.items ++ in_range_of from to (Some edge)) }
 {
@@ -45,7 +45,7 @@ fn keep(edge: Edge, from: Second, to: Second, out: &mut Vec<Edge>) -> Result<(),
     Ok(())
 }
 
-/// At least that many numbers: those that were there, and zeros behind them.
+/// At least that many numbers: those that were there, and zeros after them.
 fn lengthen(numbers: &mut Vec<usize>, least: usize) -> Result<(), Memory>
     ensures kept { IsRoomier numbers.old.items numbers.new.items }
     ensures ok { OnOk result (least ≤ length numbers.new.items) }
@@ -82,7 +82,7 @@ impl Table {
         requires few { count < 2 ^ 32 }
         ensures kept { IsTable self.new }
         ensures ends { self.new.ends ≡ self.old.ends }
-        ensures edges { standing self.new.nodes.items ≡ standing self.old.nodes.items }
+        ensures edges { standing_pairs self.new.nodes.items ≡ standing_pairs self.old.nodes.items }
         ensures ok { OnOk result (self.new.spare ≡ self.old.spare + count) }
         ensures err { OnErr result (self.new.spare ≡ self.old.spare) }
     {
@@ -115,7 +115,7 @@ impl Table {
         requires room { HasRoom self.old 1 }
         ensures kept { IsTable self.new }
         ensures ends { self.new.ends ≡ self.old.ends }
-        ensures edges { standing self.new.nodes.items ≡ standing self.old.nodes.items }
+        ensures edges { standing_pairs self.new.nodes.items ≡ standing_pairs self.old.nodes.items }
         ensures spare { self.new.spare ≡ self.old.spare + 1 }
         ensures room { (count : ℕ) → HasRoom self.old (count + 1) → HasRoom self.new count }
     {
@@ -156,11 +156,11 @@ impl Table {
         requires kept { IsTable self.old }
         requires spare { 0 < self.old.spare }
         requires sound { IsEdge self.old.ends edge }
-        requires new { (i : ℕ) (f : Edge) → node_at self.old.nodes.items i ≡ Some f → ¬ AreSame f edge }
+        requires new { (i : ℕ) (f : Edge) → node_at self.old.nodes.items i ≡ Some f → ¬ HaveSameEnds f edge }
         ensures kept { IsTable self.new }
         ensures ends { self.new.ends ≡ self.old.ends }
         ensures spare { self.new.spare + 1 ≡ self.old.spare }
-        ensures edges { IsWith (standing self.old.nodes.items) edge (standing self.new.nodes.items) }
+        ensures edges { IsWith (standing_pairs self.old.nodes.items) edge (standing_pairs self.new.nodes.items) }
     {
         self.spare -= 1;
         let node = self.free[self.spare];
@@ -184,7 +184,7 @@ impl Table {
         }
     }
 
-    /// Puts the pairs of a head's list that begin in a range of seconds behind others.
+    /// Puts the pairs of a head's list that begin in a range of seconds after others.
     pub(crate) fn gather(
         &self,
         head: usize,
@@ -194,7 +194,7 @@ impl Table {
     ) -> Result<(), Memory>
         requires kept { IsTable self.now }
         requires head { IsHead self.now.base head }
-        ensures { OnOk result (IsGathered self.now.ends head from to (standing self.now.nodes.items) out.old.items out.new.items) }
+        ensures { OnOk result (AreEdgesGathered self.now.ends head from to (standing_pairs self.now.nodes.items) out.old.items out.new.items) }
     {
         let mut place = self.links.behind(head);
         while place != 0 {
@@ -209,8 +209,8 @@ impl Table {
     pub(crate) fn get(&self, a: u32, b: u32) -> Option<Edge>
         requires kept { IsTable self.now }
         requires end { a < self.now.ends }
-        ensures some { IfSome result (λ e. Contains (standing self.now.nodes.items) e × (e.a ≡ a) × (e.b ≡ b)) }
-        ensures none { IfNone result (All (λ e. ¬ ((e.a ≡ a) × (e.b ≡ b))) (standing self.now.nodes.items)) }
+        ensures some { IfSome result (λ e. Contains (standing_pairs self.now.nodes.items) e × (e.a ≡ a) × (e.b ≡ b)) }
+        ensures none { IfNone result (All (λ e. ¬ ((e.a ≡ a) × (e.b ≡ b))) (standing_pairs self.now.nodes.items)) }
     {
         let mut place = self.links.behind(1 + a as usize);
         while place != 0 {

@@ -4,10 +4,10 @@ use Rattle.std.proofs.lemmas.List.{get_or-map, map-set, take_more}
 use Rattle.std.proofs.lemmas.List.Elements.{Contains-append_left, Contains-push, Contains-push_cases}
 use Rattle.mt_cover.specs.declared.stays.Stay.{Stay}
 use Rattle.mt_grid.specs.declared.placed.Placed.{Placed}
-use Rattle.mt_grid.specs.Lists.{AreNear, IsItemOf, IsNear, IsNearIn, filled, list_at}
+use Rattle.mt_grid.specs.Lists.{AreNear, IsItemOf, IsNear, IsNearIn, list_or_empty, list_at}
 use Rattle.mt_grid.specs.Marks.{AreMarked, IsMarked}
 
-pub map-empty : (n : ℕ) → map filled (replicate n None) ≡ replicate n []
+pub map-empty : (n : ℕ) → map list_or_empty (replicate n None) ≡ replicate n []
 map-empty zero = refl
 map-empty (suc n) = ap (λ (xs : List (List Placed)). [] ∷ xs) (map-empty n)
 
@@ -82,11 +82,11 @@ listed grid stays marks items near are = record {
 
 -- the list of a cell, from what stands at its place
 pub list_is : (cells : List (Option (List Placed))) (cell : ℕ) (o : Option (List Placed)) → cell < length cells → o ≡ get_or cells cell None
-    → list_at (map filled cells) cell ≡ filled o
-list_is cells cell o below is = get_or-map filled cells cell None [] below ∙ ap filled (sym is)
+    → list_at (map list_or_empty cells) cell ≡ list_or_empty o
+list_is cells cell o below is = get_or-map list_or_empty cells cell None [] below ∙ ap list_or_empty (sym is)
 
 -- the lists with another list at the place of a cell
-pub list_replaced : (cells new : List (Option (List Placed))) (grid : List (List Placed)) (cell : ℕ) (held list : List Placed) → map filled cells ≡ grid → held ≡ list
-    → new ≡ set cells cell (Some held) → map filled new ≡ set grid cell list
+pub list_replaced : (cells new : List (Option (List Placed))) (grid : List (List Placed)) (cell : ℕ) (held list : List Placed) → map list_or_empty cells ≡ grid → held ≡ list
+    → new ≡ set cells cell (Some held) → map list_or_empty new ≡ set grid cell list
 list_replaced cells new grid cell held list was same is =
-    ap (map filled) is ∙ map-set filled cells cell (Some held) ∙ ap (λ (l : List Placed). set (map filled cells) cell l) same ∙ ap (λ (g : List (List Placed)). set g cell list) was
+    ap (map list_or_empty) is ∙ map-set list_or_empty cells cell (Some held) ∙ ap (λ (l : List Placed). set (map list_or_empty cells) cell l) same ∙ ap (λ (g : List (List Placed)). set g cell list) was

@@ -6,9 +6,9 @@ use Rattle.mt_cover.specs.Cells.{ShareAt}
 use Rattle.mt_grid.specs.declared.placed.Placed.{Placed}
 
 -- the list that stands at a place; none stands for the empty one
-abbrev pub filled : Option (List Placed) → List Placed
-filled None = []
-filled (Some list) = list
+abbrev pub list_or_empty : Option (List Placed) → List Placed
+list_or_empty None = []
+list_or_empty (Some list) = list
 
 -- the list of a cell
 abbrev pub list_at : List (List Placed) → ℕ → List Placed

@@ -26,11 +26,11 @@ pub struct Grid {
 impl Model for Grid {
     ghost use Rattle.std.specs.Prelude.{◌≡◌, List, length, map};
     ghost use Rattle.mt_grid.specs.declared.placed.Placed.{Placed};
-    ghost use Rattle.mt_grid.specs.Lists.{filled};
+    ghost use Rattle.mt_grid.specs.Lists.{list_or_empty};
 
     ghost Value = { List (List Placed) };
 
-    ghost view = { λ s. map filled s.cells };
+    ghost view = { λ s. map list_or_empty s.cells };
 
     ghost invariant = { λ s. length s.cells ≡ 4096 };
 }

@@ -12,7 +12,7 @@ use Rattle.mt_io.proofs.Lines.{lines_of-first}
 use Rattle.mt_json.proofs.OneLine.{one_line}
 use Rattle.mt_write.specs.Entry.{entry_value}
 use Rattle.mt_wire.proofs.EntryLaw.{text_back}
-use Rattle.mt_history.specs.Printed.{AreRead, printed}
+use Rattle.mt_history.specs.Printed.{AreReadAsEntries, printed}
 use Rattle.mt_history.proofs.LinesRead.{read_first, read_none}
 
 part_of : (text : List ℕ) → All (λ byte. 32 ≤ byte) text → IsPart text
@@ -27,15 +27,15 @@ first_printed e entries =
     ap lines_of (append_assoc text (10 ∷ []) (printed entries)) ∙ lines_of-first text (printed entries) (part_of text (one_line (entry_value e)))
 
 -- printed entries are read as these
-pub read_back : (entries : List Entry) → All IsComplete entries → AreRead (lines_of (printed entries)) entries
+pub read_back : (entries : List Entry) → All IsComplete entries → AreReadAsEntries (lines_of (printed entries)) entries
 read_back [] each = read_none
 read_back (e ∷ entries) each =
-    subst (λ (lines : List (List ℕ)). AreRead lines (e ∷ entries)) (sym (first_printed e entries))
+    subst (λ (lines : List (List ℕ)). AreReadAsEntries lines (e ∷ entries)) (sym (first_printed e entries))
     (read_first (compact_text (entry_value e)) e (lines_of (printed entries)) entries (text_back e (All-head IsComplete e entries each))
     (read_back entries (All-tail IsComplete e entries each)))
 
 -- so are the bytes that hold them, if there are any
 pub bytes_read : (r : Result (Vec ℕ) Memory) (entries : List Entry) → All IsComplete entries → IfOk r (λ bytes. bytes.items ≡ printed entries)
-    → IfOk r (λ bytes. AreRead (lines_of bytes.items) entries)
-bytes_read (Ok bytes) entries each e = subst (λ (text : List ℕ). AreRead (lines_of text) entries) (sym e) (read_back entries each)
+    → IfOk r (λ bytes. AreReadAsEntries (lines_of bytes.items) entries)
+bytes_read (Ok bytes) entries each e = subst (λ (text : List ℕ). AreReadAsEntries (lines_of text) entries) (sym e) (read_back entries each)
 bytes_read (Err e) entries each h = tt

@@ -8,7 +8,7 @@ use Rattle.mt_read.specs.declared.request.LineNo.{LineNo}
 use Rattle.mt_read.specs.Entry.{entry}
 use Rattle.mt_history.specs.declared.reading.Bad.{Bad}
 use Rattle.mt_history.specs.declared.reading.Bad.TheVariants.{Line, Memory}
-use Rattle.mt_history.specs.Printed.{AreRead, IsBad, IsBadLine, IsFirstBad}
+use Rattle.mt_history.specs.Printed.{AreReadAsEntries, IsBad, IsBadLine, IsFirstBad}
 
 abbrev Answer : Type 0
 Answer = Result Entry LineNo
@@ -16,24 +16,24 @@ Answer = Result Entry LineNo
 abbrev read_as : Entry → Answer
 read_as e = Ok e
 
-pub read_none : AreRead [] []
-unfolding AreRead
+pub read_none : AreReadAsEntries [] []
+unfolding AreReadAsEntries
 read_none = refl
 
-pub read_first : (line : List ℕ) (e : Entry) (lines : List (List ℕ)) (entries : List Entry) → entry line ≡ Ok e → AreRead lines entries
-    → AreRead (line ∷ lines) (e ∷ entries)
-unfolding AreRead
+pub read_first : (line : List ℕ) (e : Entry) (lines : List (List ℕ)) (entries : List Entry) → entry line ≡ Ok e → AreReadAsEntries lines entries
+    → AreReadAsEntries (line ∷ lines) (e ∷ entries)
+unfolding AreReadAsEntries
 read_first line e lines entries is read = λ i. is i ∷ read i
 
-read_push : (lines : List (List ℕ)) (entries : List Entry) (line : List ℕ) (e : Entry) → AreRead lines entries → entry line ≡ Ok e
-    → AreRead (lines ++ line ∷ []) (entries ++ e ∷ [])
-unfolding AreRead
+read_push : (lines : List (List ℕ)) (entries : List Entry) (line : List ℕ) (e : Entry) → AreReadAsEntries lines entries → entry line ≡ Ok e
+    → AreReadAsEntries (lines ++ line ∷ []) (entries ++ e ∷ [])
+unfolding AreReadAsEntries
 read_push lines entries line e read is =
     let both : map entry lines ++ entry line ∷ [] ≡ map read_as entries ++ read_as e ∷ [] = λ i. read i ++ is i ∷ [] in
     map-append entry lines (line ∷ []) ∙ both ∙ sym (map-append read_as entries (e ∷ []))
 
-read_length : (lines : List (List ℕ)) (entries : List Entry) → AreRead lines entries → length lines ≡ length entries
-unfolding AreRead
+read_length : (lines : List (List ℕ)) (entries : List Entry) → AreReadAsEntries lines entries → length lines ≡ length entries
+unfolding AreReadAsEntries
 read_length lines entries read = sym (length-map lines entry) ∙ ap length read ∙ length-map entries read_as
 
 ok_is : (a b : Entry) → read_as a ≡ read_as b → a ≡ b
@@ -50,8 +50,8 @@ same_entries (a ∷ some) (b ∷ others) e =
     let tail = same_entries some others rest in
     λ i. head i ∷ tail i
 
-pub one_reading : (lines : List (List ℕ)) (some others : List Entry) → AreRead lines some → AreRead lines others → some ≡ others
-unfolding AreRead
+pub one_reading : (lines : List (List ℕ)) (some others : List Entry) → AreReadAsEntries lines some → AreReadAsEntries lines others → some ≡ others
+unfolding AreReadAsEntries
 one_reading lines some others read also = same_entries some others (sym read ∙ also)
 
 pub slice_get_at : {X : Type 0} (xs : List X) (y : X) (ys : List X) (n : ℕ) → length xs ≡ n → slice_get (xs ++ y ∷ ys) n ≡ Some y
@@ -64,7 +64,7 @@ slice_get_at (x ∷ xs) y ys (suc n) e = slice_get_at xs y ys n (omega arith)
 pub record IsReadUpTo (bytes rest : List ℕ) (entries : List Entry) : Type 0 where
   pub done : List (List ℕ)
   pub lines_are : lines_of bytes ≡ done ++ lines_of rest
-  pub read : AreRead done entries
+  pub read : AreReadAsEntries done entries
 
 pub up_to_none : (bytes : List ℕ) → IsReadUpTo bytes bytes []
 up_to_none bytes = record { done = []; lines_are = refl; read = read_none }
@@ -89,7 +89,7 @@ first_bad bytes rest line others entries place refusal up cut at refused =
       refusal = refusal;
       refused = refused;
       before = entries;
-      read = subst (λ (lines : List (List ℕ)). AreRead lines entries)
+      read = subst (λ (lines : List (List ℕ)). AreReadAsEntries lines entries)
           (sym (ap (λ (lines : List (List ℕ)). take place lines) lines_are ∙ take_at up.done (line ∷ lines_of others) place counted)) up.read;
     }
 
@@ -113,17 +113,17 @@ line_read (l ∷ lines) (e ∷ entries) (suc place) line read is =
     let rest : map entry lines ≡ map read_as entries = cc in
     line_read lines entries place line rest is
 
-read_at : (lines : List (List ℕ)) (entries : List Entry) (place : ℕ) (line : List ℕ) → AreRead lines entries → slice_get lines place ≡ Some line
+read_at : (lines : List (List ℕ)) (entries : List Entry) (place : ℕ) (line : List ℕ) → AreReadAsEntries lines entries → slice_get lines place ≡ Some line
     → (e : Entry) × (entry line ≡ Ok e)
-unfolding AreRead
+unfolding AreReadAsEntries
 read_at lines entries place line read is = line_read lines entries place line read is
 
-none_bad : (bytes : List ℕ) (entries : List Entry) (place : ℕ) → AreRead (lines_of bytes) entries → IsFirstBad bytes place → ⊥
+none_bad : (bytes : List ℕ) (entries : List Entry) (place : ℕ) → AreReadAsEntries (lines_of bytes) entries → IsFirstBad bytes place → ⊥
 none_bad bytes entries place read bad =
     let (e, is) = read_at (lines_of bytes) entries place bad.line read bad.is in
     let both : Ok e ≡ Err bad.refusal = sym is ∙ bad.refused in
     cc
 
-pub never_bad : (bytes : List ℕ) (entries : List Entry) (bad : Bad) → AreRead (lines_of bytes) entries → IsBad bytes bad → bad ≡ Memory
+pub never_bad : (bytes : List ℕ) (entries : List Entry) (bad : Bad) → AreReadAsEntries (lines_of bytes) entries → IsBad bytes bad → bad ≡ Memory
 never_bad bytes entries (Line place) read bad = absurd (none_bad bytes entries place read bad)
 never_bad bytes entries Memory read bad = refl

@@ -1,4 +1,4 @@
--- What putting an entry behind a history means, and why it is not put there.
+-- What putting an entry after a history means, and why it is not put there.
 use Rattle.std.specs.Prelude.{◌≡◌, [], ◌∷◌, ◌++◌, length, Ok, Err, ⊤}
 use Rattle.mt_base.specs.declared.command.Entered.{Entered}
 use Rattle.mt_base.specs.declared.command.Entry.{Entry}
@@ -7,7 +7,7 @@ use Rattle.mt_history.specs.declared.following.FollowNo.{FollowNo}
 use Rattle.mt_history.specs.declared.following.FollowNo.TheVariants.{Illegal, Late, Memory}
 use Rattle.mt_picture.specs.Story.{Story}
 
--- The entry comes in time and is what is decided of its command, asked for by who made it, on the state of the history. It stands behind the
+-- The entry comes in time and is what is decided of its command, asked for by who made it, on the state of the history. It stands after the
 -- history now, and that is answered.
 pub record HasFollowed (before : Story) (e : Entry) (after : Story) (entered : Entered) : Type 0 where
   pub in_time : IsInTime (length before.history) e.command

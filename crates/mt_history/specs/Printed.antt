@@ -8,13 +8,13 @@ use Rattle.mt_write.specs.Entry.{entry_text}
 use Rattle.mt_history.specs.declared.reading.Bad.{Bad}
 use Rattle.mt_history.specs.declared.reading.Bad.TheVariants.{Line, Memory}
 
--- the texts of entries, one behind the other; each ends with its 0x0A
+-- the texts of entries, one after the other; each ends with its 0x0A
 abbrev pub printed : List Entry → List ℕ
 printed entries = flat_map entry_text entries
 
 -- each line, in order, is read as the entry of its place, and there are as many. (Opaque, so that a proof opens no reading.)
-unfoldable pub AreRead : List (List ℕ) → List Entry → Type 0
-AreRead lines entries = map entry lines ≡ map Ok entries
+unfoldable pub AreReadAsEntries : List (List ℕ) → List Entry → Type 0
+AreReadAsEntries lines entries = map entry lines ≡ map Ok entries
 
 -- The line at a place, counted from 0, is read as no entry, and each before it as one.
 pub record IsFirstBad (bytes : List ℕ) (place : ℕ) : Type 0 where
@@ -23,7 +23,7 @@ pub record IsFirstBad (bytes : List ℕ) (place : ℕ) : Type 0 where
   pub refusal : LineNo
   pub refused : entry line ≡ Err refusal
   pub before : List Entry
-  pub read : AreRead (take place (lines_of bytes)) before
+  pub read : AreReadAsEntries (take place (lines_of bytes)) before
 
 -- why bytes are not read: their first line that is no entry, or want of memory
 abbrev pub IsBad : List ℕ → Bad → Type 0

@@ -13,7 +13,7 @@ use Rattle.mt_history.specs.declared.rebuilding.Wrong.TheVariants.{Illegal, Late
 
 -- An entry that may be decided anew: its numbers are within their bounds, and its clearance says from when it holds, so that no moment fills
 -- that in.
-pub record IsReady (e : Entry) : Type 0 where
+pub record IsReadyToDecide (e : Entry) : Type 0 where
   pub bounded : IsBoundedCommand e.command
   pub timed : (now : ℕ) → filled now e.command ≡ e.command
 
@@ -38,13 +38,13 @@ IsWrong setup entries (Illegal at refusal) = IsIllegalAt setup entries at refusa
 IsWrong setup entries (Late at) = IsLateAt setup entries at
 IsWrong setup entries Memory = ⊤
 
--- why an entry is not put behind the history of those before it, as what is wrong at its place
+-- why an entry is not put after the history of those before it, as what is wrong at its place
 abbrev pub wrong_of : FollowNo → Wrong
 wrong_of (no.Illegal version refusal) = Illegal version refusal
 wrong_of (no.Late version) = Late version
 wrong_of no.Memory = Memory
 
--- what is wrong with an entry behind the history of a picture
+-- what is wrong with an entry after the history of a picture
 abbrev pub IsWrongNext : Story → Entry → Wrong → Type 0
 IsWrongNext story e (Illegal at refusal) =
     (at ≡ length story.history) × IsInTime at e.command × IsDecided story.setup (state_of story.setup story.history) e.who e.command (Err refusal)

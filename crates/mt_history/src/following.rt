@@ -1,10 +1,10 @@
-//! An entry put behind the history of a picture.
+//! An entry put after the history of a picture.
 ghost use Rattle.std.specs.Prelude.{◌≡◌, ◌↔◌, IfErr, IfOk, IsTrue, OnErr, OnOk, length};
 ghost use Rattle.mt_base.specs.Bounds.{IsBoundedCommand};
 ghost use Rattle.mt_base.specs.History.{IsInTime, IsReplayable};
-ghost use Rattle.mt_picture.specs.Story.{IsEntered, IsGivenFor, IsRefused};
+ghost use Rattle.mt_picture.specs.Story.{IsEntered, IsPrepGivenFor, IsCommandRefused};
 ghost use Rattle.mt_history.specs.Followed.{HasFollowed, IsNotFollowed};
-ghost use Rattle.mt_history.specs.Rebuilt.{IsReady};
+ghost use Rattle.mt_history.specs.Rebuilt.{IsReadyToDecide};
 
 use mt_base::{Command, Entered, Entry, Refusal, Tally};
 use mt_board::No;
@@ -50,8 +50,8 @@ fn prepared(
     tests: &mut Tally,
 ) -> Result<Option<Prep>, No>
     requires { IsBoundedCommand command.now }
-    ensures given { IfOk result (IsGivenFor picture.now who command.now) }
-    ensures refused { IfErr result (IsRefused picture.now who command.now) }
+    ensures given { IfOk result (IsPrepGivenFor picture.now who command.now) }
+    ensures refused { IfErr result (IsCommandRefused picture.now who command.now) }
 {
     if !makes_strand(command) {
         return Ok(None);
@@ -75,7 +75,7 @@ fn enter(
     requires bounded { IsBoundedCommand command.now }
     requires in_time { IsInTime (length picture.old.history) command.now }
     ensures entered { IfOk result (IsEntered picture.old picture.new who command.now) }
-    ensures refused { IfErr result (IsRefused picture.old who command.now) }
+    ensures refused { IfErr result (IsCommandRefused picture.old who command.now) }
     ensures unchanged { OnErr result (picture.new ≡ picture.old) }
     ensures replayable { OnOk result (IsReplayable picture.old.setup picture.old.history → IsReplayable picture.new.setup picture.new.history) }
 {
@@ -83,7 +83,7 @@ fn enter(
     picture.publish(alloc, who, command, prep.as_ref(), tests)
 }
 
-/// Puts an entry behind the history of a picture, where it is what is decided of its command, asked for by who made it, on the state of that
+/// Puts an entry after the history of a picture, where it is what is decided of its command, asked for by who made it, on the state of that
 /// history; or says why not, and changes nothing. An acceptance that names a version above the one now is told before any refusal. Whether its
 /// clearance was free on the version that it names isn't tested again.
 ///
@@ -96,7 +96,7 @@ pub fn follow_entry(
     entry: &Entry,
     tests: &mut Tally,
 ) -> Result<Entered, FollowNo>
-    requires { IsReady entry.now }
+    requires { IsReadyToDecide entry.now }
     ensures followed { IfOk result (HasFollowed picture.old entry.now picture.new) }
     ensures no { IfErr result (IsNotFollowed picture.old entry.now) }
     ensures unchanged { OnErr result (picture.new ≡ picture.old) }

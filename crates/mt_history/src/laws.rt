@@ -4,12 +4,12 @@ ghost use Rattle.mt_base.specs.Complete.{IsComplete};
 ghost use Rattle.mt_io.specs.Lines.{lines_of};
 ghost use Rattle.mt_history.specs.declared.reading.Bad.{Bad};
 ghost use Rattle.mt_history.specs.declared.reading.Bad.TheVariants as bads;
-ghost use Rattle.mt_history.specs.Printed.{AreRead, IsBad, printed};
+ghost use Rattle.mt_history.specs.Printed.{AreReadAsEntries, IsBad, printed};
 
 /// The lines of printed entries are read as these entries, where each of them is complete, as those of every picture are. Lines are read as no
 /// two lists of entries; and of bytes whose lines are read, nothing but memory is wanted.
 pub fn history_printed_law()
-    ensures back { (entries : List Entry) → All IsComplete entries → AreRead (lines_of (printed entries)) entries }
-    ensures one { (lines : List (List ℕ)) (some others : List Entry) → AreRead lines some → AreRead lines others → some ≡ others }
-    ensures good { (bytes : List ℕ) (entries : List Entry) (bad : Bad) → AreRead (lines_of bytes) entries → IsBad bytes bad → bad ≡ bads.Memory }
+    ensures back { (entries : List Entry) → All IsComplete entries → AreReadAsEntries (lines_of (printed entries)) entries }
+    ensures one { (lines : List (List ℕ)) (some others : List Entry) → AreReadAsEntries lines some → AreReadAsEntries lines others → some ≡ others }
+    ensures good { (bytes : List ℕ) (entries : List Entry) (bad : Bad) → AreReadAsEntries (lines_of bytes) entries → IsBad bytes bad → bad ≡ bads.Memory }
 {}

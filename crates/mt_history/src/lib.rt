@@ -1,5 +1,5 @@
 //! Printed histories: the entries of a picture as lines of text, the entries that lines say, the picture that entries rebuild, and an entry
-//! more put behind a picture's history.
+//! more put after a picture's history.
 #![tactic(auto)]
 
 mod following;

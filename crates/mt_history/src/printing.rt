@@ -1,7 +1,7 @@
 //! A history as text.
 ghost use Rattle.std.specs.Prelude.{◌≡◌, ◌-◌, ◌≤◌, IfOk, take, drop, length};
 ghost use Rattle.mt_io.specs.Lines.{lines_of};
-ghost use Rattle.mt_history.specs.Printed.{AreRead, printed};
+ghost use Rattle.mt_history.specs.Printed.{AreReadAsEntries, printed};
 
 use mt_base::Entry;
 use mt_memory::Memory;
@@ -9,7 +9,7 @@ use mt_picture::Picture;
 use mt_wire::write_entry;
 use std::alloc::Global;
 
-// The texts of entries, one behind the other.
+// The texts of entries, one after the other.
 fn text_of(alloc: Global, entries: &[Entry]) -> Result<Vec<u8>, Memory>
     ensures { IfOk result (λ bytes. bytes.items ≡ printed entries.now) }
 {
@@ -29,7 +29,7 @@ pub fn print(alloc: Global, picture: &Picture, from: u64, to: u64) -> Result<Vec
     requires order { from ≤ to }
     requires within { to ≤ length picture.now.history }
     ensures text { IfOk result (λ bytes. bytes.items ≡ printed (take (to - from) (drop from picture.now.history))) }
-    ensures read_back { IfOk result (λ bytes. AreRead (lines_of bytes.items) (take (to - from) (drop from picture.now.history))) }
+    ensures read_back { IfOk result (λ bytes. AreReadAsEntries (lines_of bytes.items) (take (to - from) (drop from picture.now.history))) }
 {
     let entries = picture.entries();
     text_of(alloc, &entries[from as usize..to as usize])

@@ -3,8 +3,8 @@ ghost use Rattle.std.specs.Prelude.{◌≡◌, ◌<◌, ◌∷◌, All, IfErr, I
 ghost use Rattle.mt_io.specs.Lines.{lines_of};
 ghost use Rattle.mt_read.specs.Entry.{entry};
 ghost use Rattle.mt_history.specs.declared.reading.Bad.TheVariants as bads;
-ghost use Rattle.mt_history.specs.Printed.{AreRead, IsBad, IsBadLine};
-ghost use Rattle.mt_history.specs.Rebuilt.{IsReady};
+ghost use Rattle.mt_history.specs.Printed.{AreReadAsEntries, IsBad, IsBadLine};
+ghost use Rattle.mt_history.specs.Rebuilt.{IsReadyToDecide};
 
 use mt_base::{Entries, Entry};
 use mt_memory::Memory;
@@ -28,7 +28,7 @@ impl From<Memory> for Bad {
     }
 }
 
-// The first line of some bytes, without its 0x0A, and the bytes behind it.
+// The first line of some bytes, without its 0x0A, and the bytes after it.
 fn first_line(bytes: &[u8]) -> (&[u8], &[u8])
     requires { 0 < length bytes.now }
     ensures lines { lines_of bytes.now ≡ result.0.now ∷ lines_of result.1.now }
@@ -45,7 +45,7 @@ fn first_line(bytes: &[u8]) -> (&[u8], &[u8])
 // The entry that the line at a place says.
 fn read_line(alloc: Global, scratch: &mut Scratch, line: &[u8], place: u64) -> Result<Entry, Bad>
     ensures read { IfOk result (λ e. entry line.now ≡ Ok e) }
-    ensures ready { IfOk result IsReady }
+    ensures ready { IfOk result IsReadyToDecide }
     ensures bad { IfErr result (IsBadLine line.now place) }
 {
     match read_entry(alloc, scratch, line) {
@@ -58,8 +58,8 @@ fn read_line(alloc: Global, scratch: &mut Scratch, line: &[u8], place: u64) -> R
 /// The entries that some bytes say: of each line, up to the end of the bytes, the entry that [`read_entry`] gives of it, in order; or the place
 /// of the first line of which it gives none. The last line may lack its 0x0A. An empty line is a line, and says no entry.
 pub fn read_all(alloc: Global, bytes: &[u8]) -> Result<Entries, Bad>
-    ensures read { IfOk result (AreRead (lines_of bytes.now)) }
-    ensures ready { IfOk result (All IsReady) }
+    ensures read { IfOk result (AreReadAsEntries (lines_of bytes.now)) }
+    ensures ready { IfOk result (All IsReadyToDecide) }
     ensures bad { IfErr result (IsBad bytes.now) }
 {
     let mut entries = Entries::make(alloc)?;

@@ -5,7 +5,7 @@ ghost use Rattle.mt_base.specs.Bounds.{AreWithinBounds};
 ghost use Rattle.mt_base.specs.History.{IsReplayable};
 ghost use Rattle.mt_base.specs.Tables.{setup_with};
 ghost use Rattle.mt_history.specs.declared.rebuilding.Wrong.TheVariants as wrongs;
-ghost use Rattle.mt_history.specs.Rebuilt.{IsReady, IsWrong, IsWrongNext};
+ghost use Rattle.mt_history.specs.Rebuilt.{IsReadyToDecide, IsWrong, IsWrongNext};
 
 use crate::following::{FollowNo, follow_entry};
 use mt_base::{Entries, Entry, Refusal, Rules, Tally};
@@ -60,9 +60,9 @@ impl From<FollowNo> for Wrong {
     }
 }
 
-// Puts an entry behind the history of a picture; or says what is wrong with it there.
+// Puts an entry after the history of a picture; or says what is wrong with it there.
 fn put(alloc: Global, picture: &mut Picture, entry: &Entry, tests: &mut Tally) -> Result<(), Wrong>
-    requires { IsReady entry.now }
+    requires { IsReadyToDecide entry.now }
     ensures ok { OnOk result (picture.new ≡ record { setup = picture.old.setup; history = picture.old.history ++ entry.now ∷ [] }) }
     ensures replayable { OnOk result (IsReplayable picture.old.setup picture.old.history → IsReplayable picture.new.setup picture.new.history) }
     ensures wrong { IfErr result (IsWrongNext picture.old entry.now) }
@@ -81,7 +81,7 @@ fn put_all(
     tests: &mut Tally,
 ) -> Result<(), Wrong>
     requires opening { picture.old.history ≡ [] }
-    requires ready { All IsReady entries.now }
+    requires ready { All IsReadyToDecide entries.now }
     ensures ok { OnOk result (picture.new ≡ record { setup = picture.old.setup; history = entries.now }) }
     ensures replayable { OnOk result (IsReplayable picture.old.setup entries.now) }
     ensures wrong { IfErr result (IsWrong picture.old.setup entries.now) }
@@ -111,7 +111,7 @@ pub fn rebuild<R: Threads + Sync>(
     entries: &Entries,
 ) -> Result<Picture, Wrong>
     requires rules { AreWithinBounds rules }
-    requires ready { All IsReady entries.now }
+    requires ready { All IsReadyToDecide entries.now }
     ensures rebuilt { IfOk result (λ picture. picture ≡ record { setup = setup_with rules (arc_value tables); history = entries.now }) }
     ensures replayable { OnOk result (IsReplayable (setup_with rules (arc_value tables)) entries.now) }
     ensures wrong { IfErr result (IsWrong (setup_with rules (arc_value tables)) entries.now) }

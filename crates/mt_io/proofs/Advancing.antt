@@ -1,14 +1,14 @@
 -- A line that was gathered is given and counted.
 use Rattle.std.proofs.Common.{◌≡◌, ◌<◌, ◌≤◌, ℕ, ◌+◌, ◌^◌, Bool, true, false, List, [], ◌∷◌, ◌++◌, length, None, Ok, refl, sym, ap, inl, inr, subst, arith, length-append}
 use Rattle.std.specs.declared.option.Option.{Option}
-use Rattle.mt_io.specs.Reading.{Store, Passes, Ends, Takes, IsSound, IsDone}
-use Rattle.mt_io.specs.Gathering.{Gathers, IsGathered, Counts, Advances, reading, ending_of}
+use Rattle.mt_io.specs.Reading.{Store, PassesBytes, Ends, TakesLine, IsReaderSound, IsAllGiven}
+use Rattle.mt_io.specs.Gathering.{Gathers, IsGathered, CountsLine, Advances, reading, ending_of}
 use Rattle.mt_io.specs.declared.line.Step.{Step}
 use Rattle.mt_io.specs.declared.line.Step.TheVariants.{Short, Skipped, Finished}
 
 -- what went was taken, and so was what is ahead
 weighed : (old new : Store) (before after : Option (List ℕ)) (front : List ℕ) (given : ℕ) → given + length old.ahead ≤ old.taken
-    → Passes old new before after front → given + length front + length new.ahead ≤ new.taken
+    → PassesBytes old new before after front → given + length front + length new.ahead ≤ new.taken
 weighed old new before after front given counted p =
     omega (arith, p.count, ap length p.bytes, length-append old.ahead p.read, length-append front new.ahead)
 
@@ -29,8 +29,8 @@ over_after : (new : Store) (before after : Option (List ℕ)) (old : Store) (kep
 over_after new before after old kept is_long true g ended = let going : new.ended ≡ false = g.more refl in cc
 over_after new before after old kept is_long false g ended = let over = g.over refl in (over.1, over.3)
 
-sound_after : (old new : Store) (before after : Option (List ℕ)) (kept : List ℕ) (is_long whole : Bool) (given given_now : ℕ) → IsSound old given None
-    → Gathers old new before after kept is_long whole → given_now + length new.ahead ≤ new.taken → IsSound new given_now None
+sound_after : (old new : Store) (before after : Option (List ℕ)) (kept : List ℕ) (is_long whole : Bool) (given given_now : ℕ) → IsReaderSound old given None
+    → Gathers old new before after kept is_long whole → given_now + length new.ahead ≤ new.taken → IsReaderSound new given_now None
 sound_after old new before after kept is_long whole given given_now sound g counted = record {
   counted = counted;
   limit = g.passes.limit;
@@ -38,9 +38,9 @@ sound_after old new before after kept is_long whole given given_now sound g coun
   stopped = tt;
 }
 
-takes : (old new : Store) (before after : Option (List ℕ)) (text kept : List ℕ) (is_long whole : Bool) (given given_now : ℕ) → IsSound old given None → old.ended ≡ false
+takes : (old new : Store) (before after : Option (List ℕ)) (text kept : List ℕ) (is_long whole : Bool) (given given_now : ℕ) → IsReaderSound old given None → old.ended ≡ false
     → (g : Gathers old new before after kept is_long whole) → given_now ≡ given + 1 → (whole ≡ false → 0 < length g.line)
-    → Takes (reading old given None text) (reading new given_now None kept) before after g.line × (given_now + length new.ahead ≤ new.taken)
+    → TakesLine (reading old given None text) (reading new given_now None kept) before after g.line × (given_now + length new.ahead ≤ new.taken)
 takes old new before after text kept is_long whole given given_now sound going g one some =
     let weight : given + length (g.line ++ ending_of whole) + length new.ahead ≤ new.taken = weighed old new before after (g.line ++ ending_of whole) given sound.counted g.passes in
     let byte : 0 < length (g.line ++ ending_of whole) = heavy g.line whole some in (
@@ -60,7 +60,7 @@ takes old new before after text kept is_long whole given given_now sound going g
 
 done : (old new : Store) (before after : Option (List ℕ)) (text kept : List ℕ) (is_long whole : Bool) (given given_now : ℕ) → old.ended ≡ false
     → (g : Gathers old new before after kept is_long whole) → given_now ≡ given → whole ≡ false → g.line ≡ []
-    → IsDone (reading old given None text) (reading new given_now None kept) before after
+    → IsAllGiven (reading old given None text) (reading new given_now None kept) before after
 done old new before after text kept is_long whole given given_now going g same last none =
     let over = g.over last in
     let empty : g.line ++ ending_of whole ≡ [] = rw (last, none) refl in
@@ -77,15 +77,15 @@ done old new before after text kept is_long whole given given_now going g same l
     }
 
 pub advanced : (old new : Store) (before after : Option (List ℕ)) (text kept : List ℕ) (is_long whole : Bool) (given given_now : ℕ) (step : Step)
-    → IsSound old given None → old.ended ≡ false → Gathers old new before after kept is_long whole
-    → ((bytes : List ℕ) → IsGathered kept is_long bytes → Counts whole kept bytes given given_now step)
+    → IsReaderSound old given None → old.ended ≡ false → Gathers old new before after kept is_long whole
+    → ((bytes : List ℕ) → IsGathered kept is_long bytes → CountsLine whole kept bytes given given_now step)
     → Advances old new given given_now text kept before after (Ok step)
 advanced old new before after text kept is_long whole given given_now Short sound going g counts =
     let count = counts g.line g.gathered in
     let t = takes old new before after text kept is_long whole given given_now sound going g count.0 count.1 in
     let same : kept ≡ g.line = count.2 in
     record {
-      step = (rw same count.3, let P : List ℕ → Type 0 = λ xs. Takes (reading old given None text) (reading new given_now None kept) before after xs in subst P (sym same) t.0);
+      step = (rw same count.3, let P : List ℕ → Type 0 = λ xs. TakesLine (reading old given None text) (reading new given_now None kept) before after xs in subst P (sym same) t.0);
       sound = sound_after old new before after kept is_long whole given given_now sound g t.1;
     }
 advanced old new before after text kept is_long whole given given_now Skipped sound going g counts =

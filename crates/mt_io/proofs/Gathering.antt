@@ -7,7 +7,7 @@ use Rattle.std.specs.declared.result.Result.{Result}
 use Rattle.std.specs.declared.option.Option.{Option}
 use Rattle.std.specs.Io.KnownBytes.{Consumes}
 use Rattle.mt_io.specs.Lines.{IsPart}
-use Rattle.mt_io.specs.Reading.{Store, Passes}
+use Rattle.mt_io.specs.Reading.{Store, PassesBytes}
 use Rattle.mt_io.specs.Gathering.{Fills, StopsFill, Moves, IsGathered, Gathers, StopsLine, IsUnread}
 use Rattle.mt_io.specs.declared.line.LineFault.{LineFault}
 use Rattle.mt_io.specs.declared.line.LineFault.TheVariants.{ReadFault, Spent}
@@ -18,7 +18,7 @@ pub record IsGathering (old now : Store) (before mid : Option (List ℕ)) (kept 
   pub line : List ℕ
   pub part : IsPart line
   pub gathered : IsGathered kept is_long line
-  pub passes : Passes old now before mid line
+  pub passes : PassesBytes old now before mid line
 
 pub IsPart-append : (xs ys : List ℕ) → IsPart xs → IsPart ys → IsPart (xs ++ ys)
 IsPart-append [] ys px py = py
@@ -26,7 +26,7 @@ IsPart-append (x ∷ xs) ys px py = (px.0, IsPart-append xs ys px.1 py)
 
 -- nothing is ahead, and more is read
 pub passes_fill : (old now new : Store) (before mid after : Option (List ℕ)) (front : List ℕ) (more : Bool) → length now.ahead ≡ 0
-    → Passes old now before mid front → Fills now new mid after more → Passes old new before after front
+    → PassesBytes old now before mid front → Fills now new mid after more → PassesBytes old new before after front
 passes_fill old now new before mid after front more empty p fills =
     let none : now.ahead ≡ [] = nil_from_length now.ahead empty in
     let went : old.ahead ++ p.read ≡ front = p.bytes ∙ ap (λ xs. front ++ xs) none ∙ append-nil front in
@@ -40,7 +40,7 @@ passes_fill old now new before mid after front more empty p fills =
 
 -- nothing is ahead, and nothing is read
 pub passes_stop : (old now new : Store) (before mid after : Option (List ℕ)) (front : List ℕ) → length now.ahead ≡ 0 → new.ahead ≡ [] → new.taken ≡ now.taken
-    → Passes old now before mid front → Consumes mid after [] → Passes old new before after front
+    → PassesBytes old now before mid front → Consumes mid after [] → PassesBytes old new before after front
 passes_stop old now new before mid after front empty none same p from =
     let was : now.ahead ≡ [] = nil_from_length now.ahead empty in
     record {
@@ -53,7 +53,7 @@ passes_stop old now new before mid after front empty none same p from =
 
 -- bytes that are ahead go
 pub passes_more : (old now new : Store) (before mid : Option (List ℕ)) (front piece : List ℕ) → now.ahead ≡ piece ++ new.ahead → new.taken ≡ now.taken
-    → Passes old now before mid front → Passes old new before mid (front ++ piece)
+    → PassesBytes old now before mid front → PassesBytes old new before mid (front ++ piece)
 passes_more old now new before mid front piece split same p = record {
   read = p.read;
   from = p.from;
@@ -100,7 +100,7 @@ gathers_piece old now new before mid kept was_long kept_now is_long so_far moved
 pub gathers_whole : (old now new : Store) (before mid : Option (List ℕ)) (kept : List ℕ) (was_long : Bool) (kept_now : List ℕ) (is_long : Bool)
     → IsGathering old now before mid kept was_long → Moves now new kept was_long kept_now is_long true → now.ended ≡ false → Gathers old new before mid kept_now is_long true
 gathers_whole old now new before mid kept was_long kept_now is_long so_far moved going =
-    let passes : Passes old new before mid (so_far.line ++ (moved.piece ++ 10 ∷ [])) = passes_more old now new before mid so_far.line (moved.piece ++ 10 ∷ []) moved.bytes moved.taken so_far.passes in
+    let passes : PassesBytes old new before mid (so_far.line ++ (moved.piece ++ 10 ∷ [])) = passes_more old now new before mid so_far.line (moved.piece ++ 10 ∷ []) moved.bytes moved.taken so_far.passes in
     record {
       line = so_far.line ++ moved.piece;
       part = IsPart-append so_far.line moved.piece so_far.part moved.is_part;
@@ -110,7 +110,7 @@ gathers_whole old now new before mid kept was_long kept_now is_long so_far moved
       over = λ e. cc;
     }
 
--- the source ended behind the line
+-- the source ended after the line
 pub gathers_last : (old new : Store) (before after : Option (List ℕ)) (kept : List ℕ) (is_long : Bool) (now : Store) (mid : Option (List ℕ)) → length now.ahead ≡ 0
     → IsGathering old now before mid kept is_long → Fills now new mid after false → Gathers old new before after kept is_long false
 gathers_last old new before after kept is_long now mid empty so_far fills =
@@ -128,7 +128,7 @@ consumes_unread : (fault : LineFault) (mid after : Option (List ℕ)) → IsUnre
 consumes_unread Spent mid after same = subst (λ (x : Option (List ℕ)). Consumes mid x []) (sym same) (consumes_none mid)
 consumes_unread ReadFault mid after kept = consumes_kept mid after kept
 
--- the source failed behind the line's part, or the limit was met
+-- the source failed after the line's part, or the limit was met
 pub stops : (old now new : Store) (before mid after : Option (List ℕ)) (kept : List ℕ) (is_long : Bool) (fault : LineFault) → length now.ahead ≡ 0
     → IsGathering old now before mid kept is_long → StopsFill now new mid after fault → StopsLine old new before after fault
 stops old now new before mid after kept is_long fault empty so_far stop = record {

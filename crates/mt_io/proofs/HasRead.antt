@@ -3,13 +3,13 @@ use Rattle.std.proofs.Common.{◌≡◌, ◌<◌, ◌≤◌, ℕ, ◌^◌, Bool,
 use Rattle.std.specs.declared.option.Option.{Option}
 use Rattle.std.specs.Io.KnownBytes.{Consumes, IsAtEnd}
 use Rattle.mt_io.specs.Lines.{lines_of, whole_lines_of, IsPart}
-use Rattle.mt_io.specs.Reading.{Reading, Store, Passes, Ends, Takes, IsDone, IsStopped, fresh}
+use Rattle.mt_io.specs.Reading.{Reading, Store, PassesBytes, Ends, TakesLine, IsAllGiven, IsStopped, fresh}
 use Rattle.mt_io.specs.HasRead.{Tells, AreLines, AreRead, HasRead, HasReadAll, HasReadPart}
 use Rattle.mt_io.specs.declared.line.LineFault.{LineFault}
 use Rattle.mt_io.proofs.Known.{consumes_none, consumes_on}
 use Rattle.mt_io.proofs.Lines.{lines_of-first, lines_of-last, whole_lines_of-first, whole_lines_of-last}
 
--- what is left behind the bytes that were taken
+-- what is left after the bytes that were taken
 pub told : (before after : Option (List ℕ)) (taken : List ℕ) → Consumes before after taken
     → (left : List ℕ) × Tells before (taken ++ left) × Tells after left × (IsAtEnd after → left ≡ [])
 told None None taken from = ([], tt, tt, λ _. refl)
@@ -41,7 +41,7 @@ read_none before = record {
 }
 
 -- the bytes that went, with those of one call more
-went : (old new : Store) (before after : Option (List ℕ)) (taken gone front : List ℕ) → taken ≡ gone ++ old.ahead → (p : Passes old new before after front)
+went : (old new : Store) (before after : Option (List ℕ)) (taken gone front : List ℕ) → taken ≡ gone ++ old.ahead → (p : PassesBytes old new before after front)
     → taken ++ p.read ≡ (gone ++ front) ++ new.ahead
 went old new before after taken gone front split p =
     ap (λ xs. xs ++ p.read) split ∙ append_assoc gone old.ahead p.read ∙ ap (λ xs. gone ++ xs) p.bytes ∙ sym (append_assoc gone front new.ahead)
@@ -67,7 +67,7 @@ over_now gone all lines new after line ending are part split size ends ended =
 
 -- one line more
 pub read_more : (before now after : Option (List ℕ)) (reader new : Reading) (lines : List (List ℕ)) (taken line : List ℕ)
-    → HasRead before now reader lines taken → (t : Takes reader new now after line) → HasRead before after new (lines ++ line ∷ []) (taken ++ t.passes.read)
+    → HasRead before now reader lines taken → (t : TakesLine reader new now after line) → HasRead before after new (lines ++ line ∷ []) (taken ++ t.passes.read)
 read_more before now after reader new lines taken line so_far t =
     let are = so_far.going t.going in
     let split : taken ++ t.passes.read ≡ (so_far.gone ++ (line ++ t.ending)) ++ new.store.ahead =
@@ -84,7 +84,7 @@ read_more before now after reader new lines taken line so_far t =
     }
 
 read_all_at : (before now after : Option (List ℕ)) (reader new : Reading) (lines : List (List ℕ)) (taken : List ℕ) (was_ended : Bool) → reader.store.ended ≡ was_ended
-    → HasRead before now reader lines taken → IsDone reader new now after → HasReadAll before after lines
+    → HasRead before now reader lines taken → IsAllGiven reader new now after → HasReadAll before after lines
 read_all_at before now after reader new lines taken true ended so_far done =
     let over = so_far.over ended in
     let still : after ≡ now = done.still ended in
@@ -110,7 +110,7 @@ read_all_at before now after reader new lines taken false going so_far done =
 
 -- at the end every line was given
 pub read_all : (before now after : Option (List ℕ)) (reader new : Reading) (lines : List (List ℕ)) (taken : List ℕ)
-    → HasRead before now reader lines taken → IsDone reader new now after → HasReadAll before after lines
+    → HasRead before now reader lines taken → IsAllGiven reader new now after → HasReadAll before after lines
 read_all before now after reader new lines taken so_far done = read_all_at before now after reader new lines taken reader.store.ended refl so_far done
 
 -- at a fault every whole line was given

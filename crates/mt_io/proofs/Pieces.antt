@@ -1,4 +1,4 @@
--- A list up to its first 0x0A, and the part of a buffer that is left behind some bytes.
+-- A list up to its first 0x0A, and the part of a buffer that is left after some bytes.
 use Rattle.std.proofs.Common.{◌≡◌, ◌≢◌, ◌<◌, ◌≤◌, ℕ, ◌+◌, ◌-◌, Bool, true, false, List, [], ◌∷◌, ◌++◌, length, get_or, take, drop, slice_range, refl, sym, ◌∙◌, ap, arith, append-nil, zero, suc}
 use Rattle.std.proofs.lemmas.List.{drop-take, drop-drop, drop_all}
 use Rattle.mt_io.specs.Lines.{IsPart}

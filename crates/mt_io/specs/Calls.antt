@@ -18,22 +18,22 @@ abbrev pub IsNextListed : Calls → Type 0
 IsNextListed calls = Contains calls.listed (calls.made + 1)
 
 -- one more, up to the type's end
-abbrev pub raised : ℕ → ℕ
-raised count = min (count + 1) (2 ^ 64 - 1)
+abbrev pub one_call_more : ℕ → ℕ
+one_call_more count = min (count + 1) (2 ^ 64 - 1)
 
 -- with one more that was made, with one failure more, with one more that was made and failed
 abbrev pub one_more : Calls → Calls
-one_more calls = record calls { made = raised calls.made }
+one_more calls = record calls { made = one_call_more calls.made }
 
 abbrev pub with_failure : Calls → Calls
-with_failure calls = record calls { failed = raised calls.failed }
+with_failure calls = record calls { failed = one_call_more calls.failed }
 
 abbrev pub one_failed : Calls → Calls
 one_failed calls = with_failure (one_more calls)
 
 -- one more was made, and it counts as a failure where it is one
-abbrev pub Counts : {T E : Type 0} → Calls → Calls → Result T E → Type 0
-Counts old new result = MatchResult result (λ _. new ≡ one_more old) (λ _. new ≡ one_failed old)
+abbrev pub CountsCall : {T E : Type 0} → Calls → Calls → Result T E → Type 0
+CountsCall old new result = MatchResult result (λ _. new ≡ one_more old) (λ _. new ≡ one_failed old)
 
 -- none of those that were made since is listed
 abbrev pub AreUnlisted : Calls → Calls → Type 0

@@ -5,10 +5,10 @@ use Rattle.std.specs.declared.option.Option.TheVariants.{None, Some}
 use Rattle.std.specs.declared.result.Result.{Result}
 
 -- a list that is told begins with these items, and loses them
-abbrev pub Loses : {A : Type 0} → Option (List A) → Option (List A) → List A → Type 0
-Loses None new items = ⊤
-Loses (Some xs) None items = ⊥
-Loses (Some xs) (Some ys) items = xs ≡ items ++ ys
+abbrev pub LosesFront : {A : Type 0} → Option (List A) → Option (List A) → List A → Type 0
+LosesFront None new items = ⊤
+LosesFront (Some xs) None items = ⊥
+LosesFront (Some xs) (Some ys) items = xs ≡ items ++ ys
 
 -- a list that is told gains these items at its end
 abbrev pub Gains : {A : Type 0} → Option (List A) → Option (List A) → List A → Type 0
@@ -41,5 +41,5 @@ GivesLink {L} old new still left result =
     MatchResult result
     (λ found. MatchOption found
     ((old.given ≡ old.sessions) × (new ≡ old) × (left ≡ still))
-    (λ link. (old.given < old.sessions) × (new ≡ gave_one old) × Loses still left (link ∷ [])))
+    (λ link. (old.given < old.sessions) × (new ≡ gave_one old) × LosesFront still left (link ∷ [])))
     (λ _. (old.given < old.sessions) × (new ≡ old) × (left ≡ still))

@@ -4,7 +4,7 @@ use Rattle.std.specs.Io.KnownBytes.{Keeps, Consumes, IsAtEnd}
 use Rattle.std.specs.declared.option.Option.{Option}
 use Rattle.mt_io.specs.Lines.{IsPart}
 use Rattle.std.specs.declared.result.Result.{Result}
-use Rattle.mt_io.specs.Reading.{Store, Reading, Passes, IsFaultAt, IsSound, Takes, IsDone, IsStopped}
+use Rattle.mt_io.specs.Reading.{Store, Reading, PassesBytes, IsFaultAt, IsReaderSound, TakesLine, IsAllGiven, IsStopped}
 use Rattle.mt_io.specs.declared.line.Step.{Step}
 use Rattle.mt_io.specs.declared.line.Step.TheVariants.{Short, Skipped, Finished}
 use Rattle.mt_io.specs.declared.line.LineFault.{LineFault}
@@ -62,7 +62,7 @@ pub record Gathers (old new : Store) (before after : Option (List ℕ)) (kept : 
   pub line : List ℕ
   pub part : IsPart line
   pub gathered : IsGathered kept is_long line
-  pub passes : Passes old new before after (line ++ ending_of whole)
+  pub passes : PassesBytes old new before after (line ++ ending_of whole)
   pub more : whole ≡ true → new.ended ≡ false
   pub over : whole ≡ false → (new.ended ≡ true) × (new.ahead ≡ []) × IsAtEnd after × (new.taken < 2 ^ 32)
 
@@ -70,22 +70,22 @@ pub record Gathers (old new : Store) (before after : Option (List ℕ)) (kept : 
 pub record StopsLine (old new : Store) (before after : Option (List ℕ)) (fault : LineFault) : Type 0 where
   pub part : List ℕ
   pub is_part : IsPart part
-  pub passes : Passes old new before after part
+  pub passes : PassesBytes old new before after part
   pub empty : new.ahead ≡ []
   pub going : new.ended ≡ false
   pub place : IsFaultAt fault new.taken
 
 -- what is counted, and as what: a line that has its 0x0A or a byte
-abbrev pub Counts : Bool → List ℕ → List ℕ → ℕ → ℕ → Step → Type 0
-Counts whole kept bytes given given_now Short = (given_now ≡ given + 1) × (whole ≡ false → 0 < length bytes) × (kept ≡ bytes) × (length bytes ≤ 65536)
-Counts whole kept bytes given given_now Skipped = (given_now ≡ given + 1) × (whole ≡ false → 0 < length bytes) × (65536 < length bytes)
-Counts whole kept bytes given given_now Finished = (given_now ≡ given) × (whole ≡ false) × (bytes ≡ [])
+abbrev pub CountsLine : Bool → List ℕ → List ℕ → ℕ → ℕ → Step → Type 0
+CountsLine whole kept bytes given given_now Short = (given_now ≡ given + 1) × (whole ≡ false → 0 < length bytes) × (kept ≡ bytes) × (length bytes ≤ 65536)
+CountsLine whole kept bytes given given_now Skipped = (given_now ≡ given + 1) × (whole ≡ false → 0 < length bytes) × (65536 < length bytes)
+CountsLine whole kept bytes given given_now Finished = (given_now ≡ given) × (whole ≡ false) × (bytes ≡ [])
 
 -- what `advance` answers: a line of at most 65,536 bytes, which is the text now, a longer one, or the end
 abbrev pub GivesStep : Reading → Reading → Option (List ℕ) → Option (List ℕ) → Step → Type 0
-GivesStep old new before after Short = (length new.text ≤ 65536) × Takes old new before after new.text
-GivesStep old new before after Skipped = (line : List ℕ) × (65536 < length line) × Takes old new before after line
-GivesStep old new before after Finished = IsDone old new before after
+GivesStep old new before after Short = (length new.text ≤ 65536) × TakesLine old new before after new.text
+GivesStep old new before after Skipped = (line : List ℕ) × (65536 < length line) × TakesLine old new before after line
+GivesStep old new before after Finished = IsAllGiven old new before after
 
 -- a reader by its parts
 abbrev pub reading : Store → ℕ → Option LineFault → List ℕ → Reading
@@ -96,4 +96,4 @@ pub record Advances (old new : Store) (given given_now : ℕ) (text text_now : L
   pub step : MatchResult result
       (GivesStep (reading old given None text) (reading new given_now None text_now) before after)
       (λ fault. IsStopped (reading old given None text) (reading new given_now (Some fault) text_now) before after fault)
-  pub sound : MatchResult result (λ step. IsSound new given_now None) (λ fault. IsSound new given_now (Some fault))
+  pub sound : MatchResult result (λ step. IsReaderSound new given_now None) (λ fault. IsReaderSound new given_now (Some fault))

@@ -33,14 +33,14 @@ IsFaultAt Spent taken = taken ≡ 2 ^ 32
 IsFaultAt ReadFault taken = taken < 2 ^ 32
 
 -- true of every reader: each line that was given took a byte at least; at the end, and after a fault, none is ahead
-pub record IsSound (store : Store) (given : ℕ) (stop : Option LineFault) : Type 0 where
+pub record IsReaderSound (store : Store) (given : ℕ) (stop : Option LineFault) : Type 0 where
   pub counted : given + length store.ahead ≤ store.taken
   pub limit : store.taken ≤ 2 ^ 32
   pub over : store.ended ≡ true → (store.ahead ≡ []) × (store.taken < 2 ^ 32)
   pub stopped : IfSome stop (λ fault. IsFaultAt fault store.taken × (store.ahead ≡ []) × (store.ended ≡ false))
 
 -- These bytes went, of those that were ahead and then of those that were read now.
-pub record Passes (old new : Store) (before after : Option (List ℕ)) (front : List ℕ) : Type 0 where
+pub record PassesBytes (old new : Store) (before after : Option (List ℕ)) (front : List ℕ) : Type 0 where
   pub read : List ℕ
   pub from : Consumes before after read
   pub count : new.taken ≡ old.taken + length read
@@ -54,7 +54,7 @@ Ends new after line ending =
     ⊎ ((ending ≡ []) × (0 < length line) × (new.ended ≡ true) × (new.ahead ≡ []) × IsAtEnd after × (new.taken < 2 ^ 32))
 
 -- One line more was given: its bytes and its end went, and no others.
-pub record Takes (old new : Reading) (before after : Option (List ℕ)) (line : List ℕ) : Type 0 where
+pub record TakesLine (old new : Reading) (before after : Option (List ℕ)) (line : List ℕ) : Type 0 where
   pub going : old.store.ended ≡ false
   pub was_sound : old.fault ≡ None
   pub sound : new.fault ≡ None
@@ -63,17 +63,17 @@ pub record Takes (old new : Reading) (before after : Option (List ℕ)) (line : 
   pub part : IsPart line
   pub ending : List ℕ
   pub ends : Ends new.store after line ending
-  pub passes : Passes old.store new.store before after (line ++ ending)
+  pub passes : PassesBytes old.store new.store before after (line ++ ending)
 
 -- The source has ended, with fewer than 2^32 bytes taken, and each of them was given.
-pub record IsDone (old new : Reading) (before after : Option (List ℕ)) : Type 0 where
+pub record IsAllGiven (old new : Reading) (before after : Option (List ℕ)) : Type 0 where
   pub was_sound : old.fault ≡ None
   pub sound : new.fault ≡ None
   pub same : new.given ≡ old.given
   pub ended : new.store.ended ≡ true
   pub empty : new.store.ahead ≡ []
   pub few : new.store.taken < 2 ^ 32
-  pub passes : Passes old.store new.store before after []
+  pub passes : PassesBytes old.store new.store before after []
   -- the end is met now, or was met before, and then nothing is read
   pub met : old.store.ended ≡ false → IsAtEnd after
   pub still : old.store.ended ≡ true → after ≡ before
@@ -86,16 +86,16 @@ pub record IsStopped (old new : Reading) (before after : Option (List ℕ)) (fau
   pub again : (earlier : LineFault) → old.fault ≡ Some earlier → (fault ≡ earlier) × (new ≡ old) × (after ≡ before)
   pub part : List ℕ
   pub is_part : IsPart part
-  pub passes : Passes old.store new.store before after part
+  pub passes : PassesBytes old.store new.store before after part
   pub empty : new.store.ahead ≡ []
   pub going : old.store.ended ≡ false
   pub not_ended : new.store.ended ≡ false
 
 -- by what is given: a line of at most 65,536 bytes, a longer one, or the end
 abbrev pub GivesLine : Reading → Reading → Option (List ℕ) → Option (List ℕ) → Line → Type 0
-GivesLine old new before after (Text line) = (length line.now ≤ 65536) × Takes old new before after line.now
-GivesLine old new before after Long = (line : List ℕ) × (65536 < length line) × Takes old new before after line
-GivesLine old new before after End = IsDone old new before after
+GivesLine old new before after (Text line) = (length line.now ≤ 65536) × TakesLine old new before after line.now
+GivesLine old new before after Long = (line : List ℕ) × (65536 < length line) × TakesLine old new before after line
+GivesLine old new before after End = IsAllGiven old new before after
 
 abbrev pub Next : Reading → Reading → Option (List ℕ) → Option (List ℕ) → Result Line LineFault → Type 0
 Next old new before after result = MatchResult result (GivesLine old new before after) (IsStopped old new before after)

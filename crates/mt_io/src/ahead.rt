@@ -1,5 +1,5 @@
 //! The bytes of a source that were read and not yet given.
-ghost use Rattle.std.specs.Prelude.{◌≡◌, ◌≢◌, ◌<◌, ◌≤◌, ◌↔◌, ◌^◌, ℕ, [], false, true, length, drop, slice_index, vec_len, Contains, EachIndex, IfOk, OnErr, IsTrue, MatchOption, MatchResult};
+ghost use Rattle.std.specs.Prelude.{◌≡◌, ◌≢◌, ◌<◌, ◌≤◌, ◌↔◌, ◌^◌, ℕ, [], false, true, length, drop, slice_index, vec_len, Contains, EachIndex, IfOk, IsTrue, MatchOption, MatchResult};
 ghost use Rattle.std.specs.Io.KnownBytes.{ReadConsumes};
 ghost use Rattle.mt_io.specs.Causes.{HasCause, Rose};
 ghost use Rattle.mt_io.specs.Reading.{Store};
@@ -165,7 +165,7 @@ fn break_in(bytes: &[u8]) -> Option<usize>
     bytes.iter().position(|byte| *byte == b'\n')
 }
 
-// The place behind the last 0x0A, or 0 where there is none.
+// The place after the last 0x0A, or 0 where there is none.
 fn whole_end(bytes: &[u8]) -> usize
     ensures { EndsWhole bytes.now 0 result (length bytes.now) }
 {

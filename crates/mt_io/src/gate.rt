@@ -1,7 +1,7 @@
 //! A place between two turns.
 
 /// A place that a seat comes to between the turn in which it takes a snapshot, if it takes one, and the turn in which it enters something,
-/// if it does: in each change before the turn that decides it, in each probe and advice behind its snapshot. The turn isn't held there.
+/// if it does: in each change before the turn that decides it, in each probe and advice after its snapshot. The turn isn't held there.
 ///
 /// A test's gate can hold a caller there. No answer depends on a gate.
 pub trait Gate {

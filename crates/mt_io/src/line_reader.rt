@@ -26,14 +26,14 @@ pub struct LineReader {
 }
 
 impl Model for LineReader {
-    ghost use Rattle.mt_io.specs.Reading.{Reading, IsSound};
+    ghost use Rattle.mt_io.specs.Reading.{Reading, IsReaderSound};
     ghost use Rattle.mt_io.specs.Gathering.{reading};
 
     ghost Value = { Reading };
 
     ghost view = { λ r. reading r.ahead r.given r.fault r.line.bytes.items };
 
-    ghost invariant = { λ r. IsSound r.ahead r.given r.fault };
+    ghost invariant = { λ r. IsReaderSound r.ahead r.given r.fault };
 }
 
 impl LineReader {

@@ -1,7 +1,7 @@
 //! A door in memory.
-ghost use Rattle.std.specs.Prelude.{◌≡◌, ◌<◌, ◌≤◌, ◌↔◌, ◌⊎◌, ◌+◌, ◌-◌, [], ◌∷◌, IfOk, IsErr, MatchResult, Some, length, vec_len, vec_capacity};
+ghost use Rattle.std.specs.Prelude.{◌≡◌, ◌<◌, ◌≤◌, ◌↔◌, ◌⊎◌, ◌+◌, ◌-◌, [], ◌∷◌, IfOk, IsErr, MatchResult, Some, vec_len, vec_capacity};
 ghost use Rattle.std.specs.VecDeque.{deque_len};
-ghost use Rattle.mt_io.specs.Calls.{Counts, IsNextListed, listing};
+ghost use Rattle.mt_io.specs.Calls.{CountsCall, IsNextListed, listing};
 ghost use Rattle.mt_io.specs.Causes.{HasCause};
 ghost use Rattle.mt_io.specs.Door.{Gains, GivesLink, listened, took_one};
 
@@ -97,7 +97,7 @@ impl Door for MemDoor {
         ensures count { MatchResult result (λ _. ⟦<MemDoor as Door>⟧.count self.new ≡ listened port sessions) (λ _. ⟦<MemDoor as Door>⟧.count self.new ≡ ⟦<MemDoor as Door>⟧.count self.old) }
         ensures links { (⟦<MemDoor as Door>⟧.still self.new ≡ ⟦<MemDoor as Door>⟧.still self.old) × (⟦<MemDoor as Door>⟧.returned self.new ≡ ⟦<MemDoor as Door>⟧.returned self.old) }
         ensures fails { IsErr result ↔ IsNextListed (calls_of self.old) }
-        ensures counts { Counts (calls_of self.old) (calls_of self.new) result }
+        ensures counts { CountsCall (calls_of self.old) (calls_of self.new) result }
         ensures cause { HasCause (⟦<MemDoor as Door>⟧.faults self.old) (⟦<MemDoor as Door>⟧.faults self.new) result }
     {
         if self.calls.next_fails() {
@@ -115,7 +115,7 @@ impl Door for MemDoor {
         ensures gives { GivesLink (⟦<MemDoor as Door>⟧.count self.old) (⟦<MemDoor as Door>⟧.count self.new) (⟦<MemDoor as Door>⟧.still self.old) (⟦<MemDoor as Door>⟧.still self.new) result }
         ensures back { ⟦<MemDoor as Door>⟧.returned self.new ≡ ⟦<MemDoor as Door>⟧.returned self.old }
         ensures fails { IsErr result ↔ RefusesLink self.old }
-        ensures counts { Counts (calls_of self.old) (calls_of self.new) result }
+        ensures counts { CountsCall (calls_of self.old) (calls_of self.new) result }
         ensures cause { HasCause (⟦<MemDoor as Door>⟧.faults self.old) (⟦<MemDoor as Door>⟧.faults self.new) result }
     {
         if self.given == self.sessions {

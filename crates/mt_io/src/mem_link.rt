@@ -2,7 +2,7 @@
 ghost use Rattle.std.specs.Prelude.{◌≡◌, ◌<◌, ◌≤◌, ◌↔◌, ◌⊎◌, ◌-◌, min, [], length, IfOk, IfErr, IfSome, IsErr, Some};
 ghost use Rattle.std.specs.Io.{ReadsAtMost};
 ghost use Rattle.std.specs.Io.KnownBytes.{ReadConsumes, WriteAppends};
-ghost use Rattle.mt_io.specs.Calls.{Counts, IsNextListed, listing};
+ghost use Rattle.mt_io.specs.Calls.{CountsCall, IsNextListed, listing};
 ghost use Rattle.mt_io.specs.Causes.{HasCause};
 
 use crate::duplex::Duplex;
@@ -110,7 +110,7 @@ impl Source for MemLink {
         ensures gives { IfOk result (λ count. IfSome (⟦<MemLink as Source>⟧.left self.old) (λ left. count ≡ min (min (length buf.old) (length left)) (most_read self.old))) }
         ensures nothing { IfErr result (λ _. buf.new ≡ buf.old) }
         ensures fails { IsErr result ↔ IsNextListed (reads_of self.old) }
-        ensures counts { Counts (reads_of self.old) (reads_of self.new) result }
+        ensures counts { CountsCall (reads_of self.old) (reads_of self.new) result }
         ensures cause { HasCause (⟦<MemLink as Source>⟧.faults self.old) (⟦<MemLink as Source>⟧.faults self.new) result }
         ensures kept { ⟦<MemLink as Source>⟧.reads_to self.old self.new }
     {
@@ -146,7 +146,7 @@ impl Sink for MemLink {
         ensures bytes { WriteAppends (⟦<MemLink as Sink>⟧.held self.old) (⟦<MemLink as Sink>⟧.held self.new) result piece.now }
         ensures takes { IfOk result (λ count. IfSome (⟦<MemLink as Sink>⟧.held self.old) (λ held. count ≡ min (min (length piece.now) (room_of self.old - length held)) (most_written self.old))) }
         ensures fails { IsErr result ↔ (IsNextListed (writes_of self.old) ⊎ IsFull self.old) }
-        ensures counts { Counts (writes_of self.old) (writes_of self.new) result }
+        ensures counts { CountsCall (writes_of self.old) (writes_of self.new) result }
         ensures cause { HasCause (⟦<MemLink as Sink>⟧.faults self.old) (⟦<MemLink as Sink>⟧.faults self.new) result }
         ensures kept { ⟦<MemLink as Sink>⟧.writes_to self.old self.new }
     {

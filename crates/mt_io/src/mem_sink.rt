@@ -1,7 +1,7 @@
 //! A sink in memory.
 ghost use Rattle.std.specs.Prelude.{◌≡◌, ◌<◌, ◌≤◌, ◌↔◌, ◌⊎◌, ◌-◌, min, [], length, vec_len, vec_capacity, IfOk, IfSome, IsErr, Some};
 ghost use Rattle.std.specs.Io.KnownBytes.{WriteAppends};
-ghost use Rattle.mt_io.specs.Calls.{Counts, IsNextListed, listing};
+ghost use Rattle.mt_io.specs.Calls.{CountsCall, IsNextListed, listing};
 ghost use Rattle.mt_io.specs.Causes.{HasCause};
 
 use crate::calls::Calls;
@@ -88,7 +88,7 @@ impl Sink for MemSink {
         ensures bytes { WriteAppends (⟦<MemSink as Sink>⟧.held self.old) (⟦<MemSink as Sink>⟧.held self.new) result piece.now }
         ensures takes { IfOk result (λ count. IfSome (⟦<MemSink as Sink>⟧.held self.old) (λ held. count ≡ min (min (length piece.now) (room_of self.old - length held)) (most_of self.old))) }
         ensures fails { IsErr result ↔ (IsNextListed (calls_of self.old) ⊎ IsFull self.old) }
-        ensures counts { Counts (calls_of self.old) (calls_of self.new) result }
+        ensures counts { CountsCall (calls_of self.old) (calls_of self.new) result }
         ensures cause { HasCause (⟦<MemSink as Sink>⟧.faults self.old) (⟦<MemSink as Sink>⟧.faults self.new) result }
         ensures kept { HasWritten self.old self.new }
     {

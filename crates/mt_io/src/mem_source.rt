@@ -2,7 +2,7 @@
 ghost use Rattle.std.specs.Prelude.{◌≡◌, ◌<◌, ◌≤◌, ◌↔◌, min, [], drop, length, vec_len, IfOk, IfErr, IfSome, IsErr, Some};
 ghost use Rattle.std.specs.Io.{ReadsAtMost};
 ghost use Rattle.std.specs.Io.KnownBytes.{ReadConsumes};
-ghost use Rattle.mt_io.specs.Calls.{Counts, IsNextListed, listing};
+ghost use Rattle.mt_io.specs.Calls.{CountsCall, IsNextListed, listing};
 ghost use Rattle.mt_io.specs.Causes.{HasCause};
 
 use crate::calls::Calls;
@@ -74,7 +74,7 @@ impl Source for MemSource {
         ensures gives { IfOk result (λ count. IfSome (⟦<MemSource as Source>⟧.left self.old) (λ left. count ≡ min (min (length buf.old) (length left)) (most_of self.old))) }
         ensures nothing { IfErr result (λ _. buf.new ≡ buf.old) }
         ensures fails { IsErr result ↔ IsNextListed (calls_of self.old) }
-        ensures counts { Counts (calls_of self.old) (calls_of self.new) result }
+        ensures counts { CountsCall (calls_of self.old) (calls_of self.new) result }
         ensures cause { HasCause (⟦<MemSource as Source>⟧.faults self.old) (⟦<MemSource as Source>⟧.faults self.new) result }
         ensures kept { HasGiven self.old self.new }
     {

@@ -1,8 +1,8 @@
 //! One line from a source, by the reader's parts.
-ghost use Rattle.std.specs.Prelude.{◌≡◌, ◌<◌, ◌≤◌, ◌+◌, ◌^◌, List, ℕ, None, false, length, MatchResult};
+ghost use Rattle.std.specs.Prelude.{◌≡◌, ◌<◌, ◌≤◌, ◌+◌, ◌^◌, List, ℕ, None, false, MatchResult};
 ghost use Rattle.mt_io.specs.Causes.{Rose};
-ghost use Rattle.mt_io.specs.Reading.{IsSound};
-ghost use Rattle.mt_io.specs.Gathering.{Advances, Counts, Gathers, IsGathered, StopsLine};
+ghost use Rattle.mt_io.specs.Reading.{IsReaderSound};
+ghost use Rattle.mt_io.specs.Gathering.{Advances, CountsLine, Gathers, IsGathered, StopsLine};
 
 use crate::ahead::Ahead;
 use crate::gathered::Gathered;
@@ -16,7 +16,7 @@ pub fn read_line<S: Source>(
     given: &mut u64,
     source: &mut S,
 ) -> Result<Step, LineFault>
-    requires { IsSound ahead.old given.old None }
+    requires { IsReaderSound ahead.old given.old None }
     ensures advances { Advances ahead.old ahead.new given.old given.new line.old.bytes.items line.new.bytes.items
         (S.left source.old) (S.left source.new) result }
     ensures cause { result ≡ Err LineFault.ReadFault → Rose (S.faults source.old) (S.faults source.new) }
@@ -66,7 +66,7 @@ fn gather<S: Source>(
 fn give(line: &Gathered, given: &mut u64, whole: bool) -> Step
     requires { given.old < 2 ^ 32 }
     ensures { (bytes : List ℕ) → IsGathered line.now.bytes.items line.now.is_long bytes
-        → Counts whole line.now.bytes.items bytes given.old given.new result }
+        → CountsLine whole line.now.bytes.items bytes given.old given.new result }
 {
     if !whole && line.is_empty() {
         return Step::Finished;

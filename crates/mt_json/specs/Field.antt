@@ -25,9 +25,9 @@ abbrev pub as_whole : Data → Option ℤ
 as_whole d = option_and_then as_integer (as_number d)
 
 -- a number that is there is in low..=high
-abbrev pub within : ℤ → ℤ → Result ℤ Bad → Result ℤ Bad
-within low high (Err bad) = Err bad
-within low high (Ok n) = if int_le low n && int_le n high then Ok n else Err Range
+abbrev pub within_bounds : ℤ → ℤ → Result ℤ Bad → Result ℤ Bad
+within_bounds low high (Err bad) = Err bad
+within_bounds low high (Ok n) = if int_le low n && int_le n high then Ok n else Err Range
 
 -- the text at a key
 abbrev pub word_at : List ℕ → Members → Result (List ℕ) Bad
@@ -39,8 +39,8 @@ flag_at key ms = of_kind as_bool (get_member key ms)
 
 -- the whole number at a key, in low..=high
 abbrev pub whole_at : List ℕ → ℤ → ℤ → Members → Result ℤ Bad
-whole_at key low high ms = within low high (of_kind as_whole (get_member key ms))
+whole_at key low high ms = within_bounds low high (of_kind as_whole (get_member key ms))
 
 -- the items of the list at a key
-abbrev pub list_at : List ℕ → Members → Result Items Bad
-list_at key ms = of_kind as_array (get_member key ms)
+abbrev pub list_at_key : List ℕ → Members → Result Items Bad
+list_at_key key ms = of_kind as_array (get_member key ms)

@@ -23,12 +23,12 @@ abbrev pub is_allowed : List ℕ → List ℕ → Bool
 is_allowed allowed key = not (length key == 0) && list_any (λ word. bytes_eq word key) (slice_split (λ b. b == 32) allowed)
 
 -- the place, from 0, of the first key that is not allowed
-abbrev pub other_at : List ℕ → Members → Option ℕ
-other_at allowed ms = position (λ key. not (is_allowed allowed key)) (keys ms)
+abbrev pub other_key_at : List ℕ → Members → Option ℕ
+other_key_at allowed ms = position (λ key. not (is_allowed allowed key)) (keys ms)
 
 -- the least key, in byte order, that is not allowed
 abbrev pub other_key : List ℕ → Members → Option (List ℕ)
-other_key allowed ms = option_and_then (slice_get (keys ms)) (other_at allowed ms)
+other_key allowed ms = option_and_then (slice_get (keys ms)) (other_key_at allowed ms)
 
 -- the key that an answer names
 abbrev pub shown_other : Result ⊤ Extra → Option (List ℕ)

@@ -1,7 +1,7 @@
 ghost use Rattle.std.specs.Prelude.{◌≡◌, option_map, OnOk, IfErr, true, All};
 ghost use Rattle.serde_json.specs.Find.{as_object, get_member};
 ghost use Rattle.mt_json.specs.Keys.{keys as keys_of, AreInByteOrder, is_allowed, lesser, other_key, shown_other, IsLeastOther};
-ghost use Rattle.mt_json.specs.Field.{result_map, word_at, flag_at, whole_at, list_at};
+ghost use Rattle.mt_json.specs.Field.{result_map, word_at, flag_at, whole_at, list_at_key};
 ghost use Rattle.mt_json.specs.Shown.{members};
 ghost use Rattle.mt_json.specs.View.{items_view, view};
 
@@ -80,7 +80,7 @@ impl<'v, 'a> Fields<'v, 'a> {
 
     /// The items of the list at a key, or Missing or Kind.
     pub fn list(&self, key: &str) -> Result<&'v [Value<'a>], Bad>
-        ensures { result_map (λ vs. items_view vs.now) result ≡ list_at key.now (members self.now) }
+        ensures { result_map (λ vs. items_view vs.now) result ≡ list_at_key key.now (members self.now) }
     {
         self.get(key)
             .ok_or(Bad::Missing)?

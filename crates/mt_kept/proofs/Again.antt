@@ -9,20 +9,20 @@ use Rattle.mt_base.specs.declared.rules.Rules.{Rules}
 use Rattle.mt_base.specs.Conflict.{IsSpanOfLoss}
 use Rattle.mt_base.specs.Picture.{NamedTrajectory}
 use Rattle.mt_edges.specs.declared.edge.Edge.{Edge}
-use Rattle.mt_edges.specs.Pairs.{AreSame, IsEach, touches}
+use Rattle.mt_edges.specs.Pairs.{HaveSameEnds, IsEach, touches}
 use Rattle.mt_base.proofs.OneConflict.{one_span}
 use Rattle.mt_kept.specs.declared.open_pair.OpenPair.{OpenPair}
 use Rattle.mt_kept.specs.Places.{at, horizon}
-use Rattle.mt_kept.specs.Losing.{AreKept, IsPair, Loses, Touches}
+use Rattle.mt_kept.specs.Losing.{AreKept, IsPair, LoseSeparation, Touches}
 use Rattle.mt_kept.specs.Window.{AreOpen, IsOpen, edge_of}
-use Rattle.mt_kept.specs.Made.{is_closed, is_open, quiet, touches_place}
+use Rattle.mt_kept.specs.Made.{is_closed_pair, is_open_pair, quiet, touches_place}
 use Rattle.mt_kept.specs.Finds.{Agree, AreFindsAt}
 use Rattle.mt_kept.proofs.Keeping.{is_open_is, touches_is}
 use Rattle.mt_base.proofs.Members.{Contains-filter, Contains-map, Contains-map_cases, distinct_append, distinct_held, distinct_map}
 use Rattle.mt_kept.proofs.Moving.{apart_distinct}
 
 -- two pairs of the same places are one
-pub same_pair : (rules : Rules) (places : List (Option NamedTrajectory)) (e f : Edge) → IsPair rules places e → IsPair rules places f → AreSame e f → e ≡ f
+pub same_pair : (rules : Rules) (places : List (Option NamedTrajectory)) (e f : Edge) → IsPair rules places e → IsPair rules places f → HaveSameEnds e f → e ≡ f
 same_pair rules places e f p q ends =
     let l : q.left ≡ p.left = let x = p.left_is in let y = ap (at places) ends.0 ∙ q.left_is in cc in
     let r : q.right ≡ p.right = let x = p.right_is in let y = ap (at places) ends.1 ∙ q.right_is in cc in
@@ -32,21 +32,21 @@ same_pair rules places e f p q ends =
     let one = one_span rules p.left.path p.right.path 0 horizon e.first e.last f.first f.last p.span span in
     λ i. record { a = ends.0 i; b = ends.1 i; first = one.0 i; last = one.1 i }
 
-not_open : (now : ℕ) (e : Edge) → is_closed now e ≡ true → ¬ IsOpen now e
+not_open : (now : ℕ) (e : Edge) → is_closed_pair now e ≡ true → ¬ IsOpen now e
 not_open now e shut = λ meets. let t = (is_open_is now e).1 meets in true≢false (sym shut ∙ ap not t)
 
 pub finds_again : (rules : Rules) (places : List (Option NamedTrajectory)) (now place : ℕ) (edges near : List Edge) (pairs : List OpenPair) → AreKept rules places edges
     → AreOpen rules places now edges pairs → IsEach (λ e. touches place e ≡ true) edges near
-    → AreFindsAt rules places now place (filter (touches_place place) pairs ++ map quiet (filter (is_closed now) near))
+    → AreFindsAt rules places now place (filter (touches_place place) pairs ++ map quiet (filter (is_closed_pair now) near))
 finds_again rules places now place edges near pairs kept opened each =
     let first = filter (touches_place place) pairs in
-    let shut = filter (is_closed now) near in
+    let shut = filter (is_closed_pair now) near in
     let second = map quiet shut in
     let from_first : (o : OpenPair) → Contains first o → Contains pairs o × Touches place o.edge = λ o held.
     let h = (Contains-filter (touches_place place) pairs o).0 held in (h.0, (touches_is place o.edge).0 h.1) in
     let from_second : (o : OpenPair) → Contains second o → Contains edges o.edge × Touches place o.edge × (¬ IsOpen now o.edge) = λ o held.
     let x = Contains-map_cases quiet shut o held in
-    let s = (Contains-filter (is_closed now) near x.of).0 x.held in
+    let s = (Contains-filter (is_closed_pair now) near x.of).0 x.held in
     let n = (each.exact x.of).0 s.0 in
     let e : x.of ≡ o.edge = ap (λ (p : OpenPair). p.edge) x.is in
     (subst (Contains edges) e n.0, subst (Touches place) e ((touches_is place x.of).0 n.1), subst (λ (f : Edge). ¬ IsOpen now f) e (not_open now x.of s.1)) in
@@ -70,16 +70,16 @@ finds_again rules places now place edges near pairs kept opened each =
                 let in_first = Contains-map edge_of first x.of ((Contains-filter (touches_place place) pairs x.of).1 (x.held, t)) in
                 Contains-append_left (map edge_of first) (map edge_of second) j.edge (subst (Contains (map edge_of first)) x.is in_first))
                 (λ none.
-                let in_shut = (Contains-filter (is_closed now) near j.edge).1 (near_e, ap not none) in
+                let in_shut = (Contains-filter (is_closed_pair now) near j.edge).1 (near_e, ap not none) in
                 Contains-append_right (map edge_of first) (map edge_of second) j.edge
                 (Contains-map edge_of second (quiet j.edge) (Contains-map quiet shut j.edge in_shut)))
-                (cases_Bool (is_open now j.edge)));
+                (cases_Bool (is_open_pair now j.edge)));
             ends = j.ends;
           };
-      distinct = distinct_held (λ o p. o.edge ≢ p.edge) (λ o p. ¬ AreSame o.edge p.edge) (first ++ second)
+      distinct = distinct_held (λ o p. o.edge ≢ p.edge) (λ o p. ¬ HaveSameEnds o.edge p.edge) (first ++ second)
           (λ o p in_o in_p differ. λ ends. differ (same_pair rules places o.edge p.edge (pair_of o in_o) (pair_of p in_p) ends))
           (distinct_append (λ o p. o.edge ≢ p.edge) first second (AllPairs-filter (λ o p. o.edge ≢ p.edge) (touches_place place) pairs opened.distinct)
-          (distinct_map (λ o p. o.edge ≢ p.edge) quiet shut (AllPairs-filter (λ e f. e ≢ f) (is_closed now) near (apart_distinct near each.apart)))
+          (distinct_map (λ o p. o.edge ≢ p.edge) quiet shut (AllPairs-filter (λ e f. e ≢ f) (is_closed_pair now) near (apart_distinct near each.apart)))
           (λ o p early late. λ same. (from_second p late).2 (subst (IsOpen now) same (opened.sound o (from_first o early).0).1)));
     }
 
@@ -99,7 +99,7 @@ ends_agree rules places after place mine e was agree pair touches = ⊎_elim
     ((agree.there e.a pair.left away apart).1 pair.left_is ∙ sym pair.left_is, ap (at after) b ∙ agree.here ∙ sym (ap (at places) b ∙ was))) touches
 
 loses_agree : (rules : Rules) (places after : List (Option NamedTrajectory)) (place : ℕ) (mine : NamedTrajectory) (a b k : ℕ) → a < b → at places place ≡ Some mine
-    → Agree places after place mine → (a ≡ place) ⊎ (b ≡ place) → Loses rules after a b k → Loses rules places a b k
+    → Agree places after place mine → (a ≡ place) ⊎ (b ≡ place) → LoseSeparation rules after a b k → LoseSeparation rules places a b k
 loses_agree rules places after place mine a b k before was agree touches h = ⊎_elim
     (λ x.
     let l : h.left ≡ mine = let p = h.left_is in let q = ap (at after) x ∙ agree.here in cc in

@@ -13,8 +13,8 @@ use Rattle.mt_kept.specs.declared.finds.Verdict.{Verdict}
 use Rattle.mt_kept.specs.declared.finds.Verdict.TheVariants.{Unknown, Known}
 use Rattle.mt_kept.specs.Places.{at}
 use Rattle.mt_kept.specs.Window.{straddles}
-use Rattle.mt_kept.specs.Made.{IsKnownAs, unknown}
-use Rattle.mt_kept.specs.Finds.{IsOther, asks_one, asks_two, cost, cost_known, cost_of, is_crossing, is_listed, is_other, is_unknown}
+use Rattle.mt_kept.specs.Made.{IsKnownAs, tests_if_unknown}
+use Rattle.mt_kept.specs.Finds.{IsOfOtherFlight, asks_one, asks_two, cost, cost_known, cost_of, is_crossing, is_listed, is_other, is_unknown}
 use Rattle.mt_base.specs.Tally.{RoseUpTo, raised_by}
 use Rattle.mt_base.proofs.Members.{take_push}
 
@@ -27,7 +27,7 @@ at_most_one true = omega arith
 at_most_one false = omega arith
 
 pub cost_both : (now : ℕ) (v : Verdict) (span : ℕ × ℕ) (e : Edge) (old mid new : ℕ) → e.first ≡ span.0 → e.last ≡ span.1 → IsKnownAs v (Some span)
-    → mid ≡ raised_by (unknown v) old → RoseUpTo (cond (straddles now e) 1 0) mid new → RoseUpTo (cost_of now v) old new
+    → mid ≡ raised_by (tests_if_unknown v) old → RoseUpTo (cond (straddles now e) 1 0) mid new → RoseUpTo (cost_of now v) old new
 cost_both now Unknown span e old mid new first last known before after = record {
   more = 1 + after.more;
   within = let one = at_most_one (straddles now e) in let w = after.within in omega arith;
@@ -51,7 +51,7 @@ is_other_is (Some s) call t e apart = step (bytes_eq s.call call) refl where
   step false eq = refl
 
 pub listed_cost : (places : List (Option NamedTrajectory)) (place : ℕ) (mine other : NamedTrajectory) (now : ℕ) (x : Candidate) (old new : ℕ)
-    → IsOther places place mine x.place other → RoseUpTo (cost_of now x.verdict) old new → RoseUpTo (cost places place mine.call now x) old new
+    → IsOfOtherFlight places place mine x.place other → RoseUpTo (cost_of now x.verdict) old new → RoseUpTo (cost places place mine.call now x) old new
 listed_cost places place mine other now x old new is rose =
     let listed : is_listed places place mine.call x ≡ true =
     and_from (not (x.place == place)) (is_other (at places x.place) mine.call) (ap not (ne_eqb x.place place is.elsewhere))

@@ -10,12 +10,12 @@ use Rattle.mt_track.specs.declared.roster.Item.{Item}
 use Rattle.mt_track.specs.Named.{named}
 use Rattle.mt_base.specs.Picture.{NamedTrajectory}
 use Rattle.mt_edges.specs.declared.edge.Edge.{Edge}
-use Rattle.mt_edges.specs.Pairs.{AreSame}
+use Rattle.mt_edges.specs.Pairs.{HaveSameEnds}
 use Rattle.mt_kept.specs.declared.finds.Candidate.{Candidate}
 use Rattle.mt_kept.specs.declared.open_pair.OpenPair.{OpenPair}
 use Rattle.mt_kept.specs.Places.{at, horizon, seen}
 use Rattle.mt_kept.specs.Made.{IsAddedAt, IsEdgeBetween, IsFind}
-use Rattle.mt_kept.specs.Finds.{AreCandidates, IsOther, IsRight, place_of}
+use Rattle.mt_kept.specs.Finds.{AreCandidates, IsOfOtherFlight, IsRight, candidate_place}
 use Rattle.std.specs.List.Sorted.{IsStrictlyIncreasing}
 use Rattle.std.proofs.lemmas.List.Kept.{AllPairs-from_increasing}
 use Rattle.mt_base.proofs.Members.{distinct_of, Contains-none, take_push}
@@ -26,7 +26,7 @@ pub record IsFindAmong (rules : Rules) (places : List (Option NamedTrajectory)) 
   pub of : Candidate
   pub held : Contains xs of
   pub other : NamedTrajectory
-  pub is : IsOther places place mine of.place other
+  pub is : IsOfOtherFlight places place mine of.place other
   pub find : IsFind rules now place of.place mine other o
 
 -- some find is of that other place
@@ -39,9 +39,9 @@ pub record HasFind (place other_place : ℕ) (finds : List OpenPair) : Type 0 wh
 pub record AreGathered (rules : Rules) (places : List (Option NamedTrajectory)) (now place : ℕ) (mine : NamedTrajectory) (xs : List Candidate)
     (finds : List OpenPair) : Type 0 where
   pub sound : (o : OpenPair) → Contains finds o → IsFindAmong rules places now place mine xs o
-  pub complete : (x : Candidate) (k : ℕ) (other : NamedTrajectory) → Contains xs x → IsOther places place mine x.place other → k < horizon
+  pub complete : (x : Candidate) (k : ℕ) (other : NamedTrajectory) → Contains xs x → IsOfOtherFlight places place mine x.place other → k < horizon
       → IsLossSecond rules mine.path other.path k → HasFind place x.place finds
-  pub distinct : AllPairs (λ o p. ¬ AreSame o.edge p.edge) finds
+  pub distinct : AllPairs (λ o p. ¬ HaveSameEnds o.edge p.edge) finds
 
 pub gathered_nothing : (rules : Rules) (places : List (Option NamedTrajectory)) (now place : ℕ) (mine : NamedTrajectory) → AreGathered rules places now place mine [] []
 gathered_nothing rules places now place mine = record {
@@ -52,7 +52,7 @@ gathered_nothing rules places now place mine = record {
 
 -- one candidate more, with which nothing was found
 gathered_none : (rules : Rules) (places : List (Option NamedTrajectory)) (now place : ℕ) (mine : NamedTrajectory) (xs : List Candidate) (x : Candidate)
-    (finds : List OpenPair) → ((k : ℕ) (other : NamedTrajectory) → IsOther places place mine x.place other → k < horizon → ¬ IsLossSecond rules mine.path other.path k)
+    (finds : List OpenPair) → ((k : ℕ) (other : NamedTrajectory) → IsOfOtherFlight places place mine x.place other → k < horizon → ¬ IsLossSecond rules mine.path other.path k)
     → AreGathered rules places now place mine xs finds → AreGathered rules places now place mine (xs ++ x ∷ []) finds
 gathered_none rules places now place mine xs x finds none so_far = record {
   sound = λ o held.
@@ -60,19 +60,19 @@ gathered_none rules places now place mine xs x finds none so_far = record {
       record { of = h.of; held = Contains-append_left xs (x ∷ []) h.of h.held; other = h.other; is = h.is; find = h.find };
   complete = λ y k t held is early loss. ⊎_elim
       (λ before. so_far.complete y k t before is early loss)
-      (λ same. absurd (none k t (subst (λ (z : Candidate). IsOther places place mine z.place t) (sym same) is) early loss)) (Contains-push_cases xs x y held);
+      (λ same. absurd (none k t (subst (λ (z : Candidate). IsOfOtherFlight places place mine z.place t) (sym same) is) early loss)) (Contains-push_cases xs x y held);
   distinct = so_far.distinct;
 }
 
 -- the other end
-other_end : (place a b : ℕ) (e f : Edge) → a ≢ place → b ≢ place → IsEdgeBetween place a e → IsEdgeBetween place b f → AreSame e f → a ≡ b
+other_end : (place a b : ℕ) (e f : Edge) → a ≢ place → b ≢ place → IsEdgeBetween place a e → IsEdgeBetween place b f → HaveSameEnds e f → a ≡ b
 other_end place a b e f a_else b_else h g same = ⊎_elim
     (λ p. ⊎_elim (λ q. sym p.1 ∙ same.1 ∙ q.1) (λ q. absurd (b_else (sym q.0 ∙ sym same.0 ∙ p.0))) g)
     (λ p. ⊎_elim (λ q. absurd (a_else (sym p.0 ∙ same.0 ∙ q.0))) (λ q. sym p.0 ∙ same.0 ∙ q.0) g) h
 
 -- one candidate more, with a find
 gathered_some : (rules : Rules) (places : List (Option NamedTrajectory)) (now place : ℕ) (mine other : NamedTrajectory) (xs : List Candidate) (x : Candidate)
-    (finds : List OpenPair) (o : OpenPair) → IsOther places place mine x.place other → ((y : Candidate) → Contains xs y → y.place ≢ x.place)
+    (finds : List OpenPair) (o : OpenPair) → IsOfOtherFlight places place mine x.place other → ((y : Candidate) → Contains xs y → y.place ≢ x.place)
     → IsFind rules now place x.place mine other o → AreGathered rules places now place mine xs finds
     → AreGathered rules places now place mine (xs ++ x ∷ []) (finds ++ o ∷ [])
 gathered_some rules places now place mine other xs x finds o is apart find so_far = record {
@@ -93,14 +93,14 @@ gathered_some rules places now place mine other xs x finds o is apart find so_fa
       record { find = h.find; held = Contains-append_left finds (o ∷ []) h.find h.held; ends = h.ends })
       (λ same. record { find = o; held = Contains-push finds o; ends = subst (λ (z : Candidate). IsEdgeBetween place z.place o.edge) same find.ends })
       (Contains-push_cases xs x y held);
-  distinct = all_pairs_push (λ p q. ¬ AreSame p.edge q.edge) finds o so_far.distinct (λ k d below. λ same.
+  distinct = all_pairs_push (λ p q. ¬ HaveSameEnds p.edge q.edge) finds o so_far.distinct (λ k d below. λ same.
       let p = get_or finds k d in
       let h = so_far.sound p (k, below, get_or_default finds k p d below) in
       apart h.of h.held (other_end place h.of.place x.place p.edge o.edge h.is.elsewhere is.elsewhere h.find.ends find.ends same));
 }
 
 -- what stands in a place is one trajectory
-pub one_other : (places : List (Option NamedTrajectory)) (place j : ℕ) (mine s t : NamedTrajectory) → IsOther places place mine j s → IsOther places place mine j t → s ≡ t
+pub one_other : (places : List (Option NamedTrajectory)) (place j : ℕ) (mine s t : NamedTrajectory) → IsOfOtherFlight places place mine j s → IsOfOtherFlight places place mine j t → s ≡ t
 one_other places place j mine s t a b = let p = a.is in let q = b.is in cc
 
 -- one candidate more
@@ -130,7 +130,7 @@ gathered_more rules places now place mine xs i x old new below is once added so_
 
 -- the candidate at a step, of which is known what is right
 pub right_at : (rules : Rules) (places : List (Option NamedTrajectory)) (place : ℕ) (mine : NamedTrajectory) (xs : List Candidate) (i : ℕ) (x : Candidate)
-    → AreCandidates rules places place mine xs → i < length xs → x ≡ get_or xs i x → (other : NamedTrajectory) → IsOther places place mine x.place other
+    → AreCandidates rules places place mine xs → i < length xs → x ≡ get_or xs i x → (other : NamedTrajectory) → IsOfOtherFlight places place mine x.place other
     → IsRight rules mine other x.verdict
 right_at rules places place mine xs i x candidates below is other there = candidates.right x other (i, below, sym is) there
 
@@ -144,15 +144,15 @@ module _ (places : List (Option Item)) (place j : ℕ) (mine : NamedTrajectory) 
   there : at (map seen places) j ≡ Some (named item)
   there = at_read places j r below is ∙ ap seen some
 
-  pub no_other : item.call ≡ mine.call → (t : NamedTrajectory) → ¬ IsOther (map seen places) place mine j t
+  pub no_other : item.call ≡ mine.call → (t : NamedTrajectory) → ¬ IsOfOtherFlight (map seen places) place mine j t
   no_other same t h =
       let e : named item ≡ t = let p = there in let q = h.is in cc in
       h.apart (sym same ∙ ap (λ (u : NamedTrajectory). u.call) e)
 
-  pub other_read : j ≢ place → item.call ≢ mine.call → IsOther (map seen places) place mine j (named item)
+  pub other_read : j ≢ place → item.call ≢ mine.call → IsOfOtherFlight (map seen places) place mine j (named item)
   other_read away apart = record { is = there; elsewhere = away; apart = λ same. apart (sym same) }
 
 -- candidates whose places rise
-pub rising_once : (xs : List Candidate) → IsStrictlyIncreasing (map place_of xs) → AllPairs (λ x y. x.place ≢ y.place) xs
-rising_once xs rising = distinct_of (λ i j. i ≢ j) place_of xs
-    (λ i j d before below. let less = AllPairs-from_increasing (map place_of xs) rising i j d before below in λ same. absurd (omega arith))
+pub rising_once : (xs : List Candidate) → IsStrictlyIncreasing (map candidate_place xs) → AllPairs (λ x y. x.place ≢ y.place) xs
+rising_once xs rising = distinct_of (λ i j. i ≢ j) candidate_place xs
+    (λ i j d before below. let less = AllPairs-from_increasing (map candidate_place xs) rising i j d before below in λ same. absurd (omega arith))

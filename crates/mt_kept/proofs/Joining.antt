@@ -7,13 +7,13 @@ use Rattle.mt_base.specs.declared.rules.Rules.{Rules}
 use Rattle.mt_base.specs.Conflict.{IsLossSecond}
 use Rattle.mt_base.specs.Picture.{NamedTrajectory}
 use Rattle.mt_edges.specs.declared.edge.Edge.{Edge}
-use Rattle.mt_edges.specs.Pairs.{AreSame}
+use Rattle.mt_edges.specs.Pairs.{HaveSameEnds}
 use Rattle.mt_kept.specs.declared.finds.Candidate.{Candidate}
 use Rattle.mt_kept.specs.declared.open_pair.OpenPair.{OpenPair}
 use Rattle.mt_kept.specs.Places.{at, horizon, slot_of}
 use Rattle.mt_kept.specs.Losing.{IsPair, Joins, Touches, TouchesSlot}
 use Rattle.mt_kept.specs.Window.{IsFoundOf, edge_of}
-use Rattle.mt_kept.specs.Finds.{Agree, AreCandidates, AreFinds, AreFindsAt, IsOther, place_of}
+use Rattle.mt_kept.specs.Finds.{Agree, AreCandidates, AreFindsOfSlot, AreFindsAt, IsOfOtherFlight, candidate_place}
 use Rattle.mt_base.proofs.Members.{Contains-map, Contains-map_cases, Contains-none, distinct_append}
 use Rattle.mt_kept.proofs.Gathering.{AreGathered}
 use Rattle.mt_kept.proofs.Keeping.{even_half, halves, odd_half}
@@ -85,9 +85,9 @@ finds_are rules places after now place mine xs finds agree candidates gathered =
       joined : (a b j k : ℕ) (other : NamedTrajectory) → j ≢ place → at places j ≡ Some other → mine.call ≢ other.call → k < horizon
           → IsLossSecond rules mine.path other.path k → ((a ≡ place) × (b ≡ j) × (a < b)) ⊎ ((a ≡ j) × (b ≡ place) × (a < b)) → Joins (map edge_of finds) a b
       joined a b j k other else other_is apart early loss ends =
-          let there : IsOther places place mine j other = record { is = other_is; elsewhere = else; apart = apart } in
-          let c = Contains-map_cases place_of xs j (candidates.complete j k other there early loss) in
-          let found = gathered.complete c.of k other c.held (subst (λ (i : ℕ). IsOther places place mine i other) (sym c.is) there) early loss in
+          let there : IsOfOtherFlight places place mine j other = record { is = other_is; elsewhere = else; apart = apart } in
+          let c = Contains-map_cases candidate_place xs j (candidates.complete j k other there early loss) in
+          let found = gathered.complete c.of k other c.held (subst (λ (i : ℕ). IsOfOtherFlight places place mine i other) (sym c.is) there) early loss in
           record {
             edge = found.find.edge;
             held = Contains-map edge_of finds found.find found.held;
@@ -117,12 +117,12 @@ both_ends rules after slot e one pair first second =
 touches_slot : (slot place : ℕ) (e : Edge) → slot_of place ≡ slot → Touches place e → TouchesSlot slot e
 touches_slot slot place e half touches = ⊎_elim (λ a. inl (ap slot_of a ∙ half)) (λ b. inr (ap slot_of b ∙ half)) touches
 
-moved_touch : (place : ℕ) (e f : Edge) → AreSame e f → Touches place f → Touches place e
+moved_touch : (place : ℕ) (e f : Edge) → HaveSameEnds e f → Touches place f → Touches place e
 moved_touch place e f same touches = ⊎_elim (λ a. inl (same.0 ∙ a)) (λ b. inr (same.1 ∙ b)) touches
 
 pub finds_join : (rules : Rules) (after : List (Option NamedTrajectory)) (now slot : ℕ) (first second : List OpenPair)
     → ((s t : NamedTrajectory) → at after (2 * slot) ≡ Some s → at after (2 * slot + 1) ≡ Some t → s.call ≡ t.call)
-    → AreFindsAt rules after now (2 * slot) first → AreFindsAt rules after now (2 * slot + 1) second → AreFinds rules after now slot (first ++ second)
+    → AreFindsAt rules after now (2 * slot) first → AreFindsAt rules after now (2 * slot + 1) second → AreFindsOfSlot rules after now slot (first ++ second)
 finds_join rules after now slot first second one f g = record {
   sound = λ o held. ⊎_elim
       (λ early. let h = f.sound o early in (touches_slot slot (2 * slot) o.edge (even_half slot) h.0, h.1, h.2))
@@ -133,7 +133,7 @@ finds_join rules after now slot first second one f g = record {
       (halves a slot x))
       (λ x. ⊎_elim (λ even. joined_first a b (f.complete a b k before (inr even) loses)) (λ odd. joined_second a b (g.complete a b k before (inr odd) loses))
       (halves b slot x)) here;
-  distinct = distinct_append (λ o p. ¬ AreSame o.edge p.edge) first second f.distinct g.distinct (λ o p early late. λ same.
+  distinct = distinct_append (λ o p. ¬ HaveSameEnds o.edge p.edge) first second f.distinct g.distinct (λ o p early late. λ same.
       both_ends rules after slot o.edge one (f.sound o early).1 (f.sound o early).0 (moved_touch (2 * slot + 1) o.edge p.edge same (g.sound p late).0));
 } where
   joined_first : (a b : ℕ) → Joins (map edge_of first) a b → Joins (map edge_of (first ++ second)) a b

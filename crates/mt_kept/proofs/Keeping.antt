@@ -13,14 +13,14 @@ use Rattle.mt_base.specs.Bounds.{AreWithinBounds}
 use Rattle.mt_track.specs.declared.roster.Item.{Item}
 use Rattle.mt_base.specs.Picture.{NamedTrajectory}
 use Rattle.mt_edges.specs.declared.edge.Edge.{Edge}
-use Rattle.mt_edges.specs.Pairs.{AreApart, touches}
+use Rattle.mt_edges.specs.Pairs.{AreDistinctPairs, touches}
 use Rattle.mt_kept.specs.declared.open_pair.OpenPair.{OpenPair}
 use Rattle.mt_kept.specs.Places.{at, seen, slot_of, with_slot}
-use Rattle.mt_kept.specs.Losing.{AreKept, AvoidsSlot, IsPair, Joins, Loses, Touches, TouchesSlot}
-use Rattle.mt_kept.specs.Window.{AreOpen, IsOpen, IsShown, Shows, edge_of}
-use Rattle.mt_kept.specs.Made.{AreReplaced, avoids, is_open, opens}
-use Rattle.mt_kept.specs.Kept.{IsKept}
-use Rattle.mt_kept.specs.Finds.{AreFinds}
+use Rattle.mt_kept.specs.Losing.{AreKept, AvoidsSlot, IsPair, Joins, LoseSeparation, Touches, TouchesSlot}
+use Rattle.mt_kept.specs.Window.{AreOpen, IsOpen, ShowsInWindow, Shows, edge_of}
+use Rattle.mt_kept.specs.Made.{AreReplaced, avoids, is_open_pair, opens}
+use Rattle.mt_kept.specs.Kept.{ArePairsKept}
+use Rattle.mt_kept.specs.Finds.{AreFindsOfSlot}
 use Rattle.mt_base.proofs.Members.{Contains-filter, Contains-map, Contains-map_cases, Contains-none, distinct_append}
 
 -- the places of a slot
@@ -56,7 +56,7 @@ at_other places slot i first second other =
     ∙ get_or-set_other places (2 * slot) i first None (λ e. other (ap slot_of e ∙ even_half slot))
 
 Loses-other : (rules : Rules) (places : List (Option NamedTrajectory)) (slot a b k : ℕ) (first second : Option NamedTrajectory) → slot_of a ≢ slot → slot_of b ≢ slot
-    → Loses rules (with_slot places slot first second) a b k → Loses rules places a b k
+    → LoseSeparation rules (with_slot places slot first second) a b k → LoseSeparation rules places a b k
 Loses-other rules places slot a b k first second a_other b_other h = record {
   left = h.left;
   right = h.right;
@@ -80,7 +80,7 @@ IsPair-other rules places slot first second e other h = record {
 }
 
 IsShown-other : (rules : Rules) (places : List (Option NamedTrajectory)) (slot now : ℕ) (first second : Option NamedTrajectory) (e : Edge)
-    (shown : Option Conflict) → AvoidsSlot slot e → IsShown rules places now e shown → IsShown rules (with_slot places slot first second) now e shown
+    (shown : Option Conflict) → AvoidsSlot slot e → ShowsInWindow rules places now e shown → ShowsInWindow rules (with_slot places slot first second) now e shown
 IsShown-other rules places slot now first second e shown other h = record {
   left = h.left;
   right = h.right;
@@ -91,8 +91,8 @@ IsShown-other rules places slot now first second e shown other h = record {
 
 -- the kept pairs, with those of the place replaced by the found ones
 pub kept_put : (rules : Rules) (places : List (Option NamedTrajectory)) (now slot : ℕ) (first second : Option NamedTrajectory) (edges after : List Edge)
-    (finds : List OpenPair) → AreKept rules places edges → AreFinds rules (with_slot places slot first second) now slot finds → AreReplaced slot finds edges after
-    → AreApart after → AreKept rules (with_slot places slot first second) after
+    (finds : List OpenPair) → AreKept rules places edges → AreFindsOfSlot rules (with_slot places slot first second) now slot finds → AreReplaced slot finds edges after
+    → AreDistinctPairs after → AreKept rules (with_slot places slot first second) after
 kept_put rules places now slot first second edges after finds kept found replaced once = record {
   once = once;
   sound = λ e held. ⊎_elim
@@ -111,7 +111,7 @@ kept_put rules places now slot first second edges after finds kept found replace
         ends = old.ends;
       }) (cases_eq (slot_of b) slot)) (cases_eq (slot_of a) slot);
 } where
-  touches : (a b k : ℕ) → a < b → Loses rules (with_slot places slot first second) a b k → (slot_of a ≡ slot) ⊎ (slot_of b ≡ slot) → Joins after a b
+  touches : (a b k : ℕ) → a < b → LoseSeparation rules (with_slot places slot first second) a b k → (slot_of a ≡ slot) ⊎ (slot_of b ≡ slot) → Joins after a b
   touches a b k before loses here =
       let j = found.complete a b k before here loses in
       record { edge = j.edge; held = (replaced j.edge).1 (inr j.held); ends = j.ends }
@@ -120,7 +120,7 @@ kept_put rules places now slot first second edges after finds kept found replace
 pub avoids_is : (slot : ℕ) (o : OpenPair) → (avoids slot o ≡ true) ↔ AvoidsSlot slot o.edge
 avoids_is slot o = ((λ e. ((λ same. grind (arith, nat_tests)), (λ same. grind (arith, nat_tests)))), (λ h. let p = h.0 in let q = h.1 in grind (arith, nat_tests)))
 
-pub is_open_is : (now : ℕ) (e : Edge) → (is_open now e ≡ true) ↔ IsOpen now e
+pub is_open_is : (now : ℕ) (e : Edge) → (is_open_pair now e ≡ true) ↔ IsOpen now e
 is_open_is now e = ((λ t. grind (arith, nat_tests)), (λ h. grind (arith, nat_tests)))
 
 not_both_ends : (slot : ℕ) (e f : Edge) → AvoidsSlot slot e → TouchesSlot slot f → e ≢ f
@@ -128,7 +128,7 @@ not_both_ends slot e f other here = λ same. ⊎_elim
     (λ a. other.0 (ap (λ (g : Edge). slot_of g.a) same ∙ a)) (λ b. other.1 (ap (λ (g : Edge). slot_of g.b) same ∙ b)) here
 
 pub open_put : (rules : Rules) (places : List (Option NamedTrajectory)) (now slot : ℕ) (first second : Option NamedTrajectory) (edges after : List Edge)
-    (finds pairs : List OpenPair) → AreOpen rules places now edges pairs → AreFinds rules (with_slot places slot first second) now slot finds
+    (finds pairs : List OpenPair) → AreOpen rules places now edges pairs → AreFindsOfSlot rules (with_slot places slot first second) now slot finds
     → AreReplaced slot finds edges after
     → AreOpen rules (with_slot places slot first second) now after (filter (avoids slot) pairs ++ filter (opens now) finds)
 open_put rules places now slot first second edges after finds pairs opened found replaced =
@@ -185,7 +185,7 @@ at_slot places slot i below here = ⊎_elim
     (halves i slot here)
 
 pub no_finds : (rules : Rules) (places : List (Option NamedTrajectory)) (now slot : ℕ) → 2 * slot + 1 < length places
-    → AreFinds rules (with_slot places slot None None) now slot []
+    → AreFindsOfSlot rules (with_slot places slot None None) now slot []
 no_finds rules places now slot below = record {
   sound = λ o held. absurd (Contains-none o held);
   complete = λ a b k before here loses. absurd (⊎_elim
@@ -226,7 +226,7 @@ Shows-nothing c h = Contains-none h.pair h.held
 -- of empty places nothing is kept
 pub kept_made : (rules : Rules) (places : List (Option NamedTrajectory)) (n : ℕ) (edges : List Edge) (ends : ℕ) (pairs : List OpenPair) (list : List Conflict)
     → AreWithinBounds rules → n < 2 ^ 32 → places ≡ replicate n None → edges ≡ [] → ends ≡ n → pairs ≡ [] → list ≡ []
-    → IsKept rules 0 places edges ends pairs list
+    → ArePairsKept rules 0 places edges ends pairs list
 kept_made rules places n edges ends pairs list bounds few e f all g h = rw (e, f, g, h) (record {
   bounds = bounds;
   early = omega arith;

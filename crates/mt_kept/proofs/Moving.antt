@@ -11,16 +11,16 @@ use Rattle.mt_base.specs.Tally.{raised_by}
 use Rattle.mt_base.specs.declared.rules.Rules.{Rules}
 use Rattle.mt_base.specs.Picture.{NamedTrajectory, window_end}
 use Rattle.mt_edges.specs.declared.edge.Edge.{Edge}
-use Rattle.mt_edges.specs.Pairs.{AreApart, IsEach}
+use Rattle.mt_edges.specs.Pairs.{AreDistinctPairs, IsEach}
 use Rattle.mt_base.proofs.Tallies.{raised_by-add}
 use Rattle.mt_kept.specs.declared.open_pair.OpenPair.{OpenPair}
 use Rattle.mt_kept.specs.Losing.{AreKept, IsPair}
-use Rattle.mt_kept.specs.Window.{AreOpen, IsOpen, IsShown, WasTestedOnce, edge_of, straddles}
+use Rattle.mt_kept.specs.Window.{AreOpen, IsOpen, ShowsInWindow, WasTestedOnce, edge_of, straddles}
 use Rattle.mt_kept.specs.Made.{WereTested, is_lasting}
 use Rattle.mt_base.proofs.Members.{All-from_held, Contains-filter, Contains-map, Contains-map_cases, distinct_append, distinct_map, distinct_of, distinct_take, Contains-take}
 
 -- pairs with different ends are different
-pub apart_distinct : (edges : List Edge) → AreApart edges → AllPairs (λ e f. e ≢ f) edges
+pub apart_distinct : (edges : List Edge) → AreDistinctPairs edges → AllPairs (λ e f. e ≢ f) edges
 apart_distinct edges apart = λ i j d before below. λ same. apart i j d before below (ap (λ (e : Edge). e.a) same, ap (λ (e : Edge). e.b) same)
 
 -- the kept pairs that begin in the seconds by which the window's end moves
@@ -86,12 +86,12 @@ reaching_pairs rules places old now edges due pairs later kept opened is_due =
 -- the open pairs at the later moment
 pub open_moved : (rules : Rules) (places : List (Option NamedTrajectory)) (old now : ℕ) (edges due : List Edge) (pairs after : List OpenPair) → old ≤ now
     → AreOpen rules places old edges pairs → AreDue old now edges due → map edge_of after ≡ reaching now pairs due
-    → All (λ o. IsShown rules places now o.edge o.conflict) after → AreOpen rules places now edges after
+    → All (λ o. ShowsInWindow rules places now o.edge o.conflict) after → AreOpen rules places now edges after
 open_moved rules places old now edges due pairs after later opened is_due same shown = record {
   sound = λ o held.
       let listed : Contains (reaching now pairs due) o.edge = subst (λ (es : List Edge). Contains es o.edge) same (Contains-map edge_of after o held) in
       let h = (reaching_is rules places old now edges due pairs later opened is_due o.edge).0 listed in
-      (h.0, h.1, All-contains (λ p. IsShown rules places now p.edge p.conflict) after o shown held);
+      (h.0, h.1, All-contains (λ p. ShowsInWindow rules places now p.edge p.conflict) after o shown held);
   complete = λ e held meets. subst (λ (es : List Edge). Contains es e) (sym same)
       ((reaching_is rules places old now edges due pairs later opened is_due e).1 (held, meets));
   distinct = distinct_of (λ e f. e ≢ f) edge_of after

@@ -19,8 +19,8 @@ use Rattle.mt_edges.specs.declared.edge.Edge.{Edge}
 use Rattle.mt_base.proofs.OneConflict.{one_conflict}
 use Rattle.mt_kept.specs.declared.open_pair.OpenPair.{OpenPair}
 use Rattle.mt_kept.specs.Places.{at, held, horizon, seen}
-use Rattle.mt_kept.specs.Losing.{AreKept, IsPair, Loses}
-use Rattle.mt_kept.specs.Window.{AreOpen, IsFoundOf, IsOpen, IsShown, Shows, edge_of}
+use Rattle.mt_kept.specs.Losing.{AreKept, IsPair, LoseSeparation}
+use Rattle.mt_kept.specs.Window.{AreOpen, IsFoundOf, IsOpen, ShowsInWindow, Shows, edge_of}
 use Rattle.mt_kept.specs.Made.{IsInOrder}
 use Rattle.mt_base.proofs.Members.{Contains-cases, Contains-head, Contains-later, Contains-map_cases, Contains-none, IsSeen}
 use Rattle.mt_kept.proofs.Windows.{IsLossSecond-sym, IsSpanOfLoss-sym, is_open_at}
@@ -77,7 +77,7 @@ record IsBetween (places : List (Option NamedTrajectory)) (e : Edge) (left right
   is : ((at places e.a ≡ Some left) × (at places e.b ≡ Some right)) ⊎ ((at places e.a ≡ Some right) × (at places e.b ≡ Some left))
 
 found_between : (rules : Rules) (places : List (Option NamedTrajectory)) (now : ℕ) (e : Edge) (left right : NamedTrajectory) (shown : Option Conflict)
-    → IsShown rules places now e shown → IsBetween places e left right → IsFoundOf rules now left right shown ⊎ IsFoundOf rules now right left shown
+    → ShowsInWindow rules places now e shown → IsBetween places e left right → IsFoundOf rules now left right shown ⊎ IsFoundOf rules now right left shown
 found_between rules places now e left right shown h between = ⊎_elim
     (λ b. let l : h.left ≡ left = let p = h.left_is in let q = b.0 in cc in
     let r : h.right ≡ right = let p = h.right_is in let q = b.1 in cc in
@@ -94,7 +94,7 @@ shows_between : (rules : Rules) (places : List (Option NamedTrajectory)) (now : 
     → IsLossSecond rules first.path second.path c.first → now ≤ c.first → c.first < window_end now → IsOf rules now left right c
     → ((first ≡ left) × (second ≡ right)) ⊎ ((first ≡ right) × (second ≡ left)) → Shows open_pairs c
 shows_between rules places now edges open_pairs c left right a b first second early kept opened before first_at second_at apart loss low high is names =
-    let loses : Loses rules places a b c.first = record {
+    let loses : LoseSeparation rules places a b c.first = record {
       left = first;
       right = second;
       left_is = first_at;
@@ -116,8 +116,8 @@ shows_between rules places now edges open_pairs c left right a b first second ea
     let meets : IsOpen now e = is_open_at rules pair.left.path pair.right.path now c.first e early pair.span low high loss_here in
     let there : IsSeen edge_of open_pairs e = Contains-map_cases edge_of open_pairs e (opened.complete e joined.held meets) in
     let shown = (opened.sound there.of there.held).2 in
-    let shown_e : IsShown rules places now e there.of.conflict =
-    subst (λ (f : Edge). IsShown rules places now f there.of.conflict) there.is shown in
+    let shown_e : ShowsInWindow rules places now e there.of.conflict =
+    subst (λ (f : Edge). ShowsInWindow rules places now f there.of.conflict) there.is shown in
     let between : IsBetween places e left right = record {
       is = ⊎_elim
           (λ n. inl (e_a ∙ ap Some n.0, e_b ∙ ap Some n.1))
@@ -148,7 +148,7 @@ shows rules places now edges open_pairs c early kept opened some =
     (cases_order l.place r.place)
 
 -- what an open pair shows is a conflict of two of the trajectories
-shown_is : (rules : Rules) (places : List (Option NamedTrajectory)) (now : ℕ) (e : Edge) (c : Conflict) → IsShown rules places now e (Some c)
+shown_is : (rules : Rules) (places : List (Option NamedTrajectory)) (now : ℕ) (e : Edge) (c : Conflict) → ShowsInWindow rules places now e (Some c)
     → IsOfSome rules now (held places) c
 shown_is rules places now e c shown =
     let l = held_at places e.a shown.left shown.left_is in
@@ -164,7 +164,7 @@ published_of rules places now edges open_pairs cs early kept opened exact sorted
   exact = λ c. (
     (λ in_list. let h = (exact c).0 in_list in
         let shown = (opened.sound h.pair h.held).2 in
-        shown_is rules places now h.pair.edge c (subst (λ (o : Option Conflict). IsShown rules places now h.pair.edge o) h.shown shown)),
+        shown_is rules places now h.pair.edge c (subst (λ (o : Option Conflict). ShowsInWindow rules places now h.pair.edge o) h.shown shown)),
     (λ some. (exact c).1 (shows rules places now edges open_pairs c early kept opened some)),
   );
   sorted = sorted;
@@ -191,7 +191,7 @@ found_pair rules now left right span c is order = ⊎_elim
     order
 
 pub shown_of : (rules : Rules) (places : List (Option NamedTrajectory)) (now : ℕ) (e : Edge) (pair : IsPair rules places e) (left right : NamedTrajectory)
-    (shown : Option Conflict) → pair.left ≡ left → pair.right ≡ right → IsFoundOf rules now left right shown → IsShown rules places now e shown
+    (shown : Option Conflict) → pair.left ≡ left → pair.right ≡ right → IsFoundOf rules now left right shown → ShowsInWindow rules places now e shown
 shown_of rules places now e pair left right shown l r found =
     record { left = left; right = right; left_is = pair.left_is ∙ ap Some l; right_is = pair.right_is ∙ ap Some r; found = found }
 

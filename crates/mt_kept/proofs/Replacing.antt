@@ -9,11 +9,11 @@ use Rattle.std.proofs.lemmas.List.Kept.{AllPairs-filter}
 use Rattle.mt_base.specs.declared.rules.Rules.{Rules}
 use Rattle.mt_base.specs.Picture.{NamedTrajectory}
 use Rattle.mt_edges.specs.declared.edge.Edge.{Edge}
-use Rattle.mt_edges.specs.Pairs.{AreSame, IsEdge, IsWith, degree, touches, without_end}
+use Rattle.mt_edges.specs.Pairs.{HaveSameEnds, IsEdge, IsWith, degree, touches, without_end}
 use Rattle.mt_edges.proofs.Members.{Contains-with, Contains-without}
 use Rattle.mt_kept.specs.declared.open_pair.OpenPair.{OpenPair}
 use Rattle.mt_kept.specs.Dropped.{WereStepsOf}
-use Rattle.mt_kept.specs.Finds.{AreFinds}
+use Rattle.mt_kept.specs.Finds.{AreFindsOfSlot}
 use Rattle.mt_kept.specs.Losing.{AreKept, AvoidsSlot, IsPair, Joins, TouchesSlot}
 use Rattle.mt_kept.specs.Made.{AreReplaced, WereDropped, touches_slot}
 use Rattle.mt_kept.specs.Places.{slot_of, with_slot}
@@ -90,7 +90,7 @@ replaced_more slot finds i o old mid new below is so_far with e =
 
 -- and it was not there yet
 free_edge : (slot : ℕ) (finds : List OpenPair) (i : ℕ) (o : OpenPair) (old mid : List Edge) → i < length finds → o ≡ get_or finds i o
-    → All (λ p. TouchesSlot slot p.edge) finds → AllPairs (λ p q. ¬ AreSame p.edge q.edge) finds → AreReplaced slot (take i finds) old mid
+    → All (λ p. TouchesSlot slot p.edge) finds → AllPairs (λ p q. ¬ HaveSameEnds p.edge q.edge) finds → AreReplaced slot (take i finds) old mid
     → ¬ Joins mid o.edge.a o.edge.b
 free_edge slot finds i o old mid below is touches distinct so_far joined =
     let here : TouchesSlot slot o.edge = subst (λ (p : OpenPair). TouchesSlot slot p.edge) (sym is) (touches i o below) in
@@ -103,24 +103,24 @@ free_edge slot finds i o old mid below is touches distinct so_far joined =
     let j_below : j < length (take i finds) = h.held.1 in
     let j_in : j < i = omega arith in
     let p_is : get_or finds j h.of ≡ h.of = sym (get_or-take i finds j h.of j_in) ∙ h.held.2 in
-    let apart : ¬ AreSame (get_or finds j h.of).edge (get_or finds i h.of).edge = distinct j i h.of j_in below in
+    let apart : ¬ HaveSameEnds (get_or finds j h.of).edge (get_or finds i h.of).edge = distinct j i h.of j_in below in
     let o_is : get_or finds i h.of ≡ o = get_or_default finds i h.of o below ∙ sym is in
-    let apart_here : ¬ AreSame h.of.edge o.edge =
-    subst (λ (q : OpenPair). ¬ AreSame h.of.edge q.edge) o_is (subst (λ (p : OpenPair). ¬ AreSame p.edge (get_or finds i h.of).edge) p_is apart) in
+    let apart_here : ¬ HaveSameEnds h.of.edge o.edge =
+    subst (λ (q : OpenPair). ¬ HaveSameEnds h.of.edge q.edge) o_is (subst (λ (p : OpenPair). ¬ HaveSameEnds p.edge (get_or finds i h.of).edge) p_is apart) in
     apart_here (ap (λ (e : Edge). e.a) h.is ∙ joined.ends.0, ap (λ (e : Edge). e.b) h.is ∙ joined.ends.1))
     ((so_far joined.edge).0 joined.held)
 
 -- in the form in which `add` asks it
 pub new_edge : (slot : ℕ) (finds : List OpenPair) (i : ℕ) (o : OpenPair) (old mid : List Edge) → i < length finds → o ≡ get_or finds i o
-    → All (λ p. TouchesSlot slot p.edge) finds → AllPairs (λ p q. ¬ AreSame p.edge q.edge) finds → AreReplaced slot (take i finds) old mid
-    → All (λ e. ¬ AreSame e o.edge) mid
+    → All (λ p. TouchesSlot slot p.edge) finds → AllPairs (λ p q. ¬ HaveSameEnds p.edge q.edge) finds → AreReplaced slot (take i finds) old mid
+    → All (λ e. ¬ HaveSameEnds e o.edge) mid
 new_edge slot finds i o old mid below is touching distinct so_far =
-    All-from_held (λ (e : Edge). ¬ AreSame e o.edge) mid
+    All-from_held (λ (e : Edge). ¬ HaveSameEnds e o.edge) mid
     (λ e held same. free_edge slot finds i o old mid below is touching distinct so_far (record { edge = e; held = held; ends = same }))
 
 -- each find may be kept
 pub finds_sound : (rules : Rules) (places : List (Option NamedTrajectory)) (now slot ends : ℕ) (first second : Option NamedTrajectory) (finds : List OpenPair)
-    → ends ≡ length places → AreFinds rules (with_slot places slot first second) now slot finds → All (λ o. IsEdge ends o.edge) finds
+    → ends ≡ length places → AreFindsOfSlot rules (with_slot places slot first second) now slot finds → All (λ o. IsEdge ends o.edge) finds
 finds_sound rules places now slot ends first second finds all found =
     All-from_held (λ (o : OpenPair). IsEdge ends o.edge) finds (λ o held.
     let pair = (found.sound o held).1 in

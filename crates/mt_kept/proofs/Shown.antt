@@ -12,7 +12,7 @@ use Rattle.mt_kept.specs.declared.open_pair.OpenPair.{OpenPair}
 use Rattle.mt_kept.specs.Losing.{AvoidsSlot, TouchesSlot}
 use Rattle.mt_kept.specs.Made.{avoids, meets, opens}
 use Rattle.mt_kept.specs.Places.{HaveOwnSlots, at, slot_of, with_slot}
-use Rattle.mt_kept.specs.Window.{AreOpen, IsShown, Shows}
+use Rattle.mt_kept.specs.Window.{AreOpen, ShowsInWindow, Shows}
 use Rattle.mt_kept.proofs.Keeping.{at_other, at_slot, avoids_is}
 
 -- one pair more
@@ -111,7 +111,7 @@ record NamesPlaces (places : List (Option NamedTrajectory)) (e : Edge) (c : Conf
   calls : (left.call ≡ c.a) × (right.call ≡ c.b)
   ends : ((e.a ≡ low) × (e.b ≡ high)) ⊎ ((e.a ≡ high) × (e.b ≡ low))
 
-names_places : (rules : Rules) (places : List (Option NamedTrajectory)) (now : ℕ) (e : Edge) (c : Conflict) → IsShown rules places now e (Some c)
+names_places : (rules : Rules) (places : List (Option NamedTrajectory)) (now : ℕ) (e : Edge) (c : Conflict) → ShowsInWindow rules places now e (Some c)
     → NamesPlaces places e c
 names_places rules places now e c shown = ⊎_elim
     (λ is. record {
@@ -149,7 +149,7 @@ avoiding slot e low high ends other = ⊎_elim
 
 -- a pair of a slot and one of other slots don't show one conflict
 pub one_slot : (rules : Rules) (places : List (Option NamedTrajectory)) (now slot : ℕ) (e f : Edge) (c : Conflict) → HaveOwnSlots places
-    → IsShown rules places now e (Some c) → IsShown rules places now f (Some c) → TouchesSlot slot e → ¬ AvoidsSlot slot f
+    → ShowsInWindow rules places now e (Some c) → ShowsInWindow rules places now f (Some c) → TouchesSlot slot e → ¬ AvoidsSlot slot f
 one_slot rules places now slot e f c own e_shown f_shown here other =
     let p = names_places rules places now e c e_shown in
     let q = names_places rules places now f c f_shown in
@@ -194,8 +194,8 @@ shown_put rules places now slot edges pairs finds list cut new own opened exact 
       (λ fresh. (added c).1 (inr (record { pair = s.pair; held = fresh; shown = s.shown })))
       (Contains-append_cases (filter (avoids slot) pairs) (filter (opens now) finds) s.pair s.held)),
 ) where
-  shown_at : (o : OpenPair) → Contains pairs o → o.conflict ≡ Some c → IsShown rules places now o.edge (Some c)
-  shown_at o held is = subst (λ (x : Option Conflict). IsShown rules places now o.edge x) is (opened.sound o held).2
+  shown_at : (o : OpenPair) → Contains pairs o → o.conflict ≡ Some c → ShowsInWindow rules places now o.edge (Some c)
+  shown_at o held is = subst (λ (x : Option Conflict). ShowsInWindow rules places now o.edge x) is (opened.sound o held).2
 
   not_hidden : (o : OpenPair) → Contains pairs o → avoids slot o ≡ true → o.conflict ≡ Some c → ¬ Shows (filter (meets slot) pairs) c
   not_hidden o held away is h =

@@ -4,14 +4,14 @@ use Rattle.std.specs.Str.{bytes_eq}
 use Rattle.mt_base.specs.declared.rules.Rules.{Rules}
 use Rattle.mt_base.specs.Conflict.{IsConflict, IsLossSecond}
 use Rattle.mt_base.specs.Picture.{NamedTrajectory}
-use Rattle.mt_edges.specs.Pairs.{AreSame}
+use Rattle.mt_edges.specs.Pairs.{HaveSameEnds}
 use Rattle.mt_kept.specs.declared.finds.Candidate.{Candidate}
 use Rattle.mt_kept.specs.declared.finds.Verdict.{Verdict}
 use Rattle.mt_kept.specs.declared.finds.Verdict.TheVariants.{Unknown, Known}
 use Rattle.mt_kept.specs.declared.open_pair.OpenPair.{OpenPair}
-use Rattle.mt_kept.specs.Losing.{IsPair, Joins, Loses, Touches, TouchesSlot}
+use Rattle.mt_kept.specs.Losing.{IsPair, Joins, LoseSeparation, Touches, TouchesSlot}
 use Rattle.mt_kept.specs.Places.{at, horizon, slot_of}
-use Rattle.mt_kept.specs.Window.{IsOpen, IsShown, edge_of, is_straddling}
+use Rattle.mt_kept.specs.Window.{IsOpen, ShowsInWindow, edge_of, is_straddling}
 
 -- what is known of two trajectories is right: it is their conflict over all seconds
 abbrev pub IsRight : Rules → NamedTrajectory → NamedTrajectory → Verdict → Type 0
@@ -19,22 +19,22 @@ IsRight rules mine other Unknown = ⊤
 IsRight rules mine other (Known span) = IsConflict rules mine.path other.path 0 horizon span
 
 -- In another place than its own stands that trajectory, of another flight.
-pub record IsOther (places : List (Option NamedTrajectory)) (place : ℕ) (mine : NamedTrajectory) (j : ℕ) (other : NamedTrajectory) : Type 0 where
+pub record IsOfOtherFlight (places : List (Option NamedTrajectory)) (place : ℕ) (mine : NamedTrajectory) (j : ℕ) (other : NamedTrajectory) : Type 0 where
   pub is : at places j ≡ Some other
   pub elsewhere : j ≢ place
   pub apart : mine.call ≢ other.call
 
-abbrev pub place_of : Candidate → ℕ
-place_of x = x.place
+abbrev pub candidate_place : Candidate → ℕ
+candidate_place x = x.place
 
 -- Each place is listed once at most. Each where a trajectory of another flight stands that has a loss second with the new one is listed, and
 -- what is known of the listed ones is right.
 pub record AreCandidates (rules : Rules) (places : List (Option NamedTrajectory)) (place : ℕ) (mine : NamedTrajectory)
     (xs : List Candidate) : Type 0 where
-  pub right : (x : Candidate) (other : NamedTrajectory) → Contains xs x → IsOther places place mine x.place other
+  pub right : (x : Candidate) (other : NamedTrajectory) → Contains xs x → IsOfOtherFlight places place mine x.place other
       → IsRight rules mine other x.verdict
-  pub complete : (j k : ℕ) (other : NamedTrajectory) → IsOther places place mine j other → k < horizon
-      → IsLossSecond rules mine.path other.path k → Contains (map place_of xs) j
+  pub complete : (j k : ℕ) (other : NamedTrajectory) → IsOfOtherFlight places place mine j other → k < horizon
+      → IsLossSecond rules mine.path other.path k → Contains (map candidate_place xs) j
   pub once : AllPairs (λ x y. x.place ≢ y.place) xs
 
 -- After a change the place has the new trajectory, and each other place has what it had, as far as other flights go.
@@ -45,16 +45,16 @@ pub record Agree (places after : List (Option NamedTrajectory)) (place : ℕ) (m
 -- What was found for one place: its pairs, each once, with what each that is open shows.
 pub record AreFindsAt (rules : Rules) (places : List (Option NamedTrajectory)) (now place : ℕ) (finds : List OpenPair) : Type 0 where
   pub sound : (o : OpenPair) → Contains finds o
-      → Touches place o.edge × IsPair rules places o.edge × (IsOpen now o.edge → IsShown rules places now o.edge o.conflict)
-  pub complete : (a b k : ℕ) → a < b → (a ≡ place) ⊎ (b ≡ place) → Loses rules places a b k → Joins (map edge_of finds) a b
-  pub distinct : AllPairs (λ o p. ¬ AreSame o.edge p.edge) finds
+      → Touches place o.edge × IsPair rules places o.edge × (IsOpen now o.edge → ShowsInWindow rules places now o.edge o.conflict)
+  pub complete : (a b k : ℕ) → a < b → (a ≡ place) ⊎ (b ≡ place) → LoseSeparation rules places a b k → Joins (map edge_of finds) a b
+  pub distinct : AllPairs (λ o p. ¬ HaveSameEnds o.edge p.edge) finds
 
 -- The same for both places of a slot.
-pub record AreFinds (rules : Rules) (places : List (Option NamedTrajectory)) (now slot : ℕ) (finds : List OpenPair) : Type 0 where
+pub record AreFindsOfSlot (rules : Rules) (places : List (Option NamedTrajectory)) (now slot : ℕ) (finds : List OpenPair) : Type 0 where
   pub sound : (o : OpenPair) → Contains finds o
-      → TouchesSlot slot o.edge × IsPair rules places o.edge × (IsOpen now o.edge → IsShown rules places now o.edge o.conflict)
-  pub complete : (a b k : ℕ) → a < b → (slot_of a ≡ slot) ⊎ (slot_of b ≡ slot) → Loses rules places a b k → Joins (map edge_of finds) a b
-  pub distinct : AllPairs (λ o p. ¬ AreSame o.edge p.edge) finds
+      → TouchesSlot slot o.edge × IsPair rules places o.edge × (IsOpen now o.edge → ShowsInWindow rules places now o.edge o.conflict)
+  pub complete : (a b k : ℕ) → a < b → (slot_of a ≡ slot) ⊎ (slot_of b ≡ slot) → LoseSeparation rules places a b k → Joins (map edge_of finds) a b
+  pub distinct : AllPairs (λ o p. ¬ HaveSameEnds o.edge p.edge) finds
 
 -- a trajectory of another callsign
 abbrev pub is_other : Option NamedTrajectory → List ℕ → Bool

@@ -18,7 +18,7 @@ pub record Watched : Type 0 where
   pub published : List Conflict
 
 -- How it is kept: the pairs of the places, those that are open, and published is what these show. Each flight has one slot.
-pub record IsKept (rules : Rules) (now : ℕ) (places : List (Option NamedTrajectory)) (edges : List Edge) (ends : ℕ)
+pub record ArePairsKept (rules : Rules) (now : ℕ) (places : List (Option NamedTrajectory)) (edges : List Edge) (ends : ℕ)
     (open_pairs : List OpenPair) (published : List Conflict) : Type 0 where
   pub bounds : AreWithinBounds rules
   pub early : now ≤ 10000000

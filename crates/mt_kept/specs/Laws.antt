@@ -6,7 +6,7 @@ use Rattle.mt_base.specs.declared.rules.Rules.{Rules}
 use Rattle.mt_base.specs.Picture.{NamedTrajectory}
 use Rattle.mt_kept.specs.declared.finds.Candidate.{Candidate}
 use Rattle.mt_kept.specs.declared.open_pair.OpenPair.{OpenPair}
-use Rattle.mt_kept.specs.Finds.{Agree, AreFinds, AreFindsAt, asks_one, asks_two, cost, place_of}
+use Rattle.mt_kept.specs.Finds.{Agree, AreFindsOfSlot, AreFindsAt, asks_one, asks_two, cost, candidate_place}
 use Rattle.mt_kept.specs.Places.{at}
 
 -- What was found for the two places of a slot, which are of one flight, is together what was found for the slot.
@@ -14,7 +14,7 @@ abbrev pub FindsJoin : Type 0
 FindsJoin = (rules : Rules) (after : List (Option NamedTrajectory)) (now slot : ℕ) (first second : List OpenPair)
     → ((s t : NamedTrajectory) → at after (2 * slot) ≡ Some s → at after (2 * slot + 1) ≡ Some t → s.call ≡ t.call)
     → AreFindsAt rules after now (2 * slot) first → AreFindsAt rules after now (2 * slot + 1) second
-    → AreFinds rules after now slot (first ++ second)
+    → AreFindsOfSlot rules after now slot (first ++ second)
 
 -- For an empty place nothing is found.
 abbrev pub EmptyFindsNone : Type 0
@@ -29,7 +29,7 @@ FindsStay = (rules : Rules) (places after : List (Option NamedTrajectory)) (now 
 
 -- Candidates whose places rise are listed once each.
 abbrev pub RisingIsOnce : Type 0
-RisingIsOnce = (xs : List Candidate) → IsStrictlyIncreasing (map place_of xs) → AllPairs (λ x y. x.place ≢ y.place) xs
+RisingIsOnce = (xs : List Candidate) → IsStrictlyIncreasing (map candidate_place xs) → AllPairs (λ x y. x.place ≢ y.place) xs
 
 -- Candidates cost two tests each where nothing is known of them, and one each where what is known straddles an edge of the window.
 abbrev pub CostsAdd : Type 0

@@ -4,11 +4,11 @@ use Rattle.mt_base.specs.declared.rules.Rules.{Rules}
 use Rattle.mt_base.specs.Conflict.{IsLossSecond, IsSpanOfLoss}
 use Rattle.mt_base.specs.Picture.{NamedTrajectory}
 use Rattle.mt_edges.specs.declared.edge.Edge.{Edge}
-use Rattle.mt_edges.specs.Pairs.{AreApart}
+use Rattle.mt_edges.specs.Pairs.{AreDistinctPairs}
 use Rattle.mt_kept.specs.Places.{at, horizon, slot_of}
 
 -- Two places have trajectories of different flights, and second k is a loss second of them.
-pub record Loses (rules : Rules) (places : List (Option NamedTrajectory)) (a b k : ℕ) : Type 0 where
+pub record LoseSeparation (rules : Rules) (places : List (Option NamedTrajectory)) (a b k : ℕ) : Type 0 where
   pub left : NamedTrajectory
   pub right : NamedTrajectory
   pub left_is : at places a ≡ Some left
@@ -36,8 +36,8 @@ pub record Joins (edges : List Edge) (a b : ℕ) : Type 0 where
 -- The pairs of the places: no others, each once, and each two places with a loss second have one.
 pub record AreKept (rules : Rules) (places : List (Option NamedTrajectory)) (edges : List Edge) : Type 0 where
   pub sound : (e : Edge) → Contains edges e → IsPair rules places e
-  pub complete : (a b k : ℕ) → a < b → Loses rules places a b k → Joins edges a b
-  pub once : AreApart edges
+  pub complete : (a b k : ℕ) → a < b → LoseSeparation rules places a b k → Joins edges a b
+  pub once : AreDistinctPairs edges
 
 -- one of its ends is that place
 abbrev pub Touches : ℕ → Edge → Type 0

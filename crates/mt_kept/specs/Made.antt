@@ -14,7 +14,7 @@ use Rattle.mt_kept.specs.declared.finds.Candidate.{Candidate}
 use Rattle.mt_kept.specs.declared.finds.Verdict.{Verdict}
 use Rattle.mt_kept.specs.declared.finds.Verdict.TheVariants.{Unknown, Known}
 use Rattle.mt_kept.specs.declared.open_pair.OpenPair.{OpenPair}
-use Rattle.mt_kept.specs.Finds.{IsOther}
+use Rattle.mt_kept.specs.Finds.{IsOfOtherFlight}
 use Rattle.mt_kept.specs.Losing.{AvoidsSlot}
 use Rattle.mt_kept.specs.Places.{horizon, slot_of}
 use Rattle.mt_base.specs.Tally.{raised_by}
@@ -24,15 +24,15 @@ use Rattle.mt_kept.specs.Window.{IsFoundOf, IsOpen, edge_of, straddles}
 abbrev pub is_lasting : ℕ → Edge → Bool
 is_lasting now e = nat_le now e.last
 
-abbrev pub is_open : ℕ → Edge → Bool
-is_open now e = nat_lt e.first (window_end now) && nat_le now e.last
+abbrev pub is_open_pair : ℕ → Edge → Bool
+is_open_pair now e = nat_lt e.first (window_end now) && nat_le now e.last
 
-abbrev pub is_closed : ℕ → Edge → Bool
-is_closed now e = not (is_open now e)
+abbrev pub is_closed_pair : ℕ → Edge → Bool
+is_closed_pair now e = not (is_open_pair now e)
 
 -- of an open pair: that it is open, that no end is a place of that slot, that some end is, that one end is that place
 abbrev pub opens : ℕ → OpenPair → Bool
-opens now o = is_open now o.edge
+opens now o = is_open_pair now o.edge
 
 abbrev pub avoids : ℕ → OpenPair → Bool
 avoids slot o = not (slot_of o.edge.a == slot) && not (slot_of o.edge.b == slot)
@@ -77,9 +77,9 @@ IsKnownAs Unknown span = ⊤
 IsKnownAs (Known known) span = span ≡ known
 
 -- one test where nothing is known
-abbrev pub unknown : Verdict → ℕ
-unknown Unknown = 1
-unknown (Known span) = 0
+abbrev pub tests_if_unknown : Verdict → ℕ
+tests_if_unknown Unknown = 1
+tests_if_unknown (Known span) = 0
 
 -- the pair between two places, the lesser first, with that span
 abbrev pub IsEdgeBetween : ℕ → ℕ → Edge → Type 0
@@ -95,8 +95,8 @@ pub record IsFind (rules : Rules) (now place other_place : ℕ) (mine other : Na
   pub shown : IsOpen now o.edge → IsFoundOf rules now mine other o.conflict
 
 -- what one candidate adds to the finds: nothing, where it never loses separation, or one find
-abbrev pub IsAdded : Rules → ℕ → ℕ → ℕ → NamedTrajectory → NamedTrajectory → List OpenPair → List OpenPair → Type 0
-IsAdded rules now place other_place mine other old new =
+abbrev pub IsFindAdded : Rules → ℕ → ℕ → ℕ → NamedTrajectory → NamedTrajectory → List OpenPair → List OpenPair → Type 0
+IsFindAdded rules now place other_place mine other old new =
     ((new ≡ old) × ((k : ℕ) → k < horizon → ¬ IsLossSecond rules mine.path other.path k))
     ⊎ ((o : OpenPair) × IsFind rules now place other_place mine other o × (new ≡ old ++ o ∷ []))
 
@@ -104,5 +104,5 @@ IsAdded rules now place other_place mine other old new =
 abbrev pub IsAddedAt : Rules → ℕ → List (Option NamedTrajectory) → ℕ → NamedTrajectory → Candidate → List OpenPair → List OpenPair
     → Type 0
 IsAddedAt rules now places place mine x old new =
-    ((new ≡ old) × ((other : NamedTrajectory) → ¬ IsOther places place mine x.place other))
-    ⊎ ((other : NamedTrajectory) × IsOther places place mine x.place other × IsAdded rules now place x.place mine other old new)
+    ((new ≡ old) × ((other : NamedTrajectory) → ¬ IsOfOtherFlight places place mine x.place other))
+    ⊎ ((other : NamedTrajectory) × IsOfOtherFlight places place mine x.place other × IsFindAdded rules now place x.place mine other old new)

@@ -31,7 +31,7 @@ IsFoundOf rules now left right (Some c) = IsOf rules now left right c ⊎ IsOf r
 IsFoundOf rules now left right None = (k : ℕ) → now ≤ k → k < window_end now → ¬ IsLossSecond rules left.path right.path k
 
 -- what the two places of a pair show in the window
-pub record IsShown (rules : Rules) (places : List (Option NamedTrajectory)) (now : ℕ) (e : Edge) (shown : Option Conflict) : Type 0 where
+pub record ShowsInWindow (rules : Rules) (places : List (Option NamedTrajectory)) (now : ℕ) (e : Edge) (shown : Option Conflict) : Type 0 where
   pub left : NamedTrajectory
   pub right : NamedTrajectory
   pub left_is : at places e.a ≡ Some left
@@ -45,7 +45,7 @@ edge_of o = o.edge
 pub record AreOpen (rules : Rules) (places : List (Option NamedTrajectory)) (now : ℕ) (edges : List Edge)
     (open_pairs : List OpenPair) : Type 0 where
   pub sound : (o : OpenPair) → Contains open_pairs o
-      → Contains edges o.edge × IsOpen now o.edge × IsShown rules places now o.edge o.conflict
+      → Contains edges o.edge × IsOpen now o.edge × ShowsInWindow rules places now o.edge o.conflict
   pub complete : (e : Edge) → Contains edges e → IsOpen now e → Contains (map edge_of open_pairs) e
   pub distinct : AllPairs (λ o p. o.edge ≢ p.edge) open_pairs
 

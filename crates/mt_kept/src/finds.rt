@@ -5,8 +5,8 @@ ghost use Rattle.mt_base.specs.Bounds.{AreWithinBounds};
 ghost use Rattle.mt_base.specs.Conflict.{IsConflict, IsSpanOfLoss};
 ghost use Rattle.mt_base.specs.Picture.{NamedTrajectory};
 ghost use Rattle.mt_track.specs.Named.{named};
-ghost use Rattle.mt_kept.specs.Finds.{Agree, AreCandidates, AreFindsAt, IsOther, IsRight, cost, cost_of};
-ghost use Rattle.mt_kept.specs.Made.{IsAdded, IsAddedAt, IsEdgeOf, IsKnownAs, unknown};
+ghost use Rattle.mt_kept.specs.Finds.{Agree, AreCandidates, AreFindsAt, IsOfOtherFlight, IsRight, cost, cost_of};
+ghost use Rattle.mt_kept.specs.Made.{IsFindAdded, IsAddedAt, IsEdgeOf, IsKnownAs, tests_if_unknown};
 ghost use Rattle.mt_kept.specs.Places.{horizon, seen};
 ghost use Rattle.mt_base.specs.Tally.{RoseUpTo, raised_by};
 ghost use Rattle.mt_kept.specs.Window.{IsFoundOf, IsOpen, straddles};
@@ -52,7 +52,7 @@ fn whole(
     requires known { IsRight rules.now (named item.now) (named other.now) verdict }
     ensures is { IsConflict rules.now (named item.now).path (named other.now).path 0 horizon result }
     ensures same { IsKnownAs verdict result }
-    ensures counted { tests.new ≡ raised_by (unknown verdict) tests.old }
+    ensures counted { tests.new ≡ raised_by (tests_if_unknown verdict) tests.old }
 {
     match verdict {
         Verdict::Unknown => lose(&item.strand, &other.strand, rules, 0, HORIZON, tests),
@@ -96,7 +96,7 @@ fn shown_if_open(
     }
 }
 
-/// Puts behind the finds what is found for a new item and one of another flight.
+/// Puts after the finds what is found for a new item and one of another flight.
 fn add_find(
     finds: &mut Vec<OpenPair>,
     place: u32,
@@ -112,7 +112,7 @@ fn add_find(
     requires elsewhere { candidate.place ≢ place }
     requires apart { item.now.call ≢ other.now.call }
     requires known { IsRight rules.now (named item.now) (named other.now) candidate.verdict }
-    ensures added { OnOk result (IsAdded rules.now now place candidate.place (named item.now) (named other.now) finds.old.items finds.new.items) }
+    ensures added { OnOk result (IsFindAdded rules.now now place candidate.place (named item.now) (named other.now) finds.old.items finds.new.items) }
     ensures counted { RoseUpTo (cost_of now candidate.verdict) tests.old tests.new }
 {
     let Some(span) = whole(item, other, candidate.verdict, rules, tests) else {
@@ -136,7 +136,7 @@ fn add_candidate(
 ) -> Result<(), Memory>
     requires rules_kept { AreWithinBounds rules.now }
     requires early { now ≤ 10000000 }
-    requires right { (other : NamedTrajectory) → IsOther (map seen places.now) place (named item.now) candidate.place other
+    requires right { (other : NamedTrajectory) → IsOfOtherFlight (map seen places.now) place (named item.now) candidate.place other
         → IsRight rules.now (named item.now) other candidate.verdict }
     ensures added { OnOk result (IsAddedAt rules.now now (map seen places.now) place (named item.now) candidate finds.old.items finds.new.items) }
     ensures counted { RoseUpTo (cost (map seen places.now) place item.now.call now candidate) tests.old tests.new }

@@ -2,10 +2,10 @@ ghost use Rattle.std.specs.Prelude.{◌≡◌, ◌+◌, ◌*◌, ◌<◌, ◌≤
 ghost use Rattle.std.specs.List.{sum_by};
 ghost use Rattle.mt_base.specs.Bounds.{AreWithinBounds};
 ghost use Rattle.mt_base.specs.Picture.{IsPublishedOf, NamedTrajectory};
-ghost use Rattle.mt_edges.specs.Pairs.{AreApart, AreSame, IsEdge};
+ghost use Rattle.mt_edges.specs.Pairs.{AreDistinctPairs, HaveSameEnds, IsEdge};
 ghost use Rattle.mt_track.specs.Named.{named};
 ghost use Rattle.mt_kept.specs.Dropped.{WereStepsOf};
-ghost use Rattle.mt_kept.specs.Finds.{Agree, AreCandidates, AreFinds, AreFindsAt, cost};
+ghost use Rattle.mt_kept.specs.Finds.{Agree, AreCandidates, AreFindsOfSlot, AreFindsAt, cost};
 ghost use Rattle.mt_kept.specs.Losing.{TouchesSlot};
 ghost use Rattle.mt_kept.specs.Made.{AreReplaced, WereDropped};
 ghost use Rattle.mt_kept.specs.Places.{HaveOwnSlots, held, seen, with_slot};
@@ -37,14 +37,14 @@ pub struct Kept {
 
 impl Model for Kept {
     ghost use Rattle.std.specs.Prelude.{map};
-    ghost use Rattle.mt_kept.specs.Kept.{IsKept, Watched};
+    ghost use Rattle.mt_kept.specs.Kept.{ArePairsKept, Watched};
     ghost use Rattle.mt_kept.specs.Places.{seen};
 
     ghost Value = { Watched };
 
     ghost view = { λ k. record { rules = k.rules; moment = k.moment; places = map seen k.places.items; published = k.published.conflicts } };
 
-    ghost invariant = { λ k. IsKept k.rules k.moment (map seen k.places.items) k.pairs.edges k.pairs.ends k.open_pairs.items k.published.conflicts };
+    ghost invariant = { λ k. ArePairsKept k.rules k.moment (map seen k.places.items) k.pairs.edges k.pairs.ends k.open_pairs.items k.published.conflicts };
 }
 
 /// Takes the pairs of a slot out and puts the found ones in. It takes no memory.
@@ -54,9 +54,9 @@ fn replace_pairs(pairs: &mut Edges, slot: u32, finds: &[OpenPair], steps: &mut S
     requires room { length finds.now ≤ pairs.old.spare }
     requires touching { All (λ o. TouchesSlot slot o.edge) finds.now }
     requires sound { All (λ o. IsEdge pairs.old.ends o.edge) finds.now }
-    requires distinct { AllPairs (λ o p. ¬ AreSame o.edge p.edge) finds.now }
+    requires distinct { AllPairs (λ o p. ¬ HaveSameEnds o.edge p.edge) finds.now }
     ensures replaced { AreReplaced slot finds.now pairs.old.edges pairs.new.edges }
-    ensures once { AreApart pairs.new.edges }
+    ensures once { AreDistinctPairs pairs.new.edges }
     ensures ends { pairs.new.ends ≡ pairs.old.ends }
     ensures steps { WereDropped slot pairs.old.edges steps.old steps.new }
 {
@@ -170,7 +170,7 @@ impl Kept {
     ) -> Result<(), Memory>
         requires slot { 2 * slot + 1 < length self.old.places }
         requires own { HaveOwnSlots (with_slot self.old.places slot (seen first) (seen second)) }
-        requires finds { AreFinds self.old.rules (with_slot self.old.places slot (seen first) (seen second)) self.old.moment slot finds.now }
+        requires finds { AreFindsOfSlot self.old.rules (with_slot self.old.places slot (seen first) (seen second)) self.old.moment slot finds.now }
         ensures rules { self.new.rules ≡ self.old.rules }
         ensures moment { self.new.moment ≡ self.old.moment }
         ensures ok { OnOk result (self.new.places ≡ with_slot self.old.places slot (seen first) (seen second)) }

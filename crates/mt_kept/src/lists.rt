@@ -1,6 +1,6 @@
 //! Which pairs a change and a move keep.
-ghost use Rattle.std.specs.Prelude.{◌≡◌, ◌++◌, ◌+◌, ◌≤◌, length, map, filter, IfOk, OnOk, vec_len, vec_capacity};
-ghost use Rattle.mt_kept.specs.Made.{avoids, is_closed, is_lasting, opens, quiet, touches_place};
+ghost use Rattle.std.specs.Prelude.{◌≡◌, ◌++◌, ◌+◌, ◌≤◌, map, filter, IfOk, OnOk, vec_len, vec_capacity};
+ghost use Rattle.mt_kept.specs.Made.{avoids, is_closed_pair, is_lasting, opens, quiet, touches_place};
 ghost use Rattle.mt_kept.specs.Window.{edge_of};
 
 use crate::open_pair::{OpenPair, is_open};
@@ -21,7 +21,7 @@ pub(crate) fn lasting(alloc: Global, pairs: &[OpenPair], now: Second) -> Result<
     Ok(edges)
 }
 
-/// Puts behind some pairs those of others that don't end before `now`.
+/// Puts after some pairs those of others that don't end before `now`.
 pub(crate) fn add_lasting(edges: &mut Vec<Edge>, others: &[Edge], now: Second) -> Result<(), Memory>
     ensures { OnOk result (edges.new.items ≡ edges.old.items ++ filter (is_lasting now) others.now) }
 {
@@ -84,14 +84,14 @@ pub(crate) fn at_place(
     Ok(list)
 }
 
-/// Puts behind some open pairs those of others that are not open, and show nothing.
+/// Puts after some open pairs those of others that are not open, and show nothing.
 pub(crate) fn add_closed(
     pairs: &mut Vec<OpenPair>,
     edges: &[Edge],
     now: Second,
 ) -> Result<(), Memory>
     requires { now ≤ 10000000 }
-    ensures { OnOk result (pairs.new.items ≡ pairs.old.items ++ map quiet (filter (is_closed now) edges.now)) }
+    ensures { OnOk result (pairs.new.items ≡ pairs.old.items ++ map quiet (filter (is_closed_pair now) edges.now)) }
 {
     for edge in edges {
         if !is_open(edge, now) {

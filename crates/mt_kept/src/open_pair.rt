@@ -1,6 +1,6 @@
 //! A pair of places, and whether it is open.
 ghost use Rattle.std.specs.Prelude.{◌≡◌, ◌++◌, ◌∷◌, [], ◌≤◌, OnOk};
-ghost use Rattle.mt_kept.specs.Made.{is_open};
+ghost use Rattle.mt_kept.specs.Made.{is_open_pair};
 ghost use Rattle.mt_kept.specs.Window.{straddles};
 
 use mt_base::{Conflict, Memory, Second};
@@ -21,7 +21,7 @@ pub struct OpenPair {
 /// Whether the pair's span meets the window from `now`.
 pub(crate) fn is_open(edge: &Edge, now: Second) -> bool
     requires { now ≤ 10000000 }
-    ensures { result ≡ is_open now edge.now }
+    ensures { result ≡ is_open_pair now edge.now }
 {
     edge.first < now + WINDOW && now <= edge.last
 }
@@ -35,7 +35,7 @@ pub(crate) fn is_straddling(edge: &Edge, now: Second) -> bool
     (edge.first < now && now <= edge.last) || (edge.first < end && end <= edge.last)
 }
 
-/// Puts a pair behind the others.
+/// Puts a pair after the others.
 pub(crate) fn push_pair(
     pairs: &mut Vec<OpenPair>,
     edge: Edge,

@@ -1,14 +1,14 @@
 //! What pairs show in the window.
-ghost use Rattle.std.specs.Prelude.{◌≡◌, ◌≢◌, ◌+◌, ◌<◌, ◌≤◌, ◌↔◌, ◌⊎◌, length, map, filter, All, Contains, IfOk, Some, if◌then◌else◌};
+ghost use Rattle.std.specs.Prelude.{◌≡◌, ◌≢◌, ◌+◌, ◌<◌, ◌≤◌, ◌↔◌, ◌⊎◌, map, filter, All, Contains, IfOk, Some, if◌then◌else◌};
 ghost use Rattle.mt_base.specs.declared.conflict.Conflict.{Conflict};
 ghost use Rattle.mt_base.specs.Bounds.{AreWithinBounds};
 ghost use Rattle.mt_base.specs.Conflict.{IsSpanOfLoss};
 ghost use Rattle.mt_track.specs.Named.{named};
 ghost use Rattle.mt_kept.specs.Losing.{IsPair};
-ghost use Rattle.mt_kept.specs.Made.{IsInOrder, WereTested, conflict_of, meets, opens};
+ghost use Rattle.mt_kept.specs.Made.{IsInOrder, WereTested, conflict_of, meets};
 ghost use Rattle.mt_kept.specs.Places.{horizon, seen};
 ghost use Rattle.mt_base.specs.Tally.{raised_by};
-ghost use Rattle.mt_kept.specs.Window.{IsFoundOf, IsOpen, IsShown, Shows, edge_of, straddles};
+ghost use Rattle.mt_kept.specs.Window.{IsFoundOf, IsOpen, ShowsInWindow, Shows, edge_of, straddles};
 
 use crate::conflict_list::ConflictList;
 use crate::lists::is_elsewhere;
@@ -83,7 +83,7 @@ fn shown(
     requires early { now ≤ 10000000 }
     requires pair { IsPair rules.now (map seen places.now) edge.now }
     requires opened { IsOpen now edge.now }
-    ensures shown { IsShown rules.now (map seen places.now) now edge.now result }
+    ensures shown { ShowsInWindow rules.now (map seen places.now) now edge.now result }
     ensures counted { tests.new ≡ raised_by (if straddles now edge.now then 1 else 0) tests.old }
 {
     let Some(left) = &places[edge.a as usize] else {
@@ -108,7 +108,7 @@ pub(crate) fn opened(
     requires early { now ≤ 10000000 }
     requires pairs { All (λ e. IsPair rules.now (map seen places.now) e × IsOpen now e) edges.now }
     ensures same { IfOk result (λ pairs. map edge_of pairs.items ≡ edges.now) }
-    ensures shown { IfOk result (λ pairs. All (λ o. IsShown rules.now (map seen places.now) now o.edge o.conflict) pairs.items) }
+    ensures shown { IfOk result (λ pairs. All (λ o. ShowsInWindow rules.now (map seen places.now) now o.edge o.conflict) pairs.items) }
     ensures counted { WereTested now edges.now tests.old tests.new }
 {
     let mut pairs = Vec::new(alloc);

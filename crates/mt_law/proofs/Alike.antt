@@ -9,18 +9,18 @@ use Rattle.mt_base.specs.declared.flight.Record.{Record}
 use Rattle.mt_base.specs.declared.hit.Hit.{Hit}
 use Rattle.mt_base.specs.History.{bare_path, changed}
 use Rattle.mt_base.specs.Picture.{IsPublished, IsPublishedOf, NamedTrajectory, State}
-use Rattle.mt_base.specs.StrikeOut.{AreAlike, AreConflictsFlown, AreSame, all_flown, flown_by, without}
+use Rattle.mt_base.specs.StrikeOut.{AreAlike, AreConflictsFlown, AreSameButVersions, all_flown, flown_by, without}
 use Rattle.mt_base.specs.Tables.{Setup}
 use Rattle.mt_base.specs.Trajectory.{Trajectory}
 use Rattle.mt_base.specs.WhatIf.{IsWhatIf}
 use Rattle.mt_law.proofs.Hits.{flown_bare, what_if_same}
 
 -- the same states but for their versions, at one version
-pub at_one_version : (s t : State) (v : ℕ) → AreSame s t → record s { version = v } ≡ record t { version = v }
+pub at_one_version : (s t : State) (v : ℕ) → AreSameButVersions s t → record s { version = v } ≡ record t { version = v }
 at_one_version s t v same = ap (λ (now : ℕ). record s { now = now; version = v }) same.now
     ∙ ap (λ (rs : List Record). record t { records = rs; version = v }) same.records
 
-same_back : (s t : State) → AreSame s t → AreSame t s
+same_back : (s t : State) → AreSameButVersions s t → AreSameButVersions t s
 same_back s t same = record { now = sym same.now; records = sym same.records }
 
 -- what is answered in a state is answered in one that is alike
@@ -49,12 +49,12 @@ flown_alike setup call s t alike =
     sym (flown_of_bare setup call s.records) ∙ ap (map (flown_by setup)) alike.records ∙ flown_of_bare setup call t.records
 
 -- what is published, and the conflicts of the trajectories that are flown
-published_over : (setup : Setup) (s t : State) (cs : List Conflict) → AreSame s t → IsPublished setup s cs → IsPublished setup t cs
+published_over : (setup : Setup) (s t : State) (cs : List Conflict) → AreSameButVersions s t → IsPublished setup s cs → IsPublished setup t cs
 published_over setup s t cs same published = subst (λ (u : State). IsPublished setup u cs) (at_one_version s t t.version same) (of_version published) where
   of_version : IsPublished setup s cs → IsPublished setup (record s { version = t.version }) cs
   of_version h = h
 
-pub published_same : (setup : Setup) (s t : State) (cs : List Conflict) → AreSame s t → IsPublished setup s cs ↔ IsPublished setup t cs
+pub published_same : (setup : Setup) (s t : State) (cs : List Conflict) → AreSameButVersions s t → IsPublished setup s cs ↔ IsPublished setup t cs
 published_same setup s t cs same = (published_over setup s t cs same, published_over setup t s cs (same_back s t same))
 
 conflicts_over : (setup : Setup) (call : List ℕ) (s t : State) (cs : List Conflict) → AreAlike call s t → AreConflictsFlown setup s cs

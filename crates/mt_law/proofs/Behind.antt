@@ -15,7 +15,7 @@ use Rattle.mt_base.specs.Checks.{judged}
 use Rattle.mt_base.specs.Cleared.{aim_checks, is_below_ceiling}
 use Rattle.mt_base.specs.History.{HasHits, IsDecided, Look, call_of, checks, effect, filled, has_history, has_room, judge, now_after, owner_of, records_after, route_checks}
 use Rattle.mt_base.specs.Picture.{State, flight_of, trajectory_of}
-use Rattle.mt_base.specs.StrikeOut.{AreSame, entry_renumbered, renumbered}
+use Rattle.mt_base.specs.StrikeOut.{AreSameButVersions, entry_renumbered, renumbered}
 use Rattle.mt_base.specs.Tables.{Setup}
 use Rattle.mt_base.specs.WhatIf.{course_in, mark_in, what_if_checks}
 use Rattle.mt_base.proofs.CheckLemmas.{answer_is}
@@ -118,10 +118,10 @@ hits_named setup s m lower c h = h
 
 -- Two states are the same, but that the second may have fewer entries.
 pub record IsBehind (s t : State) : Type 0 where
-  pub same : AreSame s t
+  pub same : AreSameButVersions s t
   pub fewer : t.version ≤ s.version
 
-state_is : (s t : State) → AreSame s t → record s { version = t.version } ≡ t
+state_is : (s t : State) → AreSameButVersions s t → record s { version = t.version } ≡ t
 state_is s t same = ap (λ (now : ℕ). record s { now = now; version = t.version }) same.now
     ∙ ap (λ (rs : List Record). record t { records = rs }) same.records
 

@@ -43,7 +43,7 @@ count_none call (r ∷ rs) none = step (bytes_eq r.call call) (count_none call r
   step true rest none = cc
   step false rest none = let zero_is = rest none in omega arith
 
--- a flight filed behind others
+-- a flight filed after others
 pub count_filed : (call : List ℕ) (rs : List Record) (r : Record) → count_of call rs ≤ 1 → is_some (flight_of rs r.call) ≡ false
     → count_of call (rs ++ r ∷ []) ≤ 1
 count_filed call rs r most none = step (bytes_eq r.call call) refl where

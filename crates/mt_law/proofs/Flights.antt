@@ -43,7 +43,7 @@ found_other call own f (r ∷ rs) apart = step (bytes_eq r.call call) refl (byte
 abbrev pub HasMark : List ℕ → List Record → Type 0
 HasMark call rs = is_some (mark_in (flight_of rs call)) ≡ true
 
--- A flight keeps its tentative clearance: where one that has none is filed behind,
+-- A flight keeps its tentative clearance: where one that has none is filed after it,
 pub mark_filed : (call : List ℕ) (rs : List Record) (x : Record) → mark_on x.path ≡ None
     → mark_in (flight_of (rs ++ x ∷ []) call) ≡ mark_in (flight_of rs call)
 mark_filed call [] x none = step (bytes_eq x.call call) where

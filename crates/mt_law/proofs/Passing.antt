@@ -32,7 +32,7 @@ pub none_is : (b : Bool) → not b ≡ true → b ≡ false
 none_is true e = cc
 none_is false e = refl
 
--- the checks behind others, and others in their place
+-- the checks after others, and others in their place
 pub pass_behind : {F : Type 0} (front back : List (F × Bool)) → Pass (front ++ back) → Pass back
 pass_behind [] back pass = pass
 pass_behind (c ∷ cs) back pass = pass_behind cs back pass.1

@@ -12,7 +12,7 @@ use Rattle.mt_base.specs.declared.conflict.Conflict.{Conflict}
 use Rattle.mt_base.specs.declared.hit.Hit.{Hit}
 use Rattle.mt_base.specs.History.{IsDecided, IsLegal, effect, state_of}
 use Rattle.mt_base.specs.Picture.{IsPublished, State}
-use Rattle.mt_base.specs.StrikeOut.{AreAlike, AreConflictsFlown, AreSame, Withdrawn, all_flown, ended, ended_at, ended_by, entry_renumbered, history_of, lowered_in, made, made_at, renumbered, state_at, strike_out, struck_state_at}
+use Rattle.mt_base.specs.StrikeOut.{AreAlike, AreConflictsFlown, AreSameButVersions, Withdrawn, all_flown, ended, ended_at, ended_by, entry_renumbered, history_of, lowered_in, made, made_at, renumbered, state_at, strike_out, struck_state_at}
 use Rattle.mt_base.specs.Tables.{Setup}
 use Rattle.mt_base.specs.WhatIf.{IsWhatIf}
 use Rattle.mt_base.proofs.HistoryLemmas.{legal_prefix, state_of-push}
@@ -158,7 +158,7 @@ module _ (setup : Setup) (w : Withdrawn) (legal : IsLegal setup (history_of w)) 
   pub legal_left : IsLegal setup (strike_out w)
   legal_left = kept.0.legal
 
-  pub same_state : AreSame (state_of setup (history_of w)) (state_of setup (strike_out w))
+  pub same_state : AreSameButVersions (state_of setup (history_of w)) (state_of setup (strike_out w))
   same_state = kept.1.same
 
   pub published_left : (cs : List Conflict) → IsPublished setup (state_of setup (history_of w)) cs ↔ IsPublished setup (state_of setup (strike_out w)) cs

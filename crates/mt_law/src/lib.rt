@@ -21,7 +21,7 @@ ghost use Rattle.mt_base.specs.declared.rules.Rules.{Rules};
 ghost use Rattle.mt_base.specs.History.{IsDecided, IsLegal, IsReplayable, state_of};
 ghost use Rattle.mt_base.specs.Loss.{LosesAt};
 ghost use Rattle.mt_base.specs.Picture.{IsPublished, State};
-ghost use Rattle.mt_base.specs.StrikeOut.{AreAlike, AreConflictsFlown, AreSame, Withdrawn, all_flown, ended_at, handled_by, history_of, state_at, strike_out, struck_state_at, withdrawal, without};
+ghost use Rattle.mt_base.specs.StrikeOut.{AreAlike, AreConflictsFlown, AreSameButVersions, Withdrawn, all_flown, ended_at, handled_by, history_of, state_at, strike_out, struck_state_at, withdrawal, without};
 ghost use Rattle.mt_base.specs.Tables.{Setup};
 ghost use Rattle.mt_base.specs.WhatIf.{IsWhatIf};
 ghost use Rattle.mt_law.specs.OneMinimum.{LosesByOneAt};
@@ -38,7 +38,7 @@ use mt_base::history_laws;
 pub fn strike_out_law()
     ensures legal { (setup : Setup) (w : Withdrawn) → IsLegal setup (history_of w) → IsLegal setup (strike_out w) }
     ensures state { (setup : Setup) (w : Withdrawn) → IsLegal setup (history_of w)
-        → AreSame (state_of setup (history_of w)) (state_of setup (strike_out w)) }
+        → AreSameButVersions (state_of setup (history_of w)) (state_of setup (strike_out w)) }
     ensures published { (setup : Setup) (w : Withdrawn) (cs : List Conflict) → IsLegal setup (history_of w)
         → IsPublished setup (state_of setup (history_of w)) cs ↔ IsPublished setup (state_of setup (strike_out w)) cs }
     ensures alike { (setup : Setup) (w : Withdrawn) (version : ℕ) → IsLegal setup (history_of w) → version ≤ length (history_of w)

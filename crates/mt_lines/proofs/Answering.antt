@@ -2,7 +2,7 @@
 use Rattle.std.proofs.Common.{◌≡◌, ◌≤◌, ◌^◌, ℕ, Bool, true, false, List, [], ◌∷◌, ◌++◌, length, refl, sym, subst, append_assoc, append-nil, arith}
 use Rattle.std.specs.declared.option.Option.{Option}
 use Rattle.std.specs.Io.KnownBytes.{Appends}
-use Rattle.mt_io.specs.Reading.{Reading, Takes, IsDone, IsStopped, IsFaultAt, fresh}
+use Rattle.mt_io.specs.Reading.{Reading, TakesLine, IsAllGiven, IsStopped, IsFaultAt, fresh}
 use Rattle.mt_io.specs.Writing.{AppendsFront}
 use Rattle.mt_io.specs.declared.line.LineFault.{LineFault}
 use Rattle.mt_io.specs.declared.line.LineFault.TheVariants as faults
@@ -77,7 +77,7 @@ module _ {W R : Type 0} (text : R → List ℕ) (is_last : R → Bool) (IsReplie
   module _ (start : W) (before now after held held_now held_after : Option (List ℕ)) (reader new : Reading) (w : W) where
     module _ (middle : W) (line : List ℕ) (reply : R) where
       -- a line was answered, and what follows was done
-      pub goes_on : (next : W) → Runs start before now held held_now reader w → Takes reader new now after line → IsReplied w line reply middle
+      pub goes_on : (next : W) → Runs start before now held held_now reader w → TakesLine reader new now after line → IsReplied w line reply middle
           → is_last reply ≡ false → Appends held_now held_after (text reply) → IsFollowed w line reply middle next
           → Runs start before after held held_after new next
       goes_on next so_far takes replied goes sent followed = record {
@@ -90,7 +90,7 @@ module _ {W R : Type 0} (text : R → List ℕ) (is_last : R → Bool) (IsReplie
       }
 
       -- the line that ends the run was answered
-      pub ends_at : Runs start before now held held_now reader w → Takes reader new now after line → IsReplied w line reply middle
+      pub ends_at : Runs start before now held held_now reader w → TakesLine reader new now after line → IsReplied w line reply middle
           → is_last reply ≡ true → Appends held_now held_after (text reply)
           → Explains (λ input left written. AnswersToLast text is_last IsReplied IsFollowed start input left written middle) before after held held_after
       ends_at so_far takes replied ends sent =
@@ -118,7 +118,7 @@ module _ {W R : Type 0} (text : R → List ℕ) (is_last : R → Bool) (IsReplie
           }
 
       -- the output failed while a reply was written
-      pub cut_at : Runs start before now held held_now reader w → Takes reader new now after line → IsReplied w line reply middle
+      pub cut_at : Runs start before now held held_now reader w → TakesLine reader new now after line → IsReplied w line reply middle
           → AppendsFront held_now held_after (text reply)
           → Explains (λ input left written. AnswersFront text is_last IsReplied IsFollowed start input left written middle) before after held held_after
       cut_at so_far takes replied (front, rest, text_is, sent) =
@@ -148,7 +148,7 @@ module _ {W R : Type 0} (text : R → List ℕ) (is_last : R → Bool) (IsReplie
           }
 
     -- the input ended
-    pub ended : Runs start before now held held_now reader w → IsDone reader new now after
+    pub ended : Runs start before now held held_now reader w → IsAllGiven reader new now after
         → Explains (λ input left written. AnswersAll text is_last IsReplied IsFollowed start input left written w) before after held held_now
     ended so_far done =
         let all = read_all before now after reader new so_far.lines so_far.taken so_far.read done in

@@ -5,7 +5,7 @@ use Rattle.std.proofs.lemmas.List.{drop-append-le, take-append-le}
 use Rattle.std.proofs.Math.Seq.{drop-append_seam, take-append_seam}
 use Rattle.std.specs.declared.option.Option.{Option}
 use Rattle.mt_io.specs.HasRead.{AreRead}
-use Rattle.mt_io.specs.Reading.{Reading, Takes}
+use Rattle.mt_io.specs.Reading.{Reading, TakesLine}
 use Rattle.mt_io.proofs.HasRead.{are_read, read_more, told}
 use Rattle.mt_lines.specs.Answering.{AnswersFront, AnswersToLast, AreReplied, AreRepliedTo, Explains, SoFar}
 use Rattle.mt_lines.proofs.Fronts.{first_read}
@@ -26,7 +26,7 @@ between xs ys us vs same le =
       rest_is = sym (drop-append_seam us vs) ∙ ap (λ zs. drop (length us) zs) (sym same) ∙ drop-append-le (length us) xs ys le;
     }
 
--- something stands behind the first cut
+-- something stands after the first cut
 left_behind : (xs ys us vs : List ℕ) (cut : Between xs ys us vs) → length us < length xs → 0 < length vs
 left_behind xs ys us vs cut longer = omega (arith, longer, ap length cut.front_is, length-append us cut.bytes, ap length cut.rest_is, length-append cut.bytes ys)
 
@@ -186,7 +186,7 @@ module _ {W R : Type 0} (text : R → List ℕ) (is_last : R → Bool) (IsReplie
 
     -- the output failed when one line more had been answered
     pub cut_behind : (after : Option (List ℕ)) (new : Reading) (all written rest line : List ℕ) (reply : R) (end : W)
-        → Runs start before now (Some []) (Some all) reader w → Takes reader new now after line → IsReplied w line reply end
+        → Runs start before now (Some []) (Some all) reader w → TakesLine reader new now after line → IsReplied w line reply end
         → all ++ text reply ≡ written ++ rest
         → Explains (AnswersSomeFront start) before after (Some []) (Some written)
     cut_behind after new all written rest line reply end so_far takes replied is =

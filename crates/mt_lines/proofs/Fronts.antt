@@ -1,4 +1,4 @@
--- Bytes whose first lines are known, cut behind these.
+-- Bytes whose first lines are known, cut after these.
 use Rattle.std.proofs.Common.{◌≡◌, ◌<◌, ◌==◌, ◌⊎◌, ℕ, Bool, true, false, List, [], ◌∷◌, ◌++◌, length, refl, sym, ◌∙◌, ap, inl, arith, append_assoc, append-nil, length-append, if◌then◌else◌, ⊎_elim}
 use Rattle.std.proofs.lemmas.Bool.Decides.{nat_tests}
 use Rattle.std.specs.List.{onto_first}

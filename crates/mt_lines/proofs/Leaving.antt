@@ -1,4 +1,4 @@
--- What is written of bytes that wait and of a text behind them.
+-- What is written of bytes that wait and of a text after them.
 use Rattle.std.proofs.Common.{◌≡◌, ℕ, List, [], ◌++◌, sym, ◌∙◌, ap, append_assoc, append-nil}
 use Rattle.std.specs.declared.option.Option.{Option}
 use Rattle.std.specs.Io.KnownBytes.{Appends}

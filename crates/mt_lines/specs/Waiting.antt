@@ -12,14 +12,14 @@ use Rattle.mt_write.specs.Reply.{reply_text}
 abbrev pub LeavesWaiting : Option (List ℕ) → Option (List ℕ) → List ℕ → List ℕ → Type 0
 LeavesWaiting before after bytes waits = (front : List ℕ) × (bytes ≡ front ++ waits) × Appends before after front
 
--- What is written and what waits after a text was put behind what waited: it, and whether it was the last one is answered; or a front of it all was
+-- What is written and what waits after a text was put after what waited: it, and whether it was the last one is answered; or a front of it all was
 -- written, where the output failed, and the rest is lost.
-abbrev pub Puts : List ℕ → Bool → Result Bool WriteFault → List ℕ → List ℕ → Option (List ℕ) → Option (List ℕ) → Type 0
-Puts text is_last (Ok ends) waited waits before after = LeavesWaiting before after (waited ++ text) waits × (is_last ≡ ends)
-Puts text is_last (Err fault) waited waits before after = AppendsFront before after (waited ++ text)
+abbrev pub PutsAfter : List ℕ → Bool → Result Bool WriteFault → List ℕ → List ℕ → Option (List ℕ) → Option (List ℕ) → Type 0
+PutsAfter text is_last (Ok ends) waited waits before after = LeavesWaiting before after (waited ++ text) waits × (is_last ≡ ends)
+PutsAfter text is_last (Err fault) waited waits before after = AppendsFront before after (waited ++ text)
 
--- a reply was given behind those that waited
-pub record GivesBehind (reply : Reply) (result : Result Bool WriteFault) (waited waits : List ℕ) (before after : Option (List ℕ)) : Type 0 where
+-- a reply was given after those that waited
+pub record GivesAfter (reply : Reply) (result : Result Bool WriteFault) (waited waits : List ℕ) (before after : Option (List ℕ)) : Type 0 where
   pub given : Reply
   pub given_for : IsGivenFor reply given
-  pub sent : Puts (reply_text given) (is_farewell given) result waited waits before after
+  pub sent : PutsAfter (reply_text given) (is_farewell given) result waited waits before after

@@ -4,7 +4,7 @@ ghost use Rattle.std.specs.Io.KnownBytes.{Appends};
 ghost use Rattle.mt_io.specs.Causes.{HasCause};
 ghost use Rattle.mt_io.specs.Writing.{AppendsFront};
 ghost use Rattle.mt_lines.specs.Fit.{IsFit};
-ghost use Rattle.mt_lines.specs.Waiting.{GivesBehind, LeavesWaiting};
+ghost use Rattle.mt_lines.specs.Waiting.{GivesAfter, LeavesWaiting};
 
 use crate::given_text::text_of;
 use mt_base::Memory;
@@ -36,8 +36,8 @@ impl Waiting {
         })
     }
 
-    /// Gives a reply behind those that wait: its text, or that of `memory` where a text that isn't brief finds none. Says whether it was the last
-    /// one. What waits is written where the text finds no room behind it, and a text that finds none at all is written then.
+    /// Gives a reply after those that wait: its text, or that of `memory` where a text that isn't brief finds none. Says whether it was the last
+    /// one. What waits is written where the text finds no room after it, and a text that finds none at all is written then.
     ///
     /// `WriteFault` comes only where the output's count of faults rose in this call, or stands at its last value; then a front of what waited and
     /// of the text was written. A reply that is brief is made in the room, which is to have 65,536 bytes: it wants no memory.
@@ -50,7 +50,7 @@ impl Waiting {
     ) -> Result<bool, WriteFault>
         requires room { 65536 ≤ vec_capacity room.old }
         requires fit { IsFit reply.now }
-        ensures given { GivesBehind reply.now result (waits self.old) (waits self.new) (K.held output.old) (K.held output.new) }
+        ensures given { GivesAfter reply.now result (waits self.old) (waits self.new) (K.held output.old) (K.held output.new) }
         ensures lost { OnErr result (waits self.new ≡ []) }
         ensures room { 65536 ≤ vec_capacity room.new }
         ensures cause { HasCause (K.faults output.old) (K.faults output.new) result }
@@ -79,7 +79,7 @@ impl Waiting {
         written
     }
 
-    // Puts a text behind what waits.
+    // Puts a text after what waits.
     fn put<K: Sink>(&mut self, text: &[u8], output: &mut K) -> Result<(), WriteFault>
         ensures ok { OnOk result (LeavesWaiting (K.held output.old) (K.held output.new) (waits self.old ++ text.now) (waits self.new)) }
         ensures err { OnErr result (AppendsFront (K.held output.old) (K.held output.new) (waits self.old ++ text.now)) }

@@ -10,7 +10,7 @@ use Rattle.mt_write.specs.declared.reply.Reply.TheVariants.{Advice}
 use Rattle.mt_script.proofs.Keeping.{kept_served}
 use Rattle.mt_world.specs.World.{IsServed, World, opening_world}
 use Rattle.mt_base.proofs.Cases.{on_either}
-use Rattle.mt_load.specs.Load.{AreAsked, EachDivided, IsAdviceTaken, IsAdvisedFlight, IsAsked, IsDroppedFlight, IsFirstAccepted, IsLoadRun}
+use Rattle.mt_load.specs.Load.{AreRequestsAnswered, EachDivided, IsAdviceTaken, IsAdvisedFlight, IsAsked, IsDroppedFlight, IsFirstAccepted, IsLoadRun}
 
 -- what is left of a world that has begun has begun
 by_same : (w end : World) → end ≡ w → w.begun ≡ true → end.begun ≡ true
@@ -22,7 +22,7 @@ by_served w next who request reply served begun = (kept_served w next who reply 
 by_asked : (w next : World) (who : ℕ) (request : Request) → IsAsked w who request next → w.begun ≡ true → next.begun ≡ true
 by_asked w next who request asked begun = by_served w next who request asked.reply asked.served begun
 
-by_all : (requests : List Request) (w end : World) (who : ℕ) → AreAsked w who requests end → w.begun ≡ true → end.begun ≡ true
+by_all : (requests : List Request) (w end : World) (who : ℕ) → AreRequestsAnswered w who requests end → w.begun ≡ true → end.begun ≡ true
 by_all [] w end who same begun = by_same w end same begun
 by_all (request ∷ requests) w end who (next, asked, rest) begun = by_all requests next end who rest (by_asked w next who request asked begun)
 
@@ -33,13 +33,13 @@ after_begin w next who asked = by_begun w.begun refl asked.served where
   by_begun true begun served = by_served w next who Begin asked.reply served begun
   by_begun false before served = ap (λ (v : World). v.begun) (rw before at served).next_is
 
--- requests behind others
-behind : (requests others : List Request) (w end : World) (who : ℕ) → ((v : World) → AreAsked v who others end → end.begun ≡ true)
-    → AreAsked w who (requests ++ others) end → end.begun ≡ true
+-- requests after others
+behind : (requests others : List Request) (w end : World) (who : ℕ) → ((v : World) → AreRequestsAnswered v who others end → end.begun ≡ true)
+    → AreRequestsAnswered w who (requests ++ others) end → end.begun ≡ true
 behind [] others w end who then all = then w all
 behind (request ∷ requests) others w end who then (next, asked, rest) = behind requests others next end who then rest
 
-after_input : (fixes plans : List Request) (kind : Request) (w end : World) (who : ℕ) → AreAsked w who (fixes ++ kind ∷ Begin ∷ plans) end → end.begun ≡ true
+after_input : (fixes plans : List Request) (kind : Request) (w end : World) (who : ℕ) → AreRequestsAnswered w who (fixes ++ kind ∷ Begin ∷ plans) end → end.begun ≡ true
 after_input fixes plans kind w end who all =
     behind fixes (kind ∷ Begin ∷ plans) w end who
     (λ v (typed, first, (begun, second, rest)). by_all plans begun end who rest (after_begin typed begun who second)) all

@@ -13,7 +13,7 @@ use Rattle.mt_history.proofs.LinesRead.{one_reading}
 use Rattle.mt_io.specs.Lines.{lines_of}
 use Rattle.mt_base.specs.declared.rules.Rules.{Rules}
 use Rattle.mt_base.specs.Tables.{Setup, Tables, setup_with}
-use Rattle.mt_history.specs.Printed.{AreRead, printed}
+use Rattle.mt_history.specs.Printed.{AreReadAsEntries, printed}
 use Rattle.mt_picture.specs.Story.{Story}
 use Rattle.mt_load.specs.declared.summary.Summary.{Summary}
 use Rattle.mt_load.specs.Summary.{IsCountedAgain, IsSummary}
@@ -35,7 +35,7 @@ same_again setup history m n each again counted =
 
 -- what is published of the picture that is rebuilt
 pub rebuilt_count : (setup : Setup) (history entries : List Entry) (rules : Rules) (tables : Tables) (rebuilt : Story) (conflicts : List Conflict)
-    → AreRead (lines_of (printed history)) entries → rebuilt ≡ record { setup = setup_with rules tables; history = entries } → rules ≡ setup.rules
+    → AreReadAsEntries (lines_of (printed history)) entries → rebuilt ≡ record { setup = setup_with rules tables; history = entries } → rules ≡ setup.rules
     → tables ≡ setup.tables → IsPublished rebuilt.setup (state_of rebuilt.setup rebuilt.history) conflicts → IsCountedAgain setup history (length conflicts)
 rebuilt_count setup history entries rules tables rebuilt conflicts read is same_rules same_tables published =
     let story : Story = record { setup = setup; history = entries } in

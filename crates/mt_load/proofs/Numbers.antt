@@ -2,11 +2,10 @@
 use Rattle.std.proofs.Common.{◌≡◌, ⊎_elim, ℕ, zero, suc, ◌+◌, ◌*◌, ◌<◌, ◌≤◌, ◌^◌, ◌%◌, List, [], ◌∷◌, length, map, get_or, replicate, Option, Some, None, Result, Ok, Err, refl, sym, ap, ◌∙◌, subst, arith, nat_eq}
 use Rattle.std.specs.Bool.{⊤}
 use Rattle.std.specs.List.{filter}
-use Rattle.std.specs.Prelude.{All, IfOk, MatchBool, slice_set}
+use Rattle.std.specs.Prelude.{All, IfOk, slice_set}
 use Rattle.std.proofs.lemmas.List.{length-map}
 use Rattle.std.proofs.lemmas.List.Elements.{All-cons, All-head, All-nil, All-tail}
 use Rattle.mt_base.specs.declared.clearance.Clearance.{Clearance}
-use Rattle.mt_base.specs.declared.command.Command.TheVariants.{Tick}
 use Rattle.mt_base.specs.declared.command.Entry.{Entry}
 use Rattle.mt_base.specs.declared.command.Refusal.{Refusal}
 use Rattle.mt_base.specs.declared.flight.Record.{Record}
@@ -28,8 +27,8 @@ use Rattle.mt_write.specs.declared.reply.DoneWord.{DoneWord}
 use Rattle.mt_write.specs.declared.reply.Reply.{Reply}
 use Rattle.mt_write.specs.declared.reply.Reply.TheVariants.{Advice}
 use Rattle.mt_world.proofs.Areas.{added_either}
-use Rattle.mt_world.specs.World.{Actor, IsAcceptedOf, IsAdded, IsAdvisedAs, IsOutcome, IsServed, IsTold, World, actor_of, is_empty, items_from, new_actor, opening_world, picture_of}
-use Rattle.mt_load.specs.Load.{AreAsked, AreNamed, CanBeNamed, EachDivided, IsAdviceTaken, IsAdvisedFlight, IsAsked, IsFirstAccepted, probes_of}
+use Rattle.mt_world.specs.World.{Actor, IsAcceptedOf, IsAdded, IsAdvisedAs, IsOutcome, IsServed, IsFlightTold, World, actor_of, is_empty, items_from, new_actor, opening_world, picture_of}
+use Rattle.mt_load.specs.Load.{AreRequestsAnswered, HaveProbeNumbers, CanBeNamed, EachDivided, IsAdviceTaken, IsAdvisedFlight, IsAsked, IsFirstAccepted, probes_of}
 
 -- ---- the probes of actors
 
@@ -75,7 +74,7 @@ added : (w next : World) (j : ℕ) (r : Result ⊤ AddNo) (word : DoneWord) (tak
 added w next j (Ok u) word taken tables reply g = same_made w next _ j g.next_is refl
 added w next j (Err refusal) word taken tables reply r = same_made w next w j r.same refl
 
-told : (w next : World) (j : ℕ) (call : List ℕ) (sec : Option ℕ) (found : Option Record) (reply : Reply) → IsTold w call sec found reply next
+told : (w next : World) (j : ℕ) (call : List ℕ) (sec : Option ℕ) (found : Option Record) (reply : Reply) → IsFlightTold w call sec found reply next
     → probes_of next j ≤ probes_of w j
 told w next j call sec (Some flight) reply g = same_made w next w j g.next_is refl
 told w next j call sec None reply r = same_made w next w j r.same refl
@@ -165,17 +164,17 @@ module _ (w next : World) (who : ℕ) (call : List ℕ) (eff : ℕ) (reply : Rep
   sixteen_more j (Err refusal) few r = let same = same_made w next w j r.same refl in omega (arith, same)
 
   numbers_are : (result : Result (List Clearance) Refusal) → IfOk result (λ advised. length advised ≤ 16) → IsAdvisedAs w who call eff result reply next
-      → probes_of w who + 16 < 2 ^ 63 → AreNamed reply
-  numbers_are (Ok advised) few g small = subst AreNamed (sym g.reply_is) (numbered (actor_of w who).book.count advised (omega (arith, few, small)))
-  numbers_are (Err refusal) few r small = subst AreNamed (sym r.reply_is) tt
+      → probes_of w who + 16 < 2 ^ 63 → HaveProbeNumbers reply
+  numbers_are (Ok advised) few g small = subst HaveProbeNumbers (sym g.reply_is) (numbered (actor_of w who).book.count advised (omega (arith, few, small)))
+  numbers_are (Err refusal) few r small = subst HaveProbeNumbers (sym r.reply_is) tt
 
 -- what the reply to a request for advice names, and how many probes it made
 pub advice_named : (w next : World) (who : ℕ) (call : List ℕ) (reply : Reply) → probes_of w who + 16 < 2 ^ 63 → IsServed w who (requests.Advise call) reply next
-    → AreNamed reply
+    → HaveProbeNumbers reply
 advice_named w next who call reply small served =
     on_either w.begun _ _ _
     (λ given. numbers_are w next who call _ reply given.result (few_result _ _ call given.result given.advice) given.told small)
-    (λ r. subst AreNamed (sym r.reply_is) tt) served
+    (λ r. subst HaveProbeNumbers (sym r.reply_is) tt) served
 
 advice_made : (w next : World) (who j : ℕ) (call : List ℕ) (reply : Reply) → IsServed w who (requests.Advise call) reply next
     → probes_of next j ≤ probes_of w j + 16
@@ -189,7 +188,7 @@ advice_made w next who j call reply served =
 pub quiet_asked : (w next : World) (who j : ℕ) (request : Request) → IsQuiet request → IsAsked w who request next → probes_of next j ≤ probes_of w j
 quiet_asked w next who j request quiet asked = quiet_served w next who j asked.reply request quiet asked.served
 
-all_quiet : (these : List Request) (w end : World) (who j : ℕ) → All IsQuiet these → AreAsked w who these end → probes_of end j ≤ probes_of w j
+all_quiet : (these : List Request) (w end : World) (who j : ℕ) → All IsQuiet these → AreRequestsAnswered w who these end → probes_of end j ≤ probes_of w j
 all_quiet [] w end who j quiet same = same_made w end w j same refl
 all_quiet (request ∷ these) w end who j quiet (next, asked, rest) =
     let first = quiet_asked w next who j request (All-head IsQuiet request these quiet) asked in
@@ -197,7 +196,7 @@ all_quiet (request ∷ these) w end who j quiet (next, asked, rest) =
     omega (arith, first, others)
 
 -- the input makes none
-pub input_made_none : (flights number : ℕ) (end : World) → AreAsked opening_world 0 (inputs flights number) end → probes_of end 1 ≡ 0
+pub input_made_none : (flights number : ℕ) (end : World) → AreRequestsAnswered opening_world 0 (inputs flights number) end → probes_of end 1 ≡ 0
 input_made_none flights number end asked =
     let quiet = all_inputs IsQuiet flights number (λ k below. tt) tt tt (λ n. tt) tt in
     let within = all_quiet (inputs flights number) opening_world end 0 1 quiet asked in

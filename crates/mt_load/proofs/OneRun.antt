@@ -11,17 +11,17 @@ use Rattle.mt_world.specs.World.{IsServed, World, opening_world, setup_of}
 use Rattle.mt_world.proofs.OneAnswer.{one_served}
 use Rattle.mt_base.proofs.Cases.{on_both}
 use Rattle.mt_load.specs.declared.summary.Summary.{Summary}
-use Rattle.mt_load.specs.Load.{AreAsked, EachDivided, IsAdviceTaken, IsAdvisedFlight, IsAsked, IsDroppedFlight, IsFirstAccepted, IsLoadRun}
+use Rattle.mt_load.specs.Load.{AreRequestsAnswered, EachDivided, IsAdviceTaken, IsAdvisedFlight, IsAsked, IsDroppedFlight, IsFirstAccepted, IsLoadRun}
 use Rattle.mt_load.specs.Summary.{IsLoaded, IsSummary}
 use Rattle.mt_load.proofs.Counted.{one_count}
 
 one_asked : (w a b : World) (who : ℕ) (request : Request) → IsAsked w who request a → IsAsked w who request b → a ≡ b
 one_asked w a b who request x y = (one_served w who request x.reply y.reply a b x.served y.served).1
 
-all_asked : (requests : List Request) (w a b : World) (who : ℕ) → AreAsked w who requests a → AreAsked w who requests b → a ≡ b
+all_asked : (requests : List Request) (w a b : World) (who : ℕ) → AreRequestsAnswered w who requests a → AreRequestsAnswered w who requests b → a ≡ b
 all_asked [] w a b who x y = x ∙ sym y
 all_asked (request ∷ requests) w a b who (next, first, rest) (other, also, others) =
-    all_asked requests other a b who (subst (λ (v : World). AreAsked v who requests a) (one_asked w next other who request first also) rest) others
+    all_asked requests other a b who (subst (λ (v : World). AreRequestsAnswered v who requests a) (one_asked w next other who request first also) rest) others
 
 one_each : (Does : World → List ℕ → World → Type 0) (divisor n : ℕ) (w a b : World)
     → ((v u t : World) (call : List ℕ) → Does v call u → Does v call t → u ≡ t) → EachDivided Does divisor n w a → EachDivided Does divisor n w b

@@ -8,14 +8,14 @@ use Rattle.mt_base.specs.Tables.{Setup, Tables, setup_with}
 use Rattle.mt_io.specs.Lines.{lines_of}
 use Rattle.mt_history.specs.declared.rebuilding.Wrong.{Wrong}
 use Rattle.mt_history.specs.declared.rebuilding.Wrong.TheVariants as wrongs
-use Rattle.mt_history.specs.Printed.{AreRead, printed}
+use Rattle.mt_history.specs.Printed.{AreReadAsEntries, printed}
 use Rattle.mt_history.specs.Rebuilt.{IsIllegalAt, IsLateAt, IsWrong}
 use Rattle.mt_history.proofs.LinesRead.{one_reading}
 use Rattle.mt_world.proofs.OneSolution.{one_decision}
 
 -- The entries as which a printed history is read are this history, so they can be replayed where it can.
-pub replayed_again : (setup : Setup) (history entries : List Entry) → AreRead (lines_of (printed history)) history
-    → AreRead (lines_of (printed history)) entries → IsReplayable setup history → IsReplayable setup entries
+pub replayed_again : (setup : Setup) (history entries : List Entry) → AreReadAsEntries (lines_of (printed history)) history
+    → AreReadAsEntries (lines_of (printed history)) entries → IsReplayable setup history → IsReplayable setup entries
 replayed_again setup history entries back read replayable =
     subst (λ (h : List Entry). IsReplayable setup h) (one_reading (lines_of (printed history)) history entries back read) replayable
 

@@ -13,7 +13,7 @@ pub parts_are : (s : Summary) → codes "{\"again\":" ++ (decimal s.again ++ (co
 unfolding json_on_literals
 parts_are s = simp append_assoc
 
--- parts put behind one another
+-- parts put one after another
 joined : (k1 n1 k2 n2 k3 n3 k4 n4 k5 n5 end : List ℕ)
     → (((((([] ++ (k1 ++ n1)) ++ (k2 ++ n2)) ++ (k3 ++ n3)) ++ (k4 ++ n4)) ++ (k5 ++ n5)) ++ end)
     ≡ k1 ++ (n1 ++ (k2 ++ (n2 ++ (k3 ++ (n3 ++ (k4 ++ (n4 ++ (k5 ++ (n5 ++ end)))))))))

@@ -18,9 +18,9 @@ abbrev pub CanBeNamed : AdviceItem → Type 0
 CanBeNamed item = (1 ≤ item.probe) × (item.probe < 2 ^ 63)
 
 -- each clearance that a reply advises has one
-abbrev pub AreNamed : Reply → Type 0
-AreNamed (Advice advice call eff version) = All CanBeNamed advice
-AreNamed reply = ⊤
+abbrev pub HaveProbeNumbers : Reply → Type 0
+HaveProbeNumbers (Advice advice call eff version) = All CanBeNamed advice
+HaveProbeNumbers reply = ⊤
 
 -- an actor's request is answered, whatever the reply
 pub record IsAsked (w : World) (who : ℕ) (request : Request) (next : World) : Type 0 where
@@ -28,9 +28,9 @@ pub record IsAsked (w : World) (who : ℕ) (request : Request) (next : World) : 
   pub served : IsServed w who request reply next
 
 -- requests of an actor are answered, one after the other
-abbrev pub AreAsked : World → ℕ → List Request → World → Type 0
-AreAsked w who [] end = end ≡ w
-AreAsked w who (request ∷ requests) end = (next : World) × IsAsked w who request next × AreAsked next who requests end
+abbrev pub AreRequestsAnswered : World → ℕ → List Request → World → Type 0
+AreRequestsAnswered w who [] end = end ≡ w
+AreRequestsAnswered w who (request ∷ requests) end = (next : World) × IsAsked w who request next × AreRequestsAnswered next who requests end
 
 -- Actor 1 accepts the first of some advised clearances, by the number of its probe. Where there is none, nothing happens.
 abbrev pub IsFirstAccepted : World → List AdviceItem → World → Type 0
@@ -65,7 +65,7 @@ EachDivided Does divisor (suc n) w end = (middle : World) × EachDivided Does di
 -- 120 and drops each fifth flight.
 pub record IsLoadRun (flights number : ℕ) (end : World) : Type 0 where
   pub filed : World
-  pub files : AreAsked opening_world 0 (inputs flights number) filed
+  pub files : AreRequestsAnswered opening_world 0 (inputs flights number) filed
   pub advised : World
   pub advises : EachDivided IsAdvisedFlight 8 flights filed advised
   pub moved : World

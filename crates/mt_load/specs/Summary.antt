@@ -4,7 +4,7 @@ use Rattle.serde_json.specs.Data.{Data, object, no_members, member}
 use Rattle.serde_json.specs.Written.{compact_text}
 use Rattle.mt_base.specs.declared.command.Entry.{Entry}
 use Rattle.mt_base.specs.Tables.{Setup}
-use Rattle.mt_history.specs.Printed.{AreRead, printed}
+use Rattle.mt_history.specs.Printed.{AreReadAsEntries, printed}
 use Rattle.mt_io.specs.Lines.{lines_of}
 use Rattle.mt_load.specs.declared.summary.Summary.{Summary}
 use Rattle.mt_load.specs.Load.{IsLoadRun}
@@ -15,7 +15,7 @@ use Rattle.mt_world.specs.World.{World, picture_of, setup_of}
 -- so many are published of the entries as which the lines of a history, printed, are read
 pub record IsCountedAgain (setup : Setup) (history : List Entry) (n : ℕ) : Type 0 where
   pub entries : List Entry
-  pub read : AreRead (lines_of (printed history)) entries
+  pub read : AreReadAsEntries (lines_of (printed history)) entries
   pub counted : IsPublishedCount setup entries n
 
 -- The summary of a world: how many conflicts are published of its history, and again of the history printed, read back and rebuilt, which is the

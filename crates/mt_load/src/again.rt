@@ -2,8 +2,8 @@
 ghost use Rattle.std.specs.Prelude.{◌≡◌, All, IfOk};
 ghost use Rattle.std.specs.Arc.{arc_value};
 ghost use Rattle.mt_base.specs.History.{IsReplayable};
-ghost use Rattle.mt_history.specs.Printed.{AreRead, printed};
-ghost use Rattle.mt_history.specs.Rebuilt.{IsReady};
+ghost use Rattle.mt_history.specs.Printed.{AreReadAsEntries, printed};
+ghost use Rattle.mt_history.specs.Rebuilt.{IsReadyToDecide};
 ghost use Rattle.mt_io.specs.Lines.{lines_of};
 ghost use Rattle.mt_load.specs.Summary.{IsCountedAgain};
 
@@ -18,9 +18,9 @@ use std::thread::Threads;
 
 // The entries as which the history of a picture, printed, is read. Where the history can be replayed, so can they.
 fn read_back(alloc: Global, picture: &Picture) -> Result<Entries, Memory>
-    ensures read { IfOk result (AreRead (lines_of (printed picture.now.history))) }
+    ensures read { IfOk result (AreReadAsEntries (lines_of (printed picture.now.history))) }
     ensures replayable { IfOk result (λ entries. IsReplayable picture.now.setup picture.now.history → IsReplayable picture.now.setup entries) }
-    ensures ready { IfOk result (All IsReady) }
+    ensures ready { IfOk result (All IsReadyToDecide) }
 {
     let text = print(alloc, picture, 0, picture.version())?;
     match read_all(alloc, &text) {

@@ -4,7 +4,7 @@ ghost use Rattle.mt_base.specs.declared.rules.Rules.{Rules};
 ghost use Rattle.mt_make.specs.Input.{callsign};
 ghost use Rattle.mt_read.specs.Bounded.{IsBoundedRequest};
 ghost use Rattle.mt_world.specs.World.{IsServed, opening_world};
-ghost use Rattle.mt_load.specs.Load.{AreAsked, AreNamed, CanBeNamed, EachDivided, IsAdviceTaken, IsAdvisedFlight, IsAsked, IsDroppedFlight, IsFirstAccepted, IsLoadRun, probes_of};
+ghost use Rattle.mt_load.specs.Load.{AreRequestsAnswered, HaveProbeNumbers, CanBeNamed, EachDivided, IsAdviceTaken, IsAdvisedFlight, IsAsked, IsDroppedFlight, IsFirstAccepted, IsLoadRun, probes_of};
 
 use mt_base::{Callsign, Command};
 use mt_make::{callsign, input};
@@ -68,7 +68,7 @@ fn ask_all<R: Threads + Sync>(
 ) -> Result<(), Memory>
     requires who { who ≤ 15 }
     requires bounded { (rules : Rules) → All (IsBoundedRequest rules) requests.now }
-    ensures { OnOk result (AreAsked script.old who requests.now script.new) }
+    ensures { OnOk result (AreRequestsAnswered script.old who requests.now script.new) }
 {
     let Some((request, rest)) = requests.split_first() else {
         return Ok(());
@@ -101,7 +101,7 @@ fn take_advice<R: Threads + Sync>(
     script: &mut Script,
     reply: &Reply,
 ) -> Result<(), Memory>
-    requires { AreNamed reply.now }
+    requires { HaveProbeNumbers reply.now }
     ensures { OnOk result (IsAdviceTaken script.old reply.now script.new) }
 {
     match reply {

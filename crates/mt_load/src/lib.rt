@@ -1,4 +1,4 @@
-//! The word `load`: a large input that is made from a number, run over a world with advice, acceptances and drops behind it, and a line that
+//! The word `load`: a large input that is made from a number, run over a world with advice, acceptances and drops after it, and a line that
 //! sums up what is left.
 //!
 //! The definitions are `specs/Load.antt` and, of the line, `specs/Summary.antt`.

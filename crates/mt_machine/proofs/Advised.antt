@@ -1,5 +1,5 @@
 -- An advice, one clearance more at a time.
-use Rattle.std.proofs.Common.{◌≡◌, Bool, true, false, ℕ, ◌+◌, ◌<◌, ◌≤◌, List, [], ◌∷◌, ◌++◌, All, None, Ok, length, map, take, get_or, refl, sym, ◌∙◌, ap, subst, if◌then◌else◌, arith}
+use Rattle.std.proofs.Common.{◌≡◌, Bool, true, false, ℕ, ◌+◌, ◌<◌, ◌≤◌, List, [], ◌∷◌, ◌++◌, All, Ok, length, map, take, get_or, refl, sym, ◌∙◌, ap, if◌then◌else◌, arith}
 use Rattle.std.proofs.lemmas.List.{append-nil, length-map, map-append, take_more}
 use Rattle.std.proofs.lemmas.List.Elements.{All-from_recursion, All-push, filter-append, recursion_from_All}
 use Rattle.std.specs.List.{AllByRecursion, filter}
@@ -9,7 +9,7 @@ use Rattle.mt_base.specs.Advice.{IsAdvice, Tried, WasFound, candidates_in, free_
 use Rattle.mt_base.specs.Picture.{State}
 use Rattle.mt_base.specs.Tables.{Setup}
 use Rattle.mt_base.proofs.FewAdvised.{few_filtered, few_in}
-use Rattle.mt_machine.specs.Advising.{AreAsked, AreFreeAmong, IsFree}
+use Rattle.mt_machine.specs.Advising.{AreCandidatesOrRefused, AreFreeAmong, IsClearanceFree}
 
 module _ (setup : Setup) (s : State) (call : List ℕ) where
   abbrev IsFound : Tried → Type 0
@@ -45,25 +45,25 @@ module _ (setup : Setup) (s : State) (call : List ℕ) where
       rw more (one_more (take i all) free c b among found)
 
   -- the advice
-  pub advice_is : (tried free : List Clearance) → AreAsked setup s call (Ok tried) → Among tried free → IsAdvice setup s call (Ok free)
+  pub advice_is : (tried free : List Clearance) → AreCandidatesOrRefused setup s call (Ok tried) → Among tried free → IsAdvice setup s call (Ok free)
   advice_is tried free asked among =
       (asked.0, record { tried = among.tried; all = among.all ∙ asked.1; each = among.each; free = among.free_is })
 
   free_each : (ts : List Tried) → AllByRecursion IsFound ts → AllByRecursion (CanBeTried setup s call) (map (λ (t : Tried). t.clearance) ts)
-      → AllByRecursion (IsFree setup s call) (free_of ts)
+      → AllByRecursion (IsClearanceFree setup s call) (free_of ts)
   free_each [] found can = tt
   free_each (t ∷ ts) found can = by_test t.free found.0 (free_each ts found.1 can.1) where
-    by_test : (b : Bool) → WasFound setup s call t.clearance b → AllByRecursion (IsFree setup s call) (free_of ts)
-        → AllByRecursion (IsFree setup s call) (map (λ (u : Tried). u.clearance) (if b then t ∷ filter (λ u. u.free) ts else filter (λ u. u.free) ts))
+    by_test : (b : Bool) → WasFound setup s call t.clearance b → AllByRecursion (IsClearanceFree setup s call) (free_of ts)
+        → AllByRecursion (IsClearanceFree setup s call) (map (λ (u : Tried). u.clearance) (if b then t ∷ filter (λ u. u.free) ts else filter (λ u. u.free) ts))
     by_test true follows rest = (record { bounded = can.0.bounded; follows = follows }, rest)
     by_test false found rest = rest
 
-  pub each_free : (tried free : List Clearance) → AreAsked setup s call (Ok tried) → Among tried free → All (IsFree setup s call) free
-  each_free tried free asked among = rw among.free_is (All-from_recursion (IsFree setup s call) (free_of among.tried)
+  pub each_free : (tried free : List Clearance) → AreCandidatesOrRefused setup s call (Ok tried) → Among tried free → All (IsClearanceFree setup s call) free
+  each_free tried free asked among = rw among.free_is (All-from_recursion (IsClearanceFree setup s call) (free_of among.tried)
       (free_each among.tried (recursion_from_All IsFound among.tried among.each)
       (rw among.all (recursion_from_All (CanBeTried setup s call) tried asked.2))))
 
-  pub few_free : (tried free : List Clearance) → AreAsked setup s call (Ok tried) → Among tried free → length free ≤ 16
+  pub few_free : (tried free : List Clearance) → AreCandidatesOrRefused setup s call (Ok tried) → Among tried free → length free ≤ 16
   few_free tried free asked among =
       let kept = filter (λ (t : Tried). t.free) among.tried in
       let few = few_filtered (λ (t : Tried). t.free) among.tried in

@@ -16,14 +16,14 @@ use Rattle.mt_base.specs.declared.flight.Path.{Path}
 use Rattle.mt_base.specs.declared.flight.Path.TheVariants.{Planned, Outer}
 use Rattle.mt_base.specs.declared.flight.Straight.{Straight}
 use Rattle.mt_base.specs.Bounds.{AreWithinBounds, IsBoundedCommand, IsInPlane, IsSoundFlight, IsSoundPath}
-use Rattle.mt_base.specs.History.{IsDecided, checks, course_of, filled, first_of, look_at, route_checks}
+use Rattle.mt_base.specs.History.{IsDecided, checks, course_of, filled, first_of_points, look_at, route_checks}
 use Rattle.mt_base.specs.Cleared.{aim_checks}
 use Rattle.mt_base.specs.Picture.{State, flight_of, opening, trajectory_of}
 use Rattle.mt_base.specs.Predictor.{points_of}
 use Rattle.mt_base.specs.Tables.{Setup}
 use Rattle.mt_base.specs.WhatIf.{course_in, what_if_checks}
 use Rattle.mt_base.proofs.CheckLemmas.{all_passed, answer_is}
-use Rattle.mt_change.specs.Sound.{IsSoundState, Passes}
+use Rattle.mt_change.specs.Sound.{IsSoundState, PassesChecks}
 use Rattle.mt_change.proofs.Passed.{halves}
 use Rattle.mt_change.proofs.Plans.{sound_course}
 use Rattle.mt_machine.proofs.Found.{none_found}
@@ -39,7 +39,7 @@ opening_sound setup = record {
 }
 
 -- an entry that was decided passed its checks
-pub passed : (setup : Setup) (s : State) (e : Entry) → IsDecided setup s e.who e.command (Ok e) → Passes setup s e.who e.command
+pub passed : (setup : Setup) (s : State) (e : Entry) → IsDecided setup s e.who e.command (Ok e) → PassesChecks setup s e.who e.command
 passed setup s e decided =
     let entry : Entry = record { who = e.who; command = filled s.now e.command } in
     all_passed (checks setup (look_at s e.command) e.who e.command) entry (rw decided.0 refl)
@@ -50,7 +50,7 @@ filled_is setup s e decided =
     let entry : Entry = record { who = e.who; command = filled s.now e.command } in
     sym (ap (λ (x : Entry). x.command) (answer_is (checks setup (look_at s e.command) e.who e.command) entry e decided.0))
 
--- a flight of a new callsign behind the others
+-- a flight of a new callsign after the others
 filed : (setup : Setup) (s : State) (call : List ℕ) (path : Path) → IsSoundState setup s → IsSoundPath setup path
     → not (is_some (flight_of s.records call)) ≡ true → int_lt (pos (length s.records)) setup.rules.flights ≡ true → setup.rules.flights ≤ℤ pos 1024
     → IsSoundState setup (record s { records = s.records ++ (record { call = call; path = path }) ∷ [] })
@@ -70,8 +70,8 @@ filed setup s call path sound within free room most = record {
       rw (length-append s.records ((record { call = call; path = path }) ∷ [])) (omega arith)
 
 pub sound_plan : (setup : Setup) (s : State) (who : ℕ) (call kind : List ℕ) (route : List (List ℕ)) (at from level : ℕ) (rvsm : Bool) → AreWithinBounds setup.rules
-    → IsSoundState setup s → Passes setup s who (Plan call kind route at from level rvsm) → IsBoundedCommand (Plan call kind route at from level rvsm)
-    → IsInPlane (first_of (points_of setup.tables route)).x (first_of (points_of setup.tables route)).y
+    → IsSoundState setup s → PassesChecks setup s who (Plan call kind route at from level rvsm) → IsBoundedCommand (Plan call kind route at from level rvsm)
+    → IsInPlane (first_of_points (points_of setup.tables route)).x (first_of_points (points_of setup.tables route)).y
     → IsSoundState setup (record s { records = s.records ++ (record { call = call; path = Planned (course_of setup kind route at from level rvsm) }) ∷ [] })
 sound_plan setup s who call kind route at from level rvsm rules sound tests within plane =
     let split = halves (λ c. c.1 ≡ true) (route_checks setup.tables route) _ tests.1.1 in
@@ -79,7 +79,7 @@ sound_plan setup s who call kind route at from level rvsm rules sound tests with
     (sound_course setup kind route at from level rvsm rules within.0 within.1 within.2 plane tests.1.0 split.0) tests.0 split.1.1.1.0 rules.flights.most
 
 pub sound_external : (setup : Setup) (s : State) (who : ℕ) (call : List ℕ) (stretch : Straight) → AreWithinBounds setup.rules → IsSoundState setup s
-    → Passes setup s who (External call stretch) → IsBoundedCommand (External call stretch)
+    → PassesChecks setup s who (External call stretch) → IsBoundedCommand (External call stretch)
     → IsSoundState setup (record s { records = s.records ++ (record { call = call; path = Outer stretch }) ∷ [] })
 sound_external setup s who call stretch rules sound tests within = filed setup s call (Outer stretch) sound within tests.0 tests.1.0 rules.flights.most
 
@@ -94,7 +94,7 @@ sound_drop setup s call sound = record {
 }
 
 -- a command is entered only where there is room in the history
-room_by : (setup : Setup) (s : State) (who : ℕ) (c : Command) → Passes setup s who c → int_lt (pos s.version) setup.rules.history ≡ true
+room_by : (setup : Setup) (s : State) (who : ℕ) (c : Command) → PassesChecks setup s who c → int_lt (pos s.version) setup.rules.history ≡ true
 room_by setup s who (Plan call kind route at from level rvsm) tests = (halves (λ c. c.1 ≡ true) (route_checks setup.tables route) _ tests.1.1).1.1.1.1.0
 room_by setup s who (External call stretch) tests = tests.1.1.0
 room_by setup s who (Drop call) tests = tests.1.0

@@ -1,4 +1,4 @@
--- How an advice is found. Public contracts cite `IsFree` alone.
+-- How an advice is found. Public contracts cite `IsClearanceFree` alone.
 use Rattle.std.specs.Prelude.{◌≡◌, ℕ, List, [], All, map, None, Result, Ok, Err}
 use Rattle.mt_advise.specs.Trying.{CanBeTried}
 use Rattle.mt_base.specs.declared.clearance.Clearance.{Clearance}
@@ -11,14 +11,14 @@ use Rattle.mt_base.specs.Tables.{Setup}
 use Rattle.mt_base.specs.WhatIf.{IsWhatIf}
 
 -- A clearance of a flight is bounded, and nothing would follow from it.
-pub record IsFree (setup : Setup) (s : State) (call : List ℕ) (clearance : Clearance) : Type 0 where
+pub record IsClearanceFree (setup : Setup) (s : State) (call : List ℕ) (clearance : Clearance) : Type 0 where
   pub bounded : IsBoundedClearance clearance
   pub follows : IsWhatIf setup s call clearance None (Ok [])
 
 -- the candidates for a flight, each of which can be tried; or why it isn't advised
-abbrev pub AreAsked : Setup → State → List ℕ → Result (List Clearance) Refusal → Type 0
-AreAsked setup s call (Err refusal) = judged (advice_checks setup s.now (flight_of s.records call) call) (tt {0}) ≡ Err refusal
-AreAsked setup s call (Ok tried) =
+abbrev pub AreCandidatesOrRefused : Setup → State → List ℕ → Result (List Clearance) Refusal → Type 0
+AreCandidatesOrRefused setup s call (Err refusal) = judged (advice_checks setup s.now (flight_of s.records call) call) (tt {0}) ≡ Err refusal
+AreCandidatesOrRefused setup s call (Ok tried) =
     (judged (advice_checks setup s.now (flight_of s.records call) call) (tt {0}) ≡ Ok (tt {0}))
     × (tried ≡ candidates_in setup s call)
     × All (CanBeTried setup s call) tried

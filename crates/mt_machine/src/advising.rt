@@ -4,7 +4,7 @@ ghost use Rattle.mt_advise.specs.Trying.{CanBeTried};
 ghost use Rattle.mt_base.specs.Advice.{IsAdvice, WasFound};
 ghost use Rattle.mt_base.specs.Bounds.{AreWithinBounds};
 ghost use Rattle.mt_base.specs.Tables.{setup_with};
-ghost use Rattle.mt_machine.specs.Advising.{AreAsked, AreFreeAmong, IsFree};
+ghost use Rattle.mt_machine.specs.Advising.{AreCandidatesOrRefused, AreFreeAmong, IsClearanceFree};
 ghost use Rattle.mt_change.specs.Sound.{IsSoundState};
 
 use crate::plain::Plain;
@@ -26,7 +26,7 @@ fn asked(
 ) -> Result<Result<Clearances, Refusal>, Memory>
     requires rules { AreWithinBounds rules.now }
     requires sound { IsSoundState (setup_with rules.now tables.now) plain.now }
-    ensures { IfOk result (AreAsked (setup_with rules.now tables.now) plain.now call) }
+    ensures { IfOk result (AreCandidatesOrRefused (setup_with rules.now tables.now) plain.now call) }
 {
     let Some(flight) = plain.flight(call) else {
         return Ok(Err(Refusal::UnknownCall(call)));
@@ -103,7 +103,7 @@ pub fn advise<R: Threads + Sync>(
     requires rules { AreWithinBounds rules.now }
     requires sound { IsSoundState (setup_with rules.now tables.now) plain.now }
     ensures exact { IfOk result (IsAdvice (setup_with rules.now tables.now) plain.now call) }
-    ensures free { IfOk result (λ advice. IfOk advice (All (IsFree (setup_with rules.now tables.now) plain.now call))) }
+    ensures free { IfOk result (λ advice. IfOk advice (All (IsClearanceFree (setup_with rules.now tables.now) plain.now call))) }
     ensures few { IfOk result (λ advice. IfOk advice (λ advised. length advised ≤ 16)) }
 {
     let tried = match asked(alloc, tables, rules, plain, call)? {

@@ -4,7 +4,7 @@ ghost use Rattle.mt_base.specs.Bounds.{AreWithinBounds, IsBoundedCommand};
 ghost use Rattle.mt_base.specs.History.{IsDecided, look_at};
 ghost use Rattle.mt_base.specs.Picture.{flight_of};
 ghost use Rattle.mt_machine.specs.Deciding.{IsFirstHit, IsPlannedStrand, IsStrandFor};
-ghost use Rattle.mt_change.specs.Sound.{IsSoundState, Passes};
+ghost use Rattle.mt_change.specs.Sound.{IsSoundState, PassesChecks};
 ghost use Rattle.mt_predict.specs.Looking.{look_of};
 ghost use Rattle.mt_base.specs.Tables.{setup_with};
 
@@ -88,7 +88,7 @@ fn first_hit<R: Threads + Sync>(
     requires rules { AreWithinBounds rules.now }
     requires sound { IsSoundState (setup_with rules.now tables.now) plain.now }
     requires bounded { IsBoundedCommand command.now }
-    requires passed { (who : ℕ) × Passes (setup_with rules.now tables.now) plain.now who command.now }
+    requires passed { (who : ℕ) × PassesChecks (setup_with rules.now tables.now) plain.now who command.now }
     ensures { IfOk result (IsFirstHit (setup_with rules.now tables.now) plain.now command.now) }
 {
     let Command::Accept {

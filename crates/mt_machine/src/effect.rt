@@ -3,7 +3,7 @@ ghost use Rattle.std.specs.Prelude.{◌≡◌, ◌≤◌, ◌∷◌, ◌++◌, [
 ghost use Rattle.mt_base.specs.Bounds.{AreWithinBounds, IsBoundedCommand};
 ghost use Rattle.mt_base.specs.History.{IsDecided, effect, entered_by, filled, now_after, records_after, verdict_in};
 ghost use Rattle.mt_change.specs.Altered.{Alters};
-ghost use Rattle.mt_change.specs.Sound.{IsSoundState, Passes};
+ghost use Rattle.mt_change.specs.Sound.{IsSoundState, PassesChecks};
 ghost use Rattle.mt_base.specs.Tables.{setup_with};
 
 use crate::plain::Plain;
@@ -51,7 +51,7 @@ impl Plain {
         requires rules { AreWithinBounds rules.now }
         requires sound { IsSoundState (setup_with rules.now tables.now) self.old }
         requires bounded { IsBoundedCommand command.now }
-        requires passed { Passes (setup_with rules.now tables.now) self.old who command.now }
+        requires passed { PassesChecks (setup_with rules.now tables.now) self.old who command.now }
         requires filled { command.now ≡ filled self.old.now command.now }
         ensures ok { OnOk result (self.new ≡ record self.old {
           now = now_after command.now self.old.now;
@@ -106,7 +106,7 @@ impl Plain {
         requires rules { AreWithinBounds rules.now }
         requires sound { IsSoundState (setup_with rules.now tables.now) self.old }
         requires bounded { IsBoundedCommand command.now }
-        requires passed { Passes (setup_with rules.now tables.now) self.old who command.now }
+        requires passed { PassesChecks (setup_with rules.now tables.now) self.old who command.now }
         requires filled { command.now ≡ filled self.old.now command.now }
         requires alters { Alters command.now }
         ensures ok { OnOk result (self.new ≡ record self.old {
@@ -132,7 +132,7 @@ impl Plain {
         Ok(alteration.verdict())
     }
 
-    // Puts a flight behind the others.
+    // Puts a flight after the others.
     fn file(&mut self, flight: Record) -> Result<(), Memory>
         ensures ok { OnOk result (self.new ≡ record self.old { records = self.old.records ++ flight ∷ [] }) }
         ensures err { OnErr result (self.new ≡ self.old) }

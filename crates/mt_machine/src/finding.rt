@@ -1,5 +1,5 @@
 //! The hits of a trajectory: its conflicts with those that the other flights fly.
-ghost use Rattle.std.specs.Prelude.{◌≡◌, ◌≤◌, ◌↔◌, Some, true, is_some, length, IfOk};
+ghost use Rattle.std.specs.Prelude.{◌≡◌, ◌≤◌, ◌↔◌, Some, true, is_some, IfOk};
 ghost use Rattle.mt_base.specs.declared.hit.Hit.{Hit};
 ghost use Rattle.mt_base.specs.Bounds.{AreWithinBounds, IsSoundFlight};
 ghost use Rattle.mt_base.specs.Name.{is_name};

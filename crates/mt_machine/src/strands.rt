@@ -16,7 +16,7 @@ use mt_track::Roster;
 use std::alloc::Global;
 use std::sync::Arc;
 
-// Puts the trajectories of a flight behind those of others.
+// Puts the trajectories of a flight after those of others.
 fn add_flight(
     alloc: Global,
     tables: &Tables,

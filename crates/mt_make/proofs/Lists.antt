@@ -3,12 +3,12 @@ use Rattle.std.proofs.Common.{◌≡◌, ◌∙◌, ℕ, zero, suc, ◌+◌, ◌
 use Rattle.std.proofs.lemmas.List.Elements.{All-append, All-from_recursion}
 use Rattle.mt_make.specs.Input.{each_below}
 
--- none behind others
+-- none after others
 pub each_none : {A : Type 0} (f : ℕ → A) (before : List A) → before ≡ before ++ each_below f 0
 unfolding each_below
 each_none f before = sym (append-nil before)
 
--- one more behind others
+-- one more after others
 pub each_more : {A : Type 0} (f : ℕ → A) (n : ℕ) (before now next : List A) (x : A) → now ≡ before ++ each_below f n → x ≡ f n → next ≡ now ++ x ∷ []
     → next ≡ before ++ each_below f (n + 1)
 unfolding each_below

@@ -63,7 +63,7 @@ plan_from n state =
     let level = 300 + 10 * drawn 10 (state_after 3 state) in
     Plan (callsign n) kind_name (fix_name first ∷ fix_name second ∷ []) (drawn 1200 (state_after 4 state)) level level true
 
--- each flight takes four draws, behind those of the flights before it; the number is the first state
+-- each flight takes four draws, after those of the flights before it; the number is the first state
 abbrev pub plan_of : ℕ → ℕ → Request
 plan_of number n = Change (plan_from n (state_after (4 * n) number))
 

@@ -30,7 +30,7 @@ fn fix(number: u32) -> Request
     }
 }
 
-/// Puts the requests that set the fixes behind others.
+/// Puts the requests that set the fixes after others.
 pub(crate) fn put_fixes(list: &mut Vec<Request>) -> Result<(), Memory>
     ensures { OnOk result (list.new.items ≡ list.old.items ++ each_below fix 64) }
 {

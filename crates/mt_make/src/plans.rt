@@ -51,7 +51,7 @@ fn plan(alloc: Global, draws: &mut Draws, number: u32) -> Result<Command, Memory
     })
 }
 
-/// Puts the requests that file the flights behind others.
+/// Puts the requests that file the flights after others.
 pub(crate) fn put_plans(
     alloc: Global,
     list: &mut Vec<Request>,

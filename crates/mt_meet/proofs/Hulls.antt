@@ -84,7 +84,7 @@ module _ (P : ℕ → Type 0) where
         (λ late. (omega (arith, late, before.first_is.0), omega (arith, h.0))) (cases_lt k at);
   }
 
-  -- before a second behind all of them is at any
+  -- before a second after all of them is at any
   pub hull_all : (at : ℕ) (hull : Option (ℕ × ℕ)) → ((k : ℕ) → P k → k < at) → IsHull (Before at) hull → IsHull P hull
   hull_all at None all before = λ k h. before k (all k h, h)
   hull_all at (Some span) all before = record {

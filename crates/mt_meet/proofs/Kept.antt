@@ -6,7 +6,7 @@ use Rattle.std.proofs.lemmas.List.{get_or-set_other, get_or-set_same, length-rep
 use Rattle.std.proofs.lemmas.List.Elements.{All-replicate, All-set}
 use Rattle.mt_cover.specs.Sliced.{Sliced}
 use Rattle.mt_meet.specs.declared.reach.Reach.{Reach}
-use Rattle.mt_meet.specs.Reaching.{AreSlicesIn, IsKept, nowhere, page_of, reach_at, reach_in}
+use Rattle.mt_meet.specs.Reaching.{AreSlicesIn, AreReachesKept, nowhere, page_of, reach_at, reach_in}
 
 -- each place has what all have
 pub same : {X : Type 0} (n i : ℕ) (x : X) → get_or (replicate n x) i x ≡ x
@@ -18,7 +18,7 @@ same (suc n) (suc i) x = same n i x
 nowhere_at : (k item : ℕ) → reach_at (replicate k None) item ≡ nowhere
 nowhere_at k item = ap (λ (page : Option (List Reach)). get_or (page_of page) (item % 64) nowhere) (same k (item / 64) None) ∙ same 64 (item % 64) nowhere
 
-pub kept_empty : (n k : ℕ) → n < 2 ^ 32 → n ≤ 64 * k → IsKept n (replicate n None) (replicate k None)
+pub kept_empty : (n k : ℕ) → n < 2 ^ 32 → n ≤ 64 * k → AreReachesKept n (replicate n None) (replicate k None)
 kept_empty n k few enough = record {
   count_is = sym (length-replicate n None);
   few = few;
@@ -34,7 +34,7 @@ same_or_not i j = by_test (nat_eq j i) refl where
   by_test true e = let it : j ≡ i = grind (arith, nat_tests) in inl it
   by_test false e = let it : j ≢ i = grind (arith, nat_tests) in inr it
 
-module _ (n : ℕ) (table : List (Option Sliced)) (pages : List (Option (List Reach))) (i : ℕ) (x : Option Sliced) (kept : IsKept n table pages)
+module _ (n : ℕ) (table : List (Option Sliced)) (pages : List (Option (List Reach))) (i : ℕ) (x : Option Sliced) (kept : AreReachesKept n table pages)
     (inside : i < length table) (full : length (page_of (get_or pages (i / 64) None)) ≡ 64) where
   number : i / 64 < length pages
   number = omega (arith, inside, kept.count_is, kept.enough)
@@ -63,7 +63,7 @@ module _ (n : ℕ) (table : List (Option Sliced)) (pages : List (Option (List Re
   other : (j : ℕ) → j ≢ i → reach_at after j ≡ reach_at pages j
   other j apart = ⊎_elim (λ page. beside j page (omega (arith, page, apart))) (λ page. elsewhere j page) (same_or_not (i / 64) (j / 64))
 
-  pub kept_with : AreSlicesIn x → IsKept n (set table i x) after
+  pub kept_with : AreSlicesIn x → AreReachesKept n (set table i x) after
   kept_with own = record {
     count_is = kept.count_is ∙ sym (length-set table i x);
     few = kept.few;

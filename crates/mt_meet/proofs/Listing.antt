@@ -7,7 +7,7 @@ use Rattle.std.proofs.lemmas.List.Quantifiers.{all_pairs_push}
 use Rattle.mt_base.specs.declared.rules.Rules.{Rules}
 use Rattle.mt_cover.specs.Sliced.{Sliced}
 use Rattle.mt_meet.specs.declared.table.Met.{Met}
-use Rattle.mt_meet.specs.Meeting.{AreMet, IsFirstMet, IsListed, IsMetAt, IsMetIn, MeetAt, MeetNone}
+use Rattle.mt_meet.specs.Meeting.{AreMet, IsFirstMet, IsItemListed, IsMetAt, IsMetIn, MeetAt, MeetNone}
 use Rattle.mt_meet.proofs.Meetings.{within}
 
 -- those of the first n items
@@ -15,7 +15,7 @@ pub record AreMetBefore (rules : Rules) (mine : Sliced) (table : List (Option Sl
   pub rising : AllPairs (λ (m n : Met). m.item < n.item) list
   pub before : All (λ (m : Met). m.item < n) list
   pub exact : (met : Met) → Contains list met → IsMetIn rules mine table met
-  pub complete : (item : ℕ) (theirs : Sliced) (k : ℕ) → item < n → get_or table item None ≡ Some theirs → MeetAt rules mine theirs k → IsListed list item
+  pub complete : (item : ℕ) (theirs : Sliced) (k : ℕ) → item < n → get_or table item None ≡ Some theirs → MeetAt rules mine theirs k → IsItemListed list item
 
 module _ (rules : Rules) (mine : Sliced) (table : List (Option Sliced)) where
   pub none_before : AreMetBefore rules mine table 0 []

@@ -15,7 +15,7 @@ use Rattle.mt_pair.specs.High.{level_of}
 use Rattle.mt_pair.proofs.Layers.{lying_apart}
 use Rattle.mt_meet.specs.Meeting.{IsMetAt, LosingMeet, MeetAt, MeetingIsNear, MeetNone}
 use Rattle.mt_meet.specs.declared.reach.Reach.{Reach}
-use Rattle.mt_meet.specs.Reaching.{AreClose, AreReachesOn, AreSlicesIn, IsKept, IsReachOf, nowhere, page_of, reach_in, reach_of}
+use Rattle.mt_meet.specs.Reaching.{AreClose, AreReachesOn, AreSlicesIn, AreReachesKept, IsReachOf, nowhere, page_of, reach_in, reach_of}
 use Rattle.mt_meet.proofs.Kept.{same}
 
 pub losing_meet : LosingMeet
@@ -112,7 +112,7 @@ close_inside rules table i own r of close = by_entry (get_or table i None) refl 
   by_entry (Some s) at is = within table i s at
 
 -- a page that is there has the reaches of its items; the items of one that isn't meet nothing
-module _ (count : ℕ) (table : List (Option Sliced)) (pages : List (Option (List Reach))) (kept : IsKept count table pages) where
+module _ (count : ℕ) (table : List (Option Sliced)) (pages : List (Option (List Reach))) (kept : AreReachesKept count table pages) where
   slices_in : (i : ℕ) → AreSlicesIn (get_or table i None)
   slices_in i = ⊎_elim (λ below. kept.each i None below) (λ past. subst AreSlicesIn (sym (get_or_past table i None past)) tt) (cases_lt i (length table))
 

@@ -62,7 +62,7 @@ IsMetAt rules mine table item (Some met) = (met.item ≡ item) × IsMetIn rules 
 IsMetAt rules mine table item None = (theirs : Sliced) (k : ℕ) → get_or table item None ≡ Some theirs → ¬ MeetAt rules mine theirs k
 
 -- an item is listed
-pub record IsListed (list : List Met) (item : ℕ) : Type 0 where
+pub record IsItemListed (list : List Met) (item : ℕ) : Type 0 where
   pub met : Met
   pub held : Contains list met
   pub is : met.item ≡ item
@@ -71,7 +71,7 @@ pub record IsListed (list : List Met) (item : ℕ) : Type 0 where
 pub record AreMet (rules : Rules) (mine : Sliced) (table : List (Option Sliced)) (list : List Met) : Type 0 where
   pub rising : AllPairs (λ (m n : Met). m.item < n.item) list
   pub exact : (met : Met) → Contains list met → IsMetIn rules mine table met
-  pub complete : (item : ℕ) (theirs : Sliced) (k : ℕ) → get_or table item None ≡ Some theirs → MeetAt rules mine theirs k → IsListed list item
+  pub complete : (item : ℕ) (theirs : Sliced) (k : ℕ) → get_or table item None ≡ Some theirs → MeetAt rules mine theirs k → IsItemListed list item
 
 -- none of the items from one on and before another one has slices that meet some
 abbrev pub MeetNone : Rules → Sliced → List (Option Sliced) → ℕ → ℕ → Type 0

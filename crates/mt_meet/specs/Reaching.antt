@@ -40,7 +40,7 @@ abbrev pub reach_at : List (Option (List Reach)) → ℕ → Reach
 reach_at pages item = get_or (page_of (get_or pages (item / 64) None)) (item % 64) nowhere
 
 -- so many items, which a u32 counts, of each of which the reach stands on the pages
-pub record IsKept (count : ℕ) (table : List (Option Sliced)) (pages : List (Option (List Reach))) : Type 0 where
+pub record AreReachesKept (count : ℕ) (table : List (Option Sliced)) (pages : List (Option (List Reach))) : Type 0 where
   pub count_is : count ≡ length table
   pub few : count < 2 ^ 32
   pub each : All AreSlicesIn table

@@ -1,5 +1,5 @@
 //! What is compared first of two trajectories: their heights, and their first and last seconds.
-ghost use Rattle.std.specs.Prelude.{◌≡◌, ◌↔◌, None, IsTrue};
+ghost use Rattle.std.specs.Prelude.{◌≡◌, ◌↔◌, IsTrue};
 ghost use Rattle.mt_base.specs.Bounds.{AreWithinBounds};
 ghost use Rattle.mt_track.specs.Layer.{IsLayerKept};
 ghost use Rattle.mt_cover.specs.Sliced.{AreSlices};

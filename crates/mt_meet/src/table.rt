@@ -1,5 +1,5 @@
 //! The slices of many trajectories.
-ghost use Rattle.std.specs.Prelude.{◌≡◌, ◌<◌, ◌≤◌, ◌+◌, ◌*◌, ℕ, None, length, get_or, replicate, slice_set, IfOk, option_copied, option_map};
+ghost use Rattle.std.specs.Prelude.{◌≡◌, ◌<◌, ◌≤◌, ◌+◌, ◌*◌, None, length, get_or, replicate, slice_set, IfOk, option_copied, option_map};
 ghost use Rattle.std.specs.Arc.{arc_value};
 ghost use Rattle.mt_base.specs.Bounds.{AreWithinBounds};
 ghost use Rattle.mt_meet.specs.Meeting.{AreMet, IsMetAt, IsNextMet};
@@ -39,13 +39,13 @@ pub struct SliceTable {
 impl Model for SliceTable {
     ghost use Rattle.std.specs.Prelude.{List, Option};
     ghost use Rattle.mt_cover.specs.Sliced.{Sliced};
-    ghost use Rattle.mt_meet.specs.Reaching.{IsKept};
+    ghost use Rattle.mt_meet.specs.Reaching.{AreReachesKept};
 
     ghost Value = { List (Option Sliced) };
 
     ghost view = { λ s. s.slices };
 
-    ghost invariant = { λ s. IsKept s.count s.slices s.pages };
+    ghost invariant = { λ s. AreReachesKept s.count s.slices s.pages };
 }
 
 impl SliceTable {

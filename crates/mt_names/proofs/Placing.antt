@@ -4,7 +4,7 @@ use Rattle.std.proofs.Math.ListN.{set}
 use Rattle.std.proofs.lemmas.Bool.Decides.{nat_tests}
 use Rattle.std.proofs.lemmas.List.{get_or-set_same, get_or-set_other, length-set, set-get_or, set-set}
 use Rattle.mt_names.specs.declared.names.Named.{Named}
-use Rattle.mt_names.specs.Naming.{AreNamed, CanStand, IsOther, IsRenaming}
+use Rattle.mt_names.specs.Naming.{AreNamed, CanStand, IsOtherName, IsRenaming}
 use Rattle.mt_names.proofs.Splitting.{one_named}
 
 decide : (a b : ℕ) → (a ≡ b) ⊎ (a ≢ b)
@@ -24,7 +24,7 @@ module _ (names after : List Named) (calls : List (Option (List ℕ))) (slot : �
   old i same = ap (λ (k : ℕ). get_or calls k None) same
 
   pub named_without : (was : List ℕ) → get_or calls slot None ≡ Some was → ((i : ℕ) → i ≢ slot → get_or calls i None ≢ Some was)
-      → ((n : Named) → Contains after n ↔ IsOther names was n) → AreNamed after (set calls slot None)
+      → ((n : Named) → Contains after n ↔ IsOtherName names was n) → AreNamed after (set calls slot None)
   named_without was there alone members n = (
     (λ held.
         let it = (members n).0 held in
@@ -38,7 +38,7 @@ module _ (names after : List Named) (calls : List (Option (List ℕ))) (slot : �
   )
 
   pub named_with : (call : List ℕ) → get_or calls slot None ≡ None → ((i : ℕ) → i ≢ slot → get_or calls i None ≢ Some call)
-      → ((n : Named) → Contains after n ↔ ((n ≡ record { call = call; slot = slot }) ⊎ IsOther names call n)) → AreNamed after (set calls slot (Some call))
+      → ((n : Named) → Contains after n ↔ ((n ≡ record { call = call; slot = slot }) ⊎ IsOtherName names call n)) → AreNamed after (set calls slot (Some call))
   named_with call empty alone members n = (
     (λ held. ⊎_elim
         (λ it. own (Some call) n.slot (ap (λ (m : Named). m.slot) it) ∙ ap (λ (c : List ℕ). Some c) (sym (ap (λ (m : Named). m.call) it)))
@@ -58,15 +58,15 @@ shared names slot old new same = λ calls can named.
     subst (AreNamed names) (sym (set-get_or calls slot None) ∙ ap (set calls slot) (can.was ∙ same)) named
 
 pub come : (names after : List Named) (slot : ℕ) (call : List ℕ)
-    → ((n : Named) → Contains after n ↔ ((n ≡ record { call = call; slot = slot }) ⊎ IsOther names call n)) → IsRenaming names slot None (Some call) after
+    → ((n : Named) → Contains after n ↔ ((n ≡ record { call = call; slot = slot }) ⊎ IsOtherName names call n)) → IsRenaming names slot None (Some call) after
 come names after slot call members = λ calls can named. named_with names after calls slot can.inside named call can.was can.new_only members
 
-pub gone : (names after : List Named) (slot : ℕ) (call : List ℕ) → ((n : Named) → Contains after n ↔ IsOther names call n)
+pub gone : (names after : List Named) (slot : ℕ) (call : List ℕ) → ((n : Named) → Contains after n ↔ IsOtherName names call n)
     → IsRenaming names slot (Some call) None after
 gone names after slot call members = λ calls can named. named_without names after calls slot can.inside named call can.was can.old_only members
 
-pub in_stead : (names between after : List Named) (slot : ℕ) (old new : List ℕ) → ((n : Named) → Contains between n ↔ IsOther names old n)
-    → ((n : Named) → Contains after n ↔ ((n ≡ record { call = new; slot = slot }) ⊎ IsOther between new n))
+pub in_stead : (names between after : List Named) (slot : ℕ) (old new : List ℕ) → ((n : Named) → Contains between n ↔ IsOtherName names old n)
+    → ((n : Named) → Contains after n ↔ ((n ≡ record { call = new; slot = slot }) ⊎ IsOtherName between new n))
     → IsRenaming names slot (Some old) (Some new) after
 in_stead names between after slot old new out put = λ calls can named.
     let inside : slot < length (set calls slot None) = omega (arith, length-set calls slot None, can.inside) in

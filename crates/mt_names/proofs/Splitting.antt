@@ -1,4 +1,4 @@
--- Callsigns in order: what stands before and behind one.
+-- Callsigns in order: what stands before and after one.
 use Rattle.std.proofs.Common.{◌≡◌, ◌≢◌, ◌⊎◌, inl, inr, ⊎_elim, Bool, true, false, ℕ, zero, suc, ◌+◌, ◌-◌, ◌<◌, ◌≤◌, ◌↔◌, List, [], ◌∷◌, ◌++◌, Contains, length, get_or, take, drop, nat_lt, true≢false, refl, sym, ◌∙◌, ap, subst, arith}
 use Rattle.std.proofs.lemmas.Bool.Decides.{nat_tests}
 use Rattle.std.proofs.lemmas.Cmp.{nat_list_cmp_total, tied_itself}
@@ -15,7 +15,7 @@ use Rattle.std.specs.declared.cmp.Ordering.TheVariants.{Less, Equal, Greater}
 use Rattle.mt_base.proofs.ConflictOrder.{one_text}
 use Rattle.mt_base.proofs.Members.{All-from_held, Contains-cases, Contains-head, Contains-later, Contains-take, distinct_append, distinct_take}
 use Rattle.mt_names.specs.declared.names.Named.{Named}
-use Rattle.mt_names.specs.Naming.{AreRising, IsBefore, IsNotBefore, IsOther, IsSplit}
+use Rattle.mt_names.specs.Naming.{AreRising, IsCallBefore, IsNotBefore, IsOtherName, IsSplit}
 
 -- the order of texts
 abbrev cmp : List ℕ → List ℕ → Ordering
@@ -29,7 +29,7 @@ not_itself a b less same =
     let tied : cmp a a ≡ Equal = tied_itself nat_list_cmp_total a in
     let e : cmp a a ≡ Less = subst (λ (c : List ℕ). cmp a c ≡ Less) (sym same) less in cc
 
--- one that isn't before another, and isn't it, is behind it
+-- one that isn't before another, and isn't it, is after it
 behind : (a b : List ℕ) → cmp a b ≢ Less → a ≢ b → cmp b a ≡ Less
 behind a b not apart = by_test (cmp a b) refl where
   by_test : (o : Ordering) → cmp a b ≡ o → cmp b a ≡ Less
@@ -99,19 +99,19 @@ in_drop n k xs x from inside is =
 -- ---- halving
 module _ (names : List Named) (call : List ℕ) (rising : AreRising names) where
   -- from one that is before the callsign, and from one that isn't
-  pub all_before : (middle : ℕ) (e : Named) → middle < length names → IsBefore call (get_or names middle e) → AllWithin (IsBefore call) names 0 (middle + 1)
+  pub all_before : (middle : ℕ) (e : Named) → middle < length names → IsCallBefore call (get_or names middle e) → AllWithin (IsCallBefore call) names 0 (middle + 1)
   all_before middle e inside is = λ k d from below. by_test k d below (nat_lt k middle) refl where
     here : (d : Named) → get_or names middle d ≡ get_or names middle e
     here d = get_or_default names middle d e inside
 
-    by_test : (k : ℕ) (d : Named) → k < middle + 1 → (b : Bool) → nat_lt k middle ≡ b → IsBefore call (get_or names k d)
+    by_test : (k : ℕ) (d : Named) → k < middle + 1 → (b : Bool) → nat_lt k middle ≡ b → IsCallBefore call (get_or names k d)
     by_test k d below true t =
         let ahead : k < middle = grind (arith, nat_tests) in
         before_trans (get_or names k d).call (get_or names middle d).call call (rising k middle d ahead inside)
-        (subst (λ (n : Named). IsBefore call n) (sym (here d)) is)
+        (subst (λ (n : Named). IsCallBefore call n) (sym (here d)) is)
     by_test k d below false t =
         let same : k ≡ middle = grind (arith, nat_tests) in
-        subst (λ (i : ℕ). IsBefore call (get_or names i d)) (sym same) (subst (λ (n : Named). IsBefore call n) (sym (here d)) is)
+        subst (λ (i : ℕ). IsCallBefore call (get_or names i d)) (sym same) (subst (λ (n : Named). IsCallBefore call n) (sym (here d)) is)
 
   pub none_before : (middle : ℕ) (e : Named) → middle < length names → IsNotBefore call (get_or names middle e) → AllWithin (IsNotBefore call) names middle (length names)
   none_before middle e inside not = λ k d from below. by_test k d from below (nat_lt middle k) refl where
@@ -121,21 +121,21 @@ module _ (names : List Named) (call : List ℕ) (rising : AreRising names) where
     by_test : (k : ℕ) (d : Named) → middle ≤ k → k < length names → (b : Bool) → nat_lt middle k ≡ b → IsNotBefore call (get_or names k d)
     by_test k d from below true t = λ is.
         let ahead : middle < k = grind (arith, nat_tests) in
-        not (subst (λ (n : Named). IsBefore call n) (here d)
+        not (subst (λ (n : Named). IsCallBefore call n) (here d)
         (before_trans (get_or names middle d).call (get_or names k d).call call (rising middle k d ahead below) is))
     by_test k d from below false t =
         let same : k ≡ middle = grind (arith, nat_tests) in
         subst (λ (i : ℕ). IsNotBefore call (get_or names i d)) (sym same) (subst (λ (n : Named). IsNotBefore call n) (sym (here d)) not)
 
   -- ---- the split
-  below_held : (first : ℕ) → first ≤ length names → AllWithin (IsBefore call) names 0 first → (n : Named) → Contains (take first names) n → IsBefore call n
+  below_held : (first : ℕ) → first ≤ length names → AllWithin (IsCallBefore call) names 0 first → (n : Named) → Contains (take first names) n → IsCallBefore call n
   below_held first inside all n held =
       let short = length-take first names in
       let below = held.1 in
       let within : held.0 < first = omega arith in
-      subst (λ (m : Named). IsBefore call m) (sym (get_or-take first names held.0 n within) ∙ held.2) (all held.0 n (omega arith) within)
+      subst (λ (m : Named). IsCallBefore call m) (sym (get_or-take first names held.0 n within) ∙ held.2) (all held.0 n (omega arith) within)
 
-  pub split_here : (first : ℕ) (e : Named) → first < length names → AllWithin (IsBefore call) names 0 first → (get_or names first e).call ≡ call
+  pub split_here : (first : ℕ) (e : Named) → first < length names → AllWithin (IsCallBefore call) names 0 first → (get_or names first e).call ≡ call
       → IsSplit names call (first, first + 1)
   split_here first e inside all own = record {
     first = omega arith;
@@ -154,7 +154,7 @@ module _ (names : List Named) (call : List ℕ) (rising : AreRising names) where
         subst (λ (m : Named). cmp call m.call ≡ Less) is (subst (λ (c : List ℕ). cmp c (get_or names (first + 1 + held.0) n).call ≡ Less) mine pair);
   }
 
-  pub split_none : (first : ℕ) → first ≤ length names → AllWithin (IsBefore call) names 0 first → AllWithin (IsNotBefore call) names first (length names)
+  pub split_none : (first : ℕ) → first ≤ length names → AllWithin (IsCallBefore call) names 0 first → AllWithin (IsNotBefore call) names first (length names)
       → ((d : Named) → first < length names → (get_or names first d).call ≢ call) → IsSplit names call (first, first)
   split_none first inside all rest apart = record {
     first = omega arith;
@@ -199,10 +199,10 @@ module _ (names : List Named) (call : List ℕ) (span : ℕ × ℕ) (split : IsS
         let some : span.0 < span.1 = omega arith in
         inr (inl (some, ap (λ (m : Named). m.call) (sym held.2 ∙ ap (λ (i : ℕ). get_or names i n) at) ∙ own))
 
-  before_other : (n : Named) → Contains (take span.0 names) n → IsOther names call n
+  before_other : (n : Named) → Contains (take span.0 names) n → IsOtherName names call n
   before_other n held = record { listed = Contains-take span.0 names n held; other = not_itself n.call call (split.below n held) }
 
-  behind_other : (n : Named) → Contains (drop span.1 names) n → IsOther names call n
+  behind_other : (n : Named) → Contains (drop span.1 names) n → IsOtherName names call n
   behind_other n held = record { listed = Contains-drop span.1 names n held; other = λ same. not_itself call n.call (split.above n held) (sym same) }
 
   pub found_listed : (slot : ℕ) (d : Named) → span.0 < span.1 → slot ≡ (get_or names span.0 d).slot → Contains names (record { call = call; slot = slot })
@@ -221,23 +221,23 @@ module _ (names : List Named) (call : List ℕ) (span : ℕ × ℕ) (split : IsS
       (listed n held)
 
   pub with_rising : AreRising names → (x : Named) → x.call ≡ call → AreRising (take span.0 names ++ x ∷ drop span.1 names)
-  with_rising rising x own = distinct_append (λ a b. IsBefore b.call a) (take span.0 names) (x ∷ drop span.1 names)
-      (distinct_take (λ a b. IsBefore b.call a) span.0 names rising)
-      (AllPairs-cons (λ a b. IsBefore b.call a) x (drop span.1 names)
-      (All-from_held (λ b. IsBefore b.call x) (drop span.1 names) (λ b held. subst (λ (c : List ℕ). cmp c b.call ≡ Less) (sym own) (split.above b held)))
-      (rest_pairs (λ a b. IsBefore b.call a) span.1 names rising))
+  with_rising rising x own = distinct_append (λ a b. IsCallBefore b.call a) (take span.0 names) (x ∷ drop span.1 names)
+      (distinct_take (λ a b. IsCallBefore b.call a) span.0 names rising)
+      (AllPairs-cons (λ a b. IsCallBefore b.call a) x (drop span.1 names)
+      (All-from_held (λ b. IsCallBefore b.call x) (drop span.1 names) (λ b held. subst (λ (c : List ℕ). cmp c b.call ≡ Less) (sym own) (split.above b held)))
+      (rest_pairs (λ a b. IsCallBefore b.call a) span.1 names rising))
       (λ a b held there. ⊎_elim
       (λ same. subst (λ (c : List ℕ). cmp a.call c ≡ Less) (sym own ∙ ap (λ (m : Named). m.call) same) (split.below a held))
       (λ later. before_trans a.call call b.call (split.below a held) (split.above b later))
       (Contains-cases x (drop span.1 names) b there))
 
   pub without_rising : AreRising names → AreRising (take span.0 names ++ drop span.1 names)
-  without_rising rising = distinct_append (λ a b. IsBefore b.call a) (take span.0 names) (drop span.1 names)
-      (distinct_take (λ a b. IsBefore b.call a) span.0 names rising)
-      (rest_pairs (λ a b. IsBefore b.call a) span.1 names rising)
+  without_rising rising = distinct_append (λ a b. IsCallBefore b.call a) (take span.0 names) (drop span.1 names)
+      (distinct_take (λ a b. IsCallBefore b.call a) span.0 names rising)
+      (rest_pairs (λ a b. IsCallBefore b.call a) span.1 names rising)
       (λ a b held there. before_trans a.call call b.call (split.below a held) (split.above b there))
 
-  pub without_members : (n : Named) → Contains (take span.0 names ++ drop span.1 names) n ↔ IsOther names call n
+  pub without_members : (n : Named) → Contains (take span.0 names ++ drop span.1 names) n ↔ IsOtherName names call n
   without_members n = (
     (λ held. ⊎_elim (λ below. before_other n below) (λ above. behind_other n above) (Contains-append_cases (take span.0 names) (drop span.1 names) n held)),
     (λ it. ⊎_elim
@@ -246,7 +246,7 @@ module _ (names : List Named) (call : List ℕ) (span : ℕ × ℕ) (split : IsS
         (listed n it.listed)),
   )
 
-  pub with_members : (x n : Named) → Contains (take span.0 names ++ x ∷ drop span.1 names) n ↔ ((n ≡ x) ⊎ IsOther names call n)
+  pub with_members : (x n : Named) → Contains (take span.0 names ++ x ∷ drop span.1 names) n ↔ ((n ≡ x) ⊎ IsOtherName names call n)
   with_members x n = (
     (λ held. ⊎_elim
         (λ below. inr (before_other n below))

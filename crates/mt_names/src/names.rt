@@ -2,7 +2,7 @@
 ghost use Rattle.std.specs.Prelude.{◌≡◌, ◌↔◌, ◌⊎◌, ◌≤◌, [], Contains, length, IfOk};
 ghost use Rattle.std.specs.List.{AllWithin};
 ghost use Rattle.mt_names.specs.declared.names.Named.{Named};
-ghost use Rattle.mt_names.specs.Naming.{AreRising, IsBefore, IsNotBefore, IsOther, IsPlaceOf, IsSplit};
+ghost use Rattle.mt_names.specs.Naming.{AreRising, IsCallBefore, IsNotBefore, IsOtherName, IsPlaceOf, IsSplit};
 
 use mt_base::{Callsign, Memory};
 use std::alloc::Global;
@@ -39,7 +39,7 @@ impl Model for Names {
 fn before(list: &[Named], call: Callsign) -> usize
     requires rising { AreRising list.now }
     ensures few { result ≤ length list.now }
-    ensures below { AllWithin (IsBefore call) list.now 0 result }
+    ensures below { AllWithin (IsCallBefore call) list.now 0 result }
     ensures rest { AllWithin (IsNotBefore call) list.now result (length list.now) }
 {
     let mut low = 0;
@@ -55,7 +55,7 @@ fn before(list: &[Named], call: Callsign) -> usize
     low
 }
 
-// Where the places before a callsign end in a rising list, and where those behind it begin.
+// Where the places before a callsign end in a rising list, and where those after it begin.
 fn parts(list: &[Named], call: Callsign) -> (usize, usize)
     requires rising { AreRising list.now }
     ensures { IsSplit list.now call result }
@@ -78,7 +78,7 @@ impl Names {
         }
     }
 
-    // Where the places before a callsign end, and where those behind it begin.
+    // Where the places before a callsign end, and where those after it begin.
     fn split(&self, call: Callsign) -> (usize, usize)
         ensures { IsSplit self.now call result }
     {
@@ -100,7 +100,7 @@ impl Names {
     /// The list with that place for a callsign, in the stead of the one that it had. This list stays.
     pub(crate) fn with(&self, alloc: Global, call: Callsign, slot: u32) -> Result<Names, Memory>
         ensures { IfOk result (λ after. (n : Named) → Contains after n
-            ↔ ((n ≡ record { call = call; slot = slot }) ⊎ IsOther self.now call n)) }
+            ↔ ((n ≡ record { call = call; slot = slot }) ⊎ IsOtherName self.now call n)) }
     {
         let (first, behind) = self.split(call);
         let mut list = Vec::new(alloc);
@@ -113,7 +113,7 @@ impl Names {
 
     /// The list without a callsign. This list stays.
     pub(crate) fn without(&self, alloc: Global, call: Callsign) -> Result<Names, Memory>
-        ensures { IfOk result (λ after. (n : Named) → Contains after n ↔ IsOther self.now call n) }
+        ensures { IfOk result (λ after. (n : Named) → Contains after n ↔ IsOtherName self.now call n) }
     {
         let (first, behind) = self.split(call);
         let mut list = Vec::new(alloc);

@@ -10,7 +10,7 @@ use Rattle.std.specs.declared.sync.Arc.{Arc}
 use Rattle.std.specs.declared.vec.Vec.{Vec}
 use Rattle.std.proofs.Math.Seq.{map-set_same}
 use Rattle.std.proofs.lemmas.List.{length-map, map-set, get_or-map}
-use Rattle.mt_paged.specs.Pages.{AreRows, joined, places, row, rows}
+use Rattle.mt_paged.specs.Pages.{AreRows, rows_joined, page_places, row, rows}
 use Rattle.mt_paged.proofs.Rows.{get_listed, row_is_full, row_of, rows_set, set_listed}
 
 -- a list and its copy agree in what f says of their members
@@ -35,7 +35,7 @@ all_copies {X} {Y} R f x same (y ∷ ys) all =
     let first : f y ≡ f x = elim all.0 [ inl e ↦ ap f e | inr copy ↦ same y copy ] in
     ap (λ (z : Y). z ∷ map f ys) first ∙ ap (λ (z : List Y). f x ∷ z) (all_copies R f x same ys all.1)
 
-pub empty_places : (T Z : Type 0) (n : ℕ) → places {T = T} {Z = Z} (replicate n None) ≡ replicate n None
+pub empty_places : (T Z : Type 0) (n : ℕ) → page_places {T = T} {Z = Z} (replicate n None) ≡ replicate n None
 empty_places T Z zero = refl
 empty_places T Z (suc n) = ap (λ (xs : List (Option T)). None ∷ xs) (empty_places T Z n)
 
@@ -49,7 +49,7 @@ on_either (Err e) p q then_p then_q = then_q q
 
 -- two pages with one value have the same places
 pub same_row : {T Y Z : Type 0} (page copy : Arc (Vec (Option (Arc T Z)) Y) Z) → arc_value copy ≡ arc_value page → row copy ≡ row page
-same_row {T} {Y} {Z} page copy same = ap (λ (v : Vec (Option (Arc T Z)) Y). places v.items) same
+same_row {T} {Y} {Z} page copy same = ap (λ (v : Vec (Option (Arc T Z)) Y). page_places v.items) same
 
 -- the page of a place
 row_at : {T Y Z : Type 0} (count : ℕ) (pages : List (Arc (Vec (Option (Arc T Z)) Y) Z)) (i : ℕ) (page : Arc (Vec (Option (Arc T Z)) Y) Z) → AreRows count (rows pages) → i < count
@@ -66,7 +66,7 @@ page_is_full {T} count pages i page are within at_page =
 -- what a read of a page and of its place gives
 pub read : {T Y Z : Type 0} (count : ℕ) (pages : List (Arc (Vec (Option (Arc T Z)) Y) Z)) (i : ℕ) (page : Arc (Vec (Option (Arc T Z)) Y) Z) (place : Option (Arc T Z)) → AreRows count (rows pages) → i < count
     → page ≡ get_or pages (i / 32) page → place ≡ get_or (arc_value page).items (i % 32) place
-    → get_or (take count (joined (rows pages))) i None ≡ option_map arc_value place
+    → get_or (take count (rows_joined (rows pages))) i None ≡ option_map arc_value place
 read {T} {Y} {Z} count pages i page place are within at_page at_place =
     let full = page_is_full count pages i page are within at_page in
     let long = length-map (arc_value page).items (option_map (arc_value {X = T} {Z = Z})) in
@@ -78,7 +78,7 @@ read {T} {Y} {Z} count pages i page place are within at_page at_place =
 -- what a page whose place is replaced leaves in the table
 pub written : {T Y Z : Type 0} (count : ℕ) (pages : List (Arc (Vec (Option (Arc T Z)) Y) Z)) (table left : Vec (Arc (Vec (Option (Arc T Z)) Y) Z) Y) (i : ℕ) (page new : Arc (Vec (Option (Arc T Z)) Y) Z) (a : Option T)
     → AreRows count (rows pages) → i < count → rows table.items ≡ rows pages → page ≡ get_or table.items (i / 32) page → row new ≡ set (row page) (i % 32) a → left ≡ with_item table (i / 32) new
-    → AreRows count (rows left.items) × (take count (joined (rows left.items)) ≡ set (take count (joined (rows pages))) i a)
+    → AreRows count (rows left.items) × (take count (rows_joined (rows left.items)) ≡ set (take count (rows_joined (rows pages))) i a)
 written {T} {Y} {Z} count pages table left i page new a are within same at_page is there =
     let of_table = subst (AreRows count) (sym same) are in
     let at = row_at count table.items i page of_table within at_page in
@@ -87,9 +87,9 @@ written {T} {Y} {Z} count pages table left i page new a are within same at_page 
     ∙ map-set row table.items (i / 32) new
     ∙ ap (λ (r : List (Option T)). set (rows table.items) (i / 32) r) (is ∙ ap (λ (r : List (Option T)). set r (i % 32) a) (sym at)) in (
       subst (AreRows count) (sym rows_are) (rows_set count (rows table.items) i a of_table within),
-      ap (λ (z : List (List (Option T))). take count (joined z)) rows_are
+      ap (λ (z : List (List (Option T))). take count (rows_joined z)) rows_are
           ∙ set_listed count (rows table.items) i a of_table within
-          ∙ ap (λ (z : List (List (Option T))). set (take count (joined z)) i a) same,
+          ∙ ap (λ (z : List (List (Option T))). set (take count (rows_joined z)) i a) same,
     )
 
 -- what a page that stays leaves in the table

@@ -22,11 +22,11 @@ pub struct Paged<T: Drop> {
 impl<T: Drop> Model for Paged<T> {
     ghost use Rattle.std.specs.Prelude.{List, Option, take};
     ghost use Rattle.std.specs.Arc.{arc_value};
-    ghost use Rattle.mt_paged.specs.Pages.{AreRows, joined, rows};
+    ghost use Rattle.mt_paged.specs.Pages.{AreRows, rows_joined, rows};
 
     ghost Value = { List (Option T) };
 
-    ghost view = { λ s. take s.count (joined (rows (arc_value s.pages).items)) };
+    ghost view = { λ s. take s.count (rows_joined (rows (arc_value s.pages).items)) };
 
     ghost invariant = { λ s. AreRows s.count (rows (arc_value s.pages).items) };
 }

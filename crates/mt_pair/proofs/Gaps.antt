@@ -8,7 +8,7 @@ use Rattle.mt_base.specs.declared.row.Row.{Row}
 use Rattle.mt_base.specs.declared.rules.Rules.{Rules}
 use Rattle.mt_frac.specs.Signs.{IsBoundedQuad, IsBoundedLine}
 use Rattle.mt_pair.specs.declared.horizontal.Offset.{Offset}
-use Rattle.mt_pair.specs.Gap.{IsOffsetWithin, above_of, excess_of, gain_of, offset_of, product, square_of}
+use Rattle.mt_pair.specs.Gap.{IsOffsetWithin, above_of, excess_of, gain_of, offset_of, product, square_over_time}
 use Rattle.mt_pair.specs.High.{level_of}
 use Rattle.mt_pair.proofs.Casts.{Reads, abs_neg, minus, minus_fits, negated, number, plus, plus_fits, widened}
 use Rattle.mt_pair.proofs.Sizes.{least_size, product_size, row_sizes, sh_size}
@@ -78,7 +78,7 @@ twice_fits offset gain offset_kept gain_kept b is =
 
 pub square_is : (offset gain : Offset) → IsOffsetWithin 7372800 offset → IsOffsetWithin 2000 gain → (a b c : ℤ) → a ≡ product gain gain
     → b ≡ product offset gain → c ≡ product offset offset
-    → record { a = in_128 a; b = in_128 (pos 2 *ℤ in_128 b); c = in_128 c } ≡ square_of offset gain
+    → record { a = in_128 a; b = in_128 (pos 2 *ℤ in_128 b); c = in_128 c } ≡ square_over_time offset gain
 square_is offset gain offset_kept gain_kept a b c a_is b_is c_is =
     let size = product_size offset gain offset_kept gain_kept in
     let twice : in_128 (pos 2 *ℤ in_128 b) ≡ pos 2 *ℤ product offset gain =
@@ -92,7 +92,7 @@ square_is offset gain offset_kept gain_kept a b c a_is b_is c_is =
 below_bound : {m : ℕ} {z : ℤ} (n : ℕ) → Abs m z → m < n → unsigned_abs z < n
 below_bound {m} {z} n size small = let h = abs_to m z size in omega arith
 
-pub square_bounded : (offset gain : Offset) → IsOffsetWithin 7372800 offset → IsOffsetWithin 2000 gain → IsBoundedQuad (square_of offset gain)
+pub square_bounded : (offset gain : Offset) → IsOffsetWithin 7372800 offset → IsOffsetWithin 2000 gain → IsBoundedQuad (square_over_time offset gain)
 square_bounded offset gain offset_kept gain_kept = record {
   a_bounded = below_bound _ (product_size gain gain gain_kept gain_kept) (lit< tt);
   b_bounded = below_bound _ (abs_mul (abs_lit 2) (product_size offset gain offset_kept gain_kept)) (lit< tt);

@@ -7,7 +7,7 @@ use Rattle.mt_base.specs.Bounds.{AreWithinBounds, IsBoundedRow, IsWithin}
 use Rattle.mt_base.specs.declared.row.Row.{Row}
 use Rattle.mt_base.specs.declared.rules.Rules.{Rules}
 use Rattle.mt_pair.specs.Gap.{gain_of, offset_of, product}
-use Rattle.mt_pair.specs.Greatest.{AreSizes, IsAtMost}
+use Rattle.mt_pair.specs.Greatest.{AreWithinSizes, IsAtMost}
 use Rattle.mt_pair.proofs.Sizes.{least_size, row_sizes, sh_size, sv2_kept}
 
 -- to and from
@@ -28,7 +28,7 @@ squares {m} {n} {x} {y} {w} f g h less =
 between : {y z : ℤ} → IsWithin (pos 0) (pos 3600000) y → IsWithin (pos 0) (pos 3600000) z → Abs 3600000 (z -ℤ y)
 between {y} {z} f g = record { low = omega (arith, ints, f.most, g.least); high = omega (arith, ints, f.least, g.most) }
 
-pub sizes : (rules : Rules) (a b : Row) → AreWithinBounds rules → IsBoundedRow a → IsBoundedRow b → AreSizes rules a b
+pub sizes : (rules : Rules) (a b : Row) → AreWithinBounds rules → IsBoundedRow a → IsBoundedRow b → AreWithinSizes rules a b
 sizes rules a b rules_kept a_kept b_kept =
     let h = row_sizes a a_kept in
     let k = row_sizes b b_kept in

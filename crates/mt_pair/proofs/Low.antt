@@ -7,7 +7,8 @@ use Rattle.std.specs.Option.{option_copied}
 use Rattle.mt_frac.specs.declared.quadratic.Quad.{Quad}
 use Rattle.mt_pair.specs.declared.approach.Approach.{Approach}
 use Rattle.mt_pair.specs.declared.approach.High.{High}
-use Rattle.mt_pair.specs.Below.{AreBelowAt, HoldsIn, HoldsOver}
+use Rattle.mt_frac.specs.Instants.{HoldsIn, HoldsOver}
+use Rattle.mt_pair.specs.Below.{AreBelowAt}
 use Rattle.mt_pair.specs.Cases.{IsHighLoss, IsLoss}
 
 -- what follows at each fraction follows in some seconds

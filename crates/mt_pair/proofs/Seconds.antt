@@ -10,7 +10,8 @@ use Rattle.mt_ring.proofs.Signs.{mul_nonneg}
 use Rattle.mt_frac.specs.declared.fraction.Frac.{Frac}
 use Rattle.mt_frac.specs.FractionOrder.{IsBetween}
 use Rattle.mt_frac.proofs.Openness.{HoldsFrom, IsOpen, half_open}
-use Rattle.mt_pair.specs.Below.{HoldsBetween, HoldsOver}
+use Rattle.mt_frac.specs.Instants.{HoldsOver}
+use Rattle.mt_pair.specs.Below.{HoldsBetween}
 
 -- an instant of a second is not before that second's start, and before its end
 pub after_start : (l k n d : ℤ) → l ≤ℤ k → pos 0 ≤ℤ n → pos 0 ≤ℤ d → (l *ℤ d) ≤ℤ ((n +ℤ k *ℤ d) *ℤ pos 1)

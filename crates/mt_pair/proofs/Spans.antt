@@ -10,9 +10,9 @@ use Rattle.mt_base.specs.Trajectory.{Trajectory, row_at}
 use Rattle.mt_track.specs.Rows.{row_after}
 use Rattle.mt_track.proofs.Straight.{row_after-add}
 use Rattle.mt_pair.specs.declared.approach.Approach.{Approach}
-use Rattle.mt_pair.specs.Below.{HoldsIn}
+use Rattle.mt_frac.specs.Instants.{HoldsIn}
 use Rattle.mt_pair.specs.Cases.{IsLoss}
-use Rattle.mt_pair.specs.Span.{IsSpan, joined}
+use Rattle.mt_base.specs.Span.{IsSpan, joined}
 
 -- a second where both rows are known
 pub loss_second : (rules : Rules) (a b : Trajectory) (k : ℕ) (x y : Row) → row_at a k ≡ Some x → row_at b k ≡ Some y → IsLossSecond rules a b k ↔ LosesIn rules a.rvsm b.rvsm x y

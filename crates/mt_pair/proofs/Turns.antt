@@ -9,8 +9,9 @@ use Rattle.mt_frac.specs.declared.linear.Line.{Line}
 use Rattle.mt_frac.specs.declared.quadratic.Quad.{Quad}
 use Rattle.mt_frac.specs.Polynomials.{value, line_value}
 use Rattle.mt_frac.specs.Vertex.{slope}
-use Rattle.mt_pair.specs.Below.{AreBelowAt, HoldsIn, HoldsOver}
-use Rattle.mt_pair.specs.Turning.{IsLater, IsSooner}
+use Rattle.mt_frac.specs.Instants.{HoldsIn, HoldsOver}
+use Rattle.mt_pair.specs.Below.{AreBelowAt}
+use Rattle.mt_pair.specs.Turning.{IsFalling, IsSooner}
 use Rattle.mt_pair.proofs.Instants.{are_open}
 use Rattle.mt_pair.proofs.Seconds.{after_start, before_end}
 
@@ -22,7 +23,7 @@ gap_from a b c m n d = simp spread (omega (arith, lin))
 line_from : (b c m n d : ℤ) → line_value b c n d ≡ b *ℤ (n -ℤ m *ℤ d) +ℤ line_value b c m (pos 1) *ℤ d
 line_from b c m n d = simp spread (omega (arith, lin))
 
-gap_until : (a b c m n d : ℤ) → pos 0 ≤ℤ a → pos 0 ≤ℤ d → n ≤ℤ (m *ℤ d) → IsLater (value a b c m (pos 1)) (slope a b m (pos 1)) → pos 0 ≤ℤ value a b c n d
+gap_until : (a b c m n d : ℤ) → pos 0 ≤ℤ a → pos 0 ≤ℤ d → n ≤ℤ (m *ℤ d) → IsFalling (value a b c m (pos 1)) (slope a b m (pos 1)) → pos 0 ≤ℤ value a b c n d
 gap_until a b c m n d convex d+ sooner later =
     let e = n -ℤ m *ℤ d in
     let p = mul_nonneg a (e *ℤ e) convex (square_nonneg e) in
@@ -45,7 +46,7 @@ gap_since a b c m n d convex d+ later sooner =
       sum_three : (x y z : ℤ) → pos 0 ≤ℤ x → pos 0 ≤ℤ y → pos 0 ≤ℤ z → pos 0 ≤ℤ (x +ℤ y +ℤ z)
       sum_three x y z f g h = omega (arith, lin)
 
-line_until : (b c m n d : ℤ) → pos 0 ≤ℤ d → n ≤ℤ (m *ℤ d) → IsLater (line_value b c m (pos 1)) b → pos 0 ≤ℤ line_value b c n d
+line_until : (b c m n d : ℤ) → pos 0 ≤ℤ d → n ≤ℤ (m *ℤ d) → IsFalling (line_value b c m (pos 1)) b → pos 0 ≤ℤ line_value b c n d
 line_until b c m n d d+ sooner later =
     let p = mul_nonneg (neg_ℤ b) (m *ℤ d -ℤ n) (let f = later.falls in omega (arith, lin)) (omega (arith, lin)) in
     let q = mul_nonneg (line_value b c m (pos 1)) d later.here d+ in
@@ -72,20 +73,20 @@ late m k n d more begun within =
 contradicts : (z : ℤ) → pos 0 ≤ℤ z → z <ℤ pos 0 → ⊥
 contradicts z h k = omega (arith, lin)
 
-pub none_before_gap : (gap : Quad) (over under : Line) (low m : ℕ) → pos 0 ≤ℤ gap.a → IsLater (value gap.a gap.b gap.c (pos m) (pos 1)) (slope gap.a gap.b (pos m) (pos 1))
+pub none_before_gap : (gap : Quad) (over under : Line) (low m : ℕ) → pos 0 ≤ℤ gap.a → IsFalling (value gap.a gap.b gap.c (pos m) (pos 1)) (slope gap.a gap.b (pos m) (pos 1))
     → ¬ HoldsOver (AreBelowAt gap over under) low m
 none_before_gap gap over under low m convex later some =
     let at = some.holds in
     contradicts _ (gap_until gap.a gap.b gap.c (pos m) _ at.d convex (omega (arith, lin, at.begun, at.within)) (early m some.k at.n at.d some.ahead at.begun at.within) later)
     at.holds.gap_is
 
-pub none_before_over : (gap : Quad) (over under : Line) (low m : ℕ) → IsLater (line_value over.b over.c (pos m) (pos 1)) over.b → ¬ HoldsOver (AreBelowAt gap over under) low m
+pub none_before_over : (gap : Quad) (over under : Line) (low m : ℕ) → IsFalling (line_value over.b over.c (pos m) (pos 1)) over.b → ¬ HoldsOver (AreBelowAt gap over under) low m
 none_before_over gap over under low m later some =
     let at = some.holds in
     contradicts _ (line_until over.b over.c (pos m) _ at.d (omega (arith, lin, at.begun, at.within)) (early m some.k at.n at.d some.ahead at.begun at.within) later)
     at.holds.over_is
 
-pub none_before_under : (gap : Quad) (over under : Line) (low m : ℕ) → IsLater (line_value under.b under.c (pos m) (pos 1)) under.b → ¬ HoldsOver (AreBelowAt gap over under) low m
+pub none_before_under : (gap : Quad) (over under : Line) (low m : ℕ) → IsFalling (line_value under.b under.c (pos m) (pos 1)) under.b → ¬ HoldsOver (AreBelowAt gap over under) low m
 none_before_under gap over under low m later some =
     let at = some.holds in
     contradicts _ (line_until under.b under.c (pos m) _ at.d (omega (arith, lin, at.begun, at.within)) (early m some.k at.n at.d some.ahead at.begun at.within) later)
@@ -111,13 +112,13 @@ none_from_under gap over under m high sooner some =
     at.holds.under_is
 
 -- a value is below 0, or not; and then it falls or not
-below_or_sooner : (z s : ℤ) → ¬ IsLater z s → (z <ℤ pos 0) ⊎ IsSooner z s
+below_or_sooner : (z s : ℤ) → ¬ IsFalling z s → (z <ℤ pos 0) ⊎ IsSooner z s
 below_or_sooner z s not_later = ⊎_elim
     (λ low. inl low)
     (λ here. ⊎_elim (λ falls. absurd (not_later (record { here = here; falls = falls }))) (λ rises. inr (record { here = here; rises = rises })) (cases_ℤ s))
     (cases_ℤ z)
 
-below_or_later : (z s : ℤ) → ¬ IsSooner z s → (z <ℤ pos 0) ⊎ IsLater z s
+below_or_later : (z s : ℤ) → ¬ IsSooner z s → (z <ℤ pos 0) ⊎ IsFalling z s
 below_or_later z s not_sooner = ⊎_elim
     (λ low. inl low)
     (λ here. ⊎_elim (λ falls. inr (record { here = here; falls = falls })) (λ rises. absurd (not_sooner (record { here = here; rises = rises }))) (cases_ℤ s))
@@ -155,7 +156,7 @@ pub record AreNone (P : ℤ → ℤ → Type 0) (gap : Quad) (over under : Line)
   pub over_is : ¬ P (line_value over.b over.c (pos m) (pos 1)) over.b
   pub under_is : ¬ P (line_value under.b under.c (pos m) (pos 1)) under.b
 
-pub some_before : (gap : Quad) (over under : Line) (low high m : ℕ) → pos 0 ≤ℤ gap.a → low < m → AreNone IsLater gap over under m → HoldsOver (AreBelowAt gap over under) low high
+pub some_before : (gap : Quad) (over under : Line) (low high m : ℕ) → pos 0 ≤ℤ gap.a → low < m → AreNone IsFalling gap over under m → HoldsOver (AreBelowAt gap over under) low high
     → HoldsOver (AreBelowAt gap over under) low m
 some_before gap over under low high zero convex less none some = absurd (omega arith)
 some_before gap over under low high (suc m) convex less none some = ⊎_elim

@@ -7,14 +7,14 @@ use Rattle.mt_base.specs.Conflict.{IsConflict, IsLossSecond}
 use Rattle.mt_base.specs.Loss.{LosesIn}
 use Rattle.mt_base.specs.Trajectory.{Trajectory}
 use Rattle.mt_track.specs.declared.segment.Segment.{Segment}
-use Rattle.mt_track.specs.Laid.{Adjoin, AreSegmentsOf, Covers, Holds, IsLaid, IsStrand, edge}
+use Rattle.mt_track.specs.Laid.{Adjoin, AreSegmentsOf, Covers, CoversSecond, IsLaid, IsStrand, edge}
 use Rattle.mt_track.specs.Rows.{row_after}
 use Rattle.mt_track.proofs.Apart.{few_segments, same_segments}
 use Rattle.mt_track.proofs.Joined.{one_element}
 use Rattle.mt_track.proofs.Segments.{edge_from, lies_at}
 use Rattle.mt_track.proofs.Strands.{found}
-use Rattle.mt_pair.specs.Held.{HasBegun}
-use Rattle.mt_pair.specs.Span.{IsSpan, joined}
+use Rattle.mt_pair.specs.Held.{BeginsBy}
+use Rattle.mt_base.specs.Span.{IsSpan, joined}
 use Rattle.mt_pair.proofs.Spans.{IsConflict-is, IsSpan-conflict, IsSpan-joined, IsSpan-same, loss_second}
 
 -- what the code reads where a list has no such place
@@ -27,14 +27,14 @@ at_place [] i d below = absurd (omega arith)
 at_place (s ∷ ss) zero d below = refl
 at_place (s ∷ ss) (suc i) d below = at_place ss i d (omega arith)
 
--- a place whose edge is not behind a covered second is one of a segment
+-- a place whose edge is not after a covered second is one of a segment
 below_length : (from to : ℕ) (ss : List Segment) (i k : ℕ) → Adjoin from ss to → edge from ss i ≤ k → k < to → i < length ss
 below_length from to [] zero k lie begun ahead = absurd (omega (arith, lie))
 below_length from to [] (suc i) k lie begun ahead = absurd (omega (arith, lie))
 below_length from to (s ∷ ss) zero k lie begun ahead = omega arith
 below_length from to (s ∷ ss) (suc i) k lie begun ahead = let h = below_length s.to to ss i k lie.2 begun ahead in omega (arith, h)
 
--- no segment ends behind the end
+-- no segment ends after the end
 edge_to : (from to : ℕ) (ss : List Segment) (i : ℕ) → Adjoin from ss to → i ≤ length ss → edge from ss i ≤ to
 edge_to from to ss zero lie below = let h = few_segments from to ss lie in omega (arith, h)
 edge_to from to [] (suc i) lie below = absurd (omega arith)
@@ -65,7 +65,7 @@ reads t ss i k kept are begun within =
     }
 
 -- a segment that covers some seconds begins by the first of them, and so by any later second
-pub HasBegun-covers : (t : Trajectory) (i from to k : ℕ) → Covers t i from to → from ≤ k → HasBegun t i k
+pub HasBegun-covers : (t : Trajectory) (i from to k : ℕ) → Covers t i from to → from ≤ k → BeginsBy t i k
 HasBegun-covers t i from to k covers later = λ ss are.
     let same = same_segments t covers.segments ss covers.are are in
     let lies = lies_at t.start (t.start + length t.rows) covers.segments i covers.segment covers.are.adjoin covers.place covers.is in
@@ -76,7 +76,7 @@ pub record ReadsCover (t : Trajectory) (ss : List Segment) (i from to : ℕ) (s 
   pub below : i < length ss
   pub few : i < 14400
   pub short : to ≤ from + 14400
-  pub holds : (k : ℕ) → from ≤ k → k < to → Holds t k s
+  pub holds : (k : ℕ) → from ≤ k → k < to → CoversSecond t k s
 
 pub reads_cover : (t : Trajectory) (ss : List Segment) (i from to : ℕ) → IsStrand t → AreSegmentsOf t ss → Covers t i from to
     → ReadsCover t ss i from to (slice_index_or ss i blank)
@@ -98,14 +98,14 @@ reads_cover t ss i from to kept are covers =
       few = omega (arith, below, few, kept.short);
       short = omega (arith, ahead, lies.to, last, kept.short, first, lies.from, begun);
       holds = λ k later sooner.
-          subst (λ (rows : List Row). Holds (record t { rows = rows }) k (slice_index_or ss i blank)) are.rows
+          subst (λ (rows : List Row). CoversSecond (record t { rows = rows }) k (slice_index_or ss i blank)) are.rows
           (found t.start (t.start + length t.rows) t.rvsm ss i (suc i) k (slice_index_or ss i blank) all (omega arith) (omega arith) (omega arith)
           (omega (arith, first, lies.from, begun)) (omega (arith, lies.from, begun)) (omega (arith, lies.to, ahead)) read);
     }
 
 -- what two segments say of the seconds that both hold
 pub overlap_is : (rules : Rules) (a b : Trajectory) (from to : ℕ) (s t : Segment) (span : Option (ℕ × ℕ))
-    → ((k : ℕ) → from ≤ k → k < to → Holds a k s) → ((k : ℕ) → from ≤ k → k < to → Holds b k t)
+    → ((k : ℕ) → from ≤ k → k < to → CoversSecond a k s) → ((k : ℕ) → from ≤ k → k < to → CoversSecond b k t)
     → IsSpan (λ k. LosesIn rules a.rvsm b.rvsm (row_after s.first (k - s.from)) (row_after t.first (k - t.from))) from to span → IsConflict rules a b from to span
 overlap_is rules a b from to s t span left right is =
     IsConflict-is rules a b from to span

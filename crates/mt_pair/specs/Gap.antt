@@ -27,11 +27,11 @@ abbrev pub product : Offset → Offset → ℤ
 product p q = p.x *ℤ q.x +ℤ p.y *ℤ q.y -ℤ p.width *ℤ q.width
 
 -- the square of the distance less that of the minimum, over time, from the offset at the start and what that gains in a second
-abbrev pub square_of : Offset → Offset → Quad
-square_of offset gain = record { a = product gain gain; b = pos 2 *ℤ product offset gain; c = product offset offset }
+abbrev pub square_over_time : Offset → Offset → Quad
+square_over_time offset gain = record { a = product gain gain; b = pos 2 *ℤ product offset gain; c = product offset offset }
 
 abbrev pub gap_of : Rules → Row → Row → Quad
-gap_of rules a b = square_of (offset_of rules a b) (gain_of a b)
+gap_of rules a b = square_over_time (offset_of rules a b) (gain_of a b)
 
 -- the height of b above a less a vertical minimum with both margins, over time
 abbrev pub excess_of : ℤ → Row → Row → Line

@@ -12,7 +12,7 @@ IsAtMost most z = IsWithin (neg_ℤ (pos most)) (pos most) z
 
 -- The differences of x and y, and of their gains; the horizontal minimum with both margins, and what it gains; the difference of the heights
 -- with the greater minimum and both margins, and what it gains; the quadratic's three coefficients, and its discriminant.
-pub record AreSizes (rules : Rules) (a b : Row) : Type 0 where
+pub record AreWithinSizes (rules : Rules) (a b : Row) : Type 0 where
   pub x : IsAtMost 7372800 (offset_of rules a b).x
   pub y : IsAtMost 7372800 (offset_of rules a b).y
   pub vx : IsAtMost 2000 (gain_of a b).x

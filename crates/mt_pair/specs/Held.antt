@@ -4,5 +4,5 @@ use Rattle.mt_track.specs.declared.segment.Segment.{Segment}
 use Rattle.mt_track.specs.Laid.{AreSegmentsOf, edge}
 
 -- segment i of a trajectory begins by second k
-abbrev pub HasBegun : Trajectory → ℕ → ℕ → Type 0
-HasBegun t i k = (segments : List Segment) → AreSegmentsOf t segments → edge t.start segments i ≤ k
+abbrev pub BeginsBy : Trajectory → ℕ → ℕ → Type 0
+BeginsBy t i k = (segments : List Segment) → AreSegmentsOf t segments → edge t.start segments i ≤ k

@@ -1,37 +1,7 @@
 use Rattle.std.specs.Prelude.{ℕ, ◌<◌, ◌≤◌, Option, Some, None}
-
--- of the k from low up to high, `first` is the least with P and `last` the greatest
-pub record IsSpanOf (P : ℕ → Type 0) (low high first last : ℕ) : Type 0 where
-  pub inside : (low ≤ first) × (first ≤ last) × (last < high)
-  pub first_is : P first
-  pub last_is : P last
-  pub none_outside : (k : ℕ) → low ≤ k → k < high → P k → (first ≤ k) × (k ≤ last)
-
--- that span, or none where no k from low up to high has P
-abbrev pub IsSpan : (ℕ → Type 0) → ℕ → ℕ → Option (ℕ × ℕ) → Type 0
-IsSpan P low high (Some span) = IsSpanOf P low high span.0 span.1
-IsSpan P low high None = (k : ℕ) → low ≤ k → k < high → ¬ P k
-
--- the span of what a span and a later one hold
-abbrev pub joined : Option (ℕ × ℕ) → Option (ℕ × ℕ) → Option (ℕ × ℕ)
-joined None later = later
-joined (Some span) None = Some span
-joined (Some span) (Some later) = Some (span.0, later.1)
-
--- the least k from low up to high with P
-pub record IsLeast (P : ℕ → Type 0) (low high first : ℕ) : Type 0 where
-  pub begun : low ≤ first
-  pub ahead : first < high
-  pub is : P first
-  pub none_before : (k : ℕ) → low ≤ k → k < first → ¬ P k
+use Rattle.mt_base.specs.Span.{IsLeast}
 
 -- the least, or none where no k from low up to high has P
 abbrev pub IsFirst : (ℕ → Type 0) → ℕ → ℕ → Option ℕ → Type 0
 IsFirst P low high (Some first) = IsLeast P low high first
 IsFirst P low high None = (k : ℕ) → low ≤ k → k < high → ¬ P k
-
-pub record IsGreatest (P : ℕ → Type 0) (low high last : ℕ) : Type 0 where
-  pub begun : low ≤ last
-  pub ahead : last < high
-  pub is : P last
-  pub none_after : (k : ℕ) → last < k → k < high → ¬ P k

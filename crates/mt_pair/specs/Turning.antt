@@ -1,8 +1,8 @@
--- What the value and the slope at one instant tell of those before and behind it. No public contract cites these.
+-- What the value and the slope at one instant tell of those before and after it. No public contract cites these.
 use Rattle.std.specs.Prelude.{ℤ, pos, ◌<ℤ◌, ◌≤ℤ◌}
 
 -- not below 0 here, and falling
-pub record IsLater (value slope : ℤ) : Type 0 where
+pub record IsFalling (value slope : ℤ) : Type 0 where
   pub here : pos 0 ≤ℤ value
   pub falls : slope <ℤ pos 0
 

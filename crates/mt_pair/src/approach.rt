@@ -76,11 +76,13 @@ impl<'a> Approach<'a> {
     ghost use Rattle.mt_base.specs.Bounds.{AreWithinBounds, IsBoundedRow};
     ghost use Rattle.mt_base.specs.Tally.{raised};
     ghost use Rattle.mt_frac.specs.FractionOrder.{IsBefore};
-    ghost use Rattle.mt_pair.specs.Below.{HoldsIn, HoldsBetween, HoldsOver};
+    ghost use Rattle.mt_frac.specs.Instants.{HoldsIn, HoldsOver};
+    ghost use Rattle.mt_pair.specs.Below.{HoldsBetween};
     ghost use Rattle.mt_pair.specs.Cases.{IsLoss};
     ghost use Rattle.mt_pair.specs.Gap.{excess_of, gap_of};
-    ghost use Rattle.mt_pair.specs.Greatest.{AreSizes};
-    ghost use Rattle.mt_pair.specs.Span.{IsFirst, IsGreatest, IsLeast, IsSpan};
+    ghost use Rattle.mt_pair.specs.Greatest.{AreWithinSizes};
+    ghost use Rattle.mt_base.specs.Span.{IsGreatest, IsLeast, IsSpan};
+    ghost use Rattle.mt_pair.specs.Span.{IsFirst};
 
     /// That of two rows of one second, with the lines of the greater minimum where one of the two is high in the seconds that are asked for.
     pub(crate) fn of(rules: &Rules, a: &Row, b: &Row, high: Option<&'a High>) -> Approach<'a>
@@ -91,7 +93,7 @@ impl<'a> Approach<'a> {
         ensures over { result.over ≡ excess_of rules.now.sv a.now b.now }
         ensures under { result.under ≡ excess_of rules.now.sv b.now a.now }
         ensures high { result.high ≡ high.entry }
-        ensures sizes { AreSizes rules.now a.now b.now }
+        ensures sizes { AreWithinSizes rules.now a.now b.now }
     {
         Approach {
             gap: gap(rules, a, b),

@@ -3,8 +3,8 @@ ghost use Rattle.mt_base.specs.Bounds.{AreWithinBounds};
 ghost use Rattle.mt_base.specs.Conflict.{IsConflict};
 ghost use Rattle.mt_base.specs.Tally.{raised};
 ghost use Rattle.mt_track.specs.Laid.{Covers};
-ghost use Rattle.mt_pair.specs.Held.{HasBegun};
-ghost use Rattle.mt_pair.specs.Span.{joined};
+ghost use Rattle.mt_pair.specs.Held.{BeginsBy};
+ghost use Rattle.mt_base.specs.Span.{joined};
 
 use crate::overlap::stretch;
 use mt_base::{Rules, Second, Steps, Tally};
@@ -33,7 +33,7 @@ struct Held {
 /// The segment that holds second k. It is looked for from the one at place i on, which begins by then.
 fn holding(strand: &Strand, i: usize, k: Second) -> Held
     requires within { k < strand.now.start + length strand.now.rows }
-    requires begun { HasBegun strand.now i k }
+    requires begun { BeginsBy strand.now i k }
     ensures ahead { k < result.end }
     ensures covers { Covers strand.now result.place k result.end }
 {

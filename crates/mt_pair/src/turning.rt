@@ -3,8 +3,9 @@ ghost use Rattle.std.specs.Prelude.{◌≡◌, ◌↔◌, ℕ, true, ◌<◌, �
 ghost use Rattle.mt_frac.specs.Polynomials.{value, line_value};
 ghost use Rattle.mt_frac.specs.Signs.{IsBoundedLine, IsBoundedQuad};
 ghost use Rattle.mt_frac.specs.Vertex.{slope};
-ghost use Rattle.mt_pair.specs.Below.{AreBelowAt, HoldsOver};
-ghost use Rattle.mt_pair.specs.Turning.{IsLater, IsSooner};
+ghost use Rattle.mt_frac.specs.Instants.{HoldsOver};
+ghost use Rattle.mt_pair.specs.Below.{AreBelowAt};
+ghost use Rattle.mt_pair.specs.Turning.{IsFalling, IsSooner};
 
 use mt_base::Second;
 use mt_frac::{Line, Quad};
@@ -41,7 +42,7 @@ fn line_at(line: Line, k: Second) -> i64
 fn gap_is_later(gap: Quad, k: Second) -> bool
     requires bounded { IsBoundedQuad gap }
     requires short { k ≤ 16384 }
-    ensures { IsTrue result ↔ IsLater (value gap.a gap.b gap.c (pos k) (pos 1)) (slope gap.a gap.b (pos k) (pos 1)) }
+    ensures { IsTrue result ↔ IsFalling (value gap.a gap.b gap.c (pos k) (pos 1)) (slope gap.a gap.b (pos k) (pos 1)) }
 {
     gap_at(gap, k) >= 0 && slope_at(gap, k) < 0
 }
@@ -59,7 +60,7 @@ fn gap_is_sooner(gap: Quad, k: Second) -> bool
 fn line_is_later(line: Line, k: Second) -> bool
     requires bounded { IsBoundedLine line }
     requires short { k ≤ 16384 }
-    ensures { IsTrue result ↔ IsLater (line_value line.b line.c (pos k) (pos 1)) line.b }
+    ensures { IsTrue result ↔ IsFalling (line_value line.b line.c (pos k) (pos 1)) line.b }
 {
     line_at(line, k) >= 0 && line.b < 0
 }
@@ -93,7 +94,7 @@ pub(crate) fn begins_before(gap: Quad, over: Line, under: Line, k: Second) -> bo
     true
 }
 
-/// Whether all three are below 0 at some instant of second k or later, where they are so at some instant of a stretch that ends behind it.
+/// Whether all three are below 0 at some instant of second k or later, where they are so at some instant of a stretch that ends after it.
 pub(crate) fn lasts_until(gap: Quad, over: Line, under: Line, k: Second) -> bool
     requires gap_bounded { IsBoundedQuad gap }
     requires over_bounded { IsBoundedLine over }

@@ -24,14 +24,14 @@ use Rattle.mt_base.proofs.Members.{All-from_held, Contains-filter, Contains-map_
 use Rattle.mt_probe.specs.Items.{kind_at}
 use Rattle.mt_probe.specs.Prepared.{Prepared}
 use Rattle.mt_probe.specs.Shot.{Shot}
-use Rattle.mt_probe.specs.Shot.{state_of as state_in}
+use Rattle.mt_probe.specs.Shot.{state_in_shot as state_in}
 use Rattle.mt_probe.specs.Standing.{IsSoundShot}
 use Rattle.mt_probe.proofs.Gathered.{at_kept}
 use Rattle.mt_picture.specs.Asked.{AreNearby, IsCrossingNow, IsLaterNow, IsNearNow, WasTestedAgain, WasTestedAnew}
 use Rattle.mt_picture.specs.Places.{all_places, made_of_kind}
 use Rattle.mt_picture.specs.Stamps.{AreStamped, HaveStood, IsMadeAt}
 use Rattle.mt_picture.specs.Story.{Story}
-use Rattle.mt_picture.specs.Verdicts.{AreNear, IsPreps}
+use Rattle.mt_picture.specs.Verdicts.{AreNearCandidates, IsPreps}
 use Rattle.mt_picture.proofs.HitsHere.{both_true}
 use Rattle.mt_picture.proofs.Knowing.{kept_made, stands_at, stays_there}
 use Rattle.mt_picture.proofs.Standings.{same_place}
@@ -83,7 +83,7 @@ fetch mine (Some t) = t
 module _ (story : Story) (shot : Shot) (p : Prepared) (known : Bool) (place : ℕ) (mine : NamedTrajectory) (sound : IsSoundShot shot)
     (setup_is : shot.setup ≡ story.setup) (stands : state_in shot ≡ state_of story.setup story.history) (all : AreStamped story.setup story.history shot.slots)
     (rules_are : p.setup.rules ≡ shot.setup.rules) (own : mine.call ≡ p.card.call) (preps : IsPreps p known mine.path) (xs : List Candidate)
-    (near : AreNear shot mine.path p known xs) (stood : HaveStood shot p) where
+    (near : AreNearCandidates shot mine.path p known xs) (stood : HaveStood shot p) where
   abbrev places : List (Option NamedTrajectory)
   places = all_places shot.slots
 

@@ -8,12 +8,12 @@ use Rattle.mt_base.specs.History.{state_of}
 use Rattle.mt_base.specs.Picture.{NamedTrajectory, State}
 use Rattle.mt_base.specs.Tables.{Setup}
 use Rattle.mt_base.specs.Trajectory.{Trajectory}
-use Rattle.mt_probe.specs.Prepared.{IsLeft, IsPrepared, Prepared, kind_made, left_made, named, path_made}
+use Rattle.mt_probe.specs.Prepared.{IsLeftByEntry, IsPrepared, Prepared, kind_made, left_made, named_trajectory, path_made}
 use Rattle.mt_probe.specs.Shot.{Shot}
-use Rattle.mt_probe.specs.Shot.{state_of as state_in}
+use Rattle.mt_probe.specs.Shot.{state_in_shot as state_in}
 use Rattle.mt_probe.specs.Standing.{IsSoundShot}
 use Rattle.mt_picture.specs.Asked.{IsWithinBoth, IsWithinBound, IsWithinPrep, IsWithinPreps, WasTestedAgain, WasTestedAnew, WasTestedForTick, state_now}
-use Rattle.mt_picture.specs.Asking.{AreAsked, WasAskedOf}
+use Rattle.mt_picture.specs.Asking.{AreCandidatesAsked, WasAskedOf}
 use Rattle.mt_picture.specs.Stamps.{AreStamped, HaveStood}
 use Rattle.mt_picture.specs.Story.{IsPrepFor, IsUsable, Story}
 use Rattle.mt_picture.specs.Verdicts.{IsPreps}
@@ -79,10 +79,10 @@ is_there : {A B : Type 0} (f : A → B) (o : Option A) → is_some o ≡ true �
 is_there f None is = is
 is_there f (Some x) is = refl
 
-left_there : (setup : Setup) (s : State) (who : ℕ) (c : Command) (card : Record) → IsLeft setup s who c card → is_some (left_made setup s who c) ≡ true
-left_there setup s who c card left = rw left.card_is (is_there (named card (kind_made c)) (path_made setup card (kind_made c)) left.makes)
+left_there : (setup : Setup) (s : State) (who : ℕ) (c : Command) (card : Record) → IsLeftByEntry setup s who c card → is_some (left_made setup s who c) ≡ true
+left_there setup s who c card left = rw left.card_is (is_there (named_trajectory card (kind_made c)) (path_made setup card (kind_made c)) left.makes)
 
-pub within_preps : (story : Story) (who : ℕ) (c : Command) (p : Prepared) (card : Record) (old new : ℕ) → IsLeft story.setup (state_now story) who c card
+pub within_preps : (story : Story) (who : ℕ) (c : Command) (p : Prepared) (card : Record) (old new : ℕ) → IsLeftByEntry story.setup (state_now story) who c card
     → ((mine : NamedTrajectory) → left_made story.setup (state_now story) who c ≡ Some mine → IsWithinBoth story c p mine old new)
     → IsWithinPreps story who c (Some p) old new
 within_preps story who c p card old new left within =
@@ -97,18 +97,18 @@ record IsMine (setup : Setup) (c : Command) (card : Record) (mine : NamedTraject
   call_is : mine.call ≡ card.call
   path_is : path_made setup card (kind_made c) ≡ Some mine.path
 
-mine_is : (setup : Setup) (s : State) (who : ℕ) (c : Command) (card : Record) (mine : NamedTrajectory) → IsLeft setup s who c card
+mine_is : (setup : Setup) (s : State) (who : ℕ) (c : Command) (card : Record) (mine : NamedTrajectory) → IsLeftByEntry setup s who c card
     → left_made setup s who c ≡ Some mine → IsMine setup c card mine
 mine_is setup s who c card mine left is = by_path (path_made setup card (kind_made c)) refl (rw left.card_is at is) where
-  by_path : (path : Option Trajectory) → path_made setup card (kind_made c) ≡ path → option_map (named card (kind_made c)) path ≡ Some mine → IsMine setup c card mine
+  by_path : (path : Option Trajectory) → path_made setup card (kind_made c) ≡ path → option_map (named_trajectory card (kind_made c)) path ≡ Some mine → IsMine setup c card mine
   by_path None made e = absurd (cc)
   by_path (Some t) made e =
-      let one : named card (kind_made c) t ≡ mine = cc in
+      let one : named_trajectory card (kind_made c) t ≡ mine = cc in
       record { call_is = ap (λ (u : NamedTrajectory). u.call) (sym one); path_is = made ∙ ap (λ (u : NamedTrajectory). Some u.path) one }
 
 pub within_both : (story : Story) (shot : Shot) (who : ℕ) (c : Command) (p : Prepared) (known : Bool) (card : Record) (mine : NamedTrajectory) (old new : ℕ)
     → IsSoundShot shot → shot.setup ≡ story.setup → state_in shot ≡ state_of story.setup story.history → AreStamped story.setup story.history shot.slots
-    → IsPrepFor story who c p → IsPrepared p → IsLeft shot.setup (state_in shot) who c card → p.card.call ≡ card.call → (known ≡ true → card ≡ p.card)
+    → IsPrepFor story who c p → IsPrepared p → IsLeftByEntry shot.setup (state_in shot) who c card → p.card.call ≡ card.call → (known ≡ true → card ≡ p.card)
     → (known ≡ false → ¬ IsUsable story c p) → HaveStood shot p → left_made shot.setup (state_in shot) who c ≡ Some mine
     → WasAskedOf shot p known mine old new → IsWithinBoth story c p mine old new
 within_both story shot who c p known card mine old new sound setup_is stands stamped for kept left own same_card unusable stood made was = ⊎_elim
@@ -136,14 +136,14 @@ within_both story shot who c p known card mine old new sound setup_is stands sta
           sym is.path_is ∙ ap (λ (r : Record). path_made shot.setup r (kind_made c)) (same_card here) ∙ p_made in
           cc
 
-      by_known : (b : Bool) → known ≡ b → IsUsable story c p → AreAsked shot p known was.place mine old new → WasTestedAgain story p mine old new
+      by_known : (b : Bool) → known ≡ b → IsUsable story c p → AreCandidatesAsked shot p known was.place mine old new → WasTestedAgain story p mine old new
       by_known false e usable asked = absurd (unusable e usable)
       by_known true e usable asked =
           again story shot p known was.place mine sound setup_is stands stamped rules_are call_is preps asked.xs asked.near stood old new e asked.rose
 
 -- what a command makes, where its trajectory is known
-pub made_known : (setup : Setup) (s : State) (who : ℕ) (c : Command) (card : Record) (t : Trajectory) (mine : NamedTrajectory) → IsLeft setup s who c card
-    → path_made setup card (kind_made c) ≡ Some t → left_made setup s who c ≡ Some mine → named card (kind_made c) t ≡ mine
+pub made_known : (setup : Setup) (s : State) (who : ℕ) (c : Command) (card : Record) (t : Trajectory) (mine : NamedTrajectory) → IsLeftByEntry setup s who c card
+    → path_made setup card (kind_made c) ≡ Some t → left_made setup s who c ≡ Some mine → named_trajectory card (kind_made c) t ≡ mine
 made_known setup s who c card t mine left made is =
-    let both : Some (named card (kind_made c) t) ≡ Some mine = sym (rw (left.card_is, made) refl) ∙ is in
+    let both : Some (named_trajectory card (kind_made c) t) ≡ Some mine = sym (rw (left.card_is, made) refl) ∙ is in
     cc

@@ -13,13 +13,13 @@ use Rattle.mt_base.specs.History.{call_of}
 use Rattle.mt_base.proofs.Members.{Contains-cases, Contains-none, distinct_append}
 use Rattle.mt_cover.specs.declared.stays.Stay.{Stay}
 use Rattle.mt_kept.specs.declared.finds.Candidate.{Candidate}
-use Rattle.mt_kept.specs.Finds.{place_of}
+use Rattle.mt_kept.specs.Finds.{candidate_place}
 use Rattle.mt_probe.specs.declared.finding.Found.{Found}
 use Rattle.mt_probe.specs.declared.flight.Flight.{Flight}
-use Rattle.mt_probe.specs.Finds.{AreNamedApart}
+use Rattle.mt_probe.specs.Finds.{AreDifferentFinds}
 use Rattle.mt_probe.specs.Items.{IsNearItem}
 use Rattle.mt_probe.specs.Shot.{Shot}
-use Rattle.mt_picture.specs.Candidates.{AreFlightMore, AreLater, AreLaterMore, AreNearOnes, AreStill, IsLater, IsStill, Stands}
+use Rattle.mt_picture.specs.Candidates.{AreFlightMore, AreLater, AreLaterMore, AreNearOnes, AreStill, IsMadeSince, IsStill, StandsInPlace}
 use Rattle.mt_picture.proofs.Standings.{one_there}
 
 -- the last of different ones differs from each before
@@ -60,49 +60,49 @@ module _ (slots : List (Option Flight)) (version : ℕ) where
 
   module _ (finds : List Found) (xs : List Candidate) (found : Found) (so_far : AreStill slots version finds xs) where
     -- one that doesn't
-    pub still_same : ((place stamp : ℕ) → Stands slots place found.call found.kind stamp → stamp ≤ version → ⊥) → AreStill slots version (finds ++ found ∷ []) xs
+    pub still_same : ((place stamp : ℕ) → StandsInPlace slots place found.call found.kind stamp → stamp ≤ version → ⊥) → AreStill slots version (finds ++ found ∷ []) xs
     still_same none = record {
       sound = λ x held. let s = so_far.sound x held in record { found = s.found; held = Contains-append_left finds (found ∷ []) s.found s.held; is = s.is };
       complete = λ one place stamp held s early. ⊎_elim (λ before. so_far.complete one place stamp before s early)
-          (λ same. absurd (none place stamp (subst (λ (g : Found). Stands slots place g.call g.kind stamp) (sym same) s) early)) (Contains-push_cases finds found one held);
+          (λ same. absurd (none place stamp (subst (λ (g : Found). StandsInPlace slots place g.call g.kind stamp) (sym same) s) early)) (Contains-push_cases finds found one held);
       once = so_far.once;
     }
 
     -- one that does
-    pub still_more : (x : Candidate) → AllPairs AreNamedApart (finds ++ found ∷ []) → IsStill slots version found x
-        → ((place stamp : ℕ) → Stands slots place found.call found.kind stamp → stamp ≤ version → x.place ≡ place)
+    pub still_more : (x : Candidate) → AllPairs AreDifferentFinds (finds ++ found ∷ []) → IsStill slots version found x
+        → ((place stamp : ℕ) → StandsInPlace slots place found.call found.kind stamp → stamp ≤ version → x.place ≡ place)
         → AreStill slots version (finds ++ found ∷ []) (xs ++ x ∷ [])
     still_more x named is only = record {
       sound = λ y held. ⊎_elim
           (λ before. let s = so_far.sound y before in record { found = s.found; held = Contains-append_left finds (found ∷ []) s.found s.held; is = s.is })
           (λ same. record { found = found; held = Contains-push finds found; is = subst (IsStill slots version found) same is }) (Contains-push_cases xs x y held);
-      complete = λ one place stamp held s early. subst (λ (ps : List ℕ). Contains ps place) (sym (map-append place_of xs (x ∷ [])))
-          (⊎_elim (λ before. Contains-append_left (map place_of xs) (x.place ∷ []) place (so_far.complete one place stamp before s early))
-          (λ same. subst (Contains (map place_of xs ++ x.place ∷ []))
-          (only place stamp (subst (λ (g : Found). Stands slots place g.call g.kind stamp) (sym same) s) early) (Contains-push (map place_of xs) x.place))
+      complete = λ one place stamp held s early. subst (λ (ps : List ℕ). Contains ps place) (sym (map-append candidate_place xs (x ∷ [])))
+          (⊎_elim (λ before. Contains-append_left (map candidate_place xs) (x.place ∷ []) place (so_far.complete one place stamp before s early))
+          (λ same. subst (Contains (map candidate_place xs ++ x.place ∷ []))
+          (only place stamp (subst (λ (g : Found). StandsInPlace slots place g.call g.kind stamp) (sym same) s) early) (Contains-push (map candidate_place xs) x.place))
           (Contains-push_cases finds found one held));
       once = apart_more (λ (y z : Candidate). y.place ≢ z.place) xs x so_far.once (λ y held same.
           let before = so_far.sound y held in
           let one = one_there slots x.place before.found.call found.call before.found.kind found.kind before.is.stamp is.stamp
-          (subst (λ (k : ℕ). Stands slots k before.found.call before.found.kind before.is.stamp) same before.is.stands) is.stands in
-          apart_last AreNamedApart finds found named before.found before.held (one.0, one.1));
+          (subst (λ (k : ℕ). StandsInPlace slots k before.found.call before.found.kind before.is.stamp) same before.is.stands) is.stands in
+          apart_last AreDifferentFinds finds found named before.found before.held (one.0, one.1));
     }
 
 -- ---- what was made later
 
 module _ (slots : List (Option Flight)) (version : ℕ) (call : List ℕ) where
   -- no place more
-  pub later_same : (kind : Kind) (old : List ℕ) → ((place stamp : ℕ) → Stands slots place call kind stamp → version < stamp → Contains old place)
+  pub later_same : (kind : Kind) (old : List ℕ) → ((place stamp : ℕ) → StandsInPlace slots place call kind stamp → version < stamp → Contains old place)
       → AreLaterMore slots version call kind old old
   later_same kind old named = record { kept = λ place held. held; sound = λ place held. inl held; named = named; once = λ apart. apart }
 
   -- one more
-  pub later_more : (kind : Kind) (old : List ℕ) (it stamp : ℕ) → Stands slots it call kind stamp → version < stamp → ¬ Contains old it
-      → ((place other : ℕ) → Stands slots place call kind other → it ≡ place) → AreLaterMore slots version call kind old (old ++ it ∷ [])
+  pub later_more : (kind : Kind) (old : List ℕ) (it stamp : ℕ) → StandsInPlace slots it call kind stamp → version < stamp → ¬ Contains old it
+      → ((place other : ℕ) → StandsInPlace slots place call kind other → it ≡ place) → AreLaterMore slots version call kind old (old ++ it ∷ [])
   later_more kind old it stamp stands later new only = record {
     kept = λ place held. Contains-append_left old (it ∷ []) place held;
     sound = λ place held. ⊎_elim inl
-        (λ same. inr (subst (IsLater slots version) same (record { call = call; kind = kind; stamp = stamp; stands = stands; later = later })))
+        (λ same. inr (subst (IsMadeSince slots version) same (record { call = call; kind = kind; stamp = stamp; stands = stands; later = later })))
         (Contains-push_cases old it place held);
     named = λ place other s behind. subst (Contains (old ++ it ∷ [])) (only place other s) (Contains-push old it);
     once = λ apart. apart_more (λ (i j : ℕ). i ≢ j) old it apart (λ i held same. new (subst (Contains old) same held));
@@ -117,7 +117,7 @@ module _ (slots : List (Option Flight)) (version : ℕ) (call : List ℕ) where
     named = by_kind;
     once = λ apart. second.once (first.once apart);
   } where
-    by_kind : (kind : Kind) (place stamp : ℕ) → Stands slots place call kind stamp → version < stamp → Contains new place
+    by_kind : (kind : Kind) (place stamp : ℕ) → StandsInPlace slots place call kind stamp → version < stamp → Contains new place
     by_kind Actual place stamp s behind = second.kept place (first.named place stamp s behind)
     by_kind Tentative place stamp s behind = second.named place stamp s behind
 
@@ -139,7 +139,7 @@ module _ (slots : List (Option Flight)) (h : List Entry) (version : ℕ) where
           let one = is e (subst (λ (k : ℕ). slice_get h k ≡ Some e) here at_n) in
           let calls : Some other ≡ Some call = sym named ∙ ap (λ (x : Entry). call_of x.command) one ∙ names in
           let same : other ≡ call = cc in
-          more.named kind place stamp (subst (λ (c : List ℕ). Stands slots place c kind stamp) same s) behind)
+          more.named kind place stamp (subst (λ (c : List ℕ). StandsInPlace slots place c kind stamp) same s) behind)
           (λ away. more.kept place (so_far.named n e other kind place stamp from (let differ = away in omega arith) at_n named s behind))
           (cases_eq n end);
       once = more.once so_far.once;

@@ -14,7 +14,7 @@ use Rattle.mt_base.specs.Trajectory.{Trajectory}
 use Rattle.mt_base.proofs.Members.{Contains-map_cases, distinct_append, distinct_map}
 use Rattle.mt_cover.specs.Cells.{cover_of}
 use Rattle.mt_kept.specs.declared.finds.Candidate.{Candidate}
-use Rattle.mt_kept.specs.Finds.{place_of}
+use Rattle.mt_kept.specs.Finds.{candidate_place}
 use Rattle.mt_kept.specs.Places.{at, horizon}
 use Rattle.mt_kept.proofs.Gathering.{rising_once}
 use Rattle.mt_probe.specs.declared.flight.Flight.{Flight}
@@ -27,10 +27,10 @@ use Rattle.mt_probe.specs.Standing.{IsSoundShot}
 use Rattle.mt_probe.proofs.Gathered.{found_or_quiet}
 use Rattle.mt_probe.proofs.Nearby.{near_by_loss}
 use Rattle.mt_track.specs.Laid.{IsStrand}
-use Rattle.mt_picture.specs.Candidates.{AreAllNear, AreLater, AreNearOnes, AreStill, IsStillOne, Stands, unknown_at}
+use Rattle.mt_picture.specs.Candidates.{AreAllNear, AreLater, AreNearOnes, AreStill, IsStillOne, StandsInPlace, unknown_at}
 use Rattle.mt_picture.specs.Places.{all_places, made_of_kind}
 use Rattle.mt_picture.specs.Stamps.{AreStamped, HaveStood}
-use Rattle.mt_picture.specs.Verdicts.{AreNear, IsKnown, IsPreps}
+use Rattle.mt_picture.specs.Verdicts.{AreNearCandidates, IsKnown, IsPreps}
 use Rattle.mt_picture.proofs.Knowing.{StandsAt, earlier_there, found_right, kept_made, stands_at, stays_there}
 use Rattle.mt_picture.proofs.Standings.{as_at, one_there}
 
@@ -41,7 +41,7 @@ near_there shot t j k other sound laid s loss =
     let kept : Contains (kept_of s.flight) other = subst (Contains (kept_of s.flight)) s.is (kept_made s.flight (kind_at j) s.made s.made_is) in
     near_by_loss shot t other.path j k sound.rules laid (sound.laid (j / 2) s.flight other s.at_is kept) loss (stays_there shot.setup.rules shot.slots j other s)
 
-places_unknown : (places : List ℕ) → map place_of (map unknown_at places) ≡ places
+places_unknown : (places : List ℕ) → map candidate_place (map unknown_at places) ≡ places
 places_unknown [] = refl
 places_unknown (p ∷ places) = ap (λ (ps : List ℕ). p ∷ ps) (places_unknown places)
 
@@ -50,7 +50,7 @@ unknown_apart places apart = distinct_map (λ (x y : Candidate). x.place ≢ y.p
 
 -- all near ones are candidates
 pub near_all : (shot : Shot) (t : Trajectory) (p : Prepared) (known : Bool) (xs : List Candidate) → IsSoundShot shot → IsStrand t → known ≡ false
-    → AreAllNear shot (cover_of shot.setup.rules t) xs → AreNear shot t p known xs
+    → AreAllNear shot (cover_of shot.setup.rules t) xs → AreNearCandidates shot t p known xs
 near_all shot t p known xs sound laid unknown all = record {
   near = λ x held.
       let s = Contains-map_cases unknown_at all.items x (subst (λ (ys : List Candidate). Contains ys x) all.is held) in
@@ -64,7 +64,7 @@ near_all shot t p known xs sound laid unknown all = record {
       });
   complete = λ j k other is apart early loss.
       let held = (all.near.same j).1 (near_there shot t j k other sound laid (stands_at shot.slots j other is) loss) in
-      subst (λ (ys : List Candidate). Contains (map place_of ys) j) (sym all.is) (subst (λ (ps : List ℕ). Contains ps j) (sym (places_unknown all.items)) held);
+      subst (λ (ys : List Candidate). Contains (map candidate_place ys) j) (sym all.is) (subst (λ (ps : List ℕ). Contains ps j) (sym (places_unknown all.items)) held);
   once = subst (AllPairs (λ (x y : Candidate). x.place ≢ y.place)) (sym all.is)
       (rising_once (map unknown_at all.items) (let rising = all.near.rising in rw places_unknown rising));
 }
@@ -139,12 +139,12 @@ module _ (shot : Shot) (h : List Entry) (t : Trajectory) (p : Prepared) (known :
 
   -- what has a loss second with the new one and was made by the prep's version was found; what was made later is named by an entry since
   covered : (j k : ℕ) (other : NamedTrajectory) → at (all_places shot.slots) j ≡ Some other → other.call ≢ p.card.call → k < horizon
-      → IsLossSecond shot.setup.rules t other.path k → Contains (map place_of (xs ++ map unknown_at close)) j
+      → IsLossSecond shot.setup.rules t other.path k → Contains (map candidate_place (xs ++ map unknown_at close)) j
   covered j k other is apart early loss =
       let s = stands_at shot.slots j other is in
       let call_is : s.flight.card.call ≡ other.call = ap (λ (u : NamedTrajectory). u.call) s.is in
       let kind_is : kind_at j ≡ other.kind = ap (λ (u : NamedTrajectory). u.kind) s.is in
-      subst (λ (ps : List ℕ). Contains ps j) (sym (map-append place_of xs (map unknown_at close)))
+      subst (λ (ps : List ℕ). Contains ps j) (sym (map-append candidate_place xs (map unknown_at close)))
       (⊎_elim
       (λ behind.
       let made = stamped (j / 2) s.flight (kind_at j) s.made s.at_is s.made_is in
@@ -153,7 +153,7 @@ module _ (shot : Shot) (h : List Entry) (t : Trajectory) (p : Prepared) (known :
       let within = made.within in
       let listed = since.named n made.entry s.flight.card.call (kind_at j) j s.made.stamp (omega arith) (let some = made.some in omega arith) entry.0 entry.1.names
       (record { flight = s.flight; made = s.made; at_is = s.at_is; call_is = refl; kind_is = refl; made_is = s.made_is; stamp_is = refl }) behind in
-      Contains-append_right (map place_of xs) (map place_of (map unknown_at close)) j
+      Contains-append_right (map candidate_place xs) (map candidate_place (map unknown_at close)) j
       (subst (λ (ps : List ℕ). Contains ps j) (sym (places_unknown close)) (near.complete j listed (near_there shot t j k other sound laid s loss))))
       (λ by_then.
       let there = subst (Contains (trajectories p.setup p.state)) s.is (stood (j / 2) s.flight (kind_at j) s.made s.at_is s.made_is (omega arith)) in
@@ -161,7 +161,7 @@ module _ (shot : Shot) (h : List Entry) (t : Trajectory) (p : Prepared) (known :
       subst (λ (r : Rules). IsLossSecond r p.strand other.path k) (sym rules_are)
       (subst (λ (u : Trajectory). IsLossSecond shot.setup.rules u other.path k) (preps is_known) loss) in
       let it = kept.finds_are.complete other (record { there = there; apart = apart }) k early then_loss in
-      Contains-append_left (map place_of xs) (map place_of (map unknown_at close)) j
+      Contains-append_left (map candidate_place xs) (map candidate_place (map unknown_at close)) j
       (still.complete it.found j s.made.stamp it.held (record {
         flight = s.flight;
         made = s.made;
@@ -180,13 +180,13 @@ module _ (shot : Shot) (h : List Entry) (t : Trajectory) (p : Prepared) (known :
       let it = since.sound u.of (near.sound u.of u.held).0 in
       let place : x.place ≡ u.of = same ∙ sym (ap (λ (z : Candidate). z.place) u.is) in
       let one = one_there shot.slots u.of s.found.call it.call s.found.kind it.kind s.is.stamp it.stamp
-      (subst (λ (k : ℕ). Stands shot.slots k s.found.call s.found.kind s.is.stamp) place s.is.stands) it.stands in
+      (subst (λ (k : ℕ). StandsInPlace shot.slots k s.found.call s.found.kind s.is.stamp) place s.is.stands) it.stands in
       let stamps = one.2 in
       let early = s.is.early in
       let behind = it.later in
       omega arith
 
-  pub near_known : AreNear shot t p known (xs ++ map unknown_at close)
+  pub near_known : AreNearCandidates shot t p known (xs ++ map unknown_at close)
   near_known = record {
     near = λ x held. ⊎_elim
         (λ found. still_near x (still.sound x found))

@@ -25,10 +25,10 @@ use Rattle.mt_change.proofs.Filling.{filled_alters, filled_call}
 use Rattle.mt_probe.specs.declared.flight.Flight.{Flight}
 use Rattle.mt_probe.specs.declared.flight.Made.{Made}
 use Rattle.mt_probe.specs.Items.{path_of}
-use Rattle.mt_probe.specs.Prepared.{IsLeft, flight_left, judged_aside, marked_of, path_made}
+use Rattle.mt_probe.specs.Prepared.{IsLeftByEntry, flight_left, judged_aside, marked_of, path_made}
 use Rattle.mt_probe.specs.Putting.{IsFiledAt, records_put, replaced_if}
 use Rattle.mt_probe.specs.Shot.{Shot, flight_at, made_named, records_in}
-use Rattle.mt_probe.specs.Shot.{state_of as state_in}
+use Rattle.mt_probe.specs.Shot.{state_in_shot as state_in}
 use Rattle.mt_probe.specs.Standing.{IsSoundEntry, IsSoundShot}
 use Rattle.mt_probe.proofs.Left.{found_changed, passes}
 use Rattle.mt_probe.proofs.Placed.{filled_inside, found_there}
@@ -36,7 +36,7 @@ use Rattle.mt_probe.proofs.Whole.{own_calls, replaced_alike}
 use Rattle.mt_base.proofs.Cases.{is_none}
 use Rattle.mt_picture.specs.Entries.{IsFiling}
 use Rattle.mt_picture.specs.Places.{IsNewOrStays}
-use Rattle.mt_picture.specs.Putting.{IsPutBy}
+use Rattle.mt_picture.specs.Putting.{IsFlightPut}
 use Rattle.mt_picture.proofs.Making.{filing_kind, filing_makes, filled_kind, filled_makes}
 
 -- the flight in a slot, by its callsign
@@ -95,7 +95,7 @@ own_actual setup f sound = ap path_in sound.kept
 
 -- ---- what is filed
 
--- the flight that is found behind others, none of which has the callsign
+-- the flight that is found after others, none of which has the callsign
 behind : (call : List ℕ) (rs : List Record) (new card : Record) → flight_of rs call ≡ None → new.call ≡ call → flight_of (rs ++ new ∷ []) call ≡ Some card → new ≡ card
 behind call rs new card none own is =
     let named : bytes_eq new.call call ≡ true = (bytes_eq-Decides new.call call).1 own in
@@ -103,14 +103,14 @@ behind call rs new card none own is =
     let e : Some new ≡ Some card = sym both ∙ is in
     cc
 
--- what a command that files leaves: the flight behind the others, and it has no tentative trajectory
+-- what a command that files leaves: the flight after the others, and it has no tentative trajectory
 pub record IsFiledLast (setup : Setup) (who now : ℕ) (command : Command) (rs : List Record) (card : Record) : Type 0 where
   pub none : flight_of rs card.call ≡ None
   pub records : records_after setup who (filled now command) rs ≡ rs ++ card ∷ []
   pub unmarked : marked_of setup card.path ≡ None
   pub still : now_after (filled now command) now ≡ now
 
-pub filed_last : (setup : Setup) (s : State) (who : ℕ) (command : Command) (card : Record) → IsFiling command → IsLeft setup s who command card
+pub filed_last : (setup : Setup) (s : State) (who : ℕ) (command : Command) (card : Record) → IsFiling command → IsLeftByEntry setup s who command card
     → IsFiledLast setup who s.now command s.records card
 filed_last setup s who (Plan call kind route at from level rvsm) card filing left =
     let tests = passes setup s who (Plan call kind route at from level rvsm) left.passed in
@@ -163,9 +163,9 @@ both_kinds P actual tentative kinds.Tentative = tentative
 
 -- a flight that is filed is put into an empty slot
 pub put_filed : (shot : Shot) (slot : ℕ) (f : Flight) (who : ℕ) (c : Command) → IsSoundShot shot → slot < length shot.slots → flight_at shot slot ≡ None
-    → IsFiling c → IsLeft shot.setup (state_in shot) who c f.card → f.mark ≡ None
+    → IsFiling c → IsLeftByEntry shot.setup (state_in shot) who c f.card → f.mark ≡ None
     → path_made shot.setup f.card kinds.Actual ≡ path_of kinds.Actual f → f.actual.stamp ≡ shot.version + 1 → f.filed ≡ shot.version + 1
-    → ((i : ℕ) (g : Flight) → flight_at shot i ≡ Some g → g.filed ≤ shot.version) → IsPutBy shot slot f (record { who = who; command = filled shot.now c })
+    → ((i : ℕ) (g : Flight) → flight_at shot i ≡ Some g → g.filed ≤ shot.version) → IsFlightPut shot slot f (record { who = who; command = filled shot.now c })
 put_filed shot slot f who c sound inside free filing left unmarked made stamp filed earlier =
     let last = filed_last shot.setup (state_in shot) who c f.card filing left in
     record {
@@ -201,7 +201,7 @@ pub record IsAltered (shot : Shot) (old : Flight) (who : ℕ) (c : Command) (car
   pub records : map (replaced_if old.card.call card) (records_in shot.slots) ≡ records_after shot.setup who (filled shot.now c) (records_in shot.slots)
 
 pub altered_by : (shot : Shot) (slot : ℕ) (old : Flight) (who : ℕ) (c : Command) (card : Record) → IsSoundShot shot → flight_at shot slot ≡ Some old
-    → old.card.call ≡ card.call → Alters c → IsLeft shot.setup (state_in shot) who c card → IsAltered shot old who c card
+    → old.card.call ≡ card.call → Alters c → IsLeftByEntry shot.setup (state_in shot) who c card → IsAltered shot old who c card
 altered_by shot slot old who c card sound at_is own alters left =
     let call = card.call in
     let rs = records_in shot.slots in
@@ -231,10 +231,10 @@ still_altered now c alters = refl
 
 -- a flight that is altered is put into its slot
 pub put_altered : (shot : Shot) (slot : ℕ) (old f : Flight) (who : ℕ) (c : Command) → IsSoundShot shot → flight_at shot slot ≡ Some old
-    → old.card.call ≡ f.card.call → Alters c → IsLeft shot.setup (state_in shot) who c f.card → f.filed ≡ old.filed → old.filed ≤ shot.version
+    → old.card.call ≡ f.card.call → Alters c → IsLeftByEntry shot.setup (state_in shot) who c f.card → f.filed ≡ old.filed → old.filed ≤ shot.version
     → path_of kinds.Actual f ≡ path_made shot.setup f.card kinds.Actual → path_of kinds.Tentative f ≡ path_made shot.setup f.card kinds.Tentative
     → ((kind : Kind) → IsNewOrStays (flight_at shot slot) (shot.version + 1) (filled shot.now c) f kind)
-    → IsPutBy shot slot f (record { who = who; command = filled shot.now c })
+    → IsFlightPut shot slot f (record { who = who; command = filled shot.now c })
 put_altered shot slot old f who c sound at_is own alters left filed earlier actual mark made =
     let by = altered_by shot slot old who c f.card sound at_is own alters left in
     record {

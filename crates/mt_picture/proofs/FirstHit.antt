@@ -16,13 +16,13 @@ use Rattle.mt_base.specs.Trajectory.{Trajectory}
 use Rattle.mt_base.specs.WhatIf.{AreHitsOf, course_on, trajectory_cleared}
 use Rattle.mt_change.specs.Altered.{Alters, path_after}
 use Rattle.mt_kept.specs.declared.open_pair.OpenPair.{OpenPair}
-use Rattle.mt_kept.specs.Finds.{AreFinds}
+use Rattle.mt_kept.specs.Finds.{AreFindsOfSlot}
 use Rattle.mt_machine.specs.Deciding.{IsFirstHit}
 use Rattle.mt_machine.proofs.Decisions.{first_of_hits}
 use Rattle.mt_probe.specs.declared.flight.Flight.{Flight}
-use Rattle.mt_probe.specs.Prepared.{IsLeft}
+use Rattle.mt_probe.specs.Prepared.{IsLeftByEntry}
 use Rattle.mt_probe.specs.Shot.{Shot, flight_at, records_in}
-use Rattle.mt_probe.specs.Shot.{state_of as state_in}
+use Rattle.mt_probe.specs.Shot.{state_in_shot as state_in}
 use Rattle.mt_probe.specs.Standing.{IsSoundEntry, IsSoundShot}
 use Rattle.mt_probe.proofs.Placed.{filled_inside, found_there}
 use Rattle.mt_picture.specs.Entries.{IsFiling, is_probed}
@@ -35,7 +35,7 @@ use Rattle.mt_picture.proofs.HitsHere.{hits_here}
 
 -- the first hit that the finds of a slot show is the first of the trajectory that is put there
 pub first_here : (shot : Shot) (slot : ℕ) (f : Flight) (finds : List OpenPair) (first : Option Hit) → IsSoundShot shot → slot < length shot.slots
-    → AreFinds shot.setup.rules (all_places (set shot.slots slot (Some f))) shot.now slot finds
+    → AreFindsOfSlot shot.setup.rules (all_places (set shot.slots slot (Some f))) shot.now slot finds
     → ((g : Flight) → flight_at shot slot ≡ Some g → g.card.call ≡ f.card.call) → IsFirstAmong finds f.card.call shot.now first
     → IsFirstOf shot.setup (state_in shot) f.card.call (arc_value f.actual.strand) first
 first_here shot slot f finds first sound inside are was is = record {
@@ -58,7 +58,7 @@ filing_unprobed c filing = absurd filing
 
 -- the hits of an acceptance are those of the trajectory that it leaves
 accept_hits : (shot : Shot) (slot who : ℕ) (call : List ℕ) (old : Flight) (card : Record) (t : Trajectory) (hits : List Hit) (c : Command) → IsSoundShot shot
-    → is_probed c ≡ true → flight_at shot slot ≡ Some old → old.card.call ≡ card.call → IsLeft shot.setup (state_in shot) who c card
+    → is_probed c ≡ true → flight_at shot slot ≡ Some old → old.card.call ≡ card.call → IsLeftByEntry shot.setup (state_in shot) who c card
     → card.path ≡ path_after shot.setup who (filled shot.now c) old.card.path → t ≡ trajectory_of shot.setup card.path
     → AreHitsOf shot.setup (state_in shot) card.call t hits → HasHits shot.setup (state_in shot) c hits
 accept_hits shot slot who call old card t hits (Accept kall clearance eff at_version) sound probed at_is own left path flies all =
@@ -77,7 +77,7 @@ accept_hits shot slot who call old card t hits (Accept kall clearance eff at_ver
 accept_hits shot slot who call old card t hits c sound probed at_is own left path flies all = absurd (cc)
 
 pub first_of_remade : (shot : Shot) (slot who : ℕ) (old : Flight) (card : Record) (t : Trajectory) (c : Command) (first : Option Hit) → IsSoundShot shot
-    → flight_at shot slot ≡ Some old → old.card.call ≡ card.call → IsLeft shot.setup (state_in shot) who c card
+    → flight_at shot slot ≡ Some old → old.card.call ≡ card.call → IsLeftByEntry shot.setup (state_in shot) who c card
     → card.path ≡ path_after shot.setup who (filled shot.now c) old.card.path → t ≡ trajectory_of shot.setup card.path
     → (is_probed c ≡ true → IsFirstOf shot.setup (state_in shot) card.call t first) → (is_probed c ≡ false → first ≡ None)
     → IsFirstHit shot.setup (state_in shot) c first
@@ -91,7 +91,7 @@ first_of_remade shot slot who old card t c first sound at_is own left path flies
 
 -- the same of the flight as it is put there
 pub first_of_put : (shot : Shot) (slot who : ℕ) (old f : Flight) (c : Command) (first : Option Hit) → IsSoundShot shot → flight_at shot slot ≡ Some old
-    → old.card.call ≡ f.card.call → Alters c → IsLeft shot.setup (state_in shot) who c f.card → IsSoundEntry shot.setup f
+    → old.card.call ≡ f.card.call → Alters c → IsLeftByEntry shot.setup (state_in shot) who c f.card → IsSoundEntry shot.setup f
     → (is_probed c ≡ true → IsFirstOf shot.setup (state_in shot) f.card.call (arc_value f.actual.strand) first) → (is_probed c ≡ false → first ≡ None)
     → IsFirstHit shot.setup (state_in shot) c first
 first_of_put shot slot who old f c first sound at_is own alters left entry here none =

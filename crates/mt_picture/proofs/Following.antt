@@ -5,7 +5,7 @@ use Rattle.mt_base.specs.declared.conflict.Kind.TheVariants.{Actual, Tentative}
 use Rattle.mt_base.specs.declared.rules.Rules.{Rules}
 use Rattle.mt_base.specs.Picture.{NamedTrajectory}
 use Rattle.mt_kept.specs.declared.open_pair.OpenPair.{OpenPair}
-use Rattle.mt_kept.specs.Finds.{AreFinds}
+use Rattle.mt_kept.specs.Finds.{AreFindsOfSlot}
 use Rattle.mt_kept.specs.Places.{at, with_slot}
 use Rattle.mt_kept.proofs.Joining.{finds_empty}
 use Rattle.mt_probe.specs.declared.flight.Flight.{Flight}
@@ -40,7 +40,7 @@ module _ (slots : List (Option Flight)) (slot : ℕ) (f : Flight) (inside : slot
 
   pub joined_slot : (rules : Rules) (now : ℕ) (first second : List OpenPair) → AreFindsFor rules (all_places slots) now (2 * slot) (first_of (Some f)) first
       → AreFindsFor rules (all_places slots) now (2 * slot + 1) (second_of (Some f)) second
-      → AreFinds rules (with_slot (all_places slots) slot (first_of (Some f)) (second_of (Some f))) now slot (first ++ second)
+      → AreFindsOfSlot rules (with_slot (all_places slots) slot (first_of (Some f)) (second_of (Some f))) now slot (first ++ second)
   joined_slot rules now first second one two =
       joined (all_places slots) slot inside_places (first_of (Some f)) (second_of (Some f)) f.card.call (first_call f) (second_call f)
       (λ t is. was_first (get_or slots slot None) f.card.call was t (sym (at_first slots slot) ∙ is))
@@ -61,7 +61,7 @@ module _ (slots : List (Option Flight)) (slot : ℕ) (f : Flight) (inside : slot
   -- nothing is found for a second place that is empty
   pub nothing_behind : second_of (Some f) ≡ None → (rules : Rules) (now : ℕ) (first : List OpenPair)
       → AreFindsFor rules (all_places slots) now (2 * slot) (first_of (Some f)) first
-      → AreFinds rules (with_slot (all_places slots) slot (first_of (Some f)) (second_of (Some f))) now slot first
+      → AreFindsOfSlot rules (with_slot (all_places slots) slot (first_of (Some f)) (second_of (Some f))) now slot first
   nothing_behind bare rules now first one =
-      subst (AreFinds rules (with_slot (all_places slots) slot (first_of (Some f)) (second_of (Some f))) now slot) (append-nil first)
+      subst (AreFindsOfSlot rules (with_slot (all_places slots) slot (first_of (Some f)) (second_of (Some f))) now slot) (append-nil first)
       (joined_slot rules now first [] one (λ after at_is agree. finds_empty rules after now (2 * slot + 1) (at_is ∙ bare)))

@@ -11,10 +11,10 @@ use Rattle.mt_base.specs.Tables.{Setup}
 use Rattle.mt_base.proofs.HistoryLemmas.{version_is}
 use Rattle.mt_board.specs.declared.no.No.{No}
 use Rattle.mt_board.specs.declared.no.No.TheVariants as nos
-use Rattle.mt_picture.specs.Story.{IsGivenFor, IsPreparedFor, IsRefused, Story}
+use Rattle.mt_picture.specs.Story.{IsPrepGivenFor, IsPreparedFor, IsCommandRefused, Story}
 use Rattle.mt_probe.specs.Prepared.{IsPrepOf, IsRefusedOn, MakesStrand, Prepared, judged_aside}
 use Rattle.mt_probe.specs.Shot.{Shot}
-use Rattle.mt_probe.specs.Shot.{state_of as state_in}
+use Rattle.mt_probe.specs.Shot.{state_in_shot as state_in}
 use Rattle.mt_probe.proofs.Aside.{aside_refused}
 
 -- what is prepared for an actor is prepared for the one that asks
@@ -24,7 +24,7 @@ prepared_for c who preparer is = tt
 
 -- what is prepared on the state now is a prep of the picture
 pub given_now : (story : Story) (shot : Shot) (who : ℕ) (c : Command) (p : Prepared) → MakesStrand c → shot.setup ≡ story.setup
-    → state_in shot ≡ state_of story.setup story.history → IsPrepOf shot who c p → IsGivenFor story who c (Some p)
+    → state_in shot ≡ state_of story.setup story.history → IsPrepOf shot who c p → IsPrepGivenFor story who c (Some p)
 given_now story shot who c p makes same is prep =
     let state_is : p.state ≡ state_of story.setup story.history = prep.state_is ∙ is in
     let version : p.state.version ≡ length story.history = ap (λ (s : State). s.version) state_is ∙ version_is story.setup story.history in
@@ -41,7 +41,7 @@ given_now story shot who c p makes same is prep =
 
 -- a refusal to prepare is that of the picture
 pub denied_now : (story : Story) (shot : Shot) (who : ℕ) (c : Command) (no : No) → MakesStrand c → shot.setup ≡ story.setup
-    → state_in shot ≡ state_of story.setup story.history → AreWithinBounds story.setup.rules → IsRefusedOn shot who c no → IsRefused story who c no
+    → state_in shot ≡ state_of story.setup story.history → AreWithinBounds story.setup.rules → IsRefusedOn shot who c no → IsCommandRefused story who c no
 denied_now story shot who c (nos.Refused refusal version) makes same is rules refused =
     let counted : shot.version ≡ length story.history = ap (λ (s : State). s.version) is ∙ version_is story.setup story.history in
     let here : judged_aside story.setup (state_of story.setup story.history) who c ≡ Err refusal =

@@ -18,21 +18,21 @@ use Rattle.mt_base.specs.Trajectory.{Trajectory}
 use Rattle.mt_base.specs.WhatIf.{AreHitsOf, IsHit}
 use Rattle.mt_edges.specs.declared.edge.Edge.{Edge}
 use Rattle.mt_kept.specs.declared.open_pair.OpenPair.{OpenPair}
-use Rattle.mt_kept.specs.Finds.{AreFinds}
-use Rattle.mt_kept.specs.Losing.{IsPair, Loses, TouchesSlot}
-use Rattle.mt_kept.specs.Made.{is_open}
+use Rattle.mt_kept.specs.Finds.{AreFindsOfSlot}
+use Rattle.mt_kept.specs.Losing.{IsPair, LoseSeparation, TouchesSlot}
+use Rattle.mt_kept.specs.Made.{is_open_pair}
 use Rattle.mt_kept.specs.Places.{at}
-use Rattle.mt_kept.specs.Window.{IsFoundOf, IsOpen, IsShown, edge_of}
+use Rattle.mt_kept.specs.Window.{IsFoundOf, IsOpen, ShowsInWindow, edge_of}
 use Rattle.mt_base.proofs.Members.{Contains-map_cases, take_push}
 use Rattle.mt_kept.proofs.Keeping.{even_half, is_open_is}
 use Rattle.mt_kept.proofs.Windows.{IsLossSecond-sym, IsSpanOfLoss-sym, is_open_at}
 use Rattle.mt_probe.specs.declared.flight.Flight.{Flight}
 use Rattle.mt_probe.specs.Shot.{Shot, flight_at}
-use Rattle.mt_probe.specs.Shot.{state_of as state_in}
+use Rattle.mt_probe.specs.Shot.{state_in_shot as state_in}
 use Rattle.mt_probe.specs.Standing.{IsSoundShot}
 use Rattle.mt_probe.proofs.Placed.{filled_inside, record_placed, record_there}
 use Rattle.mt_base.proofs.OneConflict.{one_span}
-use Rattle.mt_picture.specs.Hits.{AreHitsAmong, IsHitOfOne, hit_by, hit_of, is_flown}
+use Rattle.mt_picture.specs.Hits.{AreHitsAmong, IsHitOfOnePair, conflict_hit, pair_hit, is_flown}
 use Rattle.mt_picture.specs.Places.{all_places, first_of, made_of_kind}
 use Rattle.mt_picture.proofs.Entered.{own_actual}
 use Rattle.mt_picture.proofs.Slotted.{at_first}
@@ -40,19 +40,19 @@ use Rattle.mt_picture.proofs.Slotted.{at_first}
 -- ---- the loop over the finds
 
 push : (finds : List OpenPair) (o : OpenPair) (call : List ℕ) (now : ℕ) (hit : Hit)
-    → IsHitOfOne (finds ++ o ∷ []) call now hit ↔ (IsHitOfOne finds call now hit ⊎ (hit_of call now o ≡ Some hit))
+    → IsHitOfOnePair (finds ++ o ∷ []) call now hit ↔ (IsHitOfOnePair finds call now hit ⊎ (pair_hit call now o ≡ Some hit))
 push finds o call now hit = (
   (λ one. ⊎_elim
       (λ before. inl (record { pair = one.pair; held = before; is = one.is }))
-      (λ same. inr (ap (hit_of call now) same ∙ one.is)) (Contains-push_cases finds o one.pair one.held)),
+      (λ same. inr (ap (pair_hit call now) same ∙ one.is)) (Contains-push_cases finds o one.pair one.held)),
   (λ either. ⊎_elim
       (λ one. record { pair = one.pair; held = Contains-append_left finds (o ∷ []) one.pair one.held; is = one.is })
       (λ is. record { pair = o; held = Contains-push finds o; is = is }) either),
 )
 
 pub hit_more : (finds : List OpenPair) (i : ℕ) (o : OpenPair) (call : List ℕ) (now : ℕ) (hits : List Hit) (one : Hit) → i < length finds → o ≡ get_or finds i o
-    → hit_of call now o ≡ Some one → ((hit : Hit) → Contains hits hit ↔ IsHitOfOne (take i finds) call now hit)
-    → (hit : Hit) → Contains (hits ++ one ∷ []) hit ↔ IsHitOfOne (take (i + 1) finds) call now hit
+    → pair_hit call now o ≡ Some one → ((hit : Hit) → Contains hits hit ↔ IsHitOfOnePair (take i finds) call now hit)
+    → (hit : Hit) → Contains (hits ++ one ∷ []) hit ↔ IsHitOfOnePair (take (i + 1) finds) call now hit
 hit_more finds i o call now hits one below at_is is so_far = rw (take_push finds i o below at_is) (λ hit. (
   (λ held. (push (take i finds) o call now hit).1 (⊎_elim (λ before. inl ((so_far hit).0 before)) (λ same. inr (is ∙ ap Some same)) (Contains-push_cases hits one hit held))),
   (λ some. ⊎_elim
@@ -61,16 +61,16 @@ hit_more finds i o call now hits one below at_is is so_far = rw (take_push finds
       ((push (take i finds) o call now hit).0 some)),
 ))
 
-pub no_more : (finds : List OpenPair) (i : ℕ) (o : OpenPair) (call : List ℕ) (now : ℕ) (hits : List Hit) → i < length finds → o ≡ get_or finds i o → hit_of call now o ≡ None
-    → ((hit : Hit) → Contains hits hit ↔ IsHitOfOne (take i finds) call now hit) → (hit : Hit) → Contains hits hit ↔ IsHitOfOne (take (i + 1) finds) call now hit
+pub no_more : (finds : List OpenPair) (i : ℕ) (o : OpenPair) (call : List ℕ) (now : ℕ) (hits : List Hit) → i < length finds → o ≡ get_or finds i o → pair_hit call now o ≡ None
+    → ((hit : Hit) → Contains hits hit ↔ IsHitOfOnePair (take i finds) call now hit) → (hit : Hit) → Contains hits hit ↔ IsHitOfOnePair (take (i + 1) finds) call now hit
 no_more finds i o call now hits below at_is is so_far = rw (take_push finds i o below at_is) (λ hit. (
   (λ held. (push (take i finds) o call now hit).1 (inl ((so_far hit).0 held))),
   (λ some. ⊎_elim (λ before. (so_far hit).1 before) (λ also. absurd (let both = sym is ∙ also in cc)) ((push (take i finds) o call now hit).0 some)),
 ))
 
 pub all_hits : (finds : List OpenPair) (i : ℕ) (call : List ℕ) (now : ℕ) (hits ordered : List Hit) → length finds ≤ i
-    → ((hit : Hit) → Contains hits hit ↔ IsHitOfOne (take i finds) call now hit)
-    → ((hit : Hit) → Contains ordered hit ↔ Contains hits hit) → (hit : Hit) → Contains ordered hit ↔ IsHitOfOne finds call now hit
+    → ((hit : Hit) → Contains hits hit ↔ IsHitOfOnePair (take i finds) call now hit)
+    → ((hit : Hit) → Contains ordered hit ↔ Contains hits hit) → (hit : Hit) → Contains ordered hit ↔ IsHitOfOnePair finds call now hit
 all_hits finds i call now hits ordered all so_far same =
     let whole = rw (take_all i finds all) at so_far in λ hit. ((λ held. (whole hit).0 ((same hit).0 held)), (λ one. (same hit).1 ((whole hit).1 one)))
 
@@ -94,14 +94,14 @@ both_true false b e = absurd (cc)
 is_even : (n : ℕ) → nat_eq n 0 ≡ true → n ≡ 0
 is_even n e = grind (arith, nat_tests)
 
-hit_back : (o : OpenPair) (call : List ℕ) (now : ℕ) (hit : Hit) → hit_of call now o ≡ Some hit → IsShownBy o call now hit
-hit_back o call now hit is = by_test (is_flown o && is_open now o.edge) refl is where
-  by_conflict : (shown : Option Conflict) → o.conflict ≡ shown → is_flown o && is_open now o.edge ≡ true → hit_by call shown ≡ Some hit → IsShownBy o call now hit
+hit_back : (o : OpenPair) (call : List ℕ) (now : ℕ) (hit : Hit) → pair_hit call now o ≡ Some hit → IsShownBy o call now hit
+hit_back o call now hit is = by_test (is_flown o && is_open_pair now o.edge) refl is where
+  by_conflict : (shown : Option Conflict) → o.conflict ≡ shown → is_flown o && is_open_pair now o.edge ≡ true → conflict_hit call shown ≡ Some hit → IsShownBy o call now hit
   by_conflict None shown_is test hit_is = absurd (cc)
   by_conflict (Some c) shown_is test hit_is =
       let one : Hit = record { first = c.first; with = if bytes_eq c.a call then c.b else c.a; last = c.last } in
       let same : one ≡ hit = cc in
-      let tests = both_true (is_flown o) (is_open now o.edge) test in
+      let tests = both_true (is_flown o) (is_open_pair now o.edge) test in
       let ends = both_true (nat_eq (o.edge.a % 2) 0) (nat_eq (o.edge.b % 2) 0) tests.0 in
       record {
         conflict = c;
@@ -114,13 +114,13 @@ hit_back o call now hit is = by_test (is_flown o && is_open now o.edge) refl is 
         with_is = sym (ap (λ (h : Hit). h.with) same);
       }
 
-  by_test : (b : Bool) → is_flown o && is_open now o.edge ≡ b → (if b then hit_by call o.conflict else None) ≡ Some hit → IsShownBy o call now hit
+  by_test : (b : Bool) → is_flown o && is_open_pair now o.edge ≡ b → (if b then conflict_hit call o.conflict else None) ≡ Some hit → IsShownBy o call now hit
   by_test true test hit_is = by_conflict o.conflict refl test hit_is
   by_test false test hit_is = absurd (cc)
 
-hit_on : (o : OpenPair) (call : List ℕ) (now : ℕ) (hit : Hit) → IsShownBy o call now hit → hit_of call now o ≡ Some hit
+hit_on : (o : OpenPair) (call : List ℕ) (now : ℕ) (hit : Hit) → IsShownBy o call now hit → pair_hit call now o ≡ Some hit
 hit_on o call now hit s =
-    let opened : is_open now o.edge ≡ true = (is_open_is now o.edge).1 s.opened in
+    let opened : is_open_pair now o.edge ≡ true = (is_open_is now o.edge).1 s.opened in
     let flown : is_flown o ≡ true = rw (s.even_a, s.even_b) refl in
     let one : Hit = record { first = s.conflict.first; with = if bytes_eq s.conflict.a call then s.conflict.b else s.conflict.a; last = s.conflict.last } in
     let same : one ≡ hit = λ i. record { first = (sym s.first) i; with = (sym s.with_is) i; last = (sym s.last) i } in
@@ -146,7 +146,7 @@ half_even : (j : ℕ) → j % 2 ≡ 0 → j ≡ 2 * (j / 2)
 half_even j even = omega arith
 
 module _ (shot : Shot) (slot : ℕ) (f : Flight) (finds : List OpenPair) (sound : IsSoundShot shot) (inside : slot < length shot.slots)
-    (are : AreFinds shot.setup.rules (all_places (set shot.slots slot (Some f))) shot.now slot finds)
+    (are : AreFindsOfSlot shot.setup.rules (all_places (set shot.slots slot (Some f))) shot.now slot finds)
     (was : (g : Flight) → flight_at shot slot ≡ Some g → g.card.call ≡ f.card.call) where
   abbrev after : List (Option NamedTrajectory)
   after = all_places (set shot.slots slot (Some f))
@@ -222,7 +222,7 @@ module _ (shot : Shot) (slot : ℕ) (f : Flight) (finds : List OpenPair) (sound 
 
   -- one that shows a hit of its slot shows one of mine
   to_shown : (o : OpenPair) (hit : Hit) → IsShownBy o call shot.now hit → TouchesSlot slot o.edge → IsPair rules after o.edge
-      → IsShown rules after shot.now o.edge o.conflict → IsHit shot.setup (state_in shot) call (arc_value f.actual.strand) hit
+      → ShowsInWindow rules after shot.now o.edge o.conflict → IsHit shot.setup (state_in shot) call (arc_value f.actual.strand) hit
   to_shown o hit s touches pair shown =
       let found : Either shown.left shown.right s.conflict = subst (λ (x : Option Conflict). IsFoundOf rules shot.now shown.left shown.right x) s.shown shown.found in
       let a = half_even o.edge.a s.even_a in
@@ -252,7 +252,7 @@ module _ (shot : Shot) (slot : ℕ) (f : Flight) (finds : List OpenPair) (sound 
       (swap shown.left mine s.conflict (subst (λ (u : NamedTrajectory). Either shown.left u s.conflict) mine_is found)))
       touches
 
-  to : (hit : Hit) → IsHitOfOne finds call shot.now hit → IsHit shot.setup (state_in shot) call (arc_value f.actual.strand) hit
+  to : (hit : Hit) → IsHitOfOnePair finds call shot.now hit → IsHit shot.setup (state_in shot) call (arc_value f.actual.strand) hit
   to hit one =
       let s = hit_back one.pair call shot.now hit one.is in
       let facts = are.sound one.pair one.held in
@@ -273,7 +273,7 @@ module _ (shot : Shot) (slot : ℕ) (f : Flight) (finds : List OpenPair) (sound 
 
   -- and it shows what is found of them
   found_of : (i j : ℕ) (s t : NamedTrajectory) (o : OpenPair) → o.edge.a ≡ 2 * i → o.edge.b ≡ 2 * j → at after (2 * i) ≡ Some s → at after (2 * j) ≡ Some t
-      → IsShown rules after shot.now o.edge o.conflict → IsFoundOf rules shot.now s t o.conflict
+      → ShowsInWindow rules after shot.now o.edge o.conflict → IsFoundOf rules shot.now s t o.conflict
   found_of i j s t o a_is b_is s_is t_is shown =
       let l : Some shown.left ≡ Some s = sym shown.left_is ∙ ap (at after) a_is ∙ s_is in
       let r : Some shown.right ≡ Some t = sym shown.right_is ∙ ap (at after) b_is ∙ t_is in
@@ -303,7 +303,7 @@ module _ (shot : Shot) (slot : ℕ) (f : Flight) (finds : List OpenPair) (sound 
       → s.call ≢ t.call → shot.now ≤ k → k < window_end shot.now → IsLossSecond rules s.path t.path k → IsFoundAt rules shot.now finds i j s t
   found_at i j k s t before touches s_is t_is apart low high loss =
       let early = sound.early in
-      let lost : Loses rules after (2 * i) (2 * j) k = record { left = s; right = t; left_is = s_is; right_is = t_is; apart = apart; loss = loss; early = omega (arith, early, high) } in
+      let lost : LoseSeparation rules after (2 * i) (2 * j) k = record { left = s; right = t; left_is = s_is; right_is = t_is; apart = apart; loss = loss; early = omega (arith, early, high) } in
       let joined = are.complete (2 * i) (2 * j) k before
       (⊎_elim (λ e. inl (even_half i ∙ e)) (λ e. inr (even_half j ∙ e)) touches) lost in
       let x = Contains-map_cases edge_of finds joined.edge joined.held in
@@ -316,7 +316,7 @@ module _ (shot : Shot) (slot : ℕ) (f : Flight) (finds : List OpenPair) (sound 
   one_shown : (i j : ℕ) (o : OpenPair) (t : NamedTrajectory) (hit : Hit) → Contains finds o → o.edge.a ≡ 2 * i → o.edge.b ≡ 2 * j → IsOpen shot.now o.edge
       → t.call ≢ call → hit.with ≡ t.call → IsSpanOfLoss rules mine.path t.path shot.now (window_end shot.now) hit.first hit.last
       → (shown : Option Conflict) → o.conflict ≡ shown → ((c : Conflict) → shown ≡ Some c → Either mine t c) → (shown ≡ None → ⊥)
-      → IsHitOfOne finds call shot.now hit
+      → IsHitOfOnePair finds call shot.now hit
   one_shown i j o t hit held a_is b_is opened apart with_is span None shown_is either some = absurd (some refl)
   one_shown i j o t hit held a_is b_is opened apart with_is span (Some c) shown_is either some =
       let w = whom t c apart (either c refl) in
@@ -345,7 +345,7 @@ module _ (shot : Shot) (slot : ℕ) (f : Flight) (finds : List OpenPair) (sound 
   found_either : (s t : NamedTrajectory) (shown : Option Conflict) → IsFoundOf rules shot.now s t shown → (c : Conflict) → shown ≡ Some c → Either s t c
   found_either s t shown found c is = subst (λ (x : Option Conflict). IsFoundOf rules shot.now s t x) is found
 
-  from : (hit : Hit) → IsHit shot.setup (state_in shot) call (arc_value f.actual.strand) hit → IsHitOfOne finds call shot.now hit
+  from : (hit : Hit) → IsHit shot.setup (state_in shot) call (arc_value f.actual.strand) hit → IsHitOfOnePair finds call shot.now hit
   from hit is =
       let p = record_placed shot.slots is.flight is.flies in
       let g = p.flight in

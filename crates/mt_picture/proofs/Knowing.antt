@@ -18,14 +18,14 @@ use Rattle.mt_probe.specs.declared.finding.Found.{Found}
 use Rattle.mt_probe.specs.declared.flight.Flight.{Flight}
 use Rattle.mt_probe.specs.declared.flight.Made.{Made}
 use Rattle.mt_probe.specs.Finds.{IsFoundOrQuiet, IsOfAnother}
-use Rattle.mt_probe.specs.Items.{kind_at, stays_at, stays_by, stays_of}
+use Rattle.mt_probe.specs.Items.{kind_at, stays_at, stays_by, stays_of_item}
 use Rattle.mt_probe.specs.Prepared.{Prepared}
 use Rattle.mt_probe.specs.Shot.{Shot, flight_at, kept_of, made_named, made_of}
 use Rattle.mt_probe.proofs.Covered.{even_kind, odd_kind}
 use Rattle.mt_base.proofs.Members.{Contains-head}
 use Rattle.mt_picture.specs.Places.{all_places, first_of, made_of_kind, second_of}
 use Rattle.mt_picture.specs.Stamps.{HaveStood}
-use Rattle.mt_picture.specs.Verdicts.{AreNear, IsEarlierAt, IsPreps}
+use Rattle.mt_picture.specs.Verdicts.{AreNearCandidates, IsEarlierAt, IsPreps}
 use Rattle.mt_picture.proofs.Slotted.{at_first, at_second}
 
 -- what is found says the conflict over all seconds
@@ -126,12 +126,12 @@ kept_made f Tentative made is = let held = in_named f.card.call f.mark made is i
 -- the stays of what stands in a place are those of its item
 pub stays_there : (rules : Rules) (slots : List (Option Flight)) (j : ℕ) (t : NamedTrajectory) → StandsAt slots j t → stays_at rules slots j ≡ cover_of rules t.path
 stays_there rules slots j t s =
-    ap (stays_by rules (kind_at j)) s.at_is ∙ ap (λ (m : Option Made). stays_of rules (option_map (λ (n : Made). arc_value n.strand) m)) s.made_is
+    ap (stays_by rules (kind_at j)) s.at_is ∙ ap (λ (m : Option Made). stays_of_item rules (option_map (λ (n : Made). arc_value n.strand) m)) s.made_is
     ∙ ap (λ (u : NamedTrajectory). cover_of rules u.path) s.is
 
 -- the near ones are candidates
 pub candidates_right : (shot : Shot) (place : ℕ) (mine : NamedTrajectory) (p : Prepared) (known : Bool) (xs : List Candidate)
-    → p.setup.rules ≡ shot.setup.rules → mine.call ≡ p.card.call → IsPreps p known mine.path → AreNear shot mine.path p known xs
+    → p.setup.rules ≡ shot.setup.rules → mine.call ≡ p.card.call → IsPreps p known mine.path → AreNearCandidates shot mine.path p known xs
     → AreCandidates shot.setup.rules (all_places shot.slots) place mine xs
 candidates_right shot place mine p known xs rules_are own preps near = record {
   right = λ x other held is.

@@ -9,9 +9,9 @@ use Rattle.mt_base.specs.History.{call_of, state_of}
 use Rattle.mt_base.specs.Picture.{State}
 use Rattle.mt_base.specs.Tables.{Setup}
 use Rattle.mt_base.proofs.HistoryLemmas.{version_is}
-use Rattle.mt_probe.specs.Prepared.{IsLeft, IsPrepared, Prepared, flight_left, judged_aside, kind_made, path_made}
+use Rattle.mt_probe.specs.Prepared.{IsLeftByEntry, IsPrepared, Prepared, flight_left, judged_aside, kind_made, path_made}
 use Rattle.mt_probe.specs.Shot.{Shot}
-use Rattle.mt_probe.specs.Shot.{state_of as state_in}
+use Rattle.mt_probe.specs.Shot.{state_in_shot as state_in}
 use Rattle.mt_picture.specs.Story.{IsPrepFor, IsPreparedFor}
 
 -- it is the same for the actor that it was prepared for
@@ -21,7 +21,7 @@ left_alike setup s who whom c same = refl
 
 pub left_now : (shot : Shot) (h : List Entry) (who : ℕ) (c : Command) (p : Prepared) → state_in shot ≡ state_of shot.setup h
     → IsPrepFor (record { setup = shot.setup; history = h }) who c p → IsPrepared p → p.state.version ≡ shot.version
-    → judged_aside shot.setup (state_in shot) who c ≡ Ok (tt {0}) → IsLeft shot.setup (state_in shot) who c p.card
+    → judged_aside shot.setup (state_in shot) who c ≡ Ok (tt {0}) → IsLeftByEntry shot.setup (state_in shot) who c p.card
 left_now shot h who c p stands for kept same passed =
     let whole : p.state.version ≡ length h = same ∙ ap (λ (s : State). s.version) stands ∙ version_is shot.setup h in
     let all : take p.state.version h ≡ h = take_all p.state.version h (omega arith) in

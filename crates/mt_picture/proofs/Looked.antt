@@ -18,7 +18,7 @@ use Rattle.mt_base.specs.WhatIf.{course_in, course_on}
 use Rattle.mt_probe.specs.declared.flight.Flight.{Flight}
 use Rattle.mt_probe.specs.Items.{path_of}
 use Rattle.mt_probe.specs.Shot.{Shot, flight_at, records_in}
-use Rattle.mt_probe.specs.Shot.{state_of as state_in}
+use Rattle.mt_probe.specs.Shot.{state_in_shot as state_in}
 use Rattle.mt_probe.specs.Standing.{IsSoundShot}
 use Rattle.mt_picture.proofs.Entered.{own_actual}
 

@@ -18,7 +18,7 @@ use Rattle.mt_kept.specs.Window.{WasTestedOnce}
 use Rattle.mt_probe.specs.declared.flight.Flight.{Flight}
 use Rattle.mt_probe.specs.Putting.{records_put, with_flight, with_moment}
 use Rattle.mt_probe.specs.Shot.{Shot, flight_at, records_in}
-use Rattle.mt_probe.specs.Shot.{state_of as state_in}
+use Rattle.mt_probe.specs.Shot.{state_in_shot as state_in}
 use Rattle.mt_probe.specs.Standing.{IsSoundShot}
 use Rattle.mt_picture.specs.Places.{all_places}
 use Rattle.mt_picture.specs.Stamps.{AreStamped, IsPicture}

@@ -4,7 +4,7 @@ use Rattle.mt_base.specs.Picture.{NamedTrajectory, opening}
 use Rattle.mt_base.specs.Tables.{Setup}
 use Rattle.mt_kept.specs.Kept.{Watched}
 use Rattle.mt_probe.specs.Shot.{Shot}
-use Rattle.mt_probe.specs.Shot.{state_of as state_in}
+use Rattle.mt_probe.specs.Shot.{state_in_shot as state_in}
 use Rattle.mt_probe.proofs.Placed.{nothing_at}
 use Rattle.mt_picture.specs.Places.{all_places}
 use Rattle.mt_picture.specs.Stamps.{IsPicture}

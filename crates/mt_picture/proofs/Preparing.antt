@@ -5,9 +5,9 @@ use Rattle.mt_base.specs.declared.command.Entry.{Entry}
 use Rattle.mt_base.specs.declared.flight.Record.{Record}
 use Rattle.mt_base.specs.History.{state_of}
 use Rattle.mt_base.specs.Picture.{State}
-use Rattle.mt_probe.specs.Prepared.{IsLeft, IsPrepared, Prepared, left_made}
+use Rattle.mt_probe.specs.Prepared.{IsLeftByEntry, IsPrepared, Prepared, left_made}
 use Rattle.mt_probe.specs.Shot.{Shot}
-use Rattle.mt_probe.specs.Shot.{state_of as state_in}
+use Rattle.mt_probe.specs.Shot.{state_in_shot as state_in}
 use Rattle.mt_probe.specs.Standing.{IsSoundShot}
 use Rattle.mt_picture.specs.Asked.{IsWithinPreps}
 use Rattle.mt_picture.specs.Asking.{WasAskedFor}
@@ -20,7 +20,7 @@ use Rattle.mt_picture.proofs.Standing.{have_stood}
 
 module _ (shot : Shot) (h : List Entry) (sound : IsSoundShot shot) (stands : state_in shot ≡ state_of shot.setup h) (stamped : AreStamped shot.setup h shot.slots)
     (who : ℕ) (c : Command) (p : Prepared) (known : Bool) (card : Record) (for : IsPrepFor (record { setup = shot.setup; history = h }) who c p)
-    (kept : IsPrepared p) (usable : known ≡ true → IsUsable (record { setup = shot.setup; history = h }) c p) (left : IsLeft shot.setup (state_in shot) who c card) where
+    (kept : IsPrepared p) (usable : known ≡ true → IsUsable (record { setup = shot.setup; history = h }) c p) (left : IsLeftByEntry shot.setup (state_in shot) who c card) where
   pub prepared_now : IsPreparedNow shot who c card p known
   prepared_now = record {
     left = left;
@@ -36,6 +36,6 @@ module _ (shot : Shot) (h : List Entry) (sound : IsSoundShot shot) (stands : sta
   asked_within old new unusable asked =
       let story : Story = record { setup = shot.setup; history = h } in
       let now = prepared_now in
-      within_preps story who c p card old new (subst (λ (s : State). IsLeft shot.setup s who c card) stands left) (λ mine made.
+      within_preps story who c p card old new (subst (λ (s : State). IsLeftByEntry shot.setup s who c card) stands left) (λ mine made.
       let here = subst (λ (s : State). left_made shot.setup s who c ≡ Some mine) (sym stands) made in
       within_both story shot who c p known card mine old new sound refl stands stamped for kept left now.call_is now.card_is unusable now.stood here (asked mine here))

@@ -27,14 +27,14 @@ use Rattle.mt_machine.proofs.Filled.{decided_is, entry_free, entry_in_time}
 use Rattle.mt_probe.specs.declared.flight.Made.{Made}
 use Rattle.mt_probe.specs.Items.{kind_at}
 use Rattle.mt_probe.specs.Shot.{Shot, made_named}
-use Rattle.mt_probe.specs.Shot.{state_of as state_in}
+use Rattle.mt_probe.specs.Shot.{state_in_shot as state_in}
 use Rattle.mt_probe.specs.Standing.{IsSoundShot}
 use Rattle.mt_probe.proofs.Gathered.{at_kept, kept_at}
 use Rattle.mt_base.proofs.Members.{Contains-cases, Contains-none}
 use Rattle.mt_picture.specs.Holding.{HasEnteredOrStopped, Holding, IsPassed, entry_now, held_story}
 use Rattle.mt_picture.specs.Places.{all_places, first_of, made_of_kind, second_of}
 use Rattle.mt_picture.specs.Stamps.{IsPicture}
-use Rattle.mt_picture.specs.Story.{IsEntered, IsRefused, Story}
+use Rattle.mt_picture.specs.Story.{IsEntered, IsCommandRefused, Story}
 use Rattle.mt_picture.proofs.Knowing.{kept_made, stands_at}
 use Rattle.mt_picture.proofs.Slotted.{at_first, at_second}
 
@@ -92,13 +92,13 @@ version_now shot h is = ap (λ (s : State). s.version) is ∙ version_is shot.se
 
 pub refused_now : (shot : Shot) (h : List Entry) (who : ℕ) (c : Command) (refusal : Refusal) (version : ℕ) → state_in shot ≡ state_of shot.setup h
     → judged (checks shot.setup (look_at (state_in shot) c) who c) (tt {0}) ≡ Err refusal → version ≡ shot.version
-    → IsRefused (record { setup = shot.setup; history = h }) who c (nos.Refused refusal version)
+    → IsCommandRefused (record { setup = shot.setup; history = h }) who c (nos.Refused refusal version)
 refused_now shot h who c refusal version stands is version_is =
     (subst (λ (s : State). IsDecided shot.setup s who c (Err refusal)) stands (refused shot.setup (state_in shot) who c refusal is), version_is ∙ version_now shot h stands)
 
 pub stale_now : (shot : Shot) (h : List Entry) (who : ℕ) (c : Command) (hit : Hit) (version : ℕ) → state_in shot ≡ state_of shot.setup h
     → judged (checks shot.setup (look_at (state_in shot) c) who c) (tt {0}) ≡ Ok (tt {0}) → IsFirstHit shot.setup (state_in shot) c (Some hit) → version ≡ shot.version
-    → IsRefused (record { setup = shot.setup; history = h }) who c (nos.Refused (Stale hit) version)
+    → IsCommandRefused (record { setup = shot.setup; history = h }) who c (nos.Refused (Stale hit) version)
 stale_now shot h who c hit version stands is first version_is =
     (subst (λ (s : State). IsDecided shot.setup s who c (Err (Stale hit))) stands (stale shot.setup (state_in shot) who c hit is first.0 first.1), version_is ∙ version_now shot h stands)
 

@@ -19,13 +19,13 @@ use Rattle.mt_change.specs.Altered.{Alters, path_after}
 use Rattle.mt_probe.specs.declared.flight.Flight.{Flight}
 use Rattle.mt_probe.specs.declared.flight.Made.{Made}
 use Rattle.mt_probe.specs.Items.{path_of}
-use Rattle.mt_probe.specs.Prepared.{IsLeft, MakesStrand, kind_made, marked_of, path_made}
+use Rattle.mt_probe.specs.Prepared.{IsLeftByEntry, MakesStrand, kind_made, marked_of, path_made}
 use Rattle.mt_probe.specs.Shot.{Shot, flight_at, made_of}
-use Rattle.mt_probe.specs.Shot.{state_of as state_in}
+use Rattle.mt_probe.specs.Shot.{state_in_shot as state_in}
 use Rattle.mt_probe.specs.Standing.{IsSoundEntry, IsSoundShot}
 use Rattle.mt_picture.specs.Entries.{IsRemaking, IsReport, IsWithdrawal}
 use Rattle.mt_picture.specs.Places.{IsNewOrStays, first_of, made_of_kind, place_kind, place_other, second_of, stamped, stamped_at}
-use Rattle.mt_picture.specs.Putting.{IsKeptFlight, IsPutBy, IsRemade}
+use Rattle.mt_picture.specs.Putting.{IsKeptFlight, IsFlightPut, IsRemade}
 use Rattle.mt_picture.proofs.Entered.{altered_by, own_actual, own_mark, put_altered, there}
 use Rattle.mt_picture.proofs.Making.{filled_kind, filled_makes, remaking_makes}
 
@@ -225,9 +225,9 @@ other_there old version c card t f kinds.Tentative m e is there = sym (same_firs
 
 -- a flight that is remade is put into its slot
 pub put_remade : (shot : Shot) (slot : ℕ) (f : Flight) (who : ℕ) (c : Command) (card : Record) (t : Trajectory) → IsSoundShot shot
-    → option_map (λ (g : Flight). g.card.call) (flight_at shot slot) ≡ Some card.call → IsRemaking c → IsLeft shot.setup (state_in shot) who c card
+    → option_map (λ (g : Flight). g.card.call) (flight_at shot slot) ≡ Some card.call → IsRemaking c → IsLeftByEntry shot.setup (state_in shot) who c card
     → ((i : ℕ) (g : Flight) → flight_at shot i ≡ Some g → g.filed ≤ shot.version) → path_made shot.setup card (kind_made c) ≡ Some t
-    → IsRemade (flight_at shot slot) (shot.version + 1) c card t f → IsPutBy shot slot f (record { who = who; command = filled shot.now c })
+    → IsRemade (flight_at shot slot) (shot.version + 1) c card t f → IsFlightPut shot slot f (record { who = who; command = filled shot.now c })
 put_remade shot slot f who c card t sound there_is remaking left earlier made is =
     let it = there (flight_at shot slot) card.call there_is in
     let old = it.flight in
@@ -237,7 +237,7 @@ put_remade shot slot f who c card t sound there_is remaking left earlier made is
     let entry = sound.sound slot old at_is in
     let one : IsRemade (Some old) (shot.version + 1) c card t f = subst (λ (at : Option Flight). IsRemade at (shot.version + 1) c card t f) at_is is in
     let filed : f.filed ≡ old.filed = let e = one.filed_is in cc in
-    let left_f : IsLeft shot.setup (state_in shot) who c f.card = subst (IsLeft shot.setup (state_in shot) who c) (sym is.card_is) left in
+    let left_f : IsLeftByEntry shot.setup (state_in shot) who c f.card = subst (IsLeftByEntry shot.setup (state_in shot) who c) (sym is.card_is) left in
     put_altered shot slot old f who c sound at_is (it.own ∙ ap (λ (r : Record). r.call) (sym is.card_is)) alters left_f filed (earlier slot old at_is)
     (remade_actual shot.setup who shot.now (shot.version + 1) c old f card t remaking one entry by.path made (kind_made c) refl
     ∙ ap (λ (r : Record). path_made shot.setup r kinds.Actual) (sym is.card_is))
@@ -248,10 +248,10 @@ put_remade shot slot f who c card t sound there_is remaking left earlier made is
 
 -- and one that a report or a withdrawal leaves
 pub put_kept : (shot : Shot) (slot : ℕ) (old f : Flight) (who : ℕ) (c : Command) → IsSoundShot shot → flight_at shot slot ≡ Some old → old.card.call ≡ f.card.call
-    → IsReport c ⊎ IsWithdrawal c → IsLeft shot.setup (state_in shot) who c f.card → f.filed ≡ old.filed → old.filed ≤ shot.version
+    → IsReport c ⊎ IsWithdrawal c → IsLeftByEntry shot.setup (state_in shot) who c f.card → f.filed ≡ old.filed → old.filed ≤ shot.version
     → stamped_at kinds.Actual (Some f) ≡ stamped_at kinds.Actual (flight_at shot slot)
     → (IsReport c → stamped_at kinds.Tentative (Some f) ≡ stamped_at kinds.Tentative (flight_at shot slot)) → (IsWithdrawal c → f.mark ≡ None)
-    → IsPutBy shot slot f (record { who = who; command = filled shot.now c })
+    → IsFlightPut shot slot f (record { who = who; command = filled shot.now c })
 put_kept shot slot old f who c sound at_is own which left filed earlier actual mark bare =
     let alters = report_alters c which in
     let by = altered_by shot slot old who c f.card sound at_is own alters left in
@@ -300,25 +300,25 @@ not_both c reports withdraws = reports
 
 -- a report and a withdrawal are put into the slot
 pub put_report : (shot : Shot) (slot : ℕ) (card : Record) (f : Flight) (who reported : ℕ) (c : Command) → IsSoundShot shot
-    → option_map (λ (g : Flight). g.card.call) (flight_at shot slot) ≡ Some card.call → IsReport c → IsLeft shot.setup (state_in shot) who c card
+    → option_map (λ (g : Flight). g.card.call) (flight_at shot slot) ≡ Some card.call → IsReport c → IsLeftByEntry shot.setup (state_in shot) who c card
     → ((i : ℕ) (g : Flight) → flight_at shot i ≡ Some g → g.filed ≤ shot.version) → IsKeptFlight (flight_at shot slot) card f
-    → IsPutBy shot slot (record f { reported = reported }) (record { who = who; command = filled shot.now c })
+    → IsFlightPut shot slot (record f { reported = reported }) (record { who = who; command = filled shot.now c })
 put_report shot slot card f who reported c sound there_is reports left earlier kept =
     let it = there (flight_at shot slot) card.call there_is in
     let old = it.flight in
     let filed : f.filed ≡ old.filed = let e = kept.filed_is ∙ ap (option_map (λ (g : Flight). g.filed)) it.at_is in cc in
     put_kept shot slot old (record f { reported = reported }) who c sound it.at_is (it.own ∙ ap (λ (r : Record). r.call) (sym kept.card_is)) (inl reports)
-    (subst (IsLeft shot.setup (state_in shot) who c) (sym kept.card_is) left) filed (earlier slot old it.at_is) kept.actual (λ is. kept.mark)
+    (subst (IsLeftByEntry shot.setup (state_in shot) who c) (sym kept.card_is) left) filed (earlier slot old it.at_is) kept.actual (λ is. kept.mark)
     (λ withdraws. absurd (not_both c reports withdraws))
 
 pub put_bare : (shot : Shot) (slot : ℕ) (card : Record) (f : Flight) (who : ℕ) (c : Command) → IsSoundShot shot
-    → option_map (λ (g : Flight). g.card.call) (flight_at shot slot) ≡ Some card.call → IsWithdrawal c → IsLeft shot.setup (state_in shot) who c card
+    → option_map (λ (g : Flight). g.card.call) (flight_at shot slot) ≡ Some card.call → IsWithdrawal c → IsLeftByEntry shot.setup (state_in shot) who c card
     → ((i : ℕ) (g : Flight) → flight_at shot i ≡ Some g → g.filed ≤ shot.version) → IsKeptFlight (flight_at shot slot) card f
-    → IsPutBy shot slot (record f { mark = None }) (record { who = who; command = filled shot.now c })
+    → IsFlightPut shot slot (record f { mark = None }) (record { who = who; command = filled shot.now c })
 put_bare shot slot card f who c sound there_is withdraws left earlier kept =
     let it = there (flight_at shot slot) card.call there_is in
     let old = it.flight in
     let filed : f.filed ≡ old.filed = let e = kept.filed_is ∙ ap (option_map (λ (g : Flight). g.filed)) it.at_is in cc in
     put_kept shot slot old (record f { mark = None }) who c sound it.at_is (it.own ∙ ap (λ (r : Record). r.call) (sym kept.card_is)) (inr withdraws)
-    (subst (IsLeft shot.setup (state_in shot) who c) (sym kept.card_is) left) filed (earlier slot old it.at_is) kept.actual
+    (subst (IsLeftByEntry shot.setup (state_in shot) who c) (sym kept.card_is) left) filed (earlier slot old it.at_is) kept.actual
     (λ reports. absurd (not_both c reports withdraws)) (λ is. refl)

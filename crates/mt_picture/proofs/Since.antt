@@ -28,7 +28,7 @@ use Rattle.mt_base.proofs.OneHits.{one_hits}
 use Rattle.mt_board.specs.declared.no.No.TheVariants.{Refused}
 use Rattle.mt_predict.proofs.Refusing.{check-false, check-true}
 use Rattle.mt_picture.specs.Laws.{IsSinceProbe}
-use Rattle.mt_picture.specs.Story.{IsRefused, Story}
+use Rattle.mt_picture.specs.Story.{IsCommandRefused, Story}
 
 -- no check refuses as stale
 abbrev is_stale : Refusal → Bool
@@ -85,7 +85,7 @@ one_list setup s call clearance eff (Some course) hits others some one other =
     one_hits setup s call (trajectory_cleared setup course clearance eff) hits others one other
 
 pub since_probe : (story : Story) (who : ℕ) (call : List ℕ) (clearance : Clearance) (eff probed version : ℕ) (hit : Hit)
-    → IsRefused story who (Accept call clearance eff probed) (Refused (Stale hit) version) → probed ≤ length story.history
+    → IsCommandRefused story who (Accept call clearance eff probed) (Refused (Stale hit) version) → probed ≤ length story.history
     → WasFree story.setup story.history (Accept call clearance eff probed)
     → IsSinceProbe story.setup story.history call clearance eff probed version hit
 since_probe story who call clearance eff probed version hit refused within free = record { not_then = not_then; later = later } where

@@ -4,7 +4,7 @@ use Rattle.std.proofs.lemmas.Bool.{cases_eq}
 use Rattle.mt_base.specs.declared.rules.Rules.{Rules}
 use Rattle.mt_base.specs.Picture.{NamedTrajectory}
 use Rattle.mt_kept.specs.declared.open_pair.OpenPair.{OpenPair}
-use Rattle.mt_kept.specs.Finds.{Agree, AreFinds}
+use Rattle.mt_kept.specs.Finds.{Agree, AreFindsOfSlot}
 use Rattle.mt_kept.proofs.Joining.{finds_join}
 use Rattle.mt_picture.specs.Finding.{AreFindsFor}
 use Rattle.mt_kept.specs.Places.{at, with_slot}
@@ -113,7 +113,7 @@ module _ (places : List (Option NamedTrajectory)) (slot : ℕ) (inside : 2 * slo
 
   -- the finds of both places are those of the slot
   pub joined : (rules : Rules) (now : ℕ) (first second : List OpenPair) → AreFindsFor rules places now (2 * slot) a first
-      → AreFindsFor rules places now (2 * slot + 1) b second → AreFinds rules after now slot (first ++ second)
+      → AreFindsFor rules places now (2 * slot + 1) b second → AreFindsOfSlot rules after now slot (first ++ second)
   joined rules now first second one two = finds_join rules after now slot first second
       (λ s t at_s at_t. a_call s (sym (at_even places slot inside a b) ∙ at_s) ∙ sym (b_call t (sym (at_odd places slot inside a b) ∙ at_t)))
       (one after (at_even places slot inside a b) agree_first)

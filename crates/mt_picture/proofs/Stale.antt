@@ -21,9 +21,9 @@ use Rattle.mt_change.proofs.Alterations.{records_are}
 use Rattle.mt_change.proofs.Changed.{changed_other}
 use Rattle.mt_change.proofs.Filling.{filled_alters, filled_call}
 use Rattle.mt_base.proofs.Members.{Contains-filter, Contains-map, Contains-map_cases}
-use Rattle.mt_probe.specs.Prepared.{IsLeft, IsPrepared, MakesStrand, Prepared, flight_left, judged_aside}
+use Rattle.mt_probe.specs.Prepared.{IsLeftByEntry, IsPrepared, MakesStrand, Prepared, flight_left, judged_aside}
 use Rattle.mt_probe.specs.Shot.{Shot, records_in}
-use Rattle.mt_probe.specs.Shot.{state_of as state_in}
+use Rattle.mt_probe.specs.Shot.{state_in_shot as state_in}
 use Rattle.mt_probe.specs.Standing.{IsSoundShot}
 use Rattle.mt_probe.proofs.Left.{found_call, found_changed, planned_flight}
 use Rattle.mt_probe.proofs.Placed.{filled_inside, found_there, record_placed}
@@ -186,7 +186,7 @@ prep_call story who c p call for kept named =
 
 pub usable_card : (shot : Shot) (h : List Entry) (who : ℕ) (c : Command) (p : Prepared) (card : Record) → IsSoundShot shot → state_in shot ≡ state_of shot.setup h
     → IsPrepFor (record { setup = shot.setup; history = h }) who c p → IsPrepared p → IsUsable (record { setup = shot.setup; history = h }) c p
-    → IsLeft shot.setup (state_in shot) who c card → card ≡ p.card
+    → IsLeftByEntry shot.setup (state_in shot) who c card → card ≡ p.card
 usable_card shot h who c p card sound stands for kept usable left = ⊎_elim files alters (files_or_alters c for.makes) where
   v : ℕ
   v = p.state.version

@@ -16,11 +16,11 @@ use Rattle.mt_probe.specs.Prepared.{Prepared}
 use Rattle.mt_probe.specs.Putting.{records_put, with_flight}
 use Rattle.mt_kept.specs.Kept.{Watched}
 use Rattle.mt_probe.specs.Shot.{Shot, flight_at, made_of, records_in}
-use Rattle.mt_probe.specs.Shot.{state_of as state_in}
+use Rattle.mt_probe.specs.Shot.{state_in_shot as state_in}
 use Rattle.mt_probe.specs.Standing.{IsSoundShot}
 use Rattle.mt_probe.proofs.Gathered.{at_kept}
 use Rattle.mt_picture.specs.Places.{all_places, made_of_kind, stamped, stamped_at}
-use Rattle.mt_picture.specs.Putting.{IsPutBy}
+use Rattle.mt_picture.specs.Putting.{IsFlightPut}
 use Rattle.mt_picture.specs.Stamps.{AreStamped, HaveStood, IsMadeAt, IsPicture, Makes}
 use Rattle.mt_picture.proofs.Knowing.{kept_made}
 
@@ -110,7 +110,7 @@ stood_at setup h slots i kind t n stamped of =
 
 -- a flight put into a slot
 module _ (shot after : Shot) (h : List Entry) (e : Entry) (slot : ℕ) (f : Flight) (stands : state_in shot ≡ state_of shot.setup h)
-    (put : IsPutBy shot slot f e) (value : after ≡ with_flight shot slot (Some f))
+    (put : IsFlightPut shot slot f e) (value : after ≡ with_flight shot slot (Some f))
     (records : (state_in after).records ≡ records_put (flight_at shot slot) (Some f) (records_in shot.slots)) where
   slots_after : after.slots ≡ set shot.slots slot (Some f)
   slots_after = ap (λ (s : Shot). s.slots) value

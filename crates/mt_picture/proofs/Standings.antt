@@ -14,7 +14,7 @@ use Rattle.mt_probe.specs.Shot.{Shot, flight_at, made_of, records_in}
 use Rattle.mt_probe.specs.Standing.{IsSoundShot}
 use Rattle.mt_probe.proofs.Covered.{even_kind, odd_kind}
 use Rattle.mt_probe.proofs.Placed.{filled_inside, found_there}
-use Rattle.mt_picture.specs.Candidates.{Stands}
+use Rattle.mt_picture.specs.Candidates.{StandsInPlace}
 use Rattle.mt_picture.specs.Places.{made_of_kind}
 use Rattle.mt_picture.proofs.Knowing.{StandsAt}
 use Rattle.mt_picture.proofs.Passing.{found_place}
@@ -34,7 +34,7 @@ same_place i j half kind = ⊎_elim
 
 module _ (slots : List (Option Flight)) (place : ℕ) where
   -- what stands in a place, as its trajectory
-  pub as_at : (call : List ℕ) (kind : Kind) (stamp : ℕ) → (s : Stands slots place call kind stamp) → StandsAt slots place (made_of_kind s.flight kind s.made)
+  pub as_at : (call : List ℕ) (kind : Kind) (stamp : ℕ) → (s : StandsInPlace slots place call kind stamp) → StandsAt slots place (made_of_kind s.flight kind s.made)
   as_at call kind stamp s = record {
     flight = s.flight;
     made = s.made;
@@ -44,7 +44,7 @@ module _ (slots : List (Option Flight)) (place : ℕ) where
   }
 
   -- it is one thing
-  pub one_there : (c d : List ℕ) (k l : Kind) (a b : ℕ) → Stands slots place c k a → Stands slots place d l b → (c ≡ d) × (k ≡ l) × (a ≡ b)
+  pub one_there : (c d : List ℕ) (k l : Kind) (a b : ℕ) → StandsInPlace slots place c k a → StandsInPlace slots place d l b → (c ≡ d) × (k ≡ l) × (a ≡ b)
   one_there c d k l a b s r =
       let flights : Some s.flight ≡ Some r.flight = sym s.at_is ∙ r.at_is in
       let flight : s.flight ≡ r.flight = cc in
@@ -58,20 +58,20 @@ one_slot : (shot : Shot) (i j : ℕ) (f g : Flight) → IsSoundShot shot → fli
 one_slot shot i j f g sound f_at g_at same = ⊎_elim (λ here. here) (λ away. absurd ((sound.apart i j f g away f_at g_at).calls same)) (cases_eq i j)
 
 module _ (shot : Shot) (sound : IsSoundShot shot) (call : List ℕ) (kind : Kind) where
-  pub one_standing : (i j a b : ℕ) → Stands shot.slots i call kind a → Stands shot.slots j call kind b → (i ≡ j) × (a ≡ b)
+  pub one_standing : (i j a b : ℕ) → StandsInPlace shot.slots i call kind a → StandsInPlace shot.slots j call kind b → (i ≡ j) × (a ≡ b)
   one_standing i j a b s r =
       let half = one_slot shot (i / 2) (j / 2) s.flight r.flight sound s.at_is r.at_is (s.call_is ∙ sym r.call_is) in
       let place : i ≡ j = same_place i j half (s.kind_is ∙ sym r.kind_is) in
-      let one = one_there shot.slots j call call kind kind a b (subst (λ (k : ℕ). Stands shot.slots k call kind a) place s) r in
+      let one = one_there shot.slots j call call kind kind a b (subst (λ (k : ℕ). StandsInPlace shot.slots k call kind a) place s) r in
       (place, one.2)
 
   -- its flight is found
-  pub flight_listed : (place stamp : ℕ) → (s : Stands shot.slots place call kind stamp) → flight_of (records_in shot.slots) call ≡ Some s.flight.card
+  pub flight_listed : (place stamp : ℕ) → (s : StandsInPlace shot.slots place call kind stamp) → flight_of (records_in shot.slots) call ≡ Some s.flight.card
   flight_listed place stamp s = found_there shot (place / 2) s.flight call sound (filled_inside shot.slots (place / 2) s.flight s.at_is) s.at_is s.call_is
 
   -- and its stamp is that of what the found slot has
   pub stamp_listed : (slot place stamp : ℕ) → option_map (λ (f : Flight). f.card.call) (flight_at shot slot) ≡ Some call
-      → Stands shot.slots place call kind stamp
+      → StandsInPlace shot.slots place call kind stamp
       → option_map (λ (m : Made). m.stamp) (option_and_then (λ f. made_of f kind) (flight_at shot slot)) ≡ Some stamp
   stamp_listed slot place stamp called s = by_flight (flight_at shot slot) refl called where
     by_flight : (at : Option Flight) → flight_at shot slot ≡ at → option_map (λ (f : Flight). f.card.call) at ≡ Some call
@@ -93,10 +93,10 @@ call_found rs call (Some f) some is = found_place rs call (Some f) (ap is_some i
 -- what the found slot has of a kind stands in that place
 pub stands_found : (shot : Shot) (slot place : ℕ) (call : List ℕ) (kind : Kind) (stamp : ℕ) → place / 2 ≡ slot → kind_at place ≡ kind
     → option_map (λ (f : Flight). f.card.call) (flight_at shot slot) ≡ Some call
-    → Some stamp ≡ option_map (λ (m : Made). m.stamp) (option_and_then (λ f. made_of f kind) (flight_at shot slot)) → Stands shot.slots place call kind stamp
+    → Some stamp ≡ option_map (λ (m : Made). m.stamp) (option_and_then (λ f. made_of f kind) (flight_at shot slot)) → StandsInPlace shot.slots place call kind stamp
 stands_found shot slot place call kind stamp half kind_is called stamped = by_flight (flight_at shot slot) refl called stamped where
   by_made : (f : Flight) → flight_at shot slot ≡ Some f → f.card.call ≡ call → (m : Option Made) → made_of f kind ≡ m → Some stamp ≡ option_map (λ (m : Made). m.stamp) m
-      → Stands shot.slots place call kind stamp
+      → StandsInPlace shot.slots place call kind stamp
   by_made f at_is call_is None is e = absurd (cc)
   by_made f at_is call_is (Some m) is e = record {
     flight = f;
@@ -109,6 +109,6 @@ stands_found shot slot place call kind stamp half kind_is called stamped = by_fl
   }
 
   by_flight : (at : Option Flight) → flight_at shot slot ≡ at → option_map (λ (f : Flight). f.card.call) at ≡ Some call
-      → Some stamp ≡ option_map (λ (m : Made). m.stamp) (option_and_then (λ f. made_of f kind) at) → Stands shot.slots place call kind stamp
+      → Some stamp ≡ option_map (λ (m : Made). m.stamp) (option_and_then (λ f. made_of f kind) at) → StandsInPlace shot.slots place call kind stamp
   by_flight None is e s = absurd (cc)
   by_flight (Some f) is e s = by_made f is (let both : Some f.card.call ≡ Some call = e in cc) (made_of f kind) refl s

@@ -22,7 +22,7 @@ use Rattle.mt_kept.proofs.Windows.{IsSpanOfLoss-sym}
 use Rattle.mt_base.proofs.Members.{All-from_held, Contains-map_cases, distinct_held, distinct_map}
 use Rattle.mt_probe.specs.Items.{kind_at}
 use Rattle.mt_probe.specs.Shot.{Shot}
-use Rattle.mt_probe.specs.Shot.{state_of as state_in}
+use Rattle.mt_probe.specs.Shot.{state_in_shot as state_in}
 use Rattle.mt_probe.specs.Standing.{IsSoundShot}
 use Rattle.mt_probe.proofs.Gathered.{at_kept}
 use Rattle.mt_base.proofs.OneConflict.{one_span}

@@ -7,19 +7,19 @@ use Rattle.mt_kept.specs.Finds.{cost}
 use Rattle.mt_base.specs.Tally.{RoseUpTo}
 use Rattle.mt_base.specs.declared.command.Command.{Command}
 use Rattle.mt_probe.specs.Prepared.{Prepared, left_made}
-use Rattle.mt_probe.specs.Shot.{Shot, state_of}
+use Rattle.mt_probe.specs.Shot.{Shot, state_in_shot}
 use Rattle.mt_picture.specs.Places.{all_places}
-use Rattle.mt_picture.specs.Verdicts.{AreNear}
+use Rattle.mt_picture.specs.Verdicts.{AreNearCandidates}
 
 -- the candidates of a new trajectory in a place were asked for
-pub record AreAsked (shot : Shot) (p : Prepared) (known : Bool) (place : ℕ) (mine : NamedTrajectory) (old new : ℕ) : Type 0 where
+pub record AreCandidatesAsked (shot : Shot) (p : Prepared) (known : Bool) (place : ℕ) (mine : NamedTrajectory) (old new : ℕ) : Type 0 where
   pub xs : List Candidate
-  pub near : AreNear shot mine.path p known xs
+  pub near : AreNearCandidates shot mine.path p known xs
   pub rose : RoseUpTo (sum_by (cost (all_places shot.slots) place mine.call shot.now) xs) old new
 
 -- or nothing was
 abbrev pub WasAsked : Shot → Prepared → Bool → ℕ → NamedTrajectory → ℕ → ℕ → Type 0
-WasAsked shot p known place mine old new = (new ≡ old) ⊎ AreAsked shot p known place mine old new
+WasAsked shot p known place mine old new = (new ≡ old) ⊎ AreCandidatesAsked shot p known place mine old new
 
 -- the same in some place
 pub record WasAskedOf (shot : Shot) (p : Prepared) (known : Bool) (mine : NamedTrajectory) (old new : ℕ) : Type 0 where
@@ -29,4 +29,4 @@ pub record WasAskedOf (shot : Shot) (p : Prepared) (known : Bool) (mine : NamedT
 -- and of what a command makes of a flight
 abbrev pub WasAskedFor : Shot → Prepared → Bool → ℕ → Command → ℕ → ℕ → Type 0
 WasAskedFor shot p known who command old new =
-    (mine : NamedTrajectory) → left_made shot.setup (state_of shot) who command ≡ Some mine → WasAskedOf shot p known mine old new
+    (mine : NamedTrajectory) → left_made shot.setup (state_in_shot shot) who command ≡ Some mine → WasAskedOf shot p known mine old new

@@ -4,13 +4,13 @@ use Rattle.mt_base.specs.declared.command.Command.{Command}
 use Rattle.mt_base.specs.declared.conflict.Kind.{Kind}
 use Rattle.mt_base.specs.declared.flight.Record.{Record}
 use Rattle.mt_base.specs.Picture.{NamedTrajectory}
-use Rattle.mt_kept.specs.Finds.{AreFinds}
+use Rattle.mt_kept.specs.Finds.{AreFindsOfSlot}
 use Rattle.mt_kept.specs.Kept.{Watched}
 use Rattle.mt_kept.specs.Places.{seen, with_slot}
 use Rattle.mt_probe.specs.declared.flight.Flight.{Flight}
-use Rattle.mt_probe.specs.Prepared.{IsLeft, Prepared}
+use Rattle.mt_probe.specs.Prepared.{IsLeftByEntry, Prepared}
 use Rattle.mt_probe.specs.Shot.{Shot, flight_at}
-use Rattle.mt_probe.specs.Shot.{state_of as state_in}
+use Rattle.mt_probe.specs.Shot.{state_in_shot as state_in}
 use Rattle.mt_picture.specs.declared.change.Change.{Change}
 use Rattle.mt_picture.specs.Places.{first_of, place_kind, place_other, second_of}
 use Rattle.mt_picture.specs.Stamps.{HaveStood}
@@ -31,11 +31,11 @@ pub record BringsNew (shot : Shot) (slot : ℕ) (f : Flight) (kind : Kind) (p : 
 pub record IsChangeFor (kept : Watched) (slot : ℕ) (f : Flight) (change : Change) : Type 0 where
   pub first_is : seen change.first ≡ first_of (Some f)
   pub second_is : seen change.second ≡ second_of (Some f)
-  pub finds_are : AreFinds kept.rules (with_slot kept.places slot (first_of (Some f)) (second_of (Some f))) kept.moment slot change.finds.items
+  pub finds_are : AreFindsOfSlot kept.rules (with_slot kept.places slot (first_of (Some f)) (second_of (Some f))) kept.moment slot change.finds.items
 
 -- A command leaves a flight with this record, and the prep is of it: the record is the prep's, where that is known to be of use.
 pub record IsPreparedNow (shot : Shot) (who : ℕ) (command : Command) (card : Record) (p : Prepared) (known : Bool) : Type 0 where
-  pub left : IsLeft shot.setup (state_in shot) who command card
+  pub left : IsLeftByEntry shot.setup (state_in shot) who command card
   pub setup_is : p.setup ≡ shot.setup
   pub call_is : p.card.call ≡ card.call
   pub command_is : p.command ≡ command

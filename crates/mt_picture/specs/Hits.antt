@@ -6,29 +6,29 @@ use Rattle.mt_base.specs.declared.conflict.Conflict.{Conflict}
 use Rattle.mt_base.specs.declared.hit.Hit.{Hit}
 use Rattle.mt_base.specs.WhatIf.{hit_cmp}
 use Rattle.mt_kept.specs.declared.open_pair.OpenPair.{OpenPair}
-use Rattle.mt_kept.specs.Made.{is_open}
+use Rattle.mt_kept.specs.Made.{is_open_pair}
 
 -- a conflict as a hit of the flight of that callsign
-abbrev pub hit_by : List ℕ → Option Conflict → Option Hit
-hit_by call None = None
-hit_by call (Some c) = Some (record { first = c.first; with = if bytes_eq c.a call then c.b else c.a; last = c.last })
+abbrev pub conflict_hit : List ℕ → Option Conflict → Option Hit
+conflict_hit call None = None
+conflict_hit call (Some c) = Some (record { first = c.first; with = if bytes_eq c.a call then c.b else c.a; last = c.last })
 
 -- both trajectories are flown, and the pair is open
 abbrev pub is_flown : OpenPair → Bool
 is_flown o = nat_eq (o.edge.a % 2) 0 && nat_eq (o.edge.b % 2) 0
 
-abbrev pub hit_of : List ℕ → ℕ → OpenPair → Option Hit
-hit_of call now o = if is_flown o && is_open now o.edge then hit_by call o.conflict else None
+abbrev pub pair_hit : List ℕ → ℕ → OpenPair → Option Hit
+pair_hit call now o = if is_flown o && is_open_pair now o.edge then conflict_hit call o.conflict else None
 
 -- a hit of one of some finds
-pub record IsHitOfOne (finds : List OpenPair) (call : List ℕ) (now : ℕ) (hit : Hit) : Type 0 where
+pub record IsHitOfOnePair (finds : List OpenPair) (call : List ℕ) (now : ℕ) (hit : Hit) : Type 0 where
   pub pair : OpenPair
   pub held : Contains finds pair
-  pub is : hit_of call now pair ≡ Some hit
+  pub is : pair_hit call now pair ≡ Some hit
 
 -- all hits of some finds, in order
 pub record AreHitsAmong (finds : List OpenPair) (call : List ℕ) (now : ℕ) (hits : List Hit) : Type 0 where
-  pub members : (hit : Hit) → Contains hits hit ↔ IsHitOfOne finds call now hit
+  pub members : (hit : Hit) → Contains hits hit ↔ IsHitOfOnePair finds call now hit
   pub sorted : IsStrictlySortedBy hit_cmp hits
 
 -- the first of them

@@ -8,7 +8,7 @@ use Rattle.mt_base.specs.History.{checks, filled, look_at}
 use Rattle.mt_kept.specs.Kept.{Watched}
 use Rattle.mt_machine.specs.Deciding.{IsFirstHit}
 use Rattle.mt_probe.specs.Shot.{Shot}
-use Rattle.mt_probe.specs.Shot.{state_of as state_in}
+use Rattle.mt_probe.specs.Shot.{state_in_shot as state_in}
 use Rattle.mt_picture.specs.Putting.{history_after}
 use Rattle.mt_picture.specs.Story.{Story}
 

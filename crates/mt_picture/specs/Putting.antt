@@ -21,7 +21,7 @@ use Rattle.mt_picture.specs.Places.{IsNewOrStays, stamped_at}
 
 -- The entry names the flight and leaves it in the slot, which was empty or its own: it fits there, the records with it are those that the entry
 -- leaves, and each of its trajectories is made now or stays with its stamp.
-pub record IsPutBy (shot : Shot) (slot : ℕ) (f : Flight) (e : Entry) : Type 0 where
+pub record IsFlightPut (shot : Shot) (slot : ℕ) (f : Flight) (e : Entry) : Type 0 where
   pub inside : slot < length shot.slots
   pub fits : Fits shot slot f
   pub was : (g : Flight) → flight_at shot slot ≡ Some g → g.card.call ≡ f.card.call

@@ -12,7 +12,7 @@ use Rattle.mt_probe.specs.declared.flight.Flight.{Flight}
 use Rattle.mt_probe.specs.declared.flight.Made.{Made}
 use Rattle.mt_probe.specs.Prepared.{MakesStrand, Prepared, kind_made}
 use Rattle.mt_probe.specs.Shot.{Shot, flight_at, made_of}
-use Rattle.mt_probe.specs.Shot.{state_of as state_in}
+use Rattle.mt_probe.specs.Shot.{state_in_shot as state_in}
 use Rattle.mt_picture.specs.Places.{all_places, made_of_kind}
 
 -- A command makes a trajectory of that kind, of the flight of that callsign.

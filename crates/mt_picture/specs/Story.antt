@@ -30,9 +30,9 @@ pub record IsPrepFor (story : Story) (who : ℕ) (command : Command) (p : Prepar
   pub state_is : p.state ≡ state_of story.setup (take p.state.version story.history)
 
 -- a prep is given exactly where the command makes a trajectory
-abbrev pub IsGivenFor : Story → ℕ → Command → Option Prepared → Type 0
-IsGivenFor story who command None = MakesStrand command → ⊥
-IsGivenFor story who command (Some p) = IsPrepFor story who command p
+abbrev pub IsPrepGivenFor : Story → ℕ → Command → Option Prepared → Type 0
+IsPrepGivenFor story who command None = MakesStrand command → ⊥
+IsPrepGivenFor story who command (Some p) = IsPrepFor story who command p
 
 -- An entry after the first n names that callsign.
 pub record IsNamedAfter (h : List Entry) (n : ℕ) (call : List ℕ) : Type 0 where
@@ -57,7 +57,7 @@ pub record IsEntered (before after : Story) (who : ℕ) (command : Command) (ent
   pub answered : entered ≡ entered_by before.setup (state_of before.setup before.history) entry
 
 -- It is refused, as is decided on the state of the history, whose version is named; or memory is wanted.
-abbrev pub IsRefused : Story → ℕ → Command → No → Type 0
-IsRefused story who command (nos.Refused refusal version) =
+abbrev pub IsCommandRefused : Story → ℕ → Command → No → Type 0
+IsCommandRefused story who command (nos.Refused refusal version) =
     IsDecided story.setup (state_of story.setup story.history) who command (Err refusal) × (version ≡ length story.history)
-IsRefused story who command nos.Memory = ⊤
+IsCommandRefused story who command nos.Memory = ⊤

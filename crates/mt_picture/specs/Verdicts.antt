@@ -8,7 +8,7 @@ use Rattle.mt_cover.specs.Cells.{cover_of}
 use Rattle.mt_kept.specs.declared.finds.Candidate.{Candidate}
 use Rattle.mt_kept.specs.declared.finds.Verdict.{Verdict}
 use Rattle.mt_kept.specs.declared.finds.Verdict.TheVariants.{Known, Unknown}
-use Rattle.mt_kept.specs.Finds.{IsRight, place_of}
+use Rattle.mt_kept.specs.Finds.{IsRight, candidate_place}
 use Rattle.mt_kept.specs.Places.{at, horizon}
 use Rattle.mt_probe.specs.declared.flight.Flight.{Flight}
 use Rattle.mt_probe.specs.declared.flight.Made.{Made}
@@ -43,9 +43,9 @@ pub record IsKnown (p : Prepared) (known : Bool) (slots : List (Option Flight)) 
 
 -- The candidates of a trajectory: each is near it and is listed once, with what is known of it. What stands of another flight and has a loss second
 -- with it is one.
-pub record AreNear (shot : Shot) (t : Trajectory) (p : Prepared) (known : Bool) (xs : List Candidate) : Type 0 where
+pub record AreNearCandidates (shot : Shot) (t : Trajectory) (p : Prepared) (known : Bool) (xs : List Candidate) : Type 0 where
   pub near : (x : Candidate) → Contains xs x → IsNearItem shot (cover_of shot.setup.rules t) x.place
   pub known_is : (x : Candidate) → Contains xs x → IsKnown p known shot.slots x
   pub complete : (j k : ℕ) (other : NamedTrajectory) → at (all_places shot.slots) j ≡ Some other → other.call ≢ p.card.call → k < horizon
-      → IsLossSecond shot.setup.rules t other.path k → Contains (map place_of xs) j
+      → IsLossSecond shot.setup.rules t other.path k → Contains (map candidate_place xs) j
   pub once : AllPairs (λ x y. x.place ≢ y.place) xs

@@ -50,7 +50,7 @@ fn second_item(flight: &Flight) -> Result<Option<Item>, Memory>
     }
 }
 
-// Puts behind some pairs others.
+// Puts after some pairs others.
 fn add_pairs(pairs: &mut Vec<OpenPair>, others: &[OpenPair]) -> Result<(), Memory>
     ensures { OnOk result (pairs.new.items ≡ pairs.old.items ++ others.now) }
 {

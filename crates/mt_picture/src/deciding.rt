@@ -6,7 +6,7 @@ ghost use Rattle.mt_base.specs.Checks.{judged};
 ghost use Rattle.mt_base.specs.History.{checks, look_at, verdict_in};
 ghost use Rattle.mt_predict.specs.Looking.{HasStrand, look_of};
 ghost use Rattle.mt_probe.specs.Shot.{flight_at};
-ghost use Rattle.mt_probe.specs.Shot.{state_of as state_in};
+ghost use Rattle.mt_probe.specs.Shot.{state_in_shot as state_in};
 
 use crate::keeping::is_sound;
 use mt_base::{Command, Kind, Path, Refusal, Verdict};

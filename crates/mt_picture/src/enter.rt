@@ -2,15 +2,15 @@
 ghost use Rattle.std.specs.Prelude.{◌≡◌, ◌↔◌, ◌⊎◌, IsTrue, IfOk, None, Some, option_copied, option_map};
 ghost use Rattle.mt_base.specs.Bounds.{IsBoundedCommand};
 ghost use Rattle.mt_change.specs.Altered.{Alters};
-ghost use Rattle.mt_probe.specs.Prepared.{IsLeft, MakesStrand};
+ghost use Rattle.mt_probe.specs.Prepared.{IsLeftByEntry, MakesStrand};
 ghost use Rattle.mt_probe.specs.Shot.{flight_at};
-ghost use Rattle.mt_probe.specs.Shot.{state_of as state_in};
+ghost use Rattle.mt_probe.specs.Shot.{state_in_shot as state_in};
 ghost use Rattle.mt_picture.specs.Asked.{IsWithinBound, IsWithinPreps};
 ghost use Rattle.mt_picture.specs.Asking.{WasAskedFor};
 ghost use Rattle.mt_picture.specs.Brought.{IsPreparedNow};
 ghost use Rattle.mt_picture.specs.Entries.{IsFiling, IsReport, IsWithdrawal};
 ghost use Rattle.mt_picture.specs.Holding.{AddsEntry, EntersOrStops, IsPassed, entry_now, held_story};
-ghost use Rattle.mt_picture.specs.Story.{IsGivenFor, IsPrepFor};
+ghost use Rattle.mt_picture.specs.Story.{IsPrepGivenFor, IsPrepFor};
 
 use crate::entering::{file, remake, report, withdraw};
 use crate::held::Held;
@@ -59,7 +59,7 @@ fn enter_filing(
 // The slot of the flight that a command alters.
 fn slot_of(held: &Held, who: u32, command: &Command, card: &Record) -> u32
     requires alters { Alters command.now }
-    requires left { IsLeft held.now.snapshot.setup (state_in held.now.snapshot) who command.now card.now }
+    requires left { IsLeftByEntry held.now.snapshot.setup (state_in held.now.snapshot) who command.now card.now }
     ensures { option_map (λ f. f.card.call) (flight_at held.now.snapshot result) ≡ Some card.now.call }
 {
     let Some(slot) = held.snapshot().find(card.call) else {
@@ -79,7 +79,7 @@ fn card_left(
     requires passed { IsPassed held.now.snapshot who command.now }
     requires bounded { IsBoundedCommand command.now }
     requires prepared { IsPrepFor (held_story held.now) who command.now prep.now }
-    ensures { IfOk result (IsLeft held.now.snapshot.setup (state_in held.now.snapshot) who command.now) }
+    ensures { IfOk result (IsLeftByEntry held.now.snapshot.setup (state_in held.now.snapshot) who command.now) }
 {
     held.keeps();
     let snapshot = held.snapshot();
@@ -184,7 +184,7 @@ pub(crate) fn enter(
 ) -> Result<Option<Hit>, Memory>
     requires passed { IsPassed held.old.snapshot who command.now }
     requires bounded { IsBoundedCommand command.now }
-    requires prepared { IsGivenFor (held_story held.old) who command.now (option_copied prep) }
+    requires prepared { IsPrepGivenFor (held_story held.old) who command.now (option_copied prep) }
     ensures entered { EntersOrStops held.old held.new who command.now result }
     ensures counted { IsWithinBound (held_story held.old) who command.now (option_copied prep.entry) tests.old tests.new }
 {

@@ -4,15 +4,15 @@ ghost use Rattle.std.specs.Arc.{arc_value};
 ghost use Rattle.mt_base.specs.Bounds.{IsBoundedCommand, IsSoundFlight};
 ghost use Rattle.mt_base.specs.Complete.{IsComplete};
 ghost use Rattle.mt_base.specs.Picture.{NamedTrajectory};
-ghost use Rattle.mt_probe.specs.Prepared.{IsLeft, kind_made, path_made};
+ghost use Rattle.mt_probe.specs.Prepared.{IsLeftByEntry, kind_made, path_made};
 ghost use Rattle.mt_probe.specs.Shot.{flight_at, made_of};
-ghost use Rattle.mt_probe.specs.Shot.{state_of as state_in};
+ghost use Rattle.mt_probe.specs.Shot.{state_in_shot as state_in};
 ghost use Rattle.mt_picture.specs.Asking.{WasAskedFor, WasAskedOf};
 ghost use Rattle.mt_picture.specs.Brought.{BringsNew, IsPreparedNow};
 ghost use Rattle.mt_picture.specs.Entries.{IsFiling, IsRemaking, IsReport, IsWithdrawal, is_probed};
 ghost use Rattle.mt_picture.specs.Holding.{AddsEntry, AddsOrStops, EntersOrStops, entry_now};
 ghost use Rattle.mt_picture.specs.Places.{place_kind};
-ghost use Rattle.mt_picture.specs.Putting.{IsFirstOf, IsKeptFlight, IsPutBy, IsRemade};
+ghost use Rattle.mt_picture.specs.Putting.{IsFirstOf, IsKeptFlight, IsFlightPut, IsRemade};
 
 use crate::change::{change_bare, change_for};
 use crate::held::Held;
@@ -46,7 +46,7 @@ fn put_made(
     tests: &mut Tally,
 ) -> Result<Option<Hit>, Memory>
     requires counted { held.old.snapshot.version < 2 ^ 40 }
-    requires put { IsPutBy held.old.snapshot slot flight entry }
+    requires put { IsFlightPut held.old.snapshot slot flight entry }
     requires complete { IsComplete entry }
     requires new { BringsNew held.old.snapshot slot flight kind prep.now known }
     ensures entered { AddsOrStops held.old held.new entry result }
@@ -294,7 +294,7 @@ pub(crate) fn report(
     requires there { option_map (λ f. f.card.call) (flight_at held.old.snapshot slot) ≡ Some card.call }
     requires reports { IsReport command.now }
     requires bounded { IsBoundedCommand command.now }
-    requires left { IsLeft held.old.snapshot.setup (state_in held.old.snapshot) who command.now card }
+    requires left { IsLeftByEntry held.old.snapshot.setup (state_in held.old.snapshot) who command.now card }
     ensures { AddsEntry held.old held.new (entry_now held.old.snapshot who command.now) result }
 {
     held.keeps();
@@ -318,7 +318,7 @@ pub(crate) fn withdraw(
     requires there { option_map (λ f. f.card.call) (flight_at held.old.snapshot slot) ≡ Some card.call }
     requires withdraws { IsWithdrawal command.now }
     requires bounded { IsBoundedCommand command.now }
-    requires left { IsLeft held.old.snapshot.setup (state_in held.old.snapshot) who command.now card }
+    requires left { IsLeftByEntry held.old.snapshot.setup (state_in held.old.snapshot) who command.now card }
     ensures { AddsEntry held.old held.new (entry_now held.old.snapshot who command.now) result }
 {
     held.keeps();

@@ -8,12 +8,12 @@ ghost use Rattle.mt_base.specs.History.{state_of};
 ghost use Rattle.mt_base.specs.Picture.{IsPublished};
 ghost use Rattle.mt_kept.specs.Window.{WasTestedOnce};
 ghost use Rattle.mt_probe.specs.Shot.{flight_at};
-ghost use Rattle.mt_probe.specs.Shot.{state_of as state_in};
+ghost use Rattle.mt_probe.specs.Shot.{state_in_shot as state_in};
 ghost use Rattle.mt_probe.specs.Standing.{IsSoundShot};
 ghost use Rattle.mt_picture.specs.Brought.{IsChangeFor};
 ghost use Rattle.mt_picture.specs.Holding.{AddsEntry, held_story};
 ghost use Rattle.mt_picture.specs.Places.{all_places, first_of, second_of};
-ghost use Rattle.mt_picture.specs.Putting.{IsPutBy};
+ghost use Rattle.mt_picture.specs.Putting.{IsFlightPut};
 ghost use Rattle.mt_picture.specs.Stamps.{IsPicture};
 
 use crate::change::Change;
@@ -110,7 +110,7 @@ impl Held {
         change: Change,
     ) -> Result<(), Memory>
         requires counted { self.old.snapshot.version < 2 ^ 40 }
-        requires put { IsPutBy self.old.snapshot slot flight entry }
+        requires put { IsFlightPut self.old.snapshot slot flight entry }
         requires complete { IsComplete entry }
         requires change { IsChangeFor self.old.kept slot flight change }
         ensures { AddsEntry self.old self.new entry result }
@@ -134,7 +134,7 @@ impl Held {
     /// Enters a command that leaves this flight in a slot, with the trajectories that it had. The kept conflicts stay as they are.
     pub(crate) fn put_card(&mut self, slot: u32, flight: Flight, entry: Entry) -> Result<(), Memory>
         requires counted { self.old.snapshot.version < 2 ^ 40 }
-        requires put { IsPutBy self.old.snapshot slot flight entry }
+        requires put { IsFlightPut self.old.snapshot slot flight entry }
         requires complete { IsComplete entry }
         requires first { first_of (Some flight) ≡ first_of (flight_at self.old.snapshot slot) }
         requires second { second_of (Some flight) ≡ second_of (flight_at self.old.snapshot slot) }

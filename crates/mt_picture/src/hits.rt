@@ -1,7 +1,7 @@
 //! The hits of a clearance that was probed, among what is found with the trajectory that it leaves.
 ghost use Rattle.std.specs.Prelude.{◌≡◌, ◌≤◌, IfOk, None, false, true};
-ghost use Rattle.mt_kept.specs.Made.{is_open};
-ghost use Rattle.mt_picture.specs.Hits.{AreHitsAmong, IsFirstAmong, hit_by, hit_of, is_flown};
+ghost use Rattle.mt_kept.specs.Made.{is_open_pair};
+ghost use Rattle.mt_picture.specs.Hits.{AreHitsAmong, IsFirstAmong, conflict_hit, pair_hit, is_flown};
 
 use mt_base::{Callsign, Conflict, Hit, Hits, Memory, Second};
 use mt_kept::{Edge, OpenPair};
@@ -20,14 +20,14 @@ fn is_flown(pair: &OpenPair) -> bool
 // Whether its span meets the window.
 fn is_open(edge: &Edge, now: Second) -> bool
     requires { now ≤ 10000000 }
-    ensures { result ≡ is_open now edge.now }
+    ensures { result ≡ is_open_pair now edge.now }
 {
     edge.first < now + WINDOW && now <= edge.last
 }
 
 // A conflict as a hit of the flight of that callsign.
 fn hit_by(call: Callsign, conflict: Option<Conflict>) -> Option<Hit>
-    ensures { result ≡ hit_by call conflict }
+    ensures { result ≡ conflict_hit call conflict }
 {
     let conflict = conflict?;
     let with = if conflict.a == call {
@@ -45,7 +45,7 @@ fn hit_by(call: Callsign, conflict: Option<Conflict>) -> Option<Hit>
 // The hit that a pair shows in the window.
 fn hit_of(call: Callsign, now: Second, pair: &OpenPair) -> Option<Hit>
     requires { now ≤ 10000000 }
-    ensures { result ≡ hit_of call now pair.now }
+    ensures { result ≡ pair_hit call now pair.now }
 {
     if is_flown(pair) && is_open(&pair.edge, now) {
         hit_by(call, pair.conflict)

@@ -7,7 +7,7 @@ use mt_base::{Callsign, Entry, Kind, Memory};
 use mt_probe::Snapshot;
 use std::alloc::Global;
 
-// Puts the place of a trajectory behind some others, where it was made after that version and isn't among them.
+// Puts the place of a trajectory after some others, where it was made after that version and isn't among them.
 fn add_kind(
     places: &mut Vec<u32>,
     snapshot: &Snapshot,
@@ -27,7 +27,7 @@ fn add_kind(
     Ok(())
 }
 
-// Puts the places of a flight's trajectories behind some others, where they were made after that version.
+// Puts the places of a flight's trajectories after some others, where they were made after that version.
 fn add_flight(
     places: &mut Vec<u32>,
     snapshot: &Snapshot,

@@ -9,7 +9,7 @@ ghost use Rattle.mt_base.specs.History.{IsLegal, WasFree, state_of};
 ghost use Rattle.mt_base.specs.Picture.{IsPublished};
 ghost use Rattle.mt_board.specs.declared.no.No.TheVariants.{Refused};
 ghost use Rattle.mt_picture.specs.Laws.{IsRestored, IsSinceProbe};
-ghost use Rattle.mt_picture.specs.Story.{IsEntered, IsRefused, Story};
+ghost use Rattle.mt_picture.specs.Story.{IsEntered, IsCommandRefused, Story};
 
 use mt_law::{strike_out_law, withdrawal_law};
 
@@ -28,7 +28,7 @@ pub fn restoring_law()
 /// the version of its probe, so the version that the refusal names is above that.
 pub fn stale_law()
     ensures { (story : Story) (who : ℕ) (call : List ℕ) (clearance : Clearance) (eff probed version : ℕ) (hit : Hit)
-        → IsRefused story who (Accept call clearance eff probed) (Refused (Stale hit) version) → probed ≤ length story.history
+        → IsCommandRefused story who (Accept call clearance eff probed) (Refused (Stale hit) version) → probed ≤ length story.history
         → WasFree story.setup story.history (Accept call clearance eff probed)
         → IsSinceProbe story.setup story.history call clearance eff probed version hit }
 {}

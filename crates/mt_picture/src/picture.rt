@@ -5,9 +5,9 @@ ghost use Rattle.mt_base.specs.Bounds.{AreWithinBounds, IsBoundedCommand};
 ghost use Rattle.mt_base.specs.Complete.{IsComplete};
 ghost use Rattle.mt_base.specs.History.{IsInTime, IsLegal, IsReplayable, WasFree, state_of};
 ghost use Rattle.mt_base.specs.Picture.{IsPublished};
-ghost use Rattle.mt_probe.specs.Shot.{state_of as state_in};
+ghost use Rattle.mt_probe.specs.Shot.{state_in_shot as state_in};
 ghost use Rattle.mt_picture.specs.Asked.{IsWithinBound};
-ghost use Rattle.mt_picture.specs.Story.{IsEntered, IsGivenFor, IsRefused};
+ghost use Rattle.mt_picture.specs.Story.{IsEntered, IsPrepGivenFor, IsCommandRefused};
 
 use crate::deciding::{decide, verdict_on};
 use crate::enter::enter;
@@ -136,9 +136,9 @@ impl Picture {
     ) -> Result<Entered, No>
         requires bounded { IsBoundedCommand command.now }
         requires in_time { IsInTime (length self.old.history) command.now }
-        requires prepared { IsGivenFor self.old who command.now (option_copied prep) }
+        requires prepared { IsPrepGivenFor self.old who command.now (option_copied prep) }
         ensures entered { IfOk result (IsEntered self.old self.new who command.now) }
-        ensures refused { IfErr result (IsRefused self.old who command.now) }
+        ensures refused { IfErr result (IsCommandRefused self.old who command.now) }
         ensures unchanged { OnErr result (self.new ≡ self.old) }
         ensures replayable { OnOk result (IsReplayable self.old.setup self.old.history → IsReplayable self.new.setup self.new.history) }
         ensures legal { OnOk result (IsLegal self.old.setup self.old.history → WasFree self.old.setup self.old.history command.now

@@ -1,7 +1,7 @@
 //! Where trajectories stand.
 ghost use Rattle.std.specs.Prelude.{◌≡◌, ◌/◌, ◌<◌, ℕ, IfSome, Some};
 ghost use Rattle.mt_probe.specs.Items.{kind_at};
-ghost use Rattle.mt_picture.specs.Candidates.{Stands};
+ghost use Rattle.mt_picture.specs.Candidates.{StandsInPlace};
 
 use crate::keeping::is_sound;
 use mt_base::{Callsign, Kind};
@@ -30,8 +30,8 @@ fn place_of(slot: u32, kind: Kind) -> u32
 
 /// Where the trajectory of a kind of the flight of that callsign stands; `None` exactly where it stands nowhere.
 pub(crate) fn find_trajectory(snapshot: &Snapshot, call: Callsign, kind: Kind) -> Option<Standing>
-    ensures there { IfSome result (λ it. Stands snapshot.now.slots it.place call kind it.stamp) }
-    ensures only { (place stamp : ℕ) → Stands snapshot.now.slots place call kind stamp
+    ensures there { IfSome result (λ it. StandsInPlace snapshot.now.slots it.place call kind it.stamp) }
+    ensures only { (place stamp : ℕ) → StandsInPlace snapshot.now.slots place call kind stamp
         → result ≡ Some (record { place = place; stamp = stamp }) }
 {
     is_sound(snapshot);

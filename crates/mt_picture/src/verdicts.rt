@@ -1,9 +1,9 @@
 //! The candidates of a new trajectory, and what a prep says of them.
 ghost use Rattle.std.specs.Prelude.{◌≡◌, ◌≤◌, ◌++◌, ℕ, IfOk, IfSome, IsSomeAnd, OnOk, map};
 ghost use Rattle.mt_cover.specs.Cells.{cover_of};
-ghost use Rattle.mt_picture.specs.Candidates.{AreAllNear, AreStill, IsStill, Stands, unknown_at};
+ghost use Rattle.mt_picture.specs.Candidates.{AreAllNear, AreStill, IsStill, StandsInPlace, unknown_at};
 ghost use Rattle.mt_picture.specs.Stamps.{AreStamped, HaveStood};
-ghost use Rattle.mt_picture.specs.Verdicts.{AreNear, IsPreps};
+ghost use Rattle.mt_picture.specs.Verdicts.{AreNearCandidates, IsPreps};
 
 use crate::keeping::{is_sound, is_trajectory};
 use crate::later::later_places;
@@ -19,7 +19,7 @@ use std::alloc::Global;
 // What was found with a trajectory, as a candidate in its place; `None` exactly where it stands nowhere, or was made after that version.
 fn still(snapshot: &Snapshot, found: &Found, version: u64) -> Option<Candidate>
     ensures there { IfSome result (IsStill snapshot.now.slots version found.now) }
-    ensures only { (place stamp : ℕ) → Stands snapshot.now.slots place found.now.call found.now.kind stamp → stamp ≤ version
+    ensures only { (place stamp : ℕ) → StandsInPlace snapshot.now.slots place found.now.call found.now.kind stamp → stamp ≤ version
         → IsSomeAnd result (λ x. x.place ≡ place) }
 {
     let it = find_trajectory(snapshot, found.call, found.kind)?;
@@ -46,7 +46,7 @@ fn still_ones(alloc: Global, snapshot: &Snapshot, prep: &Prep) -> Result<Vec<Can
     Ok(list)
 }
 
-// Puts candidates of which nothing is known behind others.
+// Puts candidates of which nothing is known after others.
 fn add_unknown(list: &mut Vec<Candidate>, places: &[u32]) -> Result<(), Memory>
     ensures { OnOk result (list.new.items ≡ list.old.items ++ map unknown_at places.now) }
 {
@@ -85,7 +85,7 @@ pub(crate) fn candidates(
     requires preps { IsPreps prep.now known strand.now }
     requires stamped { AreStamped snapshot.now.setup history.now snapshot.now.slots }
     requires stood { HaveStood snapshot.now prep.now }
-    ensures { IfOk result (λ list. AreNear snapshot.now strand.now prep.now known list.items) }
+    ensures { IfOk result (λ list. AreNearCandidates snapshot.now strand.now prep.now known list.items) }
 {
     is_sound(snapshot);
     is_trajectory(strand);

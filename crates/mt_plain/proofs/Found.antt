@@ -11,19 +11,19 @@ use Rattle.mt_base.specs.declared.rules.Rules.{Rules}
 use Rattle.mt_base.specs.Conflict.{IsConflict, IsSpanOfLoss}
 use Rattle.mt_base.specs.Picture.{IsOf, IsOfSome, IsPublishedOf, NamedTrajectory, conflict_cmp, window_end}
 use Rattle.mt_base.proofs.OneConflict.{one_conflict}
-use Rattle.mt_plain.specs.Added.{Adds, IsOfRight}
+use Rattle.mt_plain.specs.Added.{AddsConflicts, IsOfRight}
 
 -- nothing, one more, and one step after another
-pub Adds-none : (P : Conflict → Type 0) (cs : List Conflict) → ((c : Conflict) → ¬ P c) → Adds P cs cs
+pub Adds-none : (P : Conflict → Type 0) (cs : List Conflict) → ((c : Conflict) → ¬ P c) → AddsConflicts P cs cs
 Adds-none P cs none = λ c. ((λ held. inl held), (λ either. ⊎_elim (λ held. held) (λ is. absurd (none c is)) either))
 
-pub Adds-one : (P : Conflict → Type 0) (cs : List Conflict) (one : Conflict) → P one → ((c : Conflict) → P c → one ≡ c) → Adds P cs (cs ++ one ∷ [])
+pub Adds-one : (P : Conflict → Type 0) (cs : List Conflict) (one : Conflict) → P one → ((c : Conflict) → P c → one ≡ c) → AddsConflicts P cs (cs ++ one ∷ [])
 Adds-one P cs one is only = λ c. (
   (λ held. ⊎_elim (λ before. inl before) (λ e. inr (subst P e is)) (Contains-push_cases cs one c held)),
   (λ either. ⊎_elim (λ before. Contains-append_left cs (one ∷ []) c before) (λ is_c. subst (Contains (cs ++ one ∷ [])) (only c is_c) (Contains-push cs one)) either),
 )
 
-pub Adds-more : (P Q R : Conflict → Type 0) (old mid new : List Conflict) → ((c : Conflict) → R c ↔ (P c ⊎ Q c)) → Adds P old mid → Adds Q mid new → Adds R old new
+pub Adds-more : (P Q R : Conflict → Type 0) (old mid new : List Conflict) → ((c : Conflict) → R c ↔ (P c ⊎ Q c)) → AddsConflicts P old mid → AddsConflicts Q mid new → AddsConflicts R old new
 Adds-more P Q R old mid new parts first second = λ c. (
   (λ held. ⊎_elim
       (λ before. ⊎_elim (λ was. inl was) (λ p. inr ((parts c).1 (inl p))) ((first c).0 before))
@@ -44,7 +44,7 @@ conflict_of left right first last = record { first = first; a = left.call; b = r
 
 pub Adds-found : (rules : Rules) (now : ℕ) (left right : NamedTrajectory) (first last : ℕ) (old new : List Conflict)
     → slice_cmp nat_cmp left.call right.call ≡ Less → IsSpanOfLoss rules left.path right.path now (window_end now) first last
-    → new ≡ old ++ conflict_of left right first last ∷ [] → Adds (IsOf rules now left right) old new
+    → new ≡ old ++ conflict_of left right first last ∷ [] → AddsConflicts (IsOf rules now left right) old new
 Adds-found rules now left right first last old new before span pushed =
     let is : IsOf rules now left right (conflict_of left right first last) =
     record { calls = (refl, refl); kinds = (refl, refl); apart = before; span = span } in
@@ -86,7 +86,7 @@ IsOfSome-two rules now all c = (
 )
 
 -- the whole list, after its order was made
-pub IsPublishedOf-all : (rules : Rules) (now : ℕ) (all : List NamedTrajectory) (found ordered : List Conflict) → Adds (IsOfTwo rules now all all) [] found
+pub IsPublishedOf-all : (rules : Rules) (now : ℕ) (all : List NamedTrajectory) (found ordered : List Conflict) → AddsConflicts (IsOfTwo rules now all all) [] found
     → ((c : Conflict) → Contains ordered c ↔ Contains found c) → IsStrictlySortedBy conflict_cmp ordered → IsPublishedOf rules now all ordered
 IsPublishedOf-all rules now all found ordered adds same sorted = record {
   exact = λ c. (

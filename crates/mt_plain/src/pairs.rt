@@ -2,7 +2,7 @@ ghost use Rattle.std.specs.Prelude.{◌≤◌, map, IfOk, OnOk, OnErr, ◌≡◌
 ghost use Rattle.mt_base.specs.Bounds.{AreWithinBounds};
 ghost use Rattle.mt_base.specs.Picture.{IsOf, IsPublishedOf};
 ghost use Rattle.mt_track.specs.Named.{named};
-ghost use Rattle.mt_plain.specs.Added.{Adds, IsOfRight};
+ghost use Rattle.mt_plain.specs.Added.{AddsConflicts, IsOfRight};
 ghost use Rattle.mt_base.specs.Tally.{RoseUpTo, raised_by};
 ghost use Rattle.mt_plain.specs.Tests.{is_before, tests_of_left, tests_of_pair, pairs_of_different_flights};
 
@@ -32,7 +32,7 @@ fn add_pair(
 ) -> Result<(), Memory>
     requires rules_kept { AreWithinBounds rules.now }
     requires early { now ≤ 10000000 }
-    ensures found { OnOk result (Adds (IsOf rules.now now (named left.now) (named right.now)) found.old found.new) }
+    ensures found { OnOk result (AddsConflicts (IsOf rules.now now (named left.now) (named right.now)) found.old found.new) }
     ensures counted { tests.new ≡ raised_by (tests_of_pair (named left.now) (named right.now)) tests.old }
 {
     if !are_pair(left, right) {
@@ -63,7 +63,7 @@ fn add_pairs(
 ) -> Result<(), Memory>
     requires rules_kept { AreWithinBounds rules.now }
     requires early { now ≤ 10000000 }
-    ensures found { OnOk result (Adds (IsOfRight rules.now now (named left.now) (map named items.now)) found.old found.new) }
+    ensures found { OnOk result (AddsConflicts (IsOfRight rules.now now (named left.now) (map named items.now)) found.old found.new) }
     ensures counted { OnOk result (tests.new ≡ raised_by (tests_of_left (map named items.now) (named left.now)) tests.old) }
     ensures limited { OnErr result (RoseUpTo (tests_of_left (map named items.now) (named left.now)) tests.old tests.new) }
 {

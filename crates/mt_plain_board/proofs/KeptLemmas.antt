@@ -31,15 +31,15 @@ use Rattle.mt_board.specs.Probing.{IsAdvised, IsPast, IsProbed, Probe, free_prob
 use Rattle.mt_board.specs.Seat.{HasSeen, Seat, entries_by, state_seen}
 use Rattle.mt_board.proofs.SeatLemmas.{decided_who, entries_push, goes_on_itself, looked_itself}
 use Rattle.mt_change.specs.Sound.{IsSoundState}
-use Rattle.mt_plain_board.specs.Kept.{IsKept, IsNotToldOf, IsToldOf}
+use Rattle.mt_plain_board.specs.Kept.{IsStateKept, IsNotToldOf, IsToldOf}
 
 -- its version is the number of entries
-pub version_kept : (fixed : Setup) (h : List Entry) (s : State) → IsKept fixed h s → s.version ≡ length h
+pub version_kept : (fixed : Setup) (h : List Entry) (s : State) → IsStateKept fixed h s → s.version ≡ length h
 version_kept fixed h s kept = ap (λ (x : State). x.version) kept.state_is ∙ version_is fixed h
 
 -- an entry more
-pub kept_push : (fixed : Setup) (h : List Entry) (s after : State) (e : Entry) → IsKept fixed h s → IsDecided fixed (state_of fixed h) e.who e.command (Ok e)
-    → IsInTime (length h) e.command → WasFree fixed h e.command → after ≡ effect fixed s e → IsSoundState fixed after → IsKept fixed (h ++ e ∷ []) after
+pub kept_push : (fixed : Setup) (h : List Entry) (s after : State) (e : Entry) → IsStateKept fixed h s → IsDecided fixed (state_of fixed h) e.who e.command (Ok e)
+    → IsInTime (length h) e.command → WasFree fixed h e.command → after ≡ effect fixed s e → IsSoundState fixed after → IsStateKept fixed (h ++ e ∷ []) after
 kept_push fixed h s after e kept decided in_time was_free is after_sound = record {
   rules = kept.rules;
   legal = legal_push fixed h e kept.legal decided in_time was_free;
@@ -48,7 +48,7 @@ kept_push fixed h s after e kept decided in_time was_free is after_sound = recor
 }
 
 -- the seat has seen its own history
-pub seen_kept : (b : Seat) (s : State) → IsKept b.fixed b.seen s → entries_by b.number b.seen ≡ b.mine → HasSeen b b s.version
+pub seen_kept : (b : Seat) (s : State) → IsStateKept b.fixed b.seen s → entries_by b.number b.seen ≡ b.mine → HasSeen b b s.version
 seen_kept b s kept own = record {
   looked = looked_itself b;
   version_is = version_kept b.fixed b.seen s kept;
@@ -56,7 +56,7 @@ seen_kept b s kept own = record {
 }
 
 -- its picture is that of all entries
-pub past_kept : (b : Seat) (s : State) → IsKept b.fixed b.seen s → IsPast b b.fixed s s.version
+pub past_kept : (b : Seat) (s : State) → IsStateKept b.fixed b.seen s → IsPast b b.fixed s s.version
 past_kept b s kept =
     let counted = version_kept b.fixed b.seen s kept in
     let all : take s.version b.seen ≡ b.seen = take_all s.version b.seen (omega (arith, counted)) in
@@ -67,7 +67,7 @@ past_kept b s kept =
     }
 
 -- what was tried on its picture
-pub probed_kept : (b : Seat) (s : State) (call : List ℕ) (clearance : Clearance) (eff : Option ℕ) (hits : List Hit) → IsKept b.fixed b.seen s
+pub probed_kept : (b : Seat) (s : State) (call : List ℕ) (clearance : Clearance) (eff : Option ℕ) (hits : List Hit) → IsStateKept b.fixed b.seen s
     → entries_by b.number b.seen ≡ b.mine → IsWhatIf b.fixed s call clearance eff (Ok hits)
     → IsProbed b b call clearance eff (record { call = call; clearance = clearance; eff = unwrap_or eff s.now; version = s.version; hits = hits })
 probed_kept b s call clearance eff hits kept own follows = record {
@@ -78,13 +78,13 @@ probed_kept b s call clearance eff hits kept own follows = record {
   follows = subst (λ (x : State). IsWhatIf b.fixed x call clearance eff (Ok hits)) kept.state_is follows;
 }
 
-pub free_kept : (fixed : Setup) (h : List Entry) (s : State) (call : List ℕ) (clearance : Clearance) → IsKept fixed h s
+pub free_kept : (fixed : Setup) (h : List Entry) (s : State) (call : List ℕ) (clearance : Clearance) → IsStateKept fixed h s
     → record { call = call; clearance = clearance; eff = s.now; version = s.version; hits = [] } ≡ free_probe call (state_of fixed h).now (length h) clearance
 free_kept fixed h s call clearance kept =
     ap₂ (λ (eff version : ℕ). free_probe call eff version clearance) (ap (λ (x : State). x.now) kept.state_is) (version_kept fixed h s kept)
 
 -- what was entered, alone
-pub entered_kept : (b t : Seat) (s : State) (command : Command) (e : Entry) (entered : Entered) → IsKept b.fixed b.seen s → entries_by b.number b.seen ≡ b.mine
+pub entered_kept : (b t : Seat) (s : State) (command : Command) (e : Entry) (entered : Entered) → IsStateKept b.fixed b.seen s → entries_by b.number b.seen ≡ b.mine
     → IsDecided b.fixed (state_seen b) b.number command (Ok e) → IsDecided b.fixed (state_seen b) e.who e.command (Ok e) → IsInTime (length b.seen) e.command
     → WasFree b.fixed b.seen e.command → entered ≡ entered_by b.fixed (state_seen b) e
     → t ≡ record b { seen = b.seen ++ e ∷ []; mine = b.mine ++ e ∷ [] } → HasEntered b t command entered
@@ -105,7 +105,7 @@ entered_kept b t s command e entered kept own decided again in_time was_free ent
 })
 
 -- the clearances that are advised on its picture
-pub advised_kept : (b : Seat) (s : State) (call : List ℕ) (cs : List Clearance) (now version : ℕ) (ps : List Probe) → IsKept b.fixed b.seen s → entries_by b.number b.seen ≡ b.mine
+pub advised_kept : (b : Seat) (s : State) (call : List ℕ) (cs : List Clearance) (now version : ℕ) (ps : List Probe) → IsStateKept b.fixed b.seen s → entries_by b.number b.seen ≡ b.mine
     → IsAdvice b.fixed s call (Ok cs) → length cs ≤ 16 → now ≡ s.now → version ≡ length b.seen
     → ps ≡ map (free_probe call (state_seen b).now (length b.seen)) cs → IsAdvised b b call now version ps
 advised_kept b s call cs now version ps kept own advice few now_is version_is ps_is =
@@ -125,7 +125,7 @@ version_of_path : (call : List ℕ) (path : Path) (t : Trajectory) (k version : 
 version_of_path call (Planned course) t k version = refl
 version_of_path call (Outer stretch) t k version = refl
 
-pub flight_kept : (fixed : Setup) (h : List Entry) (s : State) (call : List ℕ) (sec : Option ℕ) (view : FlightView) → IsKept fixed h s
+pub flight_kept : (fixed : Setup) (h : List Entry) (s : State) (call : List ℕ) (sec : Option ℕ) (view : FlightView) → IsStateKept fixed h s
     → Some view ≡ option_map (view_of fixed s sec) (flight_of s.records call) → IsToldOf fixed h (asks.Flight call sec) (answers.Flight view)
 flight_kept fixed h s call sec view kept is = record {
   told = subst (λ (x : State). option_map (view_of fixed x sec) (flight_of x.records call) ≡ Some view) kept.state_is (sym is);

@@ -16,20 +16,20 @@ use Rattle.mt_board.specs.Short.{AreShortHits}
 use Rattle.mt_change.specs.Sound.{IsSoundState}
 
 -- The state is that of the history, which is legal, and sound for the rules and tables; the rules are within their bounds.
-pub record IsKept (fixed : Setup) (history : List Entry) (state : State) : Type 0 where
+pub record IsStateKept (fixed : Setup) (history : List Entry) (state : State) : Type 0 where
   pub rules : AreWithinBounds fixed.rules
   pub legal : IsLegal fixed history
   pub state_is : state ≡ state_of fixed history
   pub sound : IsSoundState fixed state
 
 -- A probe with the rules, the tables and the state that it was tried on.
-pub record Tried : Type 0 where
+pub record PlainTrial : Type 0 where
   pub told : Probe
   pub fixed : Setup
   pub state : State
 
 -- its hits are those on that state, whose version it names, and its numbers are within their bounds
-pub record IsKeptProbe (t : Tried) : Type 0 where
+pub record IsKeptProbe (t : PlainTrial) : Type 0 where
   pub follows : IsWhatIf t.fixed t.state t.told.call t.told.clearance (Some t.told.eff) (Ok t.told.hits)
   pub version_is : t.told.version ≡ t.state.version
   pub clearance : IsBoundedClearance t.told.clearance

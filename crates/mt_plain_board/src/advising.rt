@@ -2,7 +2,7 @@
 ghost use Rattle.std.specs.Prelude.{◌≡◌, All, length, map, IfOk, IfErr};
 ghost use Rattle.mt_board.specs.Probing.{IsAdvised, IsNotAdvised, IsPast, free_probe};
 ghost use Rattle.mt_board.specs.Seat.{state_seen};
-ghost use Rattle.mt_machine.specs.Advising.{IsFree};
+ghost use Rattle.mt_machine.specs.Advising.{IsClearanceFree};
 
 use crate::plain_board::PlainBoard;
 use crate::probe::PlainProbe;
@@ -38,7 +38,7 @@ impl PlainBoard {
 
     // Free clearances as probes.
     fn free_probes(&self, call: Callsign, free: &[Clearance]) -> Result<Vec<PlainProbe>, Memory>
-        requires { All (IsFree self.now.fixed (state_seen self.now) call) free.now }
+        requires { All (IsClearanceFree self.now.fixed (state_seen self.now) call) free.now }
         ensures told { IfOk result (λ probes. map (λ p. p.told) probes.items
             ≡ map (free_probe call (state_seen self.now).now (length self.now.seen)) free.now) }
         ensures past { IfOk result (λ probes. All (λ p. IsPast self.now p.fixed p.state p.told.version) probes.items) }
@@ -52,7 +52,7 @@ impl PlainBoard {
 
     // A free clearance as a probe.
     fn free_probe(&self, call: Callsign, clearance: &Clearance) -> PlainProbe
-        requires { IsFree self.now.fixed (state_seen self.now) call clearance.now }
+        requires { IsClearanceFree self.now.fixed (state_seen self.now) call clearance.now }
         ensures told { result.told ≡ free_probe call (state_seen self.now).now (length self.now.seen) clearance.now }
         ensures past { IsPast self.now result.fixed result.state result.told.version }
     {

@@ -22,13 +22,13 @@ pub struct PlainBoard {
 
 impl Model for PlainBoard {
     ghost use Rattle.mt_board.specs.Seat.{Seat, entries_by};
-    ghost use Rattle.mt_plain_board.specs.Kept.{IsKept};
+    ghost use Rattle.mt_plain_board.specs.Kept.{IsStateKept};
 
     ghost Value = { Seat };
 
     ghost view = { λ b. record { number = b.number; seen = b.history; mine = entries_by b.number b.history; fixed = record { rules = b.rules; tables = b.tables } } };
 
-    ghost invariant = { λ b. IsKept (record { rules = b.rules; tables = b.tables }) b.history b.picture };
+    ghost invariant = { λ b. IsStateKept (record { rules = b.rules; tables = b.tables }) b.history b.picture };
 }
 
 impl PlainBoard {

@@ -27,9 +27,9 @@ pub struct PlainProbe {
 }
 
 impl Model for PlainProbe {
-    ghost use Rattle.mt_plain_board.specs.Kept.{IsKeptProbe, Tried};
+    ghost use Rattle.mt_plain_board.specs.Kept.{IsKeptProbe, PlainTrial};
 
-    ghost Value = { Tried };
+    ghost Value = { PlainTrial };
 
     ghost view = { λ p. record {
       told = record { call = p.call; clearance = p.clearance; eff = p.eff; version = p.version; hits = p.hits };

@@ -9,7 +9,7 @@ use Rattle.mt_base.specs.declared.place.Point.{Point}
 use Rattle.mt_base.specs.declared.rules.Rules.{Rules}
 use Rattle.mt_base.specs.Bounds.{AreWithinBounds, IsBoundedBand, IsBoundedRow, IsHeight, IsInPlane, IsKeptOver, IsWithin}
 use Rattle.mt_base.specs.Predictor.{Manner, band_at, climb_from, end_after, end_of, gain_with, leg_to, margin_at, margin_gain, row_on, rows_on, rows_to}
-use Rattle.mt_predict.specs.Manners.{IsAcross, IsBoundedLeg, IsBoundedManner, IsHeld}
+use Rattle.mt_predict.specs.Manners.{IsAcross, IsBoundedLeg, IsBoundedManner, IsFlownPlace}
 use Rattle.mt_predict.proofs.Bounds.{band_kept}
 use Rattle.mt_predict.proofs.Remains.{between, east_size, gain_remain, gain_size, north_size, remain, remain_none, remain_whole}
 
@@ -158,7 +158,7 @@ arrived : (x to total : ℤ) (seconds : ℕ) → x +ℤ remain total seconds 0 �
 arrived x to total seconds is = let e = rw (remain_none total seconds) at is in omega (arith, ints, e)
 
 -- at the end of the leg the flight is over its fix
-over_fix : (m : Manner) (leg : Leg) (fix : Point) (a : Place) → IsInPlane fix.x fix.y → IsAboard m leg fix 0 a → IsHeld m.rules a
+over_fix : (m : Manner) (leg : Leg) (fix : Point) (a : Place) → IsInPlane fix.x fix.y → IsAboard m leg fix 0 a → IsFlownPlace m.rules a
 over_fix m leg fix a end aboard = record {
   plane = (subst plane (sym (arrived a.x fix.x leg.dx leg.seconds aboard.east)) end.0, subst plane (sym (arrived a.y fix.y leg.dy leg.seconds aboard.north)) end.1);
   height = aboard.height;
@@ -203,7 +203,7 @@ is_leg_to m number fix a kept end begin = record {
     speed : IsWithin (pos 1) (pos 1000) (band_at m.bands a.z).speed
     speed = (band_kept m.bands a.z kept.bands).speed
 
-aboard_first : (m : Manner) (number : ℕ) (fix : Point) (a : Place) → IsBoundedManner m → IsInPlane fix.x fix.y → IsHeld m.rules a
+aboard_first : (m : Manner) (number : ℕ) (fix : Point) (a : Place) → IsBoundedManner m → IsInPlane fix.x fix.y → IsFlownPlace m.rules a
     → IsAboard m (leg_to m.bands number fix a) fix (leg_to m.bands number fix a).seconds a
 unfolding leg_to
 aboard_first m number fix a kept end held = record {
@@ -217,17 +217,17 @@ aboard_first m number fix a kept end held = record {
     to : IsLegTo (leg_to m.bands number fix a) fix
     to = is_leg_to m number fix a kept end held.plane
 
-rows_kept : (m : Manner) (number : ℕ) (fix : Point) (a : Place) → IsBoundedManner m → IsInPlane fix.x fix.y → IsHeld m.rules a → All IsBoundedRow (rows_to m number fix a)
+rows_kept : (m : Manner) (number : ℕ) (fix : Point) (a : Place) → IsBoundedManner m → IsInPlane fix.x fix.y → IsFlownPlace m.rules a → All IsBoundedRow (rows_to m number fix a)
 rows_kept m number fix a kept end held =
     aboard_rows m (leg_to m.bands number fix a) fix (leg_to m.bands number fix a).seconds a kept (is_leg_to m number fix a kept end held.plane) (omega arith)
     (aboard_first m number fix a kept end held)
 
-pub end_kept : (m : Manner) (number : ℕ) (fix : Point) (a : Place) → IsBoundedManner m → IsInPlane fix.x fix.y → IsHeld m.rules a
-    → IsHeld m.rules (end_after a (rows_to m number fix a))
+pub end_kept : (m : Manner) (number : ℕ) (fix : Point) (a : Place) → IsBoundedManner m → IsInPlane fix.x fix.y → IsFlownPlace m.rules a
+    → IsFlownPlace m.rules (end_after a (rows_to m number fix a))
 end_kept m number fix a kept end held =
     over_fix m (leg_to m.bands number fix a) fix (end_after a (rows_to m number fix a)) end
     (aboard_end m (leg_to m.bands number fix a) fix (leg_to m.bands number fix a).seconds a kept (aboard_first m number fix a kept end held))
 
 pub leg_rows_kept : (m : Manner) (number : ℕ) (fix : Point) (a : Place) (leg : Leg) → leg ≡ leg_to m.bands number fix a → IsBoundedManner m → IsInPlane fix.x fix.y
-    → IsHeld m.rules a → All IsBoundedRow (rows_on m leg leg.seconds a)
+    → IsFlownPlace m.rules a → All IsBoundedRow (rows_on m leg leg.seconds a)
 leg_rows_kept m number fix a leg is kept end held = subst (λ (leg : Leg). All IsBoundedRow (rows_on m leg leg.seconds a)) (sym is) (rows_kept m number fix a kept end held)

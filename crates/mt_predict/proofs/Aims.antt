@@ -21,7 +21,7 @@ use Rattle.mt_base.specs.declared.rules.Rules.{Rules}
 use Rattle.mt_base.specs.Bounds.{AreWithinBounds, IsBoundedClearance, IsRightAim, IsRightBase, IsSoundCourse, IsWithin}
 use Rattle.mt_base.specs.Cleared.{aim_of, base_by, base_from, clearance_checks, cleared, direct_to}
 use Rattle.mt_base.specs.Picture.{trajectory_of}
-use Rattle.mt_base.specs.Predictor.{Manner, climb_from, end_after, end_of, leg_to, manner_of, margin_at, place_of, points_of, row_on, rows_along, rows_on, rows_to}
+use Rattle.mt_base.specs.Predictor.{Manner, climb_from, end_after, end_of, leg_to, manner_of, margin_at, base_place, points_of, row_on, rows_along, rows_on, rows_to}
 use Rattle.mt_base.specs.Tables.{Setup}
 use Rattle.mt_base.specs.Trajectory.{Trajectory}
 use Rattle.mt_base.proofs.CheckLemmas.{answer_is}
@@ -88,8 +88,8 @@ rows_on_route setup course kept sound =
     let count : length (points_of setup.tables course.route) ≡ length course.route = length-map _ _ in
     let few : length fixes ≡ length course.route - course.base.next =
     length-drop course.base.next (points_of setup.tables course.route) ∙ ap (λ (n : ℕ). n - course.base.next) count in
-    All-take (IsOnRoute setup.rules (length course.route)) 14400 (rows_along m course.base.next fixes (place_of course.base))
-    (route_on_route m (length course.route) course.base.next fixes (place_of course.base) kept (omega (arith, few, sound.base.next))
+    All-take (IsOnRoute setup.rules (length course.route)) 14400 (rows_along m course.base.next fixes (base_place course.base))
+    (route_on_route m (length course.route) course.base.next fixes (base_place course.base) kept (omega (arith, few, sound.base.next))
     (record { r = sound.base.r; w = sound.base.w }))
 
 pub row_of : {rules : Rules} {names : ℕ} (rows : List Row) (i : ℕ) (row : Row) → All (IsOnRoute rules names) rows → slice_get rows i ≡ Some row → IsOnRoute rules names row

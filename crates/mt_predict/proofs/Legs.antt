@@ -29,7 +29,7 @@ margin_within m leg n a row is bounded =
     let growth = bounded.r.growth in
     rw e (record { least = value.least; most = omega (arith, ints, clamps, growth.least) })
 
--- With so many seconds of a leg left, some rows stand behind the old ones, and with those that are left they are all of the leg.
+-- With so many seconds of a leg left, some rows stand after the old ones, and with those that are left they are all of the leg.
 pub record IsUnderWay (m : Manner) (leg : Leg) (old : Trajectory) (from : Place) (cut : ℕ) (t : Trajectory) (left : ℕ) (a : Place) : Type 0 where
   pub start : t.start ≡ old.start
   pub rvsm : t.rvsm ≡ old.rvsm
@@ -48,7 +48,7 @@ pub record IsNext (m : Manner) (leg : Leg) (cut left : ℕ) (a : Place) (row : R
   pub some : 0 < n
   pub few : n ≤ left - cut
 
--- the rows that are left, parted behind the stretch
+-- the rows that are left, parted after the stretch
 parted : {m : Manner} {leg : Leg} {cut left : ℕ} {a : Place} {row : Row} {n : ℕ} → IsNext m leg cut left a row n
     → rows_on m leg left a ≡ straight_rows row n ++ rows_on m leg (left - n) (place_at row n)
 parted {m} {leg} {cut} {left} {a} {row} {n} next = stretch m leg left n a row next.steady next.is next.some (omega (arith, next.few))

@@ -55,13 +55,13 @@ never_future cs eff =
     let same : nat_le eff eff ≡ true = grind (arith, nat_tests) in
     judged-append cs ((Future, nat_le eff eff) ∷ []) (tt {0}) ∙ (rw (same, check-true Future) (next-ok (judged cs (tt {0}))))
 
--- checks that are made where two checks and those behind them are passed
+-- checks that are made where two checks and those after them are passed
 pub by_parts : {F : Type 0} (r s t rest : Result ⊤ F) → next r (next s (next t rest)) ≡ next (next r (next s t)) rest
 by_parts (Err e) s t rest = refl
 by_parts (Ok _) (Err e) t rest = refl
 by_parts (Ok _) (Ok _) t rest = refl
 
--- what is checked of a clearance, the moment apart: the moment and what stands behind it are checked where that is passed
+-- what is checked of a clearance, the moment apart: the moment and what stands after it are checked where that is passed
 pub moment_last : (there : Refusal × Bool) (course : Option Course) (f : Course → List (Refusal × Bool)) (moment : Refusal × Bool) (rest : List (Refusal × Bool))
     → judged ((there ∷ (Fixed, is_some course) ∷ option_map_or (λ course. f course ++ moment ∷ []) course []) ++ rest) (tt {0})
     ≡ next (judged (there ∷ (Fixed, is_some course) ∷ option_map_or f course []) (tt {0})) (judged (moment ∷ rest) (tt {0}))

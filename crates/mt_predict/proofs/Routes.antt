@@ -10,7 +10,7 @@ use Rattle.mt_base.specs.Bounds.{IsInPlane}
 use Rattle.mt_base.specs.Predictor.{Manner, end_after, leg_to, predicted, rows_along, rows_on, rows_to}
 use Rattle.mt_base.specs.Trajectory.{Trajectory}
 use Rattle.mt_predict.specs.Flying.{EndAt}
-use Rattle.mt_predict.specs.Manners.{IsBoundedManner, IsHeld}
+use Rattle.mt_predict.specs.Manners.{IsBoundedManner, IsFlownPlace}
 use Rattle.mt_predict.proofs.Aboard.{end_kept}
 
 -- a front of some rows, where there are fewer than the greatest number, is all of them; where there are as many, it is a front of more
@@ -26,7 +26,7 @@ pub record IsOnCourse (m : Manner) (fixes : List Point) (next at : ℕ) (rvsm : 
   pub approved : t.rvsm ≡ rvsm
   pub room : length t.rows < 14400
   pub end : EndAt t.rows a
-  pub held : IsHeld m.rules a
+  pub held : IsFlownPlace m.rules a
   pub within : number ≤ length fixes
   pub rows : t.rows ++ rows_along m number (drop number fixes) a ≡ rows_along m next (drop next fixes) from
 
@@ -38,7 +38,7 @@ pub record IsLegFlown (m : Manner) (leg : Leg) (t new : Trajectory) (a b : Place
   pub at : EndAt new.rows b
   pub place : length new.rows < 14400 → b ≡ end_after a (rows_on m leg leg.seconds a)
 
--- the rows ahead, parted behind the next leg
+-- the rows ahead, parted after the next leg
 ahead : {m : Manner} {fixes : List Point} {next at : ℕ} {rvsm : Bool} {from : Place} {number : ℕ} {t : Trajectory} {a : Place} (d : Point)
     → IsOnCourse m fixes next at rvsm from number t a → number < length fixes → (fix : Point) → fix ≡ get_or fixes number d
     → (t.rows ++ rows_to m number fix a) ++ rows_along m (suc number) (drop (suc number) fixes) (end_after a (rows_to m number fix a))

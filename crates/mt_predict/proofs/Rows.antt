@@ -111,7 +111,7 @@ unfolding row_on
 continues_at rows m leg n a row is ends = continued (slice_get rows (length rows - 1)) a row
     (ap (λ (row : Row). row.x) is) (ap (λ (row : Row). row.y) is) (ap (λ (row : Row). row.z) is) (ap (λ (row : Row). row.r) is) ends
 
--- with a stretch behind them rows end where it does
+-- with a stretch after them rows end where it does
 pub EndAt-stretch : (rows : List Row) (row : Row) (n : ℕ) → 0 < n → EndAt (rows ++ straight_rows row n) (place_at row n)
 EndAt-stretch rows row n some = rw (at_last) (end_later row (n - 1) ∙ ap (place_at row) (omega arith))
   where

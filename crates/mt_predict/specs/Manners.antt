@@ -17,7 +17,7 @@ pub record IsBoundedManner (m : Manner) : Type 0 where
   pub level : m.level ≤ 600
 
 -- A place in the plane, at a height that is flown, with margins up to the greatest.
-pub record IsHeld (rules : Rules) (a : Place) : Type 0 where
+pub record IsFlownPlace (rules : Rules) (a : Place) : Type 0 where
   pub plane : IsInPlane a.x a.y
   pub height : IsHeight a.z
   pub r : IsWithin (pos 0) rules.rmax a.r

@@ -4,7 +4,7 @@ ghost use Rattle.mt_base.specs.declared.clearance.Clearance.TheVariants as clear
 ghost use Rattle.mt_base.specs.declared.rules.Rules.{Rules};
 ghost use Rattle.mt_base.specs.declared.flight.Path.TheVariants.{Planned};
 ghost use Rattle.mt_base.specs.Bounds.{AreWithinBounds, IsBoundedClearance, IsRightAim, IsSoundCourse};
-ghost use Rattle.mt_base.specs.Cleared.{base_by, base_from, cleared, place_behind};
+ghost use Rattle.mt_base.specs.Cleared.{base_by, base_from, cleared, place_further_on};
 ghost use Rattle.mt_base.specs.Picture.{trajectory_of};
 ghost use Rattle.mt_base.specs.Tables.{setup_with};
 ghost use Rattle.mt_predict.specs.Clearing.{IsInAir};
@@ -50,10 +50,10 @@ fn place_among(names: &[FixName], fix: FixName) -> Option<usize>
     names.iter().position(|name| fix == *name)
 }
 
-/// The first place of a route behind a place at which a fix stands.
+/// The first place of a route after a place at which a fix stands.
 fn place_behind(route: &Route, place: u32, fix: FixName) -> Option<u32>
     requires short { length route.now ≤ 64 }
-    ensures { result ≡ place_behind route.now place fix }
+    ensures { result ≡ place_further_on route.now place fix }
 {
     let first = place as usize + 1;
     let behind = route.items().get(first..)?;
@@ -120,7 +120,7 @@ fn cleared_direct(
 
 /// What a clearance that holds from second `eff` on leaves of a course that flies the strand; or the first of its refusals, in this order:
 /// `UnknownFix` of a fix that no table has, `Ended` where `eff` is at or past the end of the strand, `NotAhead` where the fix does not
-/// stand behind the one that is flown to then, `Ceiling` for a level above the ceiling of the type, and `Future` where `eff` is above the
+/// stand after the one that is flown to then, `Ceiling` for a level above the ceiling of the type, and `Future` where `eff` is above the
 /// moment `now`. It takes no memory.
 pub fn cleared(
     tables: &Tables,

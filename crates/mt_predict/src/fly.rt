@@ -2,7 +2,7 @@ ghost use Rattle.std.specs.Prelude.{◌≡◌, ◌<◌, ◌≤◌, ◌++◌, len
 ghost use Rattle.mt_base.specs.Bounds.{IsBoundedRow, IsInPlane};
 ghost use Rattle.mt_base.specs.Predictor.{end_after, predicted, rows_on};
 ghost use Rattle.mt_predict.specs.Flying.{EndAt};
-ghost use Rattle.mt_predict.specs.Manners.{IsBoundedLeg, IsBoundedManner, IsHeld, manner};
+ghost use Rattle.mt_predict.specs.Manners.{IsBoundedLeg, IsBoundedManner, IsFlownPlace, manner};
 
 use crate::leg::leg_to;
 use crate::second::{place_at, row_on};
@@ -14,7 +14,7 @@ use std::alloc::Global;
 /// The most seconds of a trajectory.
 const MOST: u32 = 14_400;
 
-/// Puts the rows of a leg behind those of a strand, as far as there is room, and answers where they end.
+/// Puts the rows of a leg after those of a strand, as far as there is room, and answers where they end.
 fn fly_leg(
     strand: &mut Strand,
     rules: &Rules,
@@ -71,7 +71,7 @@ pub fn fly_route(
     requires short { length fixes.now ≤ 64 }
     requires next { next ≤ length fixes.now }
     requires early { at ≤ 10000000 }
-    requires held { IsHeld rules.now from }
+    requires held { IsFlownPlace rules.now from }
     ensures start { IfOk result (λ strand. strand.start ≡ at) }
     ensures rvsm { IfOk result (λ strand. strand.rvsm ≡ rvsm) }
     ensures rows { IfOk result (λ strand. strand.rows ≡ predicted (manner rules.now bands.now level) next (drop next fixes.now) from) }

@@ -2,7 +2,7 @@ ghost use Rattle.std.specs.Prelude.{◌≡◌, ◌<◌};
 ghost use Rattle.mt_base.specs.Predictor.{gain_with};
 ghost use Rattle.mt_predict.specs.Manners.{IsAcross};
 
-/// What a second gains of a distance that so many seconds share, with n of them behind it: the last ones gain one more, so that the sum
+/// What a second gains of a distance that so many seconds share, with n of them after it: the last ones gain one more, so that the sum
 /// is the distance.
 pub(crate) fn gain_with(total: i64, seconds: u32, n: u32) -> i64
     requires some { 0 < seconds }

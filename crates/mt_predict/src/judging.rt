@@ -310,7 +310,7 @@ fn check_route(tables: &Tables, route: &Route) -> Result<(), Refusal>
     Ok(())
 }
 
-// What is checked of a plan behind its route: its first and its cleared level, and that there is room.
+// What is checked of a plan after its route: its first and its cleared level, and that there is room.
 fn check_rest(
     tables: &Tables,
     rules: &Rules,

@@ -1,7 +1,7 @@
 ghost use Rattle.std.specs.Prelude.{◌≡◌, ◌≤◌, length, All, IfOk, is_some, true};
 ghost use Rattle.mt_base.specs.Bounds.{AreWithinBounds, IsInPlane, IsRightBase, IsSoundCourse};
 ghost use Rattle.mt_base.specs.Tables.{setup_with};
-ghost use Rattle.mt_base.specs.Predictor.{flown, place_of, points_of};
+ghost use Rattle.mt_base.specs.Predictor.{flown, base_place, points_of};
 ghost use Rattle.mt_base.specs.declared.conflict.Kind.TheVariants.{Tentative};
 ghost use Rattle.mt_predict.specs.Paths.{IsPathOf};
 
@@ -13,7 +13,7 @@ use std::alloc::Global;
 
 /// The place where a trajectory begins.
 fn place_of(base: &Base) -> Place
-    ensures { result ≡ place_of base.now }
+    ensures { result ≡ base_place base.now }
 {
     Place {
         x: base.x,

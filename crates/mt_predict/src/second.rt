@@ -9,7 +9,7 @@ use crate::gain::gain_with;
 use mt_base::{Band, Leg, Place, Row, Rules};
 use mt_track::later;
 
-/// The row of a second of a leg, with n more seconds of the leg behind it.
+/// The row of a second of a leg, with n more seconds of the leg after it.
 pub(crate) fn row_on(rules: &Rules, bands: &[Band], level: u32, leg: &Leg, n: u32, a: &Place) -> Row
     requires manner_kept { IsBoundedManner (manner rules.now bands.now level) }
     requires leg_kept { IsBoundedLeg leg.now }

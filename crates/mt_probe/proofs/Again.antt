@@ -11,7 +11,7 @@ use Rattle.mt_base.specs.Picture.{NamedTrajectory}
 use Rattle.mt_base.specs.Trajectory.{Trajectory}
 use Rattle.mt_cover.specs.Sliced.{Sliced, slices_of}
 use Rattle.mt_probe.specs.declared.flight.Flight.{Flight}
-use Rattle.mt_probe.specs.Boxed.{AreLaid, Holds, slices_at, slices_by}
+use Rattle.mt_probe.specs.Boxed.{AreLaid, HoldsSlices, slices_at, slices_by}
 use Rattle.mt_probe.specs.Items.{kind_at, path_of}
 use Rattle.mt_probe.specs.Shot.{Shot, flight_at, kept_of, made_named}
 use Rattle.mt_probe.specs.Standing.{IsSoundShot}
@@ -70,7 +70,7 @@ module _ (old new : Flight) (kept : kept_of new ≡ kept_of old) where
       by_test false e =
           let other : k / 2 ≢ i = grind (arith, nat_tests) in sym (ap (slices_by rules (kind_at k)) (get_or-set_other slots i (k / 2) (Some new) None other))
 
-    pub same_holds : (table : List (Option Sliced)) → Holds rules slots table → Holds rules (set slots i (Some new)) table
+    pub same_holds : (table : List (Option Sliced)) → HoldsSlices rules slots table → HoldsSlices rules (set slots i (Some new)) table
     same_holds table holds = record {
       items = holds.items ∙ ap (λ (n : ℕ). 2 * n) (sym (length-set slots i (Some new)));
       held = λ k. holds.held k ∙ same_slices k;

@@ -11,7 +11,7 @@ use Rattle.mt_probe.specs.declared.flight.Flight.{Flight}
 use Rattle.mt_meet.specs.declared.table.Met.{Met}
 use Rattle.mt_meet.specs.Meeting.{AreMet, IsNextMet}
 use Rattle.mt_meet.proofs.Meetings.{within}
-use Rattle.mt_probe.specs.Boxed.{AreMetItems, Holds, IsNextMetOf, slices_at, slices_by, table_with}
+use Rattle.mt_probe.specs.Boxed.{AreMetItems, HoldsSlices, IsNextMetOf, slices_at, slices_by, table_with}
 use Rattle.mt_probe.specs.Items.{kind_at}
 use Rattle.mt_probe.specs.Shot.{Shot}
 use Rattle.mt_probe.proofs.Covered.{even_half, even_kind, odd_half, odd_kind}
@@ -26,7 +26,7 @@ slices_odd rules slots i = ap (λ (kind : Kind). slices_by rules kind (get_or sl
 
 -- with the slices of what is put at a place
 module _ (rules : Rules) (slots : List (Option Flight)) (i : ℕ) (x : Option Flight) (table : List (Option Sliced)) (below : i < length slots)
-    (holds : Holds rules slots table) where
+    (holds : HoldsSlices rules slots table) where
   abbrev flown : Option Sliced
   flown = slices_by rules Actual x
 
@@ -61,7 +61,7 @@ module _ (rules : Rules) (slots : List (Option Flight)) (i : ℕ) (x : Option Fl
       (at_odd ∙ sym (slices_odd rules (set slots i x) i ∙ ap (slices_by rules Tentative) there)))
       (cases_eq k (2 * i))
 
-  pub holds_with : Holds rules (set slots i x) (table_with rules i x table)
+  pub holds_with : HoldsSlices rules (set slots i x) (table_with rules i x table)
   holds_with = record {
     items = length-set first (2 * i + 1) marked ∙ length-set table (2 * i) flown ∙ holds.items ∙ ap (λ (n : ℕ). 2 * n) (sym (length-set slots i x));
     held = λ k. ⊎_elim (at_own k) (at_other k) (cases_eq (k / 2) i);
@@ -78,14 +78,14 @@ nothing_kept zero item = refl
 nothing_kept (suc n) zero = refl
 nothing_kept (suc n) (suc item) = nothing_kept n item
 
-pub opening_holds : (rules : Rules) (n : ℕ) → Holds rules (replicate n None) (replicate (2 * n) None)
+pub opening_holds : (rules : Rules) (n : ℕ) → HoldsSlices rules (replicate n None) (replicate (2 * n) None)
 opening_holds rules n = record {
   items = length-replicate (2 * n) None ∙ ap (λ (m : ℕ). 2 * m) (sym (length-replicate n None));
   held = λ item. nothing_kept (2 * n) item ∙ sym (nothing_there rules n (item / 2) (kind_at item));
 }
 
 -- what was met in the table was met among the trajectories
-pub met_items : (shot : Shot) (mine : Sliced) (table : List (Option Sliced)) (list : List Met) → Holds shot.setup.rules shot.slots table
+pub met_items : (shot : Shot) (mine : Sliced) (table : List (Option Sliced)) (list : List Met) → HoldsSlices shot.setup.rules shot.slots table
     → AreMet shot.setup.rules mine table list → AreMetItems shot mine list
 met_items shot mine table list holds met = record {
   rising = met.rising;
@@ -93,7 +93,7 @@ met_items shot mine table list holds met = record {
   complete = λ item theirs k there meet. met.complete item theirs k (holds.held item ∙ there) meet;
 }
 
-pub next_met : (shot : Shot) (mine : Sliced) (table : List (Option Sliced)) (from : ℕ) (next : Option Met) → Holds shot.setup.rules shot.slots table
+pub next_met : (shot : Shot) (mine : Sliced) (table : List (Option Sliced)) (from : ℕ) (next : Option Met) → HoldsSlices shot.setup.rules shot.slots table
     → IsNextMet shot.setup.rules mine table from next → IsNextMetOf shot mine from next
 next_met shot mine table from None holds none = λ item late theirs k there meet.
     let at = holds.held item ∙ there in none item late (within table item theirs at) theirs k at meet

@@ -21,7 +21,7 @@ use Rattle.mt_meet.proofs.Meetings.{losing_meet, meeting_is_near}
 use Rattle.mt_track.specs.Laid.{IsStrand}
 use Rattle.mt_probe.specs.declared.flight.Flight.{Flight}
 use Rattle.mt_probe.specs.Boxed.{AreMetItems, IsMetOf, slices_at, slices_by}
-use Rattle.mt_probe.specs.Items.{AreNearItems, IsNearItem, kind_at, other_at, other_of, others_among, path_of, stays_at, stays_by, stays_of}
+use Rattle.mt_probe.specs.Items.{AreNearItems, IsNearItem, kind_at, other_at, other_of, others_among, path_of, stays_at, stays_by, stays_of_item}
 use Rattle.mt_probe.specs.Narrow.{all_end}
 use Rattle.mt_probe.specs.Shot.{Shot, made_named}
 use Rattle.mt_probe.specs.Standing.{IsSoundShot}
@@ -77,7 +77,7 @@ met_path shot item theirs sound is =
     record {
       path = it.path;
       slices = it.slices;
-      stays = ap (stays_by rules kind) it.at_is ∙ ap (stays_of rules) it.path_is;
+      stays = ap (stays_by rules kind) it.at_is ∙ ap (stays_of_item rules) it.path_is;
       laid = sound.laid (item / 2) it.flight named it.at_is (kept_by it.flight kind named held);
       others = λ call other among. others_path call kind it.flight it.path other it.path_is
           (subst (λ (at : Option Flight). Contains (other_of call kind at) other) it.at_is among);

@@ -18,7 +18,7 @@ use Rattle.mt_probe.specs.declared.flight.Flight.{Flight}
 use Rattle.mt_probe.specs.Boxed.{IsFirstMetOf, IsNextMetOf, IsNotMet, slices_by}
 use Rattle.mt_probe.specs.Clear.{IsClearAt}
 use Rattle.mt_probe.specs.Items.{kind_at, path_of}
-use Rattle.mt_probe.specs.Shot.{Shot, flight_at, state_of}
+use Rattle.mt_probe.specs.Shot.{Shot, flight_at, state_in_shot}
 use Rattle.mt_probe.specs.Standing.{IsSoundShot}
 use Rattle.mt_probe.proofs.Boxes.{slices_even}
 use Rattle.mt_probe.proofs.Covered.{even_half, even_kind}
@@ -47,7 +47,7 @@ module _ (shot : Shot) (call : List ℕ) (t : Trajectory) where
   -- a conflict with it is a hit
   pub hit_there : (slot : ℕ) (card : Record) (other : Trajectory) (conflict : Option (ℕ × ℕ)) → IsSoundShot shot
       → Some card ≡ option_map (λ f. f.card) (flight_at shot slot) → Some other ≡ option_and_then (path_of Actual) (flight_at shot slot) → card.call ≢ call
-      → IsConflict shot.setup.rules t other shot.now (window_end shot.now) conflict → is_some conflict ≡ true → HasHit shot.setup (state_of shot) call t
+      → IsConflict shot.setup.rules t other shot.now (window_end shot.now) conflict → is_some conflict ≡ true → HasHit shot.setup (state_in_shot shot) call t
   hit_there slot card other None sound card_is other_is apart conflict some = cc
   hit_there slot card other (Some span) sound card_is other_is apart conflict some =
       let it = looked_at slot card other sound card_is other_is in
@@ -123,7 +123,7 @@ module _ (shot : Shot) (call : List ℕ) (t : Trajectory) where
       (λ early. before j early) (λ late. clear_of_unmet j sound laid (none (2 * j) late)) (cases_lt (2 * j) from)
 
   -- where each place is clear there is no hit
-  pub clear_of_all : ((slot : ℕ) → slot < length shot.slots → IsClearAt shot call t slot) → ¬ HasHit shot.setup (state_of shot) call t
+  pub clear_of_all : ((slot : ℕ) → slot < length shot.slots → IsClearAt shot call t slot) → ¬ HasHit shot.setup (state_in_shot shot) call t
   clear_of_all clear has =
       let it = record_placed shot.slots has.is.flight has.is.flies in
       let quiet = clear it.place (filled_inside shot.slots it.place it.flight it.at) it.flight it.at

@@ -17,9 +17,9 @@ use Rattle.mt_base.specs.Tables.{Setup}
 use Rattle.mt_base.specs.Trajectory.{Trajectory}
 use Rattle.mt_probe.specs.declared.finding.Found.{Found}
 use Rattle.mt_probe.specs.declared.flight.Flight.{Flight}
-use Rattle.mt_probe.specs.Finds.{AreFinds, AreNamedApart, AreCalledApart, AreOneEach, FindsMore, HasName, IsFound, IsFoundOrQuiet, IsListed, IsNamedAmong, IsOfAnother}
+use Rattle.mt_probe.specs.Finds.{AreFinds, AreDifferentFinds, AreCalledApart, AreOneEach, FindsMore, IsFindNamed, IsFound, IsFoundOrQuiet, IsFindListed, IsNamedAmong, IsOfAnother}
 use Rattle.mt_probe.specs.Narrow.{all_end}
-use Rattle.mt_probe.specs.Shot.{Shot, flight_at, kept_of, made_named, records_in, state_of}
+use Rattle.mt_probe.specs.Shot.{Shot, flight_at, kept_of, made_named, records_in, state_in_shot}
 use Rattle.mt_probe.specs.Standing.{IsSoundShot}
 use Rattle.mt_base.proofs.Members.{All-from_held, Contains-cases, Contains-flat_map, Contains-flat_map_cases, Contains-none, distinct_append}
 use Rattle.mt_probe.proofs.Placed.{filled_inside, record_placed, record_there}
@@ -64,7 +64,7 @@ module _ (rules : Rules) (now : ℕ) (t : Trajectory) where
     listed = λ one held k ahead loss. ⊎_elim
         (λ same. record { found = found; held = Contains-push old found; is = subst (λ (o : NamedTrajectory). IsFound rules now t o found) same is })
         (λ none. absurd (Contains-none one none)) (Contains-cases other [] one held);
-    once = λ others apart before. distinct_append AreNamedApart old (found ∷ []) before (λ i j d first last. absurd (omega arith))
+    once = λ others apart before. distinct_append AreDifferentFinds old (found ∷ []) before (λ i j d first last. absurd (omega arith))
         (λ one two held last same. ⊎_elim
         (λ e. apart one other held (0, omega arith, refl) (
           same.0 ∙ sym (ap (λ (f : Found). f.call) e) ∙ is.call_is,
@@ -74,7 +74,7 @@ module _ (rules : Rules) (now : ℕ) (t : Trajectory) where
   })
 
   still_listed : (finds more : List Found) (other : NamedTrajectory) → ((found : Found) → Contains finds found → Contains more found)
-      → IsListed rules now t finds other → IsListed rules now t more other
+      → IsFindListed rules now t finds other → IsFindListed rules now t more other
   still_listed finds more other kept it = record { found = it.found; held = kept it.found it.held; is = it.is }
 
   pub both_more : (xs ys : List NamedTrajectory) (old mid new : List Found) → FindsMore rules now t xs old mid → FindsMore rules now t ys mid new
@@ -121,7 +121,7 @@ pub record IsKeptAt (shot : Shot) (other : NamedTrajectory) : Type 0 where
   pub kept : Contains (kept_of flight) other
   pub call_is : other.call ≡ flight.card.call
 
-pub kept_at : (shot : Shot) (other : NamedTrajectory) → IsSoundShot shot → Contains (trajectories shot.setup (state_of shot)) other → IsKeptAt shot other
+pub kept_at : (shot : Shot) (other : NamedTrajectory) → IsSoundShot shot → Contains (trajectories shot.setup (state_in_shot shot)) other → IsKeptAt shot other
 kept_at shot other sound held =
     let it = Contains-flat_map_cases (trajectories_of shot.setup) (records_in shot.slots) other held in
     let placed = record_placed shot.slots it.of it.there in
@@ -130,7 +130,7 @@ kept_at shot other sound held =
     record { place = placed.place; flight = placed.flight; at = placed.at; kept = kept; call_is = kept_call placed.flight other kept }
 
 pub at_kept : (shot : Shot) (i : ℕ) (f : Flight) (other : NamedTrajectory) → IsSoundShot shot → flight_at shot i ≡ Some f → Contains (kept_of f) other
-    → Contains (trajectories shot.setup (state_of shot)) other
+    → Contains (trajectories shot.setup (state_in_shot shot)) other
 at_kept shot i f other sound at held =
     Contains-flat_map (trajectories_of shot.setup) (records_in shot.slots) f.card other (record_there shot i f sound (filled_inside shot.slots i f at) at)
     (subst (λ (os : List NamedTrajectory). Contains os other) (sound.sound i f at).kept held)
@@ -167,7 +167,7 @@ kept_once f a b a_in b_in kinds = ⊎_elim
           (λ none. absurd (Contains-none a none)) (Contains-cases only [] a a_held)
 
 -- no two trajectories of the state have one callsign and one kind
-pub one_each : (shot : Shot) → IsSoundShot shot → AreOneEach (trajectories shot.setup (state_of shot))
+pub one_each : (shot : Shot) → IsSoundShot shot → AreOneEach (trajectories shot.setup (state_in_shot shot))
 one_each shot sound a b a_in b_in calls kinds =
     let at_a = kept_at shot a sound a_in in
     let at_b = kept_at shot b sound b_in in
@@ -185,11 +185,11 @@ one_each shot sound a b a_in b_in calls kinds =
 
 -- the find of a name, and what it says
 module _ (finds : List Found) (call : List ℕ) (kind : Kind) where
-  pub named_more : (i : ℕ) (found : Found) → i < length finds → found ≡ get_or finds i found → ¬ HasName call kind found
-      → ((f : Found) → Contains (take i finds) f → ¬ HasName call kind f) → (f : Found) → Contains (take (i + 1) finds) f → ¬ HasName call kind f
+  pub named_more : (i : ℕ) (found : Found) → i < length finds → found ≡ get_or finds i found → ¬ IsFindNamed call kind found
+      → ((f : Found) → Contains (take i finds) f → ¬ IsFindNamed call kind f) → (f : Found) → Contains (take (i + 1) finds) f → ¬ IsFindNamed call kind f
   named_more i found below is not none f held =
       let more : take (i + 1) finds ≡ take i finds ++ found ∷ [] = take_more finds i found below ∙ ap (λ (g : Found). take i finds ++ g ∷ []) (sym is) in
-      ⊎_elim (λ before. none f before) (λ same. λ named. not (subst (HasName call kind) (sym same) named))
+      ⊎_elim (λ before. none f before) (λ same. λ named. not (subst (IsFindNamed call kind) (sym same) named))
       (Contains-push_cases (take i finds) found f (rw more at held))
 
 pub found_or_quiet : (setup : Setup) (s : State) (own : List ℕ) (t : Trajectory) (finds : List Found) (call : List ℕ) (kind : Kind) (r : Option Found)

@@ -10,7 +10,7 @@ use Rattle.mt_base.specs.Picture.{flight_of}
 use Rattle.mt_base.proofs.Members.{Contains-none}
 use Rattle.mt_names.specs.Naming.{AreNamed, IsOnlyAt, IsPlaceOf, IsRenaming}
 use Rattle.mt_probe.specs.declared.flight.Flight.{Flight}
-use Rattle.mt_probe.specs.Indexed.{AreFilled, CanBeAt, Indexed, IsFirstFree, IsIndexOf, call_in, calls_in}
+use Rattle.mt_probe.specs.Indexed.{AreFilled, CanBeAt, Indexed, IsFirstFree, IsIndexOf, call_at_place, calls_in}
 use Rattle.mt_probe.specs.Putting.{Fits}
 use Rattle.mt_probe.specs.Shot.{IsFreeIn, Shot, flight_at, flights_in, in_order, records_in}
 use Rattle.mt_probe.specs.Standing.{IsSoundShot}
@@ -18,12 +18,12 @@ use Rattle.mt_probe.proofs.Placed.{filled_inside, found_nowhere, found_there, no
 use Rattle.mt_probe.proofs.Whole.{length_filed}
 
 -- the callsign at a place
-call_at : (slots : List (Option Flight)) (i : ℕ) → get_or (calls_in slots) i None ≡ call_in (get_or slots i None)
-call_at slots i = get_or-map call_in slots i None
+call_at : (slots : List (Option Flight)) (i : ℕ) → get_or (calls_in slots) i None ≡ call_at_place (get_or slots i None)
+call_at slots i = get_or-map call_at_place slots i None
 
 -- ---- how many flights there are
 abbrev one : Option Flight → ℕ
-one x = if is_some (call_in x) then 1 else 0
+one x = if is_some (call_at_place x) then 1 else 0
 
 length_ordered : (fs : List Flight) → length (in_order fs) ≡ length fs
 length_ordered [] = refl
@@ -58,10 +58,10 @@ pub some_there : (slots : List (Option Flight)) (i : ℕ) → i < length slots �
 some_there slots i inside = let counted = counted_set slots i None inside in omega (arith, counted)
 
 pub inside_calls : (slots : List (Option Flight)) (i : ℕ) → i < length (calls_in slots) → i < length slots
-inside_calls slots i inside = omega (arith, inside, length-map slots call_in)
+inside_calls slots i inside = omega (arith, inside, length-map slots call_at_place)
 
 -- whether there is one, as a number
-pub called_some : (x : Option Flight) → is_some x ≡ is_some (call_in x)
+pub called_some : (x : Option Flight) → is_some x ≡ is_some (call_at_place x)
 called_some None = refl
 called_some (Some f) = refl
 
@@ -69,9 +69,9 @@ pub at_most_one : (b : Bool) → bool_byte b ≤ 1
 at_most_one true = omega arith
 at_most_one false = omega arith
 
-pub number_of : (b : Bool) (x : Option Flight) → b ≡ is_some (call_in x) → bool_byte b ≡ one x
+pub number_of : (b : Bool) (x : Option Flight) → b ≡ is_some (call_at_place x) → bool_byte b ≡ one x
 number_of b x same = ap bool_byte same ∙ by_flight x where
-  by_flight : (x : Option Flight) → bool_byte (is_some (call_in x)) ≡ one x
+  by_flight : (x : Option Flight) → bool_byte (is_some (call_at_place x)) ≡ one x
   by_flight None = refl
   by_flight (Some f) = refl
 
@@ -109,10 +109,10 @@ free_in slots None is = length_records slots ∙ all_there slots is
 
 -- ---- the whole
 pub put_index : (slots : List (Option Flight)) (index after : Indexed) (i : ℕ) (new : Option Flight) → i < length slots → IsIndexOf slots index
-    → CanBeAt slots i new → IsRenaming index.names i (call_in (get_or slots i None)) (call_in new) after.names
+    → CanBeAt slots i new → IsRenaming index.names i (call_at_place (get_or slots i None)) (call_at_place new) after.names
     → after.held + one (get_or slots i None) ≡ index.held + one new → AreFilled (set slots i new) after.filled → IsIndexOf (set slots i new) after
 put_index slots index after i new inside is can renaming held filled = record {
-  names = subst (AreNamed after.names) (sym (map-set call_in slots i new)) (renaming (calls_in slots) can is.names);
+  names = subst (AreNamed after.names) (sym (map-set call_at_place slots i new)) (renaming (calls_in slots) can is.names);
   held = let counted = counted_set slots i new inside in let before = is.held in omega (arith, counted, before, held);
   filled = filled;
 }
@@ -121,33 +121,33 @@ put_index slots index after i new inside is can renaming held filled = record {
 pub same_index : (slots : List (Option Flight)) (index : Indexed) (i : ℕ) (old new : Flight) → i < length slots → get_or slots i None ≡ Some old
     → new.card.call ≡ old.card.call → IsIndexOf slots index → IsIndexOf (set slots i (Some new)) index
 same_index slots index i old new inside at same is = record {
-  names = subst (AreNamed index.names) (sym (map-set_same call_in slots i (Some new) None (ap Some same ∙ sym (ap call_in at)))) is.names;
+  names = subst (AreNamed index.names) (sym (map-set_same call_at_place slots i (Some new) None (ap Some same ∙ sym (ap call_at_place at)))) is.names;
   held = let counted = rw at at (counted_set slots i (Some new) inside) in let before = is.held in omega (arith, counted, before);
   filled = filled_same slots i inside (Some new) index.filled refl is.filled;
 }
 
 -- a flight that fits can be put at its place, and one can be taken out
-calls_apart : (shot : Shot) (i j : ℕ) (old : Flight) → IsSoundShot shot → flight_at shot i ≡ Some old → j ≢ i → call_in (flight_at shot j) ≢ Some old.card.call
+calls_apart : (shot : Shot) (i j : ℕ) (old : Flight) → IsSoundShot shot → flight_at shot i ≡ Some old → j ≢ i → call_at_place (flight_at shot j) ≢ Some old.card.call
 calls_apart shot i j old sound at other = by_flight (flight_at shot j) refl where
-  by_flight : (x : Option Flight) → flight_at shot j ≡ x → call_in x ≢ Some old.card.call
+  by_flight : (x : Option Flight) → flight_at shot j ≡ x → call_at_place x ≢ Some old.card.call
   by_flight None there is = cc
   by_flight (Some g) there is = (sound.apart j i g old other there at).calls (cc)
 
 pub can_be : (shot : Shot) (i : ℕ) (new : Option Flight) → i < length shot.slots → IsSoundShot shot → IfSome new (λ f. Fits shot i f) → CanBeAt shot.slots i new
 can_be shot i new inside sound fits = record {
-  inside = omega (arith, inside, length-map shot.slots call_in);
+  inside = omega (arith, inside, length-map shot.slots call_at_place);
   was = call_at shot.slots i;
   old_only = old_only (flight_at shot i) refl;
   new_only = new_only new fits;
 } where
-  old_only : (x : Option Flight) → flight_at shot i ≡ x → IsOnlyAt (calls_in shot.slots) i (call_in x)
+  old_only : (x : Option Flight) → flight_at shot i ≡ x → IsOnlyAt (calls_in shot.slots) i (call_at_place x)
   old_only None at = tt
   old_only (Some old) at = λ j other is. calls_apart shot i j old sound at other (sym (call_at shot.slots j) ∙ is)
 
-  new_only : (x : Option Flight) → IfSome x (λ f. Fits shot i f) → IsOnlyAt (calls_in shot.slots) i (call_in x)
+  new_only : (x : Option Flight) → IfSome x (λ f. Fits shot i f) → IsOnlyAt (calls_in shot.slots) i (call_at_place x)
   new_only None fits = tt
   new_only (Some f) fits = λ j other is. by_flight j other (flight_at shot j) refl (sym (call_at shot.slots j) ∙ is) where
-    by_flight : (j : ℕ) → j ≢ i → (x : Option Flight) → flight_at shot j ≡ x → call_in x ≢ Some f.card.call
+    by_flight : (j : ℕ) → j ≢ i → (x : Option Flight) → flight_at shot j ≡ x → call_at_place x ≢ Some f.card.call
     by_flight j other None there is = cc
     by_flight j other (Some g) there is = fits.own_call j g other there (cc)
 
@@ -158,9 +158,9 @@ opening_index n = record {
   held = sym (ap length (none_placed n));
   filled = λ i below. absurd (omega (arith, below));
 } where
-  nobody : (i : ℕ) (call : List ℕ) → call_in (get_or (replicate n None) i None) ≡ Some call → ⊥
+  nobody : (i : ℕ) (call : List ℕ) → call_at_place (get_or (replicate n None) i None) ≡ Some call → ⊥
   nobody i call is = by_flight (get_or (replicate n None) i None) refl is where
-    by_flight : (x : Option Flight) → get_or (replicate n None) i None ≡ x → call_in x ≡ Some call → ⊥
+    by_flight : (x : Option Flight) → get_or (replicate n None) i None ≡ x → call_at_place x ≡ Some call → ⊥
     by_flight None there own = cc
     by_flight (Some f) there own = nothing_at n i f there
 
@@ -172,10 +172,10 @@ module _ (shot : Shot) (index : Indexed) (call : List ℕ) (sound : IsSoundShot 
   found_by None none = (
     tt,
     found_nowhere shot.slots call (λ i f there own.
-        none (record { call = call; slot = i }) ((is.names (record { call = call; slot = i })).1 (call_at shot.slots i ∙ ap call_in there ∙ ap Some own)) refl),
+        none (record { call = call; slot = i }) ((is.names (record { call = call; slot = i })).1 (call_at shot.slots i ∙ ap call_at_place there ∙ ap Some own)) refl),
   )
   found_by (Some slot) listed = by_flight (flight_at shot slot) refl (sym (call_at shot.slots slot) ∙ (is.names (record { call = call; slot = slot })).0 listed) where
-    by_flight : (x : Option Flight) → flight_at shot slot ≡ x → call_in x ≡ Some call
+    by_flight : (x : Option Flight) → flight_at shot slot ≡ x → call_at_place x ≡ Some call
         → (is_some (flight_at shot slot) ≡ true) × (flight_of (records_in shot.slots) call ≡ option_map (λ f. f.card) (flight_at shot slot))
     by_flight None there own = absurd (cc)
     by_flight (Some f) there own =

@@ -17,7 +17,7 @@ use Rattle.mt_base.specs.declared.flight.Record.{Record}
 use Rattle.mt_base.specs.declared.flight.Straight.{Straight}
 use Rattle.mt_base.specs.Bounds.{AreWithinBounds, IsBoundedStretch, IsInPlane, IsSoundFlight}
 use Rattle.mt_base.specs.Checks.{judged, next}
-use Rattle.mt_base.specs.History.{call_of, changed, checks, course_of, filled, first_of, records_after, route_checks}
+use Rattle.mt_base.specs.History.{call_of, changed, checks, course_of, filled, first_of_points, records_after, route_checks}
 use Rattle.mt_base.specs.Picture.{NamedTrajectory, State, flight_of}
 use Rattle.mt_base.specs.Predictor.{points_of}
 use Rattle.mt_base.specs.Tables.{Setup}
@@ -32,8 +32,8 @@ use Rattle.mt_change.proofs.Passed.{halves}
 use Rattle.mt_change.proofs.Plans.{sound_course}
 use Rattle.mt_base.proofs.Cases.{is_none, room_for_one}
 use Rattle.mt_probe.specs.Items.{WasTestedNear}
-use Rattle.mt_probe.specs.Prepared.{IsLeft, MakesStrand, WasTestedFor, WereFew, judged_aside, kind_made, left_made, named, path_made, roomy}
-use Rattle.mt_probe.specs.Shot.{Shot, state_of}
+use Rattle.mt_probe.specs.Prepared.{IsLeftByEntry, MakesStrand, WasTestedFor, WereFew, judged_aside, kind_made, left_made, named_trajectory, path_made, roomy}
+use Rattle.mt_probe.specs.Shot.{Shot, state_in_shot}
 
 -- a flight that is found has the callsign
 pub found_call : (call : List ℕ) (rs : List Record) (r : Record) → flight_of rs call ≡ Some r → r.call ≡ call
@@ -76,7 +76,7 @@ accept_is setup s who call clearance eff probed rules =
 
 -- ---- what is filed
 
--- a flight that is filed behind others, of which none has its callsign, is the one of its callsign
+-- a flight that is filed after others, of which none has its callsign, is the one of its callsign
 pub filed_is : (call : List ℕ) (path : Path) (rs : List Record) → flight_of rs call ≡ None
     → flight_of (rs ++ (record { call = call; path = path }) ∷ []) call ≡ Some (record { call = call; path = path })
 filed_is call path rs none =
@@ -84,7 +84,7 @@ filed_is call path rs none =
     find-append (λ (flight : Record). bytes_eq flight.call call) rs ((record { call = call; path = path }) ∷ []) ∙ rw (none, own) refl
 
 pub left_external : (setup : Setup) (s : State) (who : ℕ) (call : List ℕ) (straight : Straight) → judged_aside setup s who (External call straight) ≡ Ok (tt {0})
-    → IsBoundedStretch straight → IsLeft setup s who (External call straight) (record { call = call; path = Outer straight })
+    → IsBoundedStretch straight → IsLeftByEntry setup s who (External call straight) (record { call = call; path = Outer straight })
 left_external setup s who call straight passed bounded = record {
   passed = passed;
   card_is = filed_is call (Outer straight) s.records (is_none (flight_of s.records call) (passes setup s who (External call straight) passed).0);
@@ -95,8 +95,8 @@ left_external setup s who call straight passed bounded = record {
 
 pub left_plan : (setup : Setup) (s : State) (who : ℕ) (call kind : List ℕ) (route : List (List ℕ)) (at from level : ℕ) (rvsm : Bool) → AreWithinBounds setup.rules
     → judged_aside setup s who (Plan call kind route at from level rvsm) ≡ Ok (tt {0}) → at ≤ 10000000 → from ≤ 600 → level ≤ 600
-    → IsInPlane (first_of (points_of setup.tables route)).x (first_of (points_of setup.tables route)).y
-    → IsLeft setup s who (Plan call kind route at from level rvsm) (record { call = call; path = Planned (course_of setup kind route at from level rvsm) })
+    → IsInPlane (first_of_points (points_of setup.tables route)).x (first_of_points (points_of setup.tables route)).y
+    → IsLeftByEntry setup s who (Plan call kind route at from level rvsm) (record { call = call; path = Planned (course_of setup kind route at from level rvsm) })
 left_plan setup s who call kind route at from level rvsm rules passed at_early from_low level_low plane =
     let tests = passes setup s who (Plan call kind route at from level rvsm) passed in
     let split = halves (λ c. c.1 ≡ true) (route_checks setup.tables route) _ tests.1.1 in
@@ -123,30 +123,30 @@ made_by setup who now c card course alters path = refl
 pub left_altered : (setup : Setup) (s : State) (who : ℕ) (command : Command) (call : List ℕ) (flight : Record) (course : Course) (path : Path) → Alters command
     → judged_aside setup s who command ≡ Ok (tt {0}) → call_of command ≡ Some call → flight_of s.records call ≡ Some flight → flight.path ≡ Planned course
     → path ≡ path_after setup who (filled s.now command) (Planned course) → IsSoundFlight setup (record { call = flight.call; path = path })
-    → IsLeft setup s who command (record { call = flight.call; path = path })
-left_altered setup s who command call flight course path alters passed named found plan path_is sound =
+    → IsLeftByEntry setup s who command (record { call = flight.call; path = path })
+left_altered setup s who command call flight course path alters passed named_trajectory found plan path_is sound =
     let change = path_after setup who (filled s.now command) in
-    let all = records_are setup who (filled s.now command) call s.records (filled_alters s.now command alters) (filled_call s.now command ∙ named) in
+    let all = records_are setup who (filled s.now command) call s.records (filled_alters s.now command alters) (filled_call s.now command ∙ named_trajectory) in
     let own = found_call call s.records flight found in
     record {
       passed = passed;
-      card_is = ap (option_and_then (flight_of (records_after setup who (filled s.now command) s.records))) named
+      card_is = ap (option_and_then (flight_of (records_after setup who (filled s.now command) s.records))) named_trajectory
           ∙ ap (λ (rs : List Record). flight_of rs call) all
           ∙ found_changed call change s.records flight found
           ∙ ap (λ (p : Path). Some (record { call = flight.call; path = p })) (ap change plan ∙ sym path_is);
-      call_is = named ∙ ap Some (sym own);
+      call_is = named_trajectory ∙ ap Some (sym own);
       sound = sound;
       makes = made_by setup who s.now command (record { call = flight.call; path = path }) course alters path_is;
     }
 
 -- ---- the tests
 
-pub few_left : (shot : Shot) (who : ℕ) (command : Command) (card : Record) (old new : ℕ) → IsLeft shot.setup (state_of shot) who command card
+pub few_left : (shot : Shot) (who : ℕ) (command : Command) (card : Record) (old new : ℕ) → IsLeftByEntry shot.setup (state_in_shot shot) who command card
     → ((t : Trajectory) → path_made shot.setup card (kind_made command) ≡ Some t → WasTestedNear shot card.call t old new)
     → WasTestedFor shot who command old new
 few_left shot who command card old new is tested = rw is.card_is (by_path (path_made shot.setup card (kind_made command)) refl is.makes) where
   by_path : (path : Option Trajectory) → path_made shot.setup card (kind_made command) ≡ path → is_some path ≡ true
-      → WereFew shot (option_map (named card (kind_made command)) path) old new
+      → WereFew shot (option_map (named_trajectory card (kind_made command)) path) old new
   by_path None made is = cc
   by_path (Some t) made is = tested t made
 
@@ -155,7 +155,7 @@ none_more shot None count = refl
 none_more shot (Some mine) count = λ items near. omega arith
 
 pub few_quiet : (shot : Shot) (who : ℕ) (command : Command) (count : ℕ) → WasTestedFor shot who command count count
-few_quiet shot who command count = none_more shot (left_made shot.setup (state_of shot) who command) count
+few_quiet shot who command count = none_more shot (left_made shot.setup (state_in_shot shot) who command) count
 
 -- a command that makes a trajectory and files nothing alters a flight
 pub alters_by : (command : Command) → MakesStrand command
@@ -171,17 +171,17 @@ alters_by c makes no_plan no_external = tt
 
 pub planned_flight : (setup : Setup) (s : State) (who : ℕ) (command : Command) (call : List ℕ) → Alters command → judged_aside setup s who command ≡ Ok (tt {0})
     → call_of command ≡ Some call → is_some (course_in (flight_of s.records call)) ≡ true
-planned_flight setup s who command call alters passed named =
-    subst (λ (o : Option (List ℕ)). is_some (course_in (option_and_then (flight_of s.records) o)) ≡ true) named (planned_there setup s who command alters passed)
+planned_flight setup s who command call alters passed named_trajectory =
+    subst (λ (o : Option (List ℕ)). is_some (course_in (option_and_then (flight_of s.records) o)) ≡ true) named_trajectory (planned_there setup s who command alters passed)
 
 -- the entry of a command that passes can alter the flight
 pub can_alter_filled : (setup : Setup) (s : State) (who : ℕ) (command : Command) (call : List ℕ) (flight : Record) (course : Course) → Alters command
     → judged_aside setup s who command ≡ Ok (tt {0}) → call_of command ≡ Some call → flight_of s.records call ≡ Some flight → flight.path ≡ Planned course
     → CanAlter setup s.now course (filled s.now command)
-can_alter_filled setup s who command call flight course alters passed named found plan =
+can_alter_filled setup s who command call flight course alters passed named_trajectory found plan =
     can_alter setup (roomy s command) who (filled s.now command) flight course (filled_alters s.now command alters)
     (subst (AllByRecursion (λ c. c.1 ≡ true)) (sym (filled_passes setup (roomy s command) who command)) (passes setup s who command passed))
-    (sym (filled_twice s.now command)) (ap (option_and_then (flight_of s.records)) named ∙ found) plan
+    (sym (filled_twice s.now command)) (ap (option_and_then (flight_of s.records)) named_trajectory ∙ found) plan
 
 -- a flight that is not there, or that is external, is not planned
 pub not_there : (at : Option Record) → at ≡ None → is_some (course_in at) ≡ true → ⊥

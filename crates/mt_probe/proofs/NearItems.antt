@@ -12,7 +12,7 @@ use Rattle.mt_base.specs.Trajectory.{Trajectory}
 use Rattle.mt_cover.specs.declared.stays.Stay.{Stay}
 use Rattle.mt_cover.specs.Cells.{cover_of}
 use Rattle.mt_probe.specs.declared.flight.Flight.{Flight}
-use Rattle.mt_probe.specs.Items.{AreNearItems, IsNearItem, Meet, kind_at, path_of, stays_at, stays_by, stays_of}
+use Rattle.mt_probe.specs.Items.{AreNearItems, IsNearItem, Meet, kind_at, path_of, stays_at, stays_by, stays_of_item}
 use Rattle.mt_probe.specs.Shot.{Shot}
 use Rattle.mt_base.proofs.Members.{Contains-none}
 use Rattle.mt_probe.proofs.Placed.{filled_inside}
@@ -21,11 +21,11 @@ use Rattle.mt_probe.proofs.Placed.{filled_inside}
 pub stays_found : (rules : Rules) (kind : Kind) (slot : Option Flight) (path : Trajectory) → Some path ≡ option_and_then (path_of kind) slot
     → stays_by rules kind slot ≡ cover_of rules path
 stays_found rules kind None path is = absurd (cc)
-stays_found rules kind (Some f) path is = sym (ap (stays_of rules) is)
+stays_found rules kind (Some f) path is = sym (ap (stays_of_item rules) is)
 
 pub stays_nowhere : (rules : Rules) (kind : Kind) (slot : Option Flight) → None ≡ option_and_then (path_of kind) slot → stays_by rules kind slot ≡ []
 stays_nowhere rules kind None is = refl
-stays_nowhere rules kind (Some f) is = sym (ap (stays_of rules) is)
+stays_nowhere rules kind (Some f) is = sym (ap (stays_of_item rules) is)
 
 module _ (shot : Shot) (cover : List Stay) (place : ℕ) where
   -- some stay meets one of what stands in the place

@@ -19,7 +19,7 @@ use Rattle.mt_cover.proofs.Law.{misses_none}
 use Rattle.mt_track.specs.Laid.{IsStrand}
 use Rattle.mt_probe.specs.declared.flight.Flight.{Flight}
 use Rattle.mt_probe.specs.Boxed.{slices_at, slices_by}
-use Rattle.mt_probe.specs.Items.{IsNearItem, kind_at, other_at, other_of, path_of, stays_at, stays_by, stays_of}
+use Rattle.mt_probe.specs.Items.{IsNearItem, kind_at, other_at, other_of, path_of, stays_at, stays_by, stays_of_item}
 use Rattle.mt_probe.specs.Shot.{Shot, kept_of, made_named}
 use Rattle.mt_probe.proofs.Boxes.{slices_even, slices_odd}
 use Rattle.mt_probe.proofs.Covered.{at_even, at_odd, even_half, even_kind, odd_half, odd_kind}
@@ -80,7 +80,7 @@ module _ (rules : Rules) (slots : List (Option Flight)) (call : List ℕ) (i : �
       ∙ ap (λ (j : ℕ). other_of call Tentative (get_or slots j None)) (odd_half i) ∙ ap (other_of call Tentative) at ∙ other_by call Tentative f apart
 
   path_named : (kind : Kind) (path : Option Trajectory) (other : NamedTrajectory) → Contains (made_named f.card.call kind path) other
-      → stays_of rules path ≡ cover_of rules other.path
+      → stays_of_item rules path ≡ cover_of rules other.path
   path_named kind None other held = absurd (Contains-none other held)
   path_named kind (Some t) other held = ⊎_elim
       (λ same. ap (λ (o : NamedTrajectory). cover_of rules o.path) same) (λ none. absurd (Contains-none other none))

@@ -13,7 +13,7 @@ use Rattle.mt_base.proofs.Members.{Contains-cases, Contains-flat_map, Contains-f
 use Rattle.mt_probe.specs.declared.flight.Flight.{Flight}
 use Rattle.mt_probe.specs.Finds.{AreFinds, AreCalledApart, FindsMore}
 use Rattle.mt_probe.specs.Items.{kind_at, other_at, other_of, path_of}
-use Rattle.mt_probe.specs.Shot.{Shot, made_named, state_of}
+use Rattle.mt_probe.specs.Shot.{Shot, made_named, state_in_shot}
 use Rattle.mt_probe.specs.Standing.{IsSoundShot}
 use Rattle.mt_track.specs.Laid.{IsStrand}
 use Rattle.mt_cover.specs.Sliced.{slices_of}
@@ -105,7 +105,7 @@ apart_among shot call list sound rising = distinct_flat_map AreCalledApart (λ (
 -- all that was met
 pub found_met : (shot : Shot) (call : List ℕ) (t : Trajectory) (list : List Met) (finds : List Found) → IsSoundShot shot → IsStrand t
     → AreMetItems shot (slices_of shot.setup.rules t) list
-    → FindsMore shot.setup.rules shot.now t (others_met call shot.slots list) [] finds → AreFinds shot.setup (state_of shot) call t finds
+    → FindsMore shot.setup.rules shot.now t (others_met call shot.slots list) [] finds → AreFinds shot.setup (state_in_shot shot) call t finds
 found_met shot call t list finds sound laid met found = record {
   exact = λ one held. ⊎_elim
       (λ before. absurd (Contains-none one before))

@@ -14,7 +14,7 @@ use Rattle.mt_probe.specs.declared.flight.Flight.{Flight}
 use Rattle.mt_probe.specs.Boxed.{AreLaid}
 use Rattle.mt_probe.specs.Putting.{Fits, IsFiledAt, records_put, replaced_if}
 use Rattle.mt_probe.specs.Shot.{Shot, filed_among, flight_at, flights_in, in_order, records_in}
-use Rattle.mt_probe.specs.Standing.{AreApart, IsSoundShot}
+use Rattle.mt_probe.specs.Standing.{AreTwoFlights, IsSoundShot}
 use Rattle.mt_probe.proofs.Order.{all_ordered, all_placed, filed_last, none_of_call, one_of_call, one_replaced, one_taken, one_there, parted}
 
 -- the flights beside a place, in order
@@ -119,7 +119,7 @@ module _ (shot : Shot) (i : ℕ) (inside : i < length shot.slots) (sound : IsSou
   fits_one (Some g) f fits is = let same : g ≡ f = cc in subst (λ (h : Flight). Fits shot i h) same fits
 
   -- one that fits is apart from those at other places
-  fits_apart : (f : Flight) → Fits shot i f → (j : ℕ) (g : Flight) → j ≢ i → flight_at shot j ≡ Some g → AreApart f g
+  fits_apart : (f : Flight) → Fits shot i f → (j : ℕ) (g : Flight) → j ≢ i → flight_at shot j ≡ Some g → AreTwoFlights f g
   fits_apart f fits j g other is = record {
     calls = λ same. fits.own_call j g other is (sym same);
     filings = by_old (flight_at shot i) refl fits.filed;
@@ -150,7 +150,7 @@ module _ (shot : Shot) (i : ℕ) (inside : i < length shot.slots) (sound : IsSou
         (at_new new j f f_is);
     early = sound.early;
   } where
-    apart_back : {f g : Flight} → AreApart f g → AreApart g f
+    apart_back : {f g : Flight} → AreTwoFlights f g → AreTwoFlights g f
     apart_back apart = record { calls = λ same. apart.calls (sym same); filings = λ same. apart.filings (sym same) }
 
 -- the flight that is found

@@ -19,9 +19,9 @@ use Rattle.mt_base.specs.WhatIf.{AreHits, AreHitsOf, HasHit, IsConflicting, IsWh
 use Rattle.mt_base.proofs.OneAdvice.{follows_none}
 use Rattle.mt_board.specs.declared.no.No.{No}
 use Rattle.mt_board.specs.declared.no.No.TheVariants as nos
-use Rattle.mt_probe.specs.Hits.{IsFreeProbe, IsProbe, IsUnprobed, Tried}
-use Rattle.mt_probe.specs.Prepared.{IsLeft, IsPrepared, IsRefusedOn, Prepared, flight_left, judged_aside, kind_made, path_made}
-use Rattle.mt_probe.specs.Shot.{Shot, state_of}
+use Rattle.mt_probe.specs.Hits.{IsFreeProbe, IsProbe, IsUnprobed, Trial}
+use Rattle.mt_probe.specs.Prepared.{IsLeftByEntry, IsPrepared, IsRefusedOn, Prepared, flight_left, judged_aside, kind_made, path_made}
+use Rattle.mt_probe.specs.Shot.{Shot, state_in_shot}
 use Rattle.mt_probe.proofs.Left.{accept_is, found_call, found_changed, planned_there}
 use Rattle.mt_probe.proofs.Short.{few_hits, found_in}
 
@@ -88,33 +88,33 @@ few p call clearance eff probed hits kept command_is are = by_flight (flight_of 
 pub unprobed : (shot : Shot) (call : List ℕ) (clearance : Clearance) (eff : Option ℕ) (no : No) → AreWithinBounds shot.setup.rules
     → IsRefusedOn shot 0 (Accept call clearance (unwrap_or eff shot.now) shot.version) no → IsUnprobed shot call clearance eff no
 unprobed shot call clearance eff (nos.Refused refusal version) rules refused =
-    (sym (accept_is shot.setup (state_of shot) 0 call clearance (unwrap_or eff shot.now) shot.version rules) ∙ refused.0, refused.1)
+    (sym (accept_is shot.setup (state_in_shot shot) 0 call clearance (unwrap_or eff shot.now) shot.version rules) ∙ refused.0, refused.1)
 unprobed shot call clearance eff nos.Memory rules refused = tt
 
 -- what holds of the flight that the acceptance of a clearance leaves holds of the trajectory that the clearance leaves
 module _ (Holds : List ℕ → Trajectory → Type 0) (shot : Shot) (call : List ℕ) (clearance : Clearance) (eff : ℕ) (card : Record) (t : Trajectory) where
-  pub left_holds : IsLeft shot.setup (state_of shot) 0 (Accept call clearance eff shot.version) card
+  pub left_holds : IsLeftByEntry shot.setup (state_in_shot shot) 0 (Accept call clearance eff shot.version) card
       → path_made shot.setup card Actual ≡ Some t → Holds card.call t
-      → IfSome (course_in (flight_of (state_of shot).records call)) (λ course. Holds call (trajectory_cleared shot.setup course clearance eff))
-  left_holds left made holds = cleared_holds Holds shot.setup (state_of shot) call clearance eff card t left.card_is made holds
+      → IfSome (course_in (flight_of (state_in_shot shot).records call)) (λ course. Holds call (trajectory_cleared shot.setup course clearance eff))
+  left_holds left made holds = cleared_holds Holds shot.setup (state_in_shot shot) call clearance eff card t left.card_is made holds
 
 -- a clearance of which something would follow, since its trajectory has a hit
 pub conflicting : (shot : Shot) (call : List ℕ) (clearance : Clearance) (eff : ℕ) (card : Record) (t : Trajectory) → AreWithinBounds shot.setup.rules
-    → IsLeft shot.setup (state_of shot) 0 (Accept call clearance eff shot.version) card → path_made shot.setup card Actual ≡ Some t
-    → HasHit shot.setup (state_of shot) card.call t → IsConflicting shot.setup (state_of shot) call clearance (Some eff)
+    → IsLeftByEntry shot.setup (state_in_shot shot) 0 (Accept call clearance eff shot.version) card → path_made shot.setup card Actual ≡ Some t
+    → HasHit shot.setup (state_in_shot shot) card.call t → IsConflicting shot.setup (state_in_shot shot) call clearance (Some eff)
 conflicting shot call clearance eff card t rules left made has = (
-  sym (accept_is shot.setup (state_of shot) 0 call clearance eff shot.version rules) ∙ left.passed,
-  left_holds (HasHit shot.setup (state_of shot)) shot call clearance eff card t left made has,
+  sym (accept_is shot.setup (state_in_shot shot) 0 call clearance eff shot.version rules) ∙ left.passed,
+  left_holds (HasHit shot.setup (state_in_shot shot)) shot call clearance eff card t left made has,
 )
 
 -- a clearance of which nothing would follow, since its trajectory has none
-pub free : (shot : Shot) (call : List ℕ) (clearance : Clearance) (eff : ℕ) (card : Record) (t : Trajectory) (p : Tried)
-    → IsLeft shot.setup (state_of shot) 0 (Accept call clearance eff shot.version) card → path_made shot.setup card Actual ≡ Some t
-    → ¬ HasHit shot.setup (state_of shot) card.call t → IsProbe shot call clearance (Some eff) p → IsFreeProbe shot call clearance (Some eff) p
+pub free : (shot : Shot) (call : List ℕ) (clearance : Clearance) (eff : ℕ) (card : Record) (t : Trajectory) (p : Trial)
+    → IsLeftByEntry shot.setup (state_in_shot shot) 0 (Accept call clearance eff shot.version) card → path_made shot.setup card Actual ≡ Some t
+    → ¬ HasHit shot.setup (state_in_shot shot) card.call t → IsProbe shot call clearance (Some eff) p → IsFreeProbe shot call clearance (Some eff) p
 free shot call clearance eff card t p left made clear probe = record {
   probe = probe;
-  free = follows_none shot.setup (state_of shot) call clearance (Some eff) p.hits probe.hits_are
-      (left_holds (λ c u. ¬ HasHit shot.setup (state_of shot) c u) shot call clearance eff card t left made clear);
+  free = follows_none shot.setup (state_in_shot shot) call clearance (Some eff) p.hits probe.hits_are
+      (left_holds (λ c u. ¬ HasHit shot.setup (state_in_shot shot) c u) shot call clearance eff card t left made clear);
 }
 
 -- the second from which a clearance holds

@@ -14,14 +14,14 @@ use Rattle.mt_change.specs.Sound.{IsSoundState}
 use Rattle.mt_change.proofs.Changed.{others_apart}
 use Rattle.mt_probe.specs.declared.flight.Flight.{Flight}
 use Rattle.mt_probe.specs.Putting.{replaced_if}
-use Rattle.mt_probe.specs.Shot.{Shot, filed_among, flights_in, in_order, records_in, state_of}
+use Rattle.mt_probe.specs.Shot.{Shot, filed_among, flights_in, in_order, records_in, state_in_shot}
 use Rattle.mt_probe.specs.Standing.{IsSoundShot}
 use Rattle.mt_probe.proofs.Order.{all_filed, all_ordered, all_placed}
 
 abbrev card_of : Flight → Record
 card_of f = f.card
 
--- each record has another callsign than those behind it
+-- each record has another callsign than those after it
 abbrev pub Apart : List Record → Type 0
 Apart [] = Unit {0}
 Apart (r ∷ rs) = AllByRecursion (λ q. r.call ≢ q.call) rs × Apart rs
@@ -92,7 +92,7 @@ all_sound shot sound = all_cards (IsSoundFlight shot.setup) (in_order (flights_i
     (all_placed (λ f. IsSoundFlight shot.setup f.card) shot.slots (λ i f is. (sound.sound i f is).sound)))
 
 -- the state of a snapshot is sound
-pub sound_state : (shot : Shot) → IsSoundShot shot → shot.version ≤ 4194304 → IsSoundState shot.setup (state_of shot)
+pub sound_state : (shot : Shot) → IsSoundShot shot → shot.version ≤ 4194304 → IsSoundState shot.setup (state_in_shot shot)
 sound_state shot sound counted = record {
   sound = All-from_recursion (IsSoundFlight shot.setup) (records_in shot.slots) (all_sound shot sound);
   own_calls = own_calls shot sound;

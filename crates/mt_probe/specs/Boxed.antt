@@ -6,7 +6,7 @@ use Rattle.mt_base.specs.declared.rules.Rules.{Rules}
 use Rattle.mt_base.specs.Picture.{NamedTrajectory}
 use Rattle.mt_cover.specs.Sliced.{Sliced, slices_of}
 use Rattle.mt_meet.specs.declared.table.Met.{Met}
-use Rattle.mt_meet.specs.Meeting.{IsHullOf, IsListed, MeetAt}
+use Rattle.mt_meet.specs.Meeting.{IsHullOf, IsItemListed, MeetAt}
 use Rattle.mt_track.specs.Laid.{IsStrand}
 use Rattle.mt_probe.specs.declared.flight.Flight.{Flight}
 use Rattle.mt_probe.specs.Indexed.{Indexed, IsIndexOf}
@@ -24,14 +24,14 @@ abbrev pub slices_at : Rules → List (Option Flight) → ℕ → Option Sliced
 slices_at rules slots item = slices_by rules (kind_at item) (get_or slots (item / 2) None)
 
 -- A table has the slices of each trajectory that is kept, at its item, and of nothing else.
-pub record Holds (rules : Rules) (slots : List (Option Flight)) (table : List (Option Sliced)) : Type 0 where
+pub record HoldsSlices (rules : Rules) (slots : List (Option Flight)) (table : List (Option Sliced)) : Type 0 where
   pub items : length table ≡ 2 * length slots
   pub held : (item : ℕ) → get_or table item None ≡ slices_at rules slots item
 
 -- a snapshot is sound, its table has the slices of its trajectories, and its index tells who is there
-pub record IsKept (shot : Shot) (table : List (Option Sliced)) (index : Indexed) : Type 0 where
+pub record IsSnapshotKept (shot : Shot) (table : List (Option Sliced)) (index : Indexed) : Type 0 where
   pub sound : IsSoundShot shot
-  pub holds : Holds shot.setup.rules shot.slots table
+  pub holds : HoldsSlices shot.setup.rules shot.slots table
   pub indexed : IsIndexOf shot.slots index
 
 -- with the slices of what is put at a place
@@ -69,4 +69,4 @@ pub record AreMetItems (shot : Shot) (mine : Sliced) (list : List Met) : Type 0 
   pub rising : AllPairs (λ (m n : Met). m.item < n.item) list
   pub exact : (met : Met) → Contains list met → IsMetOf shot mine met
   pub complete : (item : ℕ) (theirs : Sliced) (k : ℕ) → slices_at shot.setup.rules shot.slots item ≡ Some theirs → MeetAt shot.setup.rules mine theirs k
-      → IsListed list item
+      → IsItemListed list item

@@ -29,15 +29,15 @@ pub record IsFoundOfAnother (setup : Setup) (s : State) (call : List ℕ) (t : T
   pub loss : is_some found.whole ≡ true
 
 -- two finds are of different flights, or of different kinds
-abbrev pub AreNamedApart : Found → Found → Type 0
-AreNamedApart f g = ¬ ((f.call ≡ g.call) × (f.kind ≡ g.kind))
+abbrev pub AreDifferentFinds : Found → Found → Type 0
+AreDifferentFinds f g = ¬ ((f.call ≡ g.call) × (f.kind ≡ g.kind))
 
 -- and so are two trajectories
 abbrev pub AreCalledApart : NamedTrajectory → NamedTrajectory → Type 0
 AreCalledApart a b = ¬ ((a.call ≡ b.call) × (a.kind ≡ b.kind))
 
 -- one of some finds is what is found with another trajectory
-pub record IsListed (rules : Rules) (now : ℕ) (t : Trajectory) (finds : List Found) (other : NamedTrajectory) : Type 0 where
+pub record IsFindListed (rules : Rules) (now : ℕ) (t : Trajectory) (finds : List Found) (other : NamedTrajectory) : Type 0 where
   pub found : Found
   pub held : Contains finds found
   pub is : IsFound rules now t other found
@@ -54,22 +54,22 @@ pub record IsFoundAmong (rules : Rules) (now : ℕ) (t : Trajectory) (others : L
 pub record AreFinds (setup : Setup) (s : State) (call : List ℕ) (t : Trajectory) (finds : List Found) : Type 0 where
   pub exact : (found : Found) → Contains finds found → IsFoundOfAnother setup s call t found
   pub complete : (other : NamedTrajectory) → IsOfAnother setup s call other → (k : ℕ) → k < all_end → IsLossSecond setup.rules t other.path k
-      → IsListed setup.rules s.now t finds other
-  pub once : AllPairs AreNamedApart finds
+      → IsFindListed setup.rules s.now t finds other
+  pub once : AllPairs AreDifferentFinds finds
 
 -- no two of these trajectories have one callsign and one kind
 abbrev pub AreOneEach : List NamedTrajectory → Type 0
 AreOneEach all = (a b : NamedTrajectory) → Contains all a → Contains all b → a.call ≡ b.call → a.kind ≡ b.kind → a ≡ b
 
 -- a find has that callsign and that kind
-pub record HasName (call : List ℕ) (kind : Kind) (found : Found) : Type 0 where
+pub record IsFindNamed (call : List ℕ) (kind : Kind) (found : Found) : Type 0 where
   pub call_is : found.call ≡ call
   pub kind_is : found.kind ≡ kind
 
 -- the find of that name, where there is one
 abbrev pub IsNamedAmong : List Found → List ℕ → Kind → Option Found → Type 0
-IsNamedAmong finds call kind (Some found) = Contains finds found × HasName call kind found
-IsNamedAmong finds call kind None = (found : Found) → Contains finds found → ¬ HasName call kind found
+IsNamedAmong finds call kind (Some found) = Contains finds found × IsFindNamed call kind found
+IsNamedAmong finds call kind None = (found : Found) → Contains finds found → ¬ IsFindNamed call kind found
 
 -- What is found with another trajectory; or it is not listed, and then the two have no loss second.
 abbrev pub IsFoundOrQuiet : Rules → ℕ → Trajectory → NamedTrajectory → Option Found → Type 0
@@ -86,5 +86,5 @@ pub record FindsMore (rules : Rules) (now : ℕ) (t : Trajectory) (others : List
   pub kept : (found : Found) → Contains old found → Contains new found
   pub exact : (found : Found) → Contains new found → Contains old found ⊎ IsFoundAmong rules now t others found
   pub listed : (other : NamedTrajectory) → Contains others other → (k : ℕ) → k < all_end → IsLossSecond rules t other.path k
-      → IsListed rules now t new other
-  pub once : AllPairs AreCalledApart others → AreOfNone others old → AllPairs AreNamedApart old → AllPairs AreNamedApart new
+      → IsFindListed rules now t new other
+  pub once : AllPairs AreCalledApart others → AreOfNone others old → AllPairs AreDifferentFinds old → AllPairs AreDifferentFinds new

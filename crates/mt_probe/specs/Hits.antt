@@ -13,7 +13,7 @@ use Rattle.mt_board.specs.Probing.{Probe}
 use Rattle.mt_board.specs.Short.{AreShortHits}
 use Rattle.mt_probe.specs.declared.finding.Found.{Found}
 use Rattle.mt_probe.specs.Prepared.{IsPrepOf, IsPrepared, Prepared}
-use Rattle.mt_probe.specs.Shot.{Shot, state_of}
+use Rattle.mt_probe.specs.Shot.{Shot, state_in_shot}
 
 -- the hit with a trajectory that is flown, where it has a conflict in the window
 abbrev pub hit_by : List ℕ → Kind → Option (ℕ × ℕ) → Option Hit
@@ -31,7 +31,7 @@ pub record IsHitOfOne (finds : List Found) (hit : Hit) : Type 0 where
   pub is : hit_of found ≡ Some hit
 
 -- A clearance that was tried: what was prepared for its acceptance, and the hits.
-pub record Tried : Type 0 where
+pub record Trial : Type 0 where
   pub prep : Prepared
   pub call : List ℕ
   pub clearance : Clearance
@@ -40,7 +40,7 @@ pub record Tried : Type 0 where
 
 -- What every probe keeps: its numbers are within their bounds; it was prepared for the acceptance of its clearance, and its hits are what would
 -- follow in its state; there are few enough of them for a reply.
-pub record IsTried (p : Tried) : Type 0 where
+pub record IsTried (p : Trial) : Type 0 where
   pub clearance : IsBoundedClearance p.clearance
   pub early : p.eff ≤ 10000000
   pub kept : IsPrepared p.prep
@@ -50,28 +50,28 @@ pub record IsTried (p : Tried) : Type 0 where
   pub short : AreShortHits p.hits
 
 -- what a board is told of it
-abbrev pub told_of : Tried → Probe
+abbrev pub told_of : Trial → Probe
 told_of p = record { call = p.call; clearance = p.clearance; eff = p.eff; version = p.prep.state.version; hits = p.hits }
 
 -- What is answered of a what-if on a snapshot: the probe, whose hits are those of the clearance, or the first refusal, at the snapshot's version.
-pub record IsProbe (shot : Shot) (call : List ℕ) (clearance : Clearance) (eff : Option ℕ) (p : Tried) : Type 0 where
+pub record IsProbe (shot : Shot) (call : List ℕ) (clearance : Clearance) (eff : Option ℕ) (p : Trial) : Type 0 where
   pub call_is : p.call ≡ call
   pub clearance_is : p.clearance ≡ clearance
   pub eff_is : p.eff ≡ unwrap_or eff shot.now
   pub prep_of : IsPrepOf shot 0 (Accept call clearance (unwrap_or eff shot.now) shot.version) p.prep
-  pub hits_are : IsWhatIf shot.setup (state_of shot) call clearance eff (Ok p.hits)
+  pub hits_are : IsWhatIf shot.setup (state_in_shot shot) call clearance eff (Ok p.hits)
 
 abbrev pub IsUnprobed : Shot → List ℕ → Clearance → Option ℕ → No → Type 0
 IsUnprobed shot call clearance eff (nos.Refused refusal version) =
-    IsWhatIf shot.setup (state_of shot) call clearance eff (Err refusal) × (version ≡ shot.version)
+    IsWhatIf shot.setup (state_in_shot shot) call clearance eff (Err refusal) × (version ≡ shot.version)
 IsUnprobed shot call clearance eff nos.Memory = ⊤
 
 -- The probe of a clearance that has no hit.
-pub record IsFreeProbe (shot : Shot) (call : List ℕ) (clearance : Clearance) (eff : Option ℕ) (p : Tried) : Type 0 where
+pub record IsFreeProbe (shot : Shot) (call : List ℕ) (clearance : Clearance) (eff : Option ℕ) (p : Trial) : Type 0 where
   pub probe : IsProbe shot call clearance eff p
   pub free : p.hits ≡ []
 
 -- What is answered where only a free clearance is asked for: its probe, or none, and then something would follow from it.
-abbrev pub IsFreeOrConflicting : Shot → List ℕ → Clearance → Option ℕ → Option Tried → Type 0
+abbrev pub IsFreeOrConflicting : Shot → List ℕ → Clearance → Option ℕ → Option Trial → Type 0
 IsFreeOrConflicting shot call clearance eff (Some p) = IsFreeProbe shot call clearance eff p
-IsFreeOrConflicting shot call clearance eff None = IsConflicting shot.setup (state_of shot) call clearance eff
+IsFreeOrConflicting shot call clearance eff None = IsConflicting shot.setup (state_in_shot shot) call clearance eff

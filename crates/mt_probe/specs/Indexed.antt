@@ -6,11 +6,11 @@ use Rattle.mt_probe.specs.declared.flight.Flight.{Flight}
 use Rattle.mt_probe.specs.Shot.{flights_in}
 
 -- the callsign at a place, and those at all places
-abbrev pub call_in : Option Flight → Option (List ℕ)
-call_in at = option_map (λ f. f.card.call) at
+abbrev pub call_at_place : Option Flight → Option (List ℕ)
+call_at_place at = option_map (λ f. f.card.call) at
 
 abbrev pub calls_in : List (Option Flight) → List (Option (List ℕ))
-calls_in slots = map call_in slots
+calls_in slots = map call_at_place slots
 
 -- so many places, from the first one on, are filled
 abbrev pub AreFilled : List (Option Flight) → ℕ → Type 0
@@ -35,4 +35,4 @@ IsFirstFree slots None = AreFilled slots (length slots)
 
 -- a flight, or none, can stand at a place: no other place has its callsign, or that of the flight there
 abbrev pub CanBeAt : List (Option Flight) → ℕ → Option Flight → Type 0
-CanBeAt slots slot new = CanStand (calls_in slots) slot (call_in (get_or slots slot None)) (call_in new)
+CanBeAt slots slot new = CanStand (calls_in slots) slot (call_at_place (get_or slots slot None)) (call_at_place new)

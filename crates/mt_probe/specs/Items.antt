@@ -24,13 +24,13 @@ abbrev pub path_of : Kind → Flight → Option Trajectory
 path_of kind f = option_map (λ m. arc_value m.strand) (made_of f kind)
 
 -- the stays of a trajectory that may be there, and of a flight's of a kind
-abbrev pub stays_of : Rules → Option Trajectory → List Stay
-stays_of rules None = []
-stays_of rules (Some t) = cover_of rules t
+abbrev pub stays_of_item : Rules → Option Trajectory → List Stay
+stays_of_item rules None = []
+stays_of_item rules (Some t) = cover_of rules t
 
 abbrev pub stays_by : Rules → Kind → Option Flight → List Stay
 stays_by rules kind None = []
-stays_by rules kind (Some f) = stays_of rules (path_of kind f)
+stays_by rules kind (Some f) = stays_of_item rules (path_of kind f)
 
 -- the stays of the trajectory that an item names
 abbrev pub stays_at : Rules → List (Option Flight) → ℕ → List Stay

@@ -20,7 +20,7 @@ use Rattle.mt_track.specs.Laid.{IsStrand}
 use Rattle.mt_probe.specs.declared.finding.Found.{Found}
 use Rattle.mt_probe.specs.Finds.{AreFinds, AreOneEach}
 use Rattle.mt_probe.specs.Items.{WasTestedNear}
-use Rattle.mt_probe.specs.Shot.{Shot, state_of}
+use Rattle.mt_probe.specs.Shot.{Shot, state_in_shot}
 
 -- what a decision looks at, as if there were room for a flight and an entry
 abbrev pub roomy : State → Command → Look
@@ -59,8 +59,8 @@ abbrev pub path_made : Setup → Record → Kind → Option Trajectory
 path_made setup flight kinds.Actual = Some (trajectory_of setup flight.path)
 path_made setup flight kinds.Tentative = marked_of setup flight.path
 
-abbrev pub named : Record → Kind → Trajectory → NamedTrajectory
-named flight kind path = record { call = flight.call; kind = kind; path = path }
+abbrev pub named_trajectory : Record → Kind → Trajectory → NamedTrajectory
+named_trajectory flight kind path = record { call = flight.call; kind = kind; path = path }
 
 -- What is prepared for a command of an actor in a state: the flight as the entry leaves it, the trajectory that the command makes, and what is
 -- found with it.
@@ -90,7 +90,7 @@ pub record IsPrepared (p : Prepared) : Type 0 where
   pub one_each : AreOneEach (trajectories p.setup p.state)
 
 -- the flight as the entry of a command leaves it, or the first refusal of the command
-pub record IsLeft (setup : Setup) (s : State) (who : ℕ) (command : Command) (card : Record) : Type 0 where
+pub record IsLeftByEntry (setup : Setup) (s : State) (who : ℕ) (command : Command) (card : Record) : Type 0 where
   pub passed : judged_aside setup s who command ≡ Ok (tt {0})
   pub card_is : flight_left setup s who command ≡ Some card
   pub call_is : call_of command ≡ Some card.call
@@ -98,25 +98,25 @@ pub record IsLeft (setup : Setup) (s : State) (who : ℕ) (command : Command) (c
   pub makes : is_some (path_made setup card (kind_made command)) ≡ true
 
 abbrev pub IsLeftOr : Setup → State → ℕ → Command → Result Record Refusal → Type 0
-IsLeftOr setup s who command (Ok card) = IsLeft setup s who command card
+IsLeftOr setup s who command (Ok card) = IsLeftByEntry setup s who command card
 IsLeftOr setup s who command (Err refusal) = judged_aside setup s who command ≡ Err refusal
 
 -- it was prepared on that snapshot, for that command of that actor
 pub record IsPrepOf (shot : Shot) (who : ℕ) (command : Command) (p : Prepared) : Type 0 where
   pub setup_is : p.setup ≡ shot.setup
-  pub state_is : p.state ≡ state_of shot
+  pub state_is : p.state ≡ state_in_shot shot
   pub who_is : p.who ≡ who
   pub command_is : p.command ≡ command
 
 -- it is refused on that snapshot, whose version is named
 abbrev pub IsRefusedOn : Shot → ℕ → Command → No → Type 0
 IsRefusedOn shot who command (nos.Refused refusal version) =
-    (judged_aside shot.setup (state_of shot) who command ≡ Err refusal) × (version ≡ shot.version)
+    (judged_aside shot.setup (state_in_shot shot) who command ≡ Err refusal) × (version ≡ shot.version)
 IsRefusedOn shot who command nos.Memory = ⊤
 
 -- the trajectory that a command makes on a state, with its name
 abbrev pub left_made : Setup → State → ℕ → Command → Option NamedTrajectory
-left_made setup s who command = option_and_then (λ card. option_map (named card (kind_made command)) (path_made setup card (kind_made command)))
+left_made setup s who command = option_and_then (λ card. option_map (named_trajectory card (kind_made command)) (path_made setup card (kind_made command)))
     (flight_left setup s who command)
 
 -- the tests for a trajectory that may be there; none are made where there is none
@@ -126,13 +126,13 @@ WereFew shot (Some mine) old new = WasTestedNear shot mine.call mine.path old ne
 
 -- At most two tests were made for each trajectory of another flight that is near the one that the command makes on the snapshot.
 abbrev pub WasTestedFor : Shot → ℕ → Command → ℕ → ℕ → Type 0
-WasTestedFor shot who command old new = WereFew shot (left_made shot.setup (state_of shot) who command) old new
+WasTestedFor shot who command old new = WereFew shot (left_made shot.setup (state_in_shot shot) who command) old new
 
 -- as contracts see it
 abbrev pub prepared_of : Shot → ℕ → Command → Record → Trajectory → List Found → Prepared
 prepared_of shot who command card strand finds = record {
   setup = shot.setup;
-  state = state_of shot;
+  state = state_in_shot shot;
   who = who;
   command = command;
   card = card;

@@ -29,7 +29,7 @@ with_moment shot now = record shot { version = shot.version + 1; now = now }
 abbrev pub replaced_if : List ℕ → Record → Record → Record
 replaced_if call card flight = if bytes_eq flight.call call then card else flight
 
--- The records with what was at a place, and what is put there: the new one is filed behind the others, or takes the place of the old one in
+-- The records with what was at a place, and what is put there: the new one is filed after the others, or takes the place of the old one in
 -- the order; or the old one is taken out.
 abbrev pub records_put : Option Flight → Option Flight → List Record → List Record
 records_put None None records = records

@@ -52,8 +52,8 @@ IsFreeIn slots (Some slot) = (slot < length slots) × (get_or slots slot None �
 IsFreeIn slots None = length (records_in slots) ≡ length slots
 
 -- the state that a snapshot stands for
-abbrev pub state_of : Shot → State
-state_of shot = record { now = shot.now; records = records_in shot.slots; version = shot.version }
+abbrev pub state_in_shot : Shot → State
+state_in_shot shot = record { now = shot.now; records = records_in shot.slots; version = shot.version }
 
 -- a trajectory that may be there, with its name
 abbrev pub made_named : List ℕ → Kind → Option Trajectory → List NamedTrajectory

@@ -14,7 +14,7 @@ pub record IsSoundEntry (setup : Setup) (f : Flight) : Type 0 where
   pub kept : kept_of f ≡ trajectories_of setup f.card
 
 -- two flights have different callsigns and were filed at different versions
-pub record AreApart (f g : Flight) : Type 0 where
+pub record AreTwoFlights (f g : Flight) : Type 0 where
   pub calls : f.card.call ≢ g.card.call
   pub filings : f.filed ≢ g.filed
 
@@ -25,5 +25,5 @@ pub record IsSoundShot (shot : Shot) : Type 0 where
   pub places : pos (length shot.slots) ≡ shot.setup.rules.flights
   pub sound : (i : ℕ) (f : Flight) → flight_at shot i ≡ Some f → IsSoundEntry shot.setup f
   pub laid : (i : ℕ) (f : Flight) (t : NamedTrajectory) → flight_at shot i ≡ Some f → Contains (kept_of f) t → IsStrand t.path
-  pub apart : (i j : ℕ) (f g : Flight) → i ≢ j → flight_at shot i ≡ Some f → flight_at shot j ≡ Some g → AreApart f g
+  pub apart : (i j : ℕ) (f g : Flight) → i ≢ j → flight_at shot i ≡ Some f → flight_at shot j ≡ Some g → AreTwoFlights f g
   pub early : shot.now ≤ 10000000

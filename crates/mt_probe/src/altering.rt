@@ -1,8 +1,8 @@
 //! What a command leaves of the planned flight that it names.
 ghost use Rattle.std.specs.Prelude.{◌≡◌, Ok, IfOk};
 ghost use Rattle.mt_change.specs.Altered.{Alters, IsBoundedBesides};
-ghost use Rattle.mt_probe.specs.Prepared.{IsLeft, judged_aside};
-ghost use Rattle.mt_probe.specs.Shot.{state_of};
+ghost use Rattle.mt_probe.specs.Prepared.{IsLeftByEntry, judged_aside};
+ghost use Rattle.mt_probe.specs.Shot.{state_in_shot};
 
 use crate::snapshot::Snapshot;
 use mt_base::{Command, Kind, Memory, Path, Record};
@@ -21,8 +21,8 @@ pub fn altered_flight(
 ) -> Result<Record, Memory>
     requires alters { Alters command.now }
     requires bounded { IsBoundedBesides command.now }
-    requires passed { judged_aside snapshot.now.setup (state_of snapshot.now) who command.now ≡ Ok (tt {0}) }
-    ensures { IfOk result (IsLeft snapshot.now.setup (state_of snapshot.now) who command.now) }
+    requires passed { judged_aside snapshot.now.setup (state_in_shot snapshot.now) who command.now ≡ Ok (tt {0}) }
+    ensures { IfOk result (IsLeftByEntry snapshot.now.setup (state_in_shot snapshot.now) who command.now) }
 {
     let _version = snapshot.version();
     let Some(call) = command.call() else {

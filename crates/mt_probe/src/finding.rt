@@ -8,7 +8,7 @@ ghost use Rattle.mt_probe.specs.Boxed.{IsMetOf};
 ghost use Rattle.mt_probe.specs.Finds.{AreFinds, FindsMore, IsFound};
 ghost use Rattle.mt_probe.specs.Items.{WasTestedNear, kind_at, other_at};
 ghost use Rattle.mt_probe.specs.Narrow.{all_end};
-ghost use Rattle.mt_probe.specs.Shot.{state_of};
+ghost use Rattle.mt_probe.specs.Shot.{state_in_shot};
 
 use crate::narrow::narrowed;
 use crate::snapshot::Snapshot;
@@ -144,7 +144,7 @@ pub(crate) fn find_all(
     strand: &Strand,
     tests: &mut Tally,
 ) -> Result<Finds, Memory>
-    ensures finds { IfOk result (AreFinds snapshot.now.setup (state_of snapshot.now) call strand.now) }
+    ensures finds { IfOk result (AreFinds snapshot.now.setup (state_in_shot snapshot.now) call strand.now) }
     ensures counted { WasTestedNear snapshot.now call strand.now tests.old tests.new }
 {
     let _version = snapshot.version();

@@ -10,7 +10,7 @@ ghost use Rattle.mt_probe.specs.Boxed.{IsMetOf};
 ghost use Rattle.mt_probe.specs.Clear.{IsClearAt};
 ghost use Rattle.mt_probe.specs.Items.{kind_at};
 ghost use Rattle.mt_probe.specs.Narrow.{all_end};
-ghost use Rattle.mt_probe.specs.Shot.{state_of};
+ghost use Rattle.mt_probe.specs.Shot.{state_in_shot};
 
 use crate::finding::{WINDOW, kind_of};
 use crate::snapshot::Snapshot;
@@ -48,7 +48,7 @@ fn is_hit_with(
     tests: &mut Tally,
 ) -> bool
     requires { IsMetOf snapshot.now (slices_of snapshot.now.setup.rules strand.now) met }
-    ensures hit { IsTrue result → HasHit snapshot.now.setup (state_of snapshot.now) call strand.now }
+    ensures hit { IsTrue result → HasHit snapshot.now.setup (state_in_shot snapshot.now) call strand.now }
     ensures clear { result ≡ false → kind_at met.item ≡ Actual → IsClearAt snapshot.now call strand.now (met.item / 2) }
 {
     let _version = snapshot.version();
@@ -80,7 +80,7 @@ pub(crate) fn has_hit(
     strand: &Strand,
     tests: &mut Tally,
 ) -> Result<bool, Memory>
-    ensures { IfOk result (λ has. IsTrue has ↔ HasHit snapshot.now.setup (state_of snapshot.now) call strand.now) }
+    ensures { IfOk result (λ has. IsTrue has ↔ HasHit snapshot.now.setup (state_in_shot snapshot.now) call strand.now) }
 {
     let _version = snapshot.version();
     let _end = strand.end();

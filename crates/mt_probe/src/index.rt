@@ -1,9 +1,9 @@
 //! Who is there: the callsigns in order, how many flights there are, and where a place may be free.
-ghost use Rattle.std.specs.Prelude.{◌≡◌, ◌<◌, ◌≤◌, ℕ, Option, None, length, replicate, slice_index_or, slice_set, IfOk, is_some, option_copied};
+ghost use Rattle.std.specs.Prelude.{◌≡◌, ◌<◌, ◌≤◌, ℕ, Option, None, length, replicate, slice_set, IfOk, is_some, option_copied};
 ghost use Rattle.std.specs.Arc.{arc_value};
 ghost use Rattle.mt_names.specs.Naming.{IsPlaceOf};
 ghost use Rattle.mt_probe.specs.declared.flight.Flight.{Flight as Kept};
-ghost use Rattle.mt_probe.specs.Indexed.{AreFilled, CanBeAt, IsFirstFree, IsIndexOf, call_in};
+ghost use Rattle.mt_probe.specs.Indexed.{AreFilled, CanBeAt, IsFirstFree, IsIndexOf, call_at_place};
 
 use crate::flight::Flight;
 use mt_base::{Callsign, Memory};
@@ -32,7 +32,7 @@ impl Model for Index {
 
 // The callsign of a flight, where there is one.
 fn call_of(flight: Option<&Flight>) -> Option<Callsign>
-    ensures { result ≡ call_in (option_copied flight.entry) }
+    ensures { result ≡ call_at_place (option_copied flight.entry) }
 {
     Some(flight?.card.call)
 }

@@ -1,5 +1,5 @@
 //! A conflict over all seconds, and what it tells of a part of them.
-ghost use Rattle.std.specs.Prelude.{◌≡◌, ◌≤◌, ◌↔◌, ℕ, None, IsTrue, IfSome, MatchOption};
+ghost use Rattle.std.specs.Prelude.{◌≡◌, ◌≤◌, ◌↔◌, ℕ, None, IsTrue, IfSome};
 ghost use Rattle.mt_base.specs.declared.rules.Rules.{Rules};
 ghost use Rattle.mt_base.specs.Conflict.{IsConflict};
 ghost use Rattle.mt_base.specs.Trajectory.{Trajectory};

@@ -2,7 +2,7 @@
 ghost use Rattle.std.specs.Prelude.{◌≡◌, ◌↔◌, IsTrue, option_copied};
 ghost use Rattle.std.specs.Arc.{arc_value};
 ghost use Rattle.mt_base.specs.Picture.{NamedTrajectory};
-ghost use Rattle.mt_probe.specs.Finds.{HasName, IsFoundOrQuiet, IsNamedAmong, IsOfAnother};
+ghost use Rattle.mt_probe.specs.Finds.{IsFindNamed, IsFoundOrQuiet, IsNamedAmong, IsOfAnother};
 ghost use Rattle.mt_probe.specs.Prepared.{IsPrepared};
 
 use crate::finding::{Finds, Found};
@@ -86,7 +86,7 @@ impl Prep {
 
 // Whether a find has that name.
 fn is_named(found: &Found, call: Callsign, kind: Kind) -> bool
-    ensures { IsTrue result ↔ HasName call kind found.now }
+    ensures { IsTrue result ↔ IsFindNamed call kind found.now }
 {
     found.call == call && found.kind == kind
 }

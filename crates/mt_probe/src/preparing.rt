@@ -7,8 +7,8 @@ ghost use Rattle.mt_base.specs.Tables.{setup_with};
 ghost use Rattle.mt_change.specs.Altered.{IsBoundedBesides};
 ghost use Rattle.mt_predict.specs.Looking.{HasStrand, look_of};
 ghost use Rattle.mt_probe.specs.Items.{WasTestedNear};
-ghost use Rattle.mt_probe.specs.Prepared.{IsLeft, IsLeftOr, IsPrepOf, IsRefusedOn, MakesStrand, WasTestedFor, kind_made, path_made, roomy};
-ghost use Rattle.mt_probe.specs.Shot.{state_of};
+ghost use Rattle.mt_probe.specs.Prepared.{IsLeftByEntry, IsLeftOr, IsPrepOf, IsRefusedOn, MakesStrand, WasTestedFor, kind_made, path_made, roomy};
+ghost use Rattle.mt_probe.specs.Shot.{state_in_shot};
 
 use crate::altering::altered_flight;
 use crate::finding::find_all;
@@ -66,7 +66,7 @@ pub fn strand_of(
 
 // What a command looks at, as if there were room for a flight and an entry. The trajectory that the flight flies is at hand.
 fn look<'a>(snapshot: &'a Snapshot, command: &Command) -> Looked<'a>
-    ensures look { look_of result ≡ roomy (state_of snapshot.now) command.now }
+    ensures look { look_of result ≡ roomy (state_in_shot snapshot.now) command.now }
     ensures strand { HasStrand snapshot.now.setup result command.now }
 {
     let _version = snapshot.version();
@@ -102,7 +102,7 @@ pub fn left_of(
 ) -> Result<Result<Record, Refusal>, Memory>
     requires makes { MakesStrand command.now }
     requires bounded { IsBoundedBesides command.now }
-    ensures { IfOk result (IsLeftOr snapshot.now.setup (state_of snapshot.now) who command.now) }
+    ensures { IfOk result (IsLeftOr snapshot.now.setup (state_in_shot snapshot.now) who command.now) }
 {
     let _version = snapshot.version();
     let looked = look(snapshot, command);
@@ -163,7 +163,7 @@ pub(crate) fn prep_with(
     strand: Arc<Strand>,
     tests: &mut Tally,
 ) -> Result<Prep, Memory>
-    requires left { IsLeft snapshot.now.setup (state_of snapshot.now) who command card }
+    requires left { IsLeftByEntry snapshot.now.setup (state_in_shot snapshot.now) who command card }
     requires made { path_made snapshot.now.setup card (kind_made command) ≡ Some (arc_value strand) }
     ensures prep { IfOk result (IsPrepOf snapshot.now who command) }
     ensures counted { WasTestedNear snapshot.now card.call (arc_value strand) tests.old tests.new }
@@ -191,7 +191,7 @@ fn prep_of(
     card: Record,
     tests: &mut Tally,
 ) -> Result<Prep, Memory>
-    requires { IsLeft snapshot.now.setup (state_of snapshot.now) who command card }
+    requires { IsLeftByEntry snapshot.now.setup (state_in_shot snapshot.now) who command card }
     ensures prep { IfOk result (IsPrepOf snapshot.now who command) }
     ensures counted { (t : Trajectory) → path_made snapshot.now.setup card (kind_made command) ≡ Some t
         → WasTestedNear snapshot.now card.call t tests.old tests.new }

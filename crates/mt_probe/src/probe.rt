@@ -1,8 +1,5 @@
 //! A probe: a clearance that was tried on a snapshot.
 ghost use Rattle.std.specs.Prelude.{◌≡◌};
-ghost use Rattle.mt_base.specs.Picture.{State};
-ghost use Rattle.mt_base.specs.Tables.{Setup};
-ghost use Rattle.mt_board.specs.Probing.{Probe as Told};
 ghost use Rattle.mt_probe.specs.Hits.{IsTried, told_of};
 
 use crate::prep::Prep;
@@ -21,9 +18,9 @@ pub struct Probe {
 }
 
 impl Model for Probe {
-    ghost use Rattle.mt_probe.specs.Hits.{IsTried, Tried};
+    ghost use Rattle.mt_probe.specs.Hits.{IsTried, Trial};
 
-    ghost Value = { Tried };
+    ghost Value = { Trial };
 
     ghost view = { λ p. record { prep = p.prep; call = p.call; clearance = p.clearance; eff = p.eff; hits = p.found } };
 

@@ -6,10 +6,10 @@ ghost use Rattle.mt_base.specs.Picture.{flight_of, opening};
 ghost use Rattle.mt_change.specs.Sound.{IsSoundState};
 ghost use Rattle.mt_cover.specs.Sliced.{slices_of};
 ghost use Rattle.mt_probe.specs.Body.{shot_of};
-ghost use Rattle.mt_probe.specs.Boxed.{AreMetItems, IsKept, IsNextMetOf};
+ghost use Rattle.mt_probe.specs.Boxed.{AreMetItems, IsSnapshotKept, IsNextMetOf};
 ghost use Rattle.mt_probe.specs.Items.{AreNearItems, IsNearItem, path_of};
 ghost use Rattle.mt_probe.specs.Putting.{Fits, records_put, with_flight, with_moment};
-ghost use Rattle.mt_probe.specs.Shot.{IsFreeIn, flight_at, kept_of, made_of, records_in, state_of};
+ghost use Rattle.mt_probe.specs.Shot.{IsFreeIn, flight_at, kept_of, made_of, records_in, state_in_shot};
 ghost use Rattle.mt_probe.specs.Standing.{IsSoundShot};
 
 use crate::finding::kind_of;
@@ -50,13 +50,13 @@ impl Model for Snapshot {
     ghost use Rattle.std.specs.Arc.{arc_value};
     ghost use Rattle.mt_probe.specs.Shot.{Shot};
     ghost use Rattle.mt_probe.specs.Body.{shot_of};
-    ghost use Rattle.mt_probe.specs.Boxed.{IsKept};
+    ghost use Rattle.mt_probe.specs.Boxed.{IsSnapshotKept};
 
     ghost Value = { Shot };
 
     ghost view = { λ s. shot_of (arc_value s.body) };
 
-    ghost invariant = { λ s. IsKept (shot_of (arc_value s.body)) (arc_value s.body).table (arc_value s.body).index };
+    ghost invariant = { λ s. IsSnapshotKept (shot_of (arc_value s.body)) (arc_value s.body).table (arc_value s.body).index };
 }
 
 impl Snapshot {
@@ -69,7 +69,7 @@ impl Snapshot {
           now = 0;
           slots = replicate (length shot.slots) None;
         }) }
-        ensures state { IfOk result (λ shot. state_of shot ≡ opening) }
+        ensures state { IfOk result (λ shot. state_in_shot shot ≡ opening) }
     {
         let count = places(&rules);
         Ok(Snapshot {
@@ -102,7 +102,7 @@ impl Snapshot {
     pub fn reopened(&self) -> Result<Snapshot, Memory>
         ensures setup { IfOk result (λ shot. shot.setup ≡ self.now.setup) }
         ensures version { IfOk result (λ shot. shot.version ≡ 0) }
-        ensures state { IfOk result (λ shot. state_of shot ≡ opening) }
+        ensures state { IfOk result (λ shot. state_in_shot shot ≡ opening) }
     {
         let rules = *self.rules();
         let tables = Arc::try_clone(&self.body.tables)?;
@@ -113,7 +113,7 @@ impl Snapshot {
     pub fn version(&self) -> u64
         ensures version { result ≡ self.now.version }
         ensures kept { IsSoundShot self.now }
-        ensures sound { self.now.version ≤ 4194304 → IsSoundState self.now.setup (state_of self.now) }
+        ensures sound { self.now.version ≤ 4194304 → IsSoundState self.now.setup (state_in_shot self.now) }
     {
         self.body.version
     }
@@ -215,7 +215,7 @@ impl Snapshot {
     /// The place of the flight of that callsign, found by halving; `None` exactly where there is none.
     pub fn find(&self, call: Callsign) -> Option<u32>
         ensures there { IfSome result (λ slot. is_some (flight_at self.now slot) ≡ true) }
-        ensures flight { flight_of (state_of self.now).records call ≡ option_map (λ f. f.card) (option_and_then (flight_at self.now) result) }
+        ensures flight { flight_of (state_in_shot self.now).records call ≡ option_map (λ f. f.card) (option_and_then (flight_at self.now) result) }
     {
         let _version = self.version();
         self.body.index.find(call)
@@ -296,7 +296,7 @@ impl Snapshot {
         requires fits { IfSome flight (Fits self.now slot) }
         ensures value { IfOk result (λ shot. shot ≡ with_flight self.now slot flight) }
         ensures records { IfOk result (λ shot.
-            (state_of shot).records ≡ records_put (flight_at self.now slot) flight (state_of self.now).records) }
+            (state_in_shot shot).records ≡ records_put (flight_at self.now slot) flight (state_in_shot self.now).records) }
     {
         let body = &*self.body;
         let table = moved(body.alloc, &body.rules, &body.table, slot, flight.as_ref())?;
@@ -315,7 +315,7 @@ impl Snapshot {
         requires same { option_map kept_of (flight_at self.now slot) ≡ Some (kept_of flight) }
         ensures value { IfOk result (λ shot. shot ≡ with_flight self.now slot (Some flight)) }
         ensures records { IfOk result (λ shot.
-            (state_of shot).records ≡ records_put (flight_at self.now slot) (Some flight) (state_of self.now).records) }
+            (state_in_shot shot).records ≡ records_put (flight_at self.now slot) (Some flight) (state_in_shot self.now).records) }
     {
         let body = &*self.body;
         let shared = Arc::new(body.alloc, flight)?;
@@ -368,7 +368,7 @@ fn changed(
     index: Index,
 ) -> Result<Snapshot, Memory>
     requires counted { body.now.version < 2 ^ 40 }
-    requires kept { IsKept (record (shot_of body.now) { version = body.now.version + 1; now = moment; slots = slots }) table index }
+    requires kept { IsSnapshotKept (record (shot_of body.now) { version = body.now.version + 1; now = moment; slots = slots }) table index }
     ensures { IfOk result (λ shot. shot ≡ record (shot_of body.now) { version = body.now.version + 1; now = moment; slots = slots }) }
 {
     Ok(Snapshot {

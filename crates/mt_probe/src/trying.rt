@@ -10,8 +10,8 @@ ghost use Rattle.mt_base.specs.Name.{is_name};
 ghost use Rattle.mt_base.specs.Tables.{setup_with};
 ghost use Rattle.mt_base.specs.WhatIf.{hit_cmp};
 ghost use Rattle.mt_probe.specs.Hits.{IsFreeOrConflicting, IsHitOfOne, IsProbe, IsUnprobed, hit_of};
-ghost use Rattle.mt_probe.specs.Prepared.{IsLeft, IsRefusedOn, WasTestedFor, path_made};
-ghost use Rattle.mt_probe.specs.Shot.{state_of};
+ghost use Rattle.mt_probe.specs.Prepared.{IsLeftByEntry, IsRefusedOn, WasTestedFor, path_made};
+ghost use Rattle.mt_probe.specs.Shot.{state_in_shot};
 
 use crate::finding::Found;
 use crate::hitting::has_hit;
@@ -144,7 +144,7 @@ fn probe_of(
 ) -> Result<Probe, Memory>
     requires clearance { IsBoundedClearance clearance }
     requires early { eff ≤ 10000000 }
-    requires left { IsLeft snapshot.now.setup (state_of snapshot.now) 0 (Accept call clearance eff snapshot.now.version) card }
+    requires left { IsLeftByEntry snapshot.now.setup (state_in_shot snapshot.now) 0 (Accept call clearance eff snapshot.now.version) card }
     requires made { path_made snapshot.now.setup card Actual ≡ Some (arc_value strand) }
     ensures { IfOk result (IsProbe snapshot.now call clearance (Some eff)) }
 {
@@ -163,7 +163,7 @@ fn accepted(
 ) -> Result<Record, No>
     requires clearance { IsBoundedClearance clearance }
     requires early { eff ≤ 10000000 }
-    ensures left { IfOk result (IsLeft snapshot.now.setup (state_of snapshot.now) 0 (Accept call clearance eff snapshot.now.version)) }
+    ensures left { IfOk result (IsLeftByEntry snapshot.now.setup (state_in_shot snapshot.now) 0 (Accept call clearance eff snapshot.now.version)) }
     ensures refused { IfErr result (IsRefusedOn snapshot.now 0 (Accept call clearance eff snapshot.now.version)) }
 {
     let version = snapshot.version();
@@ -187,7 +187,7 @@ fn free_probe(
 ) -> Result<Option<Probe>, Memory>
     requires clearance { IsBoundedClearance clearance }
     requires early { eff ≤ 10000000 }
-    requires left { IsLeft snapshot.now.setup (state_of snapshot.now) 0 (Accept call clearance eff snapshot.now.version) card }
+    requires left { IsLeftByEntry snapshot.now.setup (state_in_shot snapshot.now) 0 (Accept call clearance eff snapshot.now.version) card }
     ensures { IfOk result (IsFreeOrConflicting snapshot.now call clearance (Some eff)) }
 {
     let _version = snapshot.version();

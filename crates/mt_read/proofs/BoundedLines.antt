@@ -34,11 +34,11 @@ use Rattle.mt_read.specs.declared.word.EntryWord.TheVariants as entries
 use Rattle.mt_read.specs.declared.word.Word.{Word}
 use Rattle.mt_read.specs.declared.word.Word.TheVariants as word
 use Rattle.mt_read.specs.Bands.{Four, are_few, as_band, as_bands, as_four, band, band_of}
-use Rattle.mt_read.specs.Corners.{Pair, are_enough, as_corner, as_corners, as_pair, corner, corner_of}
-use Rattle.mt_read.specs.Bounded.{IsBounded, IsBoundedRequest, IsSpan}
+use Rattle.mt_read.specs.Corners.{Pair, are_enough, as_corner, as_corners, as_pair, corner_read, corner_of}
+use Rattle.mt_read.specs.Bounded.{IsBounded, IsBoundedRequest, IsEntrySpan}
 use Rattle.mt_read.specs.Field.{as_fix, as_list_of, count, count_if_there, each_of, number, read_at}
 use Rattle.mt_read.specs.Key.{key_text}
-use Rattle.mt_read.specs.Line.{◌>>=◌, Gives, checked, decoded, keys_of, kinds, least_other, line, named, of_word, read_layout, read_members, read_object, read_value, standing, unless_other, who_bounds, who_fields, who_in, word_in, word_text}
+use Rattle.mt_read.specs.Line.{◌>>=◌, GivesReading, checked, decoded, keys_of, kinds, least_other, line, as_line_refusal, of_word, read_layout, read_members, read_object, read_value, standing_rules, unless_other, who_bounds, who_fields, who_in, word_in, word_text}
 use Rattle.mt_read.specs.Entry.{held_in, of_entry_word}
 use Rattle.mt_read.specs.Rules.{rule_bounds, rules_with, set_in}
 use Rattle.mt_read.specs.Table.{Layout, accepted_bounds, area_bounds, area_in, change_layout, clearance_bounds, clearance_in, clearance_to, entry_layout, external_bounds, layout_of, plan_bounds, plan_in, report_bounds, report_in, straight_in}
@@ -72,7 +72,7 @@ external_bounded ms passed =
       no_leg = refl;
     }
 
-history_bounded : (ms : Members) → AllByRecursion (λ c. c.1 ≡ true) ((layout_of word.History).bounds ms) → IsSpan (count key.From ms) (count key.To ms)
+history_bounded : (ms : Members) → AllByRecursion (λ c. c.1 ≡ true) ((layout_of word.History).bounds ms) → IsEntrySpan (count key.From ms) (count key.To ms)
 history_bounded ms passed =
     let f = counted 0 4194304 (number key.From ms) passed.0 in
     let t = counted (count key.From ms) (count key.From ms + 64) (number key.To ms) passed.1.0 in
@@ -157,7 +157,7 @@ abbrev IsCorner : ℤ × ℤ → Type 0
 IsCorner c = IsInPlane c.0 c.1
 
 corner_bounded : (east north : Option ℤ) (c : ℤ × ℤ) → ((z : ℤ) → east ≡ Some z → IsWithin (neg_ℤ (pos 3686400)) (pos 3686400) z)
-    → ((z : ℤ) → north ≡ Some z → IsWithin (neg_ℤ (pos 3686400)) (pos 3686400) z) → corner east north ≡ Some c → IsCorner c
+    → ((z : ℤ) → north ≡ Some z → IsWithin (neg_ℤ (pos 3686400)) (pos 3686400) z) → corner_read east north ≡ Some c → IsCorner c
 corner_bounded (Some x) (Some y) c east north e = let is : (x, y) ≡ c = cc in subst IsCorner is (east x refl, north y refl)
 corner_bounded None n c east north e = cc
 corner_bounded (Some x) None c east north e = cc
@@ -281,7 +281,7 @@ held_bounded (entries.Change c) ms passed = (change_bounded c ms passed).0
 held_bounded entries.Accepted ms passed = accepted_bounded ms (all_passed (accepted_bounds ms) (tt {0}) passed)
 
 request_bounded : (rules : Rules) (w : Word) (ms : Members) → IsOk (judged ((layout_of w).bounds ms) (tt {0}))
-    → IsOk (judged (standing w rules ms) (tt {0})) → IsBoundedRequest rules ((layout_of w).asks ms)
+    → IsOk (judged (standing_rules w rules ms) (tt {0})) → IsBoundedRequest rules ((layout_of w).asks ms)
 request_bounded rules word.Fix ms passed stands = fix_bounded ms (all_passed ((layout_of word.Fix).bounds ms) (tt {0}) passed)
 request_bounded rules word.TypeLine ms passed stands = type_bounded ms (all_passed ((layout_of word.TypeLine).bounds ms) (tt {0}) passed)
 request_bounded rules word.Area ms passed stands = area_bounded ms (all_passed (area_bounds ms) (tt {0}) passed)
@@ -328,9 +328,9 @@ checked_steps origin more row ms a e =
     steps (kinds origin row.fields ms) (kinds origin (who_fields origin) ms) (judged (row.bounds ms) (tt {0}))
     (judged (who_bounds origin ms) (who_in origin ms)) (judged more (tt {0})) (row.asks ms) a e
 
-checked_bounded : (p : Place) (rules : Rules) (w : Word) (ms : Members) (a : ℕ × Request) → checked (Line p) (standing w rules ms) (layout_of w) ms ≡ Ok a → IsBounded rules a
+checked_bounded : (p : Place) (rules : Rules) (w : Word) (ms : Members) (a : ℕ × Request) → checked (Line p) (standing_rules w rules ms) (layout_of w) ms ≡ Ok a → IsBounded rules a
 checked_bounded p rules w ms a e =
-    let was = checked_steps (Line p) (standing w rules ms) (layout_of w) ms a e in
+    let was = checked_steps (Line p) (standing_rules w rules ms) (layout_of w) ms a e in
     record { who = who_bounded p ms a.0 was.who_is; request = subst (IsBoundedRequest rules) was.asked_is (request_bounded rules w ms was.bounded_ok was.more_ok) }
 
 entry_bounded : (w : EntryWord) (ms : Members) (a : ℕ × Command) → checked origins.Entry [] (entry_layout w) ms ≡ Ok a → IsBoundedCommand a.1
@@ -340,7 +340,7 @@ entry_bounded w ms a e =
 
 -- ---- through the reading of an object: what holds of the answer of its fields holds of its answer
 
-named_holds : {A : Type 0} (P : A → Type 0) (r : Result A Fault) (a : A) → ((b : A) → r ≡ Ok b → P b) → named r ≡ Ok a → P a
+named_holds : {A : Type 0} (P : A → Type 0) (r : Result A Fault) (a : A) → ((b : A) → r ≡ Ok b → P b) → as_line_refusal r ≡ Ok a → P a
 named_holds P (Ok b) a h e = h a (cc)
 named_holds P (Err f) a h e = cc
 
@@ -351,7 +351,7 @@ other_holds P None r a h e = h e
 pub layout_holds : {A : Type 0} (P : ℕ × A → Type 0) (origin : Origin) (more : List (Fault × Bool)) (row : Layout A) (ms : Members) (a : ℕ × A)
     → ((b : ℕ × A) → checked origin more row ms ≡ Ok b → P b) → read_layout origin more row ms ≡ Ok a → P a
 layout_holds P origin more row ms a h e =
-    other_holds P (least_other (keys_of origin row.fields) ms) (named (checked origin more row ms)) a (named_holds P (checked origin more row ms) a h) e
+    other_holds P (least_other (keys_of origin row.fields) ms) (as_line_refusal (checked origin more row ms)) a (named_holds P (checked origin more row ms) a h) e
 
 object_holds : {A : Type 0} (P : A → Type 0) (reading : Members → Result A LineNo) (o : Option Members) (a : A)
     → ((ms : Members) → reading ms ≡ Ok a → P a) → read_object reading o ≡ Ok a → P a
@@ -365,14 +365,14 @@ value_holds P reading (Some d) a h e = object_holds P reading (as_object d) a h 
 
 word_bounded : (p : Place) (rules : Rules) (ms : Members) (o : Option Word) (a : ℕ × Request) → of_word p rules ms o ≡ Ok a → IsBounded rules a
 word_bounded p rules ms None a e = cc
-word_bounded p rules ms (Some w) a e = layout_holds (IsBounded rules) (Line p) (standing w rules ms) (layout_of w) ms a (checked_bounded p rules w ms) e
+word_bounded p rules ms (Some w) a e = layout_holds (IsBounded rules) (Line p) (standing_rules w rules ms) (layout_of w) ms a (checked_bounded p rules w ms) e
 
 -- a line that is read has its numbers within their bounds
 pub line_bounded : (p : Place) (rules : Rules) (bytes : List ℕ) (a : ℕ × Request) → line p rules bytes ≡ Ok a → IsBounded rules a
 line_bounded p rules bytes a e =
     value_holds (IsBounded rules) (read_members p rules) (decoded bytes) a (λ ms. word_bounded p rules ms (word_in p ms) a) e
 
-pub answer_bounded : (p : Place) (rules : Rules) (bytes : List ℕ) (r : Result (ℕ × Request) LineNo) → Gives r (line p rules bytes) → IfOk r (IsBounded rules)
+pub answer_bounded : (p : Place) (rules : Rules) (bytes : List ℕ) (r : Result (ℕ × Request) LineNo) → GivesReading r (line p rules bytes) → IfOk r (IsBounded rules)
 answer_bounded p rules bytes (Ok a) e = line_bounded p rules bytes a (sym e)
 answer_bounded p rules bytes (Err e) h = tt
 
@@ -384,7 +384,7 @@ entry_word_bounded ms None a e = cc
 entry_word_bounded ms (Some w) a e = layout_holds HoldsBounded origins.Entry [] (entry_layout w) ms a (entry_bounded w ms) e
 
 -- and so has an entry that is read
-pub held_answer_bounded : (bytes : List ℕ) (r : Result (ℕ × Command) LineNo) → Gives r (read_value held_in (decoded bytes)) → IfOk r HoldsBounded
+pub held_answer_bounded : (bytes : List ℕ) (r : Result (ℕ × Command) LineNo) → GivesReading r (read_value held_in (decoded bytes)) → IfOk r HoldsBounded
 held_answer_bounded bytes (Ok a) e =
     value_holds HoldsBounded held_in (decoded bytes) a (λ ms. entry_word_bounded ms (option_and_then entry_word_of (word_text ms)) a) (sym e)
 held_answer_bounded bytes (Err e) h = tt

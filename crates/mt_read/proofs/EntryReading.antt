@@ -18,7 +18,7 @@ use Rattle.mt_read.specs.declared.word.EntryWord.{EntryWord}
 use Rattle.mt_read.specs.declared.word.EntryWord.TheVariants as entries
 use Rattle.mt_read.specs.Entry.{held_in, of_entry_word}
 use Rattle.mt_read.specs.Field.{kind_check}
-use Rattle.mt_read.specs.Line.{◌>>=◌, checked, keys_of, kinds, least_other, named, read_layout, unless_other, who_bounds, who_fields, who_in, word_text}
+use Rattle.mt_read.specs.Line.{◌>>=◌, checked, keys_of, kinds, least_other, as_line_refusal, read_layout, unless_other, who_bounds, who_fields, who_in, word_text}
 use Rattle.mt_read.specs.Table.{Layout, entry_layout}
 use Rattle.mt_read.specs.Words.{entry_word_of}
 
@@ -87,8 +87,8 @@ row_read : (row : Layout Command) (ms : Members) (who : ℕ) (c : Command) → l
     → get_member (codes "who") ms ≡ Some (number (of_integer (pos who))) → who < 2 ^ 32 → read_layout origins.Entry [] row ms ≡ Ok (who, c)
 unfolding checked
 row_read row ms who c keys fields bounds asks actor h =
-    other_is (least_other (keys_of origins.Entry row.fields) ms) (named (checked origins.Entry [] row ms)) keys
-    ∙ ap named (steps_are (kinds origins.Entry row.fields ms) (kinds origins.Entry (who_fields origins.Entry) ms) (judged (row.bounds ms) (tt {0}))
+    other_is (least_other (keys_of origins.Entry row.fields) ms) (as_line_refusal (checked origins.Entry [] row ms)) keys
+    ∙ ap as_line_refusal (steps_are (kinds origins.Entry row.fields ms) (kinds origins.Entry (who_fields origins.Entry) ms) (judged (row.bounds ms) (tt {0}))
     (judged (who_bounds origins.Entry ms) (who_in origins.Entry ms)) who (row.asks ms) (passes (map (kind_check origins.Entry ms) row.fields) (tt {0}) fields) (actor_stands ms who actor)
     (passes (row.bounds ms) (tt {0}) bounds) (actor_is ms who actor h))
     ∙ ap (λ (q : Command). Ok (who, q)) asks

@@ -13,7 +13,7 @@ use Rattle.mt_read.specs.declared.request.Place.TheVariants.{Plain}
 use Rattle.mt_read.specs.declared.request.Request.{Request}
 use Rattle.mt_read.specs.Entry.{as_entry, held_in}
 use Rattle.mt_read.specs.Following.{IsReadyLine, as_asked, as_followed, as_line, feed, feed_members, of_reading, reading_layout, reading_word_of}
-use Rattle.mt_read.specs.Line.{Gives, checked, decoded, read_layout, word_text}
+use Rattle.mt_read.specs.Line.{GivesReading, checked, decoded, read_layout, word_text}
 use Rattle.mt_read.specs.Words.{entry_word_of}
 use Rattle.mt_read.proofs.BoundedLines.{checked_steps, entry_word_bounded, layout_holds, value_holds}
 use Rattle.mt_read.proofs.TimedEntries.{word_full}
@@ -52,7 +52,7 @@ word_ready ms (Some w) line e =
 word_ready ms None line e = held_ready ms (held_in ms) line refl e
 
 -- a line that is read may be followed or asked
-pub line_ready : (bytes : List ℕ) (r : Result FeedLine LineNo) → Gives r (feed bytes) → IfOk r IsReadyLine
+pub line_ready : (bytes : List ℕ) (r : Result FeedLine LineNo) → GivesReading r (feed bytes) → IfOk r IsReadyLine
 line_ready bytes (Ok line) e =
     value_holds IsReadyLine feed_members (decoded bytes) line (λ ms. word_ready ms (option_and_then reading_word_of (word_text ms)) line) (sym e)
 line_ready bytes (Err refusal) e = tt

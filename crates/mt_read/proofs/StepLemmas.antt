@@ -14,7 +14,7 @@ use Rattle.mt_read.specs.declared.key.Key.TheVariants as key
 use Rattle.mt_read.specs.declared.origin.Origin.{Origin}
 use Rattle.mt_read.specs.declared.request.Request.{Request}
 use Rattle.mt_read.specs.declared.request.Request.TheVariants as request
-use Rattle.mt_read.specs.Field.{Reads, count_within, within}
+use Rattle.mt_read.specs.Field.{ReadsChecked, count_within, within}
 use Rattle.mt_read.specs.Line.{◌>>=◌, checked, kinds, who_bounds, who_fields, who_in}
 use Rattle.mt_read.specs.Rules.{rule_bounds}
 use Rattle.mt_read.specs.Steps.{external_steps, row_steps}
@@ -28,23 +28,23 @@ external_is : (rvsm : Bool) (ms : Members) → external_steps rvsm ms ≡ judged
 unfolding external_steps row_steps within count_within
 external_is rvsm ms = simp next-bind
 
-refused : {A : Type 0} (f : Fault) (r : Result A Fault) (x : A) → r ≡ Err f → Reads r (Err f) x
+refused : {A : Type 0} (f : Fault) (r : Result A Fault) (x : A) → r ≡ Err f → ReadsChecked r (Err f) x
 refused f (Ok y) x e = cc
 refused f (Err g) x e = cc
 
 after : {A : Type 0} (c : Result ⊤ Fault) (s : Result A Fault) (t : Result ⊤ Fault) (r : Result A Fault) (x : A)
-    → ((q : Result A Fault) → q ≡ s → Reads q t x) → r ≡ next c s → Reads r (next c t) x
+    → ((q : Result A Fault) → q ≡ s → ReadsChecked q t x) → r ≡ next c s → ReadsChecked r (next c t) x
 after (Ok u) s t r x reads e = reads r e
 after (Err f) s t r x reads e = refused f r x e
 
--- a value that stands behind checks is read where they pass
-pub reads_judged : {A : Type 0} (cs : List (Fault × Bool)) (r : Result A Fault) (x : A) → r ≡ judged cs x → Reads r (judged cs (tt {0})) x
+-- a value that stands after checks is read where they pass
+pub reads_judged : {A : Type 0} (cs : List (Fault × Bool)) (r : Result A Fault) (x : A) → r ≡ judged cs x → ReadsChecked r (judged cs (tt {0})) x
 reads_judged [] (Ok y) x e = (refl, (cc))
 reads_judged [] (Err f) x e = cc
 reads_judged (c ∷ cs) r x e = after (check c) (judged cs x) (judged cs (tt {0})) r x (λ q. reads_judged cs q x) e
 
 pub reads_external : (rvsm : Bool) (ms : Members) (r : Result Straight Fault) → r ≡ external_steps rvsm ms
-    → Reads r (judged (external_bounds ms) (tt {0})) (straight_of rvsm ms)
+    → ReadsChecked r (judged (external_bounds ms) (tt {0})) (straight_of rvsm ms)
 reads_external rvsm ms r e = reads_judged (external_bounds ms) r (straight_of rvsm ms) (e ∙ external_is rvsm ms)
 
 -- a refusal of a rule, at its key

@@ -23,7 +23,7 @@ use Rattle.mt_read.specs.declared.word.EntryWord.TheVariants as entries
 use Rattle.mt_read.specs.Entry.{held_in, of_entry_word}
 use Rattle.mt_read.specs.Field.{count_if_there, is_of, kind_check}
 use Rattle.mt_read.specs.Key.{key_text}
-use Rattle.mt_read.specs.Line.{◌>>=◌, Gives, checked, decoded, kinds, read_value, who_bounds, who_fields, who_in, word_text}
+use Rattle.mt_read.specs.Line.{◌>>=◌, GivesReading, checked, decoded, kinds, read_value, who_bounds, who_fields, who_in, word_text}
 use Rattle.mt_read.specs.Table.{Layout, change_layout, clearance_fields, entry_layout}
 use Rattle.mt_read.specs.Words.{entry_word_of}
 use Rattle.mt_read.proofs.BoundedLines.{layout_holds, value_holds}
@@ -99,7 +99,7 @@ word_full ms None a e = cc
 word_full ms (Some w) a e = layout_holds HoldsFull origins.Entry [] (entry_layout w) ms a (row_full w ms) e
 
 -- a moment fills in nothing of what is read
-pub held_answer_full : (bytes : List ℕ) (r : Result (ℕ × Command) LineNo) → Gives r (read_value held_in (decoded bytes)) → IfOk r HoldsFull
+pub held_answer_full : (bytes : List ℕ) (r : Result (ℕ × Command) LineNo) → GivesReading r (read_value held_in (decoded bytes)) → IfOk r HoldsFull
 held_answer_full bytes (Ok a) e =
     value_holds HoldsFull held_in (decoded bytes) a (λ ms. word_full ms (option_and_then entry_word_of (word_text ms)) a) (sym e)
 held_answer_full bytes (Err e) h = tt

@@ -56,5 +56,5 @@ abbrev pub as_bands : Data → Option (List Band)
 as_bands d = option_and_then (λ bands. if are_few bands then Some bands else None) (as_list_of as_band d)
 
 -- four values that are lent, as what they are
-abbrev pub shown : FourValues → Four
-shown f = record { top = view f.top.now; speed = view f.speed.now; climb = view f.climb.now; descent = view f.descent.now }
+abbrev pub four_shown : FourValues → Four
+four_shown f = record { top = view f.top.now; speed = view f.speed.now; climb = view f.climb.now; descent = view f.descent.now }

@@ -8,7 +8,7 @@ use Rattle.mt_read.specs.declared.request.Request.TheVariants as request
 use Rattle.mt_read.specs.Rules.{rules_with}
 
 -- at most 64 numbers of entries, from one that a history can have
-pub record IsSpan (from to : ℕ) : Type 0 where
+pub record IsEntrySpan (from to : ℕ) : Type 0 where
   pub begins : from ≤ 4194304
   pub forward : from ≤ to
   pub short : to ≤ from + 64
@@ -24,7 +24,7 @@ IsBoundedRequest rules (request.Change command) = IsBoundedCommand command × Is
 IsBoundedRequest rules (request.Probe call clearance eff) = IsBoundedClearance clearance × IfSome eff (λ second. second ≤ 10000000)
 IsBoundedRequest rules (request.Accept probe) = (1 ≤ probe) × (probe < 2 ^ 63)
 IsBoundedRequest rules (request.Flight call sec) = IfSome sec (λ s. s ≤ 10014400)
-IsBoundedRequest rules (request.History from to) = IsSpan from to
+IsBoundedRequest rules (request.History from to) = IsEntrySpan from to
 IsBoundedRequest rules request = ⊤
 
 -- it, and the number of who asks

@@ -30,13 +30,13 @@ abbrev pub as_numbers : Data → Option Pair
 as_numbers d = option_and_then (λ p. if are_whole p then Some p else None) (as_pair d)
 
 -- a corner, where both numbers are there
-abbrev pub corner : Option ℤ → Option ℤ → Option (ℤ × ℤ)
-corner (Some east) (Some north) = Some (east, north)
-corner east north = None
+abbrev pub corner_read : Option ℤ → Option ℤ → Option (ℤ × ℤ)
+corner_read (Some east) (Some north) = Some (east, north)
+corner_read east north = None
 
 -- it lies in the plane
 abbrev pub corner_of : Pair → Option (ℤ × ℤ)
-corner_of p = corner (as_bounded (neg_ℤ (pos 3686400)) (pos 3686400) p.east) (as_bounded (neg_ℤ (pos 3686400)) (pos 3686400) p.north)
+corner_of p = corner_read (as_bounded (neg_ℤ (pos 3686400)) (pos 3686400) p.east) (as_bounded (neg_ℤ (pos 3686400)) (pos 3686400) p.north)
 
 -- a list of exactly two numbers within these bounds
 abbrev pub as_corner : Data → Option (ℤ × ℤ)
@@ -50,5 +50,5 @@ abbrev pub as_corners : Data → Option (List (ℤ × ℤ))
 as_corners d = option_and_then (λ corners. if are_enough corners then Some corners else None) (as_list_of as_corner d)
 
 -- two values that are lent, as what they are
-abbrev pub shown : PairValues → Pair
-shown p = record { east = view p.east.now; north = view p.north.now }
+abbrev pub pair_shown : PairValues → Pair
+pair_shown p = record { east = view p.east.now; north = view p.north.now }

@@ -59,8 +59,8 @@ pub record Field : Type 0 where
   pub may_stand : Members → Bool
   pub kind : Data → Bool
 
-abbrev pub stands : Key → Members → Bool
-stands key ms = is_some (get_member (key_text key) ms)
+abbrev pub is_present : Key → Members → Bool
+is_present key ms = is_some (get_member (key_text key) ms)
 
 abbrev pub is_of : {A : Type 0} → (Data → Option A) → Data → Bool
 is_of kind d = is_some (kind d)
@@ -78,10 +78,10 @@ free key kind = record { key = key; may_lack = λ origin ms. true; may_stand = �
 
 -- Two fields of which exactly one stands. Where neither does, the first is missing; where both do, the second is one too many.
 abbrev pub first_of_two : {A : Type 0} → Key → (Data → Option A) → Key → Field
-first_of_two key kind other = record { key = key; may_lack = λ origin ms. stands other ms; may_stand = λ ms. true; kind = is_of kind }
+first_of_two key kind other = record { key = key; may_lack = λ origin ms. is_present other ms; may_stand = λ ms. true; kind = is_of kind }
 
 abbrev pub second_of_two : {A : Type 0} → Key → (Data → Option A) → Key → Field
-second_of_two key kind other = record { key = key; may_lack = λ origin ms. true; may_stand = λ ms. not (stands other ms); kind = is_of kind }
+second_of_two key kind other = record { key = key; may_lack = λ origin ms. true; may_stand = λ ms. not (is_present other ms); kind = is_of kind }
 
 -- a key is absent, where that may be, or has a value of a kind, where it may have one
 abbrev pub form_check : Key → Bool → Bool → (Data → Bool) → Members → Fault × Bool
@@ -123,9 +123,9 @@ unfoldable pub count_within : Key → ℕ → ℕ → Members → Result ℕ Fau
 count_within key low high ms = next (check (bound key (pos low) (pos high) (number key ms))) (Ok (count key ms))
 
 -- a value that was read where a check passed; else its refusal
-abbrev pub Reads : {A : Type 0} → Result A Fault → Result ⊤ Fault → A → Type 0
-Reads (Ok y) r x = (r ≡ Ok (tt {0})) × (y ≡ x)
-Reads (Err e) r x = r ≡ Err e
+abbrev pub ReadsChecked : {A : Type 0} → Result A Fault → Result ⊤ Fault → A → Type 0
+ReadsChecked (Ok y) r x = (r ≡ Ok (tt {0})) × (y ≡ x)
+ReadsChecked (Err e) r x = r ≡ Err e
 
 -- the same, or memory is wanting
 abbrev pub ReadsUnlessMemory : {A : Type 0} → Result A Stop → Result ⊤ Fault → A → Type 0

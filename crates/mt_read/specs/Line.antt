@@ -7,7 +7,7 @@ use Rattle.serde_json.specs.Read.{read}
 use Rattle.mt_base.specs.declared.rules.Rules.{Rules}
 use Rattle.mt_base.specs.Checks.{judged}
 use Rattle.mt_json.specs.Field.{as_whole}
-use Rattle.mt_json.specs.Keys.{keys, other_at}
+use Rattle.mt_json.specs.Keys.{keys, other_key_at}
 use Rattle.mt_read.specs.declared.key.Fault.{Fault}
 use Rattle.mt_read.specs.declared.key.Fault.TheVariants as fault
 use Rattle.mt_read.specs.declared.key.Key.TheVariants as key
@@ -24,7 +24,7 @@ use Rattle.mt_read.specs.Field.{Field, bound, count, kind_check, may, must, numb
 use Rattle.mt_read.specs.Key.{key_text}
 use Rattle.mt_read.specs.Rules.{rule_bounds, rules_with, set_in}
 use Rattle.mt_read.specs.Table.{Layout, layout_of}
-use Rattle.mt_read.specs.Words.{is_allowed, word_of}
+use Rattle.mt_read.specs.Words.{is_allowed_at, word_of}
 
 infixl 10 ◌>>=◌
 abbrev pub ◌>>=◌ : {A B : Type 0} → Result A Fault → (A → Result B Fault) → Result B Fault
@@ -70,17 +70,17 @@ abbrev pub named_fault : Fault → LineNo
 named_fault (fault.Form key) = Form (key_text key)
 named_fault (fault.Range key) = Range (key_text key)
 
-abbrev pub named : {A : Type 0} → Result A Fault → Result A LineNo
-named (Ok asked) = Ok asked
-named (Err f) = Err (named_fault f)
+abbrev pub as_line_refusal : {A : Type 0} → Result A Fault → Result A LineNo
+as_line_refusal (Ok asked) = Ok asked
+as_line_refusal (Err f) = Err (named_fault f)
 
--- the keys that may stand, with a space behind each
+-- the keys that may stand, with a space after each
 abbrev pub keys_of : Origin → List Field → List ℕ
 keys_of origin fields = codes "do " ++ flat_map (λ field. key_text field.key ++ 32 ∷ []) (fields ++ who_fields origin)
 
 -- the least key, in byte order, that isn't one of these
 abbrev pub least_other : List ℕ → Members → Option (List ℕ)
-least_other allowed ms = option_and_then (slice_get (keys ms)) (other_at allowed ms)
+least_other allowed ms = option_and_then (slice_get (keys ms)) (other_key_at allowed ms)
 
 abbrev pub unless_other : {A : Type 0} → Option (List ℕ) → Result A LineNo → Result A LineNo
 unless_other (Some key) r = Err (Form key)
@@ -88,7 +88,7 @@ unless_other None r = r
 
 -- the members have no other key, and pass those checks
 abbrev pub read_layout : {A : Type 0} → Origin → List (Fault × Bool) → Layout A → Members → Result (ℕ × A) LineNo
-read_layout origin more row ms = unless_other (least_other (keys_of origin row.fields) ms) (named (checked origin more row ms))
+read_layout origin more row ms = unless_other (least_other (keys_of origin row.fields) ms) (as_line_refusal (checked origin more row ms))
 
 -- the text of the member `do`
 abbrev pub word_text : Members → Option (List ℕ)
@@ -111,20 +111,20 @@ decoded bytes = if is_utf8 bytes then read bytes else None
 -- ---- lines
 
 abbrev pub allowed_word : Place → Word → Option Word
-allowed_word place word = if is_allowed place word then Some word else None
+allowed_word place word = if is_allowed_at place word then Some word else None
 
 -- the command that the member `do` names, where the place has it
 abbrev pub word_in : Place → Members → Option Word
 word_in place ms = option_and_then (allowed_word place) (option_and_then word_of (word_text ms))
 
 -- for a line that sets rules: the rules as they would then stand
-abbrev pub standing : Word → Rules → Members → List (Fault × Bool)
-standing word.Rule rules ms = rule_bounds (rules_with (set_in ms) rules)
-standing w rules ms = []
+abbrev pub standing_rules : Word → Rules → Members → List (Fault × Bool)
+standing_rules word.Rule rules ms = rule_bounds (rules_with (set_in ms) rules)
+standing_rules w rules ms = []
 
 abbrev pub of_word : Place → Rules → Members → Option Word → Result (ℕ × Request) LineNo
 of_word place rules ms None = Err (Form (codes "do"))
-of_word place rules ms (Some word) = read_layout (Line place) (standing word rules ms) (layout_of word) ms
+of_word place rules ms (Some word) = read_layout (Line place) (standing_rules word rules ms) (layout_of word) ms
 
 -- what an object's members are read as
 abbrev pub read_members : Place → Rules → Members → Result (ℕ × Request) LineNo
@@ -136,6 +136,6 @@ abbrev pub line : Place → Rules → List ℕ → Result (ℕ × Request) LineN
 line place rules bytes = read_value (read_members place rules) (decoded bytes)
 
 -- the answer is that reading, or that memory is wanting
-abbrev pub Gives : {A : Type 0} → Result A LineNo → Result A LineNo → Type 0
-Gives (Err Memory) r = ⊤
-Gives answer r = answer ≡ r
+abbrev pub GivesReading : {A : Type 0} → Result A LineNo → Result A LineNo → Type 0
+GivesReading (Err Memory) r = ⊤
+GivesReading answer r = answer ≡ r

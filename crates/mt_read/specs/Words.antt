@@ -55,5 +55,5 @@ may_give place.Position group.Position = true
 may_give p group.Any = true
 may_give p g = false
 
-abbrev pub is_allowed : Place → Word → Bool
-is_allowed place w = may_give place (layout_of w).group
+abbrev pub is_allowed_at : Place → Word → Bool
+is_allowed_at place w = may_give place (layout_of w).group

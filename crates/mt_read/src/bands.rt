@@ -4,7 +4,7 @@ ghost use Rattle.mt_base.specs.Checks.{check};
 ghost use Rattle.mt_json.specs.Field.{as_whole};
 ghost use Rattle.mt_json.specs.Shown.{members};
 ghost use Rattle.mt_json.specs.View.{items_view, view};
-ghost use Rattle.mt_read.specs.Bands.{are_few, are_whole, as_band, as_bands, as_bounded, as_four, as_numbers, band_of, four_of, shown};
+ghost use Rattle.mt_read.specs.Bands.{are_few, are_whole, as_band, as_bands, as_bounded, as_four, as_numbers, band_of, four_of, four_shown};
 ghost use Rattle.mt_read.specs.Field.{ReadsUnlessMemory, as_list_of, each_of, read_at, there};
 ghost use Rattle.mt_read.specs.declared.key.Fault.TheVariants.{Range};
 
@@ -25,7 +25,7 @@ struct FourValues<'v, 'a> {
 }
 
 fn four_of<'v, 'a>(values: &'v [Value<'a>]) -> Option<FourValues<'v, 'a>>
-    ensures { option_map shown result ≡ four_of (items_view values.now) }
+    ensures { option_map four_shown result ≡ four_of (items_view values.now) }
 {
     match values {
         [top, speed, climb, descent] => Some(FourValues {
@@ -39,7 +39,7 @@ fn four_of<'v, 'a>(values: &'v [Value<'a>]) -> Option<FourValues<'v, 'a>>
 }
 
 fn four<'v, 'a>(value: &'v Value<'a>) -> Option<FourValues<'v, 'a>>
-    ensures { option_map shown result ≡ as_four (view value.now) }
+    ensures { option_map four_shown result ≡ as_four (view value.now) }
 {
     four_of(value.as_array()?)
 }
@@ -55,7 +55,7 @@ pub(crate) fn is_whole(value: &Value) -> bool
 }
 
 fn are_whole(four: &FourValues<'_, '_>) -> bool
-    ensures { result ≡ are_whole (shown four.now) }
+    ensures { result ≡ are_whole (four_shown four.now) }
 {
     is_whole(four.top) && is_whole(four.speed) && is_whole(four.climb) && is_whole(four.descent)
 }
@@ -71,7 +71,7 @@ pub(crate) fn bounded(value: &Value, low: i64, high: i64) -> Option<i64>
 }
 
 fn band_of(four: &FourValues<'_, '_>) -> Option<Band>
-    ensures { result ≡ band_of (shown four.now) }
+    ensures { result ≡ band_of (four_shown four.now) }
 {
     let top = bounded(four.top, 1, 600)?;
     let speed = bounded(four.speed, 1, 1_000)?;

@@ -3,7 +3,7 @@ ghost use Rattle.std.specs.Prelude.{◌≡◌, ◌-◌, ◌^◌, pos, [], true, 
 ghost use Rattle.mt_base.specs.Checks.{check, judged};
 ghost use Rattle.mt_json.specs.Field.{as_whole};
 ghost use Rattle.mt_json.specs.Shown.{members};
-ghost use Rattle.mt_read.specs.Field.{Reads, as_fix, bound, count, count_if_there, form_check, is_of, number, read_at, stands};
+ghost use Rattle.mt_read.specs.Field.{ReadsChecked, as_fix, bound, count, count_if_there, form_check, is_of, number, read_at, is_present};
 ghost use Rattle.mt_read.specs.Line.{checked, kinds};
 ghost use Rattle.mt_read.specs.Table.{call_in, change_layout, clearance_bounds, clearance_fields, clearance_to, entry_layout, layout_of};
 ghost use Rattle.mt_read.specs.declared.key.Key.TheVariants as key;
@@ -21,7 +21,7 @@ use mt_json::{Bad, Fields};
 
 // Whether a member has the key.
 fn stands(fields: &Fields, key: Key) -> bool
-    ensures { result ≡ stands key (members fields.now) }
+    ensures { result ≡ is_present key (members fields.now) }
 {
     match fields.word(key_text(key)) {
         Ok(_) | Err(Bad::Kind | Bad::Range) => true,
@@ -32,7 +32,7 @@ fn stands(fields: &Fields, key: Key) -> bool
 // The level is a whole number, and absent only where a fix is given.
 #[tactic(auto, unfolding(mt_base::specs::Checks::check))]
 fn level_kind(fields: &Fields) -> Result<(), Fault>
-    ensures { result ≡ check (form_check key.Level (stands key.Direct (members fields.now)) true (is_of as_whole) (members fields.now)) }
+    ensures { result ≡ check (form_check key.Level (is_present key.Direct (members fields.now)) true (is_of as_whole) (members fields.now)) }
 {
     match fields.whole(key_text(Key::Level), i64::MIN, i64::MAX) {
         Ok(_) | Err(Bad::Range) => Ok(()),
@@ -44,7 +44,7 @@ fn level_kind(fields: &Fields) -> Result<(), Fault>
 // The fix to fly direct to, where one is given and no level.
 #[tactic(auto, unfolding(mt_base::specs::Checks::check))]
 fn direct_kind(fields: &Fields) -> Result<Option<FixName>, Fault>
-    ensures { Reads result (check (form_check key.Direct true (not (stands key.Level (members fields.now))) (is_of as_fix) (members fields.now)))
+    ensures { ReadsChecked result (check (form_check key.Direct true (not (is_present key.Level (members fields.now))) (is_of as_fix) (members fields.now)))
         (read_at key.Direct as_fix (members fields.now)) }
 {
     match fields.word(key_text(Key::Direct)) {
@@ -66,7 +66,7 @@ struct Cleared {
 
 // The fields of a clearance are of their kinds.
 fn clearance_kinds(fields: &Fields, origin: Origin) -> Result<Cleared, Fault>
-    ensures { Reads result (kinds origin clearance_fields (members fields.now))
+    ensures { ReadsChecked result (kinds origin clearance_fields (members fields.now))
         (record { call = call_in (members fields.now); direct = read_at key.Direct as_fix (members fields.now) }) }
 {
     let call = callsign(fields, Key::Call)?;
@@ -94,7 +94,7 @@ struct Timed {
 
 // The clearance to that fix, or else to the level, which is within its bounds; and so is the second from which it holds.
 fn clearance_bounds(fields: &Fields, direct: Option<FixName>) -> Result<Timed, Fault>
-    ensures { Reads result (judged (clearance_bounds (members fields.now)) (tt {0}))
+    ensures { ReadsChecked result (judged (clearance_bounds (members fields.now)) (tt {0}))
         (record { clearance = clearance_to direct (count key.Level (members fields.now)); eff = count_if_there key.Eff (members fields.now) }) }
 {
     let level = count_within(fields, Key::Level, 0, 600)?;
@@ -165,7 +165,7 @@ pub(crate) fn tentative_line(fields: &Fields, origin: Origin) -> Result<(u32, Co
 // The number of a probe, which is at least 1.
 #[tactic(auto, unfolding(crate::specs::Field::within))]
 fn probe_number(fields: &Fields) -> Result<u64, Fault>
-    ensures { Reads result (check (bound key.Probe (pos 1) (pos (2 ^ 63 - 1)) (number key.Probe (members fields.now)))) (count key.Probe (members fields.now)) }
+    ensures { ReadsChecked result (check (bound key.Probe (pos 1) (pos (2 ^ 63 - 1)) (number key.Probe (members fields.now)))) (count key.Probe (members fields.now)) }
 {
     let probe = within(fields, Key::Probe, 1, i64::MAX)?;
     Ok(probe.unsigned_abs())

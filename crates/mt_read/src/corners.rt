@@ -3,7 +3,7 @@ ghost use Rattle.std.specs.Prelude.{◌≡◌, [], is_some, option_map, unwrap_o
 ghost use Rattle.mt_base.specs.Checks.{check};
 ghost use Rattle.mt_json.specs.Shown.{members};
 ghost use Rattle.mt_json.specs.View.{items_view, view};
-ghost use Rattle.mt_read.specs.Corners.{are_enough, are_whole, as_corner, as_corners, as_numbers, as_pair, corner_of, pair_of, shown};
+ghost use Rattle.mt_read.specs.Corners.{are_enough, are_whole, as_corner, as_corners, as_numbers, as_pair, corner_of, pair_of, pair_shown};
 ghost use Rattle.mt_read.specs.Field.{ReadsUnlessMemory, as_list_of, each_of, read_at, there};
 ghost use Rattle.mt_read.specs.declared.key.Fault.TheVariants.{Range};
 
@@ -23,7 +23,7 @@ struct PairValues<'v, 'a> {
 }
 
 fn pair_of<'v, 'a>(values: &'v [Value<'a>]) -> Option<PairValues<'v, 'a>>
-    ensures { option_map shown result ≡ pair_of (items_view values.now) }
+    ensures { option_map pair_shown result ≡ pair_of (items_view values.now) }
 {
     match values {
         [east, north] => Some(PairValues { east, north }),
@@ -32,19 +32,19 @@ fn pair_of<'v, 'a>(values: &'v [Value<'a>]) -> Option<PairValues<'v, 'a>>
 }
 
 fn pair<'v, 'a>(value: &'v Value<'a>) -> Option<PairValues<'v, 'a>>
-    ensures { option_map shown result ≡ as_pair (view value.now) }
+    ensures { option_map pair_shown result ≡ as_pair (view value.now) }
 {
     pair_of(value.as_array()?)
 }
 
 fn are_whole(pair: &PairValues<'_, '_>) -> bool
-    ensures { result ≡ are_whole (shown pair.now) }
+    ensures { result ≡ are_whole (pair_shown pair.now) }
 {
     is_whole(pair.east) && is_whole(pair.north)
 }
 
 fn corner_of(pair: &PairValues<'_, '_>) -> Option<(i64, i64)>
-    ensures { result ≡ corner_of (shown pair.now) }
+    ensures { result ≡ corner_of (pair_shown pair.now) }
 {
     let east = bounded(pair.east, -3_686_400, 3_686_400)?;
     let north = bounded(pair.north, -3_686_400, 3_686_400)?;

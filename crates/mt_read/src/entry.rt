@@ -6,7 +6,7 @@ ghost use Rattle.mt_base.specs.History.{filled};
 ghost use Rattle.mt_json.specs.Shown.{members};
 ghost use Rattle.mt_read.specs.Entry.{entry, held_in};
 ghost use Rattle.mt_read.specs.Field.{IsUnlessMemory};
-ghost use Rattle.mt_read.specs.Line.{Gives, checked, decoded, read_value, word_text};
+ghost use Rattle.mt_read.specs.Line.{GivesReading, checked, decoded, read_value, word_text};
 ghost use Rattle.mt_read.specs.Table.{entry_layout};
 ghost use Rattle.mt_read.specs.Words.{entry_word_of};
 ghost use Rattle.mt_read.specs.declared.origin.Origin.TheVariants as origin;
@@ -42,7 +42,7 @@ fn checked(alloc: Global, fields: &Fields, word: EntryWord) -> Result<(u32, Comm
 
 /// The command that an object's fields hold, and who asked for it.
 pub(crate) fn held(alloc: Global, fields: &Fields) -> Result<(u32, Command), LineNo>
-    ensures { Gives result (held_in (members fields.now)) }
+    ensures { GivesReading result (held_in (members fields.now)) }
 {
     let Some(word) = word_in(fields) else {
         return Err(form(alloc, b"do"));
@@ -57,7 +57,7 @@ pub(crate) fn held(alloc: Global, fields: &Fields) -> Result<(u32, Command), Lin
 
 // What an entry's text holds.
 fn read_bytes(alloc: Global, scratch: &mut Scratch, bytes: &[u8]) -> Result<(u32, Command), LineNo>
-    ensures { Gives result (read_value held_in (decoded bytes.now)) }
+    ensures { GivesReading result (read_value held_in (decoded bytes.now)) }
 {
     let value = value_of(alloc, scratch, bytes)?;
     let Some(fields) = Fields::of(&value) else {
@@ -70,11 +70,11 @@ fn read_bytes(alloc: Global, scratch: &mut Scratch, bytes: &[u8]) -> Result<(u32
 ///
 /// It is one object with all the fields of the entry's command, those with a default too, and `who`, from 0 to 4,294,967,295. An
 /// acceptance has the fields of a clearance and `v`, the version of its probe, from 0 to 4,194,304. The refusals are those of a line, in
-/// the same order; `v` is checked behind the clearance, and `who` last, in both passes. [`LineNo::Memory`] may come in place of any answer.
+/// the same order; `v` is checked after the clearance, and `who` last, in both passes. [`LineNo::Memory`] may come in place of any answer.
 /// A text with an escape goes into `scratch`, which is kept from entry to entry.
 /// The numbers of what is read are within their bounds, and its clearance says from when it holds, so that no moment fills that in.
 pub fn read_entry(alloc: Global, scratch: &mut Scratch, bytes: &[u8]) -> Result<Entry, LineNo>
-    ensures exact { Gives result (entry bytes.now) }
+    ensures exact { GivesReading result (entry bytes.now) }
     ensures bounded { IfOk result (λ (e : Kept). IsBoundedCommand e.command) }
     ensures timed { IfOk result (λ (e : Kept). (now : ℕ) → filled now e.command ≡ e.command) }
 {

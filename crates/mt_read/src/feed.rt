@@ -2,7 +2,7 @@
 ghost use Rattle.std.specs.Prelude.{◌≡◌, []};
 ghost use Rattle.mt_base.specs.Checks.{judged};
 ghost use Rattle.mt_json.specs.Shown.{members};
-ghost use Rattle.mt_read.specs.Field.{Reads};
+ghost use Rattle.mt_read.specs.Field.{ReadsChecked};
 ghost use Rattle.mt_read.specs.Line.{checked, kinds};
 ghost use Rattle.mt_read.specs.Steps.{external_steps, row_steps};
 ghost use Rattle.mt_read.specs.Table.{call_in, change_layout, ends, external_bounds, external_fields, rvsm_in, straight_of};
@@ -78,7 +78,7 @@ struct Filed {
 
 // The fields of `external` are there and of their kinds.
 fn external_kinds(fields: &Fields, origin: Origin) -> Result<Filed, Fault>
-    ensures { Reads result (kinds origin external_fields (members fields.now))
+    ensures { ReadsChecked result (kinds origin external_fields (members fields.now))
         (record { call = call_in (members fields.now); rvsm = rvsm_in (members fields.now) }) }
 {
     let call = callsign(fields, Key::Call)?;
@@ -159,7 +159,7 @@ fn external_steps(fields: &Fields, rvsm: bool) -> Result<Straight, Fault>
 // The stretch, its numbers within their bounds.
 #[tactic(auto, using(crate::proofs::StepLemmas::reads_external))]
 fn external_bounds(fields: &Fields, rvsm: bool) -> Result<Straight, Fault>
-    ensures { Reads result (judged (external_bounds (members fields.now)) (tt {0})) (straight_of rvsm (members fields.now)) }
+    ensures { ReadsChecked result (judged (external_bounds (members fields.now)) (tt {0})) (straight_of rvsm (members fields.now)) }
 {
     external_steps(fields, rvsm)
 }

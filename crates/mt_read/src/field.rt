@@ -6,7 +6,7 @@ ghost use Rattle.mt_json.specs.Shown.{members};
 ghost use Rattle.serde_json.specs.Find.{as_bool};
 ghost use Rattle.mt_base.specs.declared.role.Role.TheVariants.{Feed};
 ghost use Rattle.mt_read.specs.declared.key.Key.TheVariants as key;
-ghost use Rattle.mt_read.specs.Field.{Reads, as_call, as_fix, as_role, as_type, bound, count, count_if_there, count_within, form_check, is_line, is_of, number, read_at, role_of, there, within};
+ghost use Rattle.mt_read.specs.Field.{ReadsChecked, as_call, as_fix, as_role, as_type, bound, count, count_if_there, count_within, form_check, is_line, is_of, number, read_at, role_of, there, within};
 ghost use Rattle.mt_read.specs.Table.{rvsm_in};
 
 use crate::key::{Fault, Key, key_text};
@@ -40,7 +40,7 @@ pub(crate) fn whole_or_none(fields: &Fields, origin: Origin, key: Key) -> Result
 /// A truth value must be there, or may be absent where `may_lack` says so; it is `absent` then.
 #[tactic(auto, unfolding(mt_base::specs::Checks::check))]
 fn flag(fields: &Fields, key: Key, may_lack: bool, absent: bool) -> Result<bool, Fault>
-    ensures { Reads result (check (form_check key may_lack true (is_of as_bool) (members fields.now)))
+    ensures { ReadsChecked result (check (form_check key may_lack true (is_of as_bool) (members fields.now)))
         (unwrap_or (read_at key as_bool (members fields.now)) absent) }
 {
     match fields.flag(key_text(key)) {
@@ -52,7 +52,7 @@ fn flag(fields: &Fields, key: Key, may_lack: bool, absent: bool) -> Result<bool,
 
 /// Whether another than its owner may withdraw a clearance, by default not; in an entry that must be there.
 pub(crate) fn force(fields: &Fields, origin: Origin) -> Result<bool, Fault>
-    ensures { Reads result (check (form_check key.Force (is_line origin) true (is_of as_bool) (members fields.now)))
+    ensures { ReadsChecked result (check (form_check key.Force (is_line origin) true (is_of as_bool) (members fields.now)))
         (unwrap_or (read_at key.Force as_bool (members fields.now)) false) }
 {
     flag(fields, Key::Force, is_line(origin), false)
@@ -60,7 +60,7 @@ pub(crate) fn force(fields: &Fields, origin: Origin) -> Result<bool, Fault>
 
 /// Whether an aircraft is approved for RVSM, which it is where that is absent, in an entry too.
 pub(crate) fn approval(fields: &Fields) -> Result<bool, Fault>
-    ensures { Reads result (check (form_check key.Rvsm true true (is_of as_bool) (members fields.now))) (rvsm_in (members fields.now)) }
+    ensures { ReadsChecked result (check (form_check key.Rvsm true true (is_of as_bool) (members fields.now))) (rvsm_in (members fields.now)) }
 {
     flag(fields, Key::Rvsm, true, true)
 }
@@ -68,7 +68,7 @@ pub(crate) fn approval(fields: &Fields) -> Result<bool, Fault>
 /// A callsign must be there.
 #[tactic(auto, unfolding(mt_base::specs::Checks::check))]
 pub(crate) fn callsign(fields: &Fields, key: Key) -> Result<Callsign, Fault>
-    ensures { Reads result (check (there key as_call (members fields.now)))
+    ensures { ReadsChecked result (check (there key as_call (members fields.now)))
         (unwrap_or (read_at key as_call (members fields.now)) []) }
 {
     let Ok(text) = fields.word(key_text(key)) else {
@@ -83,7 +83,7 @@ pub(crate) fn callsign(fields: &Fields, key: Key) -> Result<Callsign, Fault>
 /// The name of a fix must be there.
 #[tactic(auto, unfolding(mt_base::specs::Checks::check))]
 pub(crate) fn fix_name(fields: &Fields, key: Key) -> Result<FixName, Fault>
-    ensures { Reads result (check (there key as_fix (members fields.now)))
+    ensures { ReadsChecked result (check (there key as_fix (members fields.now)))
         (unwrap_or (read_at key as_fix (members fields.now)) []) }
 {
     let Ok(text) = fields.word(key_text(key)) else {
@@ -98,7 +98,7 @@ pub(crate) fn fix_name(fields: &Fields, key: Key) -> Result<FixName, Fault>
 /// The name of a type must be there.
 #[tactic(auto, unfolding(mt_base::specs::Checks::check))]
 pub(crate) fn type_name(fields: &Fields, key: Key) -> Result<TypeName, Fault>
-    ensures { Reads result (check (there key as_type (members fields.now)))
+    ensures { ReadsChecked result (check (there key as_type (members fields.now)))
         (unwrap_or (read_at key as_type (members fields.now)) []) }
 {
     let Ok(text) = fields.word(key_text(key)) else {
@@ -126,7 +126,7 @@ fn role_of(text: &str) -> Option<Role>
 /// A role must be there.
 #[tactic(auto, unfolding(mt_base::specs::Checks::check))]
 pub(crate) fn role(fields: &Fields, key: Key) -> Result<Role, Fault>
-    ensures { Reads result (check (there key as_role (members fields.now)))
+    ensures { ReadsChecked result (check (there key as_role (members fields.now)))
         (unwrap_or (read_at key as_role (members fields.now)) Feed) }
 {
     let Ok(text) = fields.word(key_text(key)) else {
@@ -156,7 +156,7 @@ pub(crate) fn within(fields: &Fields, key: Key, low: i64, high: i64) -> Result<i
 #[tactic(auto, unfolding(crate::specs::Field::within, crate::specs::Field::count_within))]
 pub(crate) fn count_within(fields: &Fields, key: Key, low: u32, high: u32) -> Result<u32, Fault>
     ensures exact { result ≡ count_within key low high (members fields.now) }
-    ensures reads { Reads result (check (bound key (pos low) (pos high) (number key (members fields.now)))) (count key (members fields.now)) }
+    ensures reads { ReadsChecked result (check (bound key (pos low) (pos high) (number key (members fields.now)))) (count key (members fields.now)) }
     ensures bounded { IfOk result (λ n. (low ≤ n) × (n ≤ high)) }
 {
     let number = within(fields, key, i64::from(low), i64::from(high))?;
@@ -166,7 +166,7 @@ pub(crate) fn count_within(fields: &Fields, key: Key, low: u32, high: u32) -> Re
 /// The number at a key, where one is there, from 0 to `high`.
 #[tactic(auto, unfolding(mt_base::specs::Checks::check))]
 pub(crate) fn count_or_none(fields: &Fields, key: Key, high: u32) -> Result<Option<u32>, Fault>
-    ensures { Reads result (check (bound key (pos 0) (pos high) (number key (members fields.now)))) (count_if_there key (members fields.now)) }
+    ensures { ReadsChecked result (check (bound key (pos 0) (pos high) (number key (members fields.now)))) (count_if_there key (members fields.now)) }
 {
     match fields.whole(key_text(key), 0, i64::from(high)) {
         Ok(number) => Ok(Some(number.unsigned_abs() as u32)),

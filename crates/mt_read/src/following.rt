@@ -1,9 +1,9 @@
 //! A line for a standby whose picture has begun: an entry to follow, or a line that asks what holds.
-ghost use Rattle.std.specs.Prelude.{◌≡◌, ℕ, [], IfOk, option_and_then};
+ghost use Rattle.std.specs.Prelude.{◌≡◌, [], IfOk, option_and_then};
 ghost use Rattle.mt_json.specs.Shown.{members};
 ghost use Rattle.mt_read.specs.Entry.{as_entry, held_in};
 ghost use Rattle.mt_read.specs.Following.{IsReadyLine, as_asked, as_followed, as_line, feed, feed_members, reading_layout, reading_word_of};
-ghost use Rattle.mt_read.specs.Line.{Gives, checked, keys_of, read_layout, word_text};
+ghost use Rattle.mt_read.specs.Line.{GivesReading, checked, keys_of, read_layout, word_text};
 ghost use Rattle.mt_read.specs.declared.origin.Origin.TheVariants as origin;
 ghost use Rattle.mt_read.specs.declared.request.Place.TheVariants.{Plain};
 
@@ -61,7 +61,7 @@ fn word_in(fields: &Fields) -> Option<Reading>
     reading_word_of(text)
 }
 
-// The keys of such a line, with a space behind each.
+// The keys of such a line, with a space after each.
 fn keys_of(word: Reading) -> &'static str
     ensures { result.now ≡ keys_of (origin.Line Plain) (reading_layout word).fields }
 {
@@ -87,7 +87,7 @@ fn checked(fields: &Fields, word: Reading) -> Result<(u32, Request), Fault>
 
 // What such a line asks for, if it has no other key.
 fn asked(alloc: Global, fields: &Fields, word: Reading) -> Result<(u32, Request), LineNo>
-    ensures { Gives result (read_layout (origin.Line Plain) [] (reading_layout word) (members fields.now)) }
+    ensures { GivesReading result (read_layout (origin.Line Plain) [] (reading_layout word) (members fields.now)) }
 {
     no_other(alloc, fields, keys_of(word))?;
     match checked(fields, word) {
@@ -108,7 +108,7 @@ fn line_of(request: Request) -> FeedLine
 
 // A line for a standby that is no entry.
 fn read_asked(alloc: Global, fields: &Fields, word: Reading) -> Result<FeedLine, LineNo>
-    ensures { Gives result (as_asked (read_layout (origin.Line Plain) [] (reading_layout word) (members fields.now))) }
+    ensures { GivesReading result (as_asked (read_layout (origin.Line Plain) [] (reading_layout word) (members fields.now))) }
 {
     let (_, request) = asked(alloc, fields, word)?;
     Ok(line_of(request))
@@ -116,7 +116,7 @@ fn read_asked(alloc: Global, fields: &Fields, word: Reading) -> Result<FeedLine,
 
 // An entry that a standby is to follow.
 fn read_followed(alloc: Global, fields: &Fields) -> Result<FeedLine, LineNo>
-    ensures { Gives result (as_followed (as_entry (held_in (members fields.now)))) }
+    ensures { GivesReading result (as_followed (as_entry (held_in (members fields.now)))) }
 {
     let (who, command) = held(alloc, fields)?;
     Ok(FeedLine::Followed(Entry { who, command }))
@@ -124,7 +124,7 @@ fn read_followed(alloc: Global, fields: &Fields) -> Result<FeedLine, LineNo>
 
 // What an object's fields ask of a standby.
 fn read_fields(alloc: Global, fields: &Fields) -> Result<FeedLine, LineNo>
-    ensures { Gives result (feed_members (members fields.now)) }
+    ensures { GivesReading result (feed_members (members fields.now)) }
 {
     match word_in(fields) {
         Some(word) => read_asked(alloc, fields, word),
@@ -134,7 +134,7 @@ fn read_fields(alloc: Global, fields: &Fields) -> Result<FeedLine, LineNo>
 
 // What a line asks of a standby.
 fn read_bytes(alloc: Global, scratch: &mut Scratch, bytes: &[u8]) -> Result<FeedLine, LineNo>
-    ensures { Gives result (feed bytes.now) }
+    ensures { GivesReading result (feed bytes.now) }
 {
     let value = value_of(alloc, scratch, bytes)?;
     let Some(fields) = Fields::of(&value) else {
@@ -151,7 +151,7 @@ fn read_bytes(alloc: Global, scratch: &mut Scratch, bytes: &[u8]) -> Result<Feed
 /// which is kept from line to line. The numbers of an entry are within their bounds, and its clearance says from when it holds, so that no moment
 /// fills that in.
 pub fn read_feed(alloc: Global, scratch: &mut Scratch, bytes: &[u8]) -> Result<FeedLine, LineNo>
-    ensures exact { Gives result (feed bytes.now) }
+    ensures exact { GivesReading result (feed bytes.now) }
     ensures ready { IfOk result IsReadyLine }
 {
     read_bytes(alloc, scratch, bytes)

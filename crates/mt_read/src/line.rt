@@ -3,7 +3,7 @@ ghost use Rattle.std.specs.Prelude.{◌≡◌, [], IfOk};
 ghost use Rattle.mt_json.specs.Shown.{members};
 ghost use Rattle.mt_read.specs.Bounded.{IsBounded};
 ghost use Rattle.mt_read.specs.Field.{IsUnlessMemory};
-ghost use Rattle.mt_read.specs.Line.{Gives, checked, line, read_members, standing, word_in};
+ghost use Rattle.mt_read.specs.Line.{GivesReading, checked, line, read_members, standing_rules, word_in};
 ghost use Rattle.mt_read.specs.Table.{as_request, change_layout, layout_of};
 ghost use Rattle.mt_read.specs.declared.origin.Origin.TheVariants.{Line};
 
@@ -59,7 +59,7 @@ fn checked(
     rules: &Rules,
     word: Word,
 ) -> Result<(u32, Request), Stop>
-    ensures { IsUnlessMemory result (checked (Line place) (standing word rules.now (members fields.now)) (layout_of word) (members fields.now)) }
+    ensures { IsUnlessMemory result (checked (Line place) (standing_rules word rules.now (members fields.now)) (layout_of word) (members fields.now)) }
 {
     let origin = Origin::Line(place);
     match word {
@@ -92,7 +92,7 @@ fn read_fields(
     place: Place,
     rules: &Rules,
 ) -> Result<(u32, Request), LineNo>
-    ensures { Gives result (read_members place rules.now (members fields.now)) }
+    ensures { GivesReading result (read_members place rules.now (members fields.now)) }
 {
     let Some(word) = word_in(fields, place) else {
         return Err(form(alloc, b"do"));
@@ -113,7 +113,7 @@ fn read_bytes(
     place: Place,
     rules: &Rules,
 ) -> Result<(u32, Request), LineNo>
-    ensures { Gives result (line place rules.now bytes.now) }
+    ensures { GivesReading result (line place rules.now bytes.now) }
 {
     let value = value_of(alloc, scratch, bytes)?;
     let Some(fields) = Fields::of(&value) else {
@@ -137,7 +137,7 @@ pub fn read_line(
     place: Place,
     rules: &Rules,
 ) -> Result<(u32, Request), LineNo>
-    ensures exact { Gives result (line place rules.now bytes.now) }
+    ensures exact { GivesReading result (line place rules.now bytes.now) }
     ensures bounded { IfOk result (IsBounded rules.now) }
 {
     read_bytes(alloc, scratch, bytes, place, rules)

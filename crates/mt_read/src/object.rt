@@ -46,7 +46,7 @@ pub(crate) fn form(alloc: Global, name: &[u8]) -> LineNo
     }
 }
 
-/// The object has no other key than these, each with a space behind it.
+/// The object has no other key than these, each with a space after it.
 pub(crate) fn no_other(alloc: Global, fields: &Fields, keys: &str) -> Result<(), LineNo>
     ensures { MatchResult result (λ _. least_other keys.now (members fields.now) ≡ None)
         (λ e. (e ≡ no_memory) ⊎ ((key : List ℕ) × (least_other keys.now (members fields.now) ≡ Some key) × (e ≡ Form key))) }

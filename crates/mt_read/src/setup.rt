@@ -3,8 +3,8 @@ ghost use Rattle.std.specs.Prelude.{◌≡◌, [], map};
 ghost use Rattle.mt_base.specs.Checks.{check, judged};
 ghost use Rattle.mt_json.specs.Field.{as_whole};
 ghost use Rattle.mt_json.specs.Shown.{members};
-ghost use Rattle.mt_read.specs.Field.{Reads, read_at};
-ghost use Rattle.mt_read.specs.Line.{checked, kinds, standing};
+ghost use Rattle.mt_read.specs.Field.{ReadsChecked, read_at};
+ghost use Rattle.mt_read.specs.Line.{checked, kinds, standing_rules};
 ghost use Rattle.mt_read.specs.Rules.{rule_bound, rule_bounds, rule_names, rules_with, set_in};
 ghost use Rattle.mt_read.specs.Table.{layout_of};
 ghost use Rattle.mt_read.specs.declared.key.Key.TheVariants as key;
@@ -51,7 +51,7 @@ fn rule_kinds(fields: &Fields, origin: Origin) -> Result<(), Fault>
 // What a line sets a rule to.
 #[tactic(auto, unfolding(mt_base::specs::Checks::check))]
 fn rule_at(fields: &Fields, name: RuleName) -> Result<Option<i64>, Fault>
-    ensures { Reads result (check (rule_bound (members fields.now) name)) (read_at (key.Rule name) as_whole (members fields.now)) }
+    ensures { ReadsChecked result (check (rule_bound (members fields.now) name)) (read_at (key.Rule name) as_whole (members fields.now)) }
 {
     match fields.whole(key_text(Key::Rule(name)), i64::MIN, i64::MAX) {
         Ok(rule) => Ok(Some(rule)),
@@ -62,7 +62,7 @@ fn rule_at(fields: &Fields, name: RuleName) -> Result<Option<i64>, Fault>
 
 // The rules that a line sets.
 fn rule_set(fields: &Fields) -> Result<RuleSet, Fault>
-    ensures { Reads result (judged (map (rule_bound (members fields.now)) rule_names) (tt {0})) (set_in (members fields.now)) }
+    ensures { ReadsChecked result (judged (map (rule_bound (members fields.now)) rule_names) (tt {0})) (set_in (members fields.now)) }
 {
     let sh = rule_at(fields, RuleName::Sh)?;
     let sv = rule_at(fields, RuleName::Sv)?;
@@ -114,7 +114,7 @@ pub(crate) fn rule_line(
     origin: Origin,
     rules: &Rules,
 ) -> Result<(u32, Request), Fault>
-    ensures { result ≡ checked origin (standing word.Rule rules.now (members fields.now)) (layout_of word.Rule) (members fields.now) }
+    ensures { result ≡ checked origin (standing_rules word.Rule rules.now (members fields.now)) (layout_of word.Rule) (members fields.now) }
 {
     rule_kinds(fields, origin)?;
     actor_kind(fields, origin)?;

@@ -1,7 +1,7 @@
 ghost use Rattle.std.specs.Prelude.{◌≡◌};
 ghost use Rattle.mt_read.specs.Line.{keys_of};
 ghost use Rattle.mt_read.specs.Table.{change_layout, entry_layout, layout_of};
-ghost use Rattle.mt_read.specs.Words.{change_word_of, entry_word_of, is_allowed, may_give, own_word_of, word_of};
+ghost use Rattle.mt_read.specs.Words.{change_word_of, entry_word_of, is_allowed_at, own_word_of, word_of};
 ghost use Rattle.mt_read.specs.declared.origin.Origin.TheVariants.{Line, Entry};
 ghost use Rattle.mt_read.specs.declared.request.Place.TheVariants.{Replay, Plain};
 
@@ -172,7 +172,7 @@ fn group_of(word: Word) -> Group
 
 /// Whether a line of the place may give the command.
 pub(crate) fn is_allowed(place: Place, word: Word) -> bool
-    ensures { result ≡ is_allowed place word }
+    ensures { result ≡ is_allowed_at place word }
 {
     match (place, group_of(word)) {
         (Place::Replay, _) => true,
@@ -183,7 +183,7 @@ pub(crate) fn is_allowed(place: Place, word: Word) -> bool
     }
 }
 
-/// The keys of the command's line, with a space behind each.
+/// The keys of the command's line, with a space after each.
 pub(crate) fn keys_of(place: Place, word: Word) -> &'static str
     ensures { result.now ≡ keys_of (Line place) (layout_of word).fields }
 {
@@ -193,7 +193,7 @@ pub(crate) fn keys_of(place: Place, word: Word) -> &'static str
     }
 }
 
-/// The keys of an entry, with a space behind each.
+/// The keys of an entry, with a space after each.
 pub(crate) fn entry_keys(word: EntryWord) -> &'static str
     ensures { result.now ≡ keys_of Entry (entry_layout word).fields }
 {

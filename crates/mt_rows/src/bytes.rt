@@ -2,7 +2,7 @@
 
 use anyhow::{Context, Result};
 
-/// Puts the bytes of a text with escapes behind those before.
+/// Puts the bytes of a text with escapes after those before.
 pub fn push_escaped(bytes: &mut Vec<u8>, text: &str) -> Result<()> {
     let mut pieces = text.split("\\x");
     bytes.extend_from_slice(pieces.next().unwrap_or("").as_bytes())?;
@@ -18,7 +18,7 @@ pub fn push_escaped(bytes: &mut Vec<u8>, text: &str) -> Result<()> {
     Ok(())
 }
 
-/// How often a byte stands, and the text behind that number.
+/// How often a byte stands, and the text after that number.
 fn count_of(text: &str) -> Result<(u32, &str)> {
     let Some(behind) = text.strip_prefix('{') else {
         return Ok((1, text));

@@ -80,7 +80,7 @@ impl<'a> Case<'a> {
         Ok(case)
     }
 
-    // Takes a line of the script. What stands behind a link is that link's.
+    // Takes a line of the script. What stands after a link is that link's.
     fn take(&mut self, alloc: Global, step: &Step<'a>) -> Result<()> {
         match step.mark {
             "$" => self.words = step.text,

@@ -1,5 +1,5 @@
 //! Runs cases, each some lines in and the lines out that are wanted, through `run` over objects in memory. The words of the command line
-//! are the files of the cases. For each file one line is printed, with its number of cases and of lines that are wanted; behind it stand
+//! are the files of the cases. For each file one line is printed, with its number of cases and of lines that are wanted; after it stand
 //! its differences, each with the line of the file at which it stands.
 //!
 //! A line of such a file begins with a mark; a space and the mark's text follow.
@@ -14,10 +14,10 @@
 //! | `<` | a line out |
 //! | `>>`, `<<` | the same, but `\xHH` stands for the byte of that hexadecimal number and `\xHH{N}` for N of them |
 //! | `>-`, `<-` | a line in, or out, without its end, the last one |
-//! | `@` | a link of the door begins: the lines in and out behind it are its own. It has room for so many bytes out, or for 65,536 |
+//! | `@` | a link of the door begins: the lines in and out after it are its own. It has room for so many bytes out, or for 65,536 |
 //! | `@-` | the same, but the link isn't served |
-//! | `!>`, `!<` | numbers: the reads and the writes that fail, counted from 1. Behind a link they are that link's |
-//! | `%` | a number: how many bytes a read or a write moves at most. Behind a link it is that link's |
+//! | `!>`, `!<` | numbers: the reads and the writes that fail, counted from 1. After a link they are that link's |
+//! | `%` | a number: how many bytes a read or a write moves at most. After a link it is that link's |
 //! | `!@` | numbers: the calls of the door that fail, of which asking it to listen is the first |
 //! | `$` | the words of the command line, where they aren't `replay` |
 //! | `?` | the exit status, where it isn't 0 |

@@ -30,7 +30,7 @@ pub fn read_scripts(alloc: Global, text: &str) -> Result<Vec<Script<'_>>> {
     Ok(scripts)
 }
 
-/// Puts a line behind those that were read before it.
+/// Puts a line after those that were read before it.
 fn read_step<'a>(alloc: Global, scripts: &mut Vec<Script<'a>>, step: Step<'a>) -> Result<()> {
     match step.mark {
         ";" => Ok(()),
@@ -52,7 +52,7 @@ fn read_step<'a>(alloc: Global, scripts: &mut Vec<Script<'a>>, step: Step<'a>) -
     }
 }
 
-/// Puts the lines of a block behind those of the last case or block.
+/// Puts the lines of a block after those of the last case or block.
 fn take_block(scripts: &mut Vec<Script<'_>>, name: &str) -> Result<()> {
     let Some(mut script) = scripts.pop() else {
         bail!("no case has begun");

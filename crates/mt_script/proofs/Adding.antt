@@ -7,7 +7,7 @@ use Rattle.mt_read.specs.declared.request.Request.{Request}
 use Rattle.mt_write.specs.declared.reply.DoneWord.{DoneWord}
 use Rattle.mt_write.specs.declared.reply.Reply.{Reply}
 use Rattle.mt_write.specs.declared.reply.Reply.TheVariants.{Done, Memory}
-use Rattle.mt_world.specs.World.{World, IsAdded, IsLeft, IsRefused, IsStarved}
+use Rattle.mt_world.specs.World.{World, IsAdded, IsWorldLeft, IsRefused, IsStarved}
 
 -- one was added
 pub is_added : (w next : World) (checked : Result ⊤ AddNo) (word : DoneWord) (taken : Reply) (tables : Tables)
@@ -23,7 +23,7 @@ when_false true P Q e m = cc
 when_false false P Q e m = m
 
 -- what is answered before the picture has begun, or memory is wanted
-pub before_or : (w next : World) (who : ℕ) (request : Request) (reply : Reply) (P Q : Type 0) → w.begun ≡ false → (next ≡ w → IsLeft w who request next)
+pub before_or : (w next : World) (who : ℕ) (request : Request) (reply : Reply) (P Q : Type 0) → w.begun ≡ false → (next ≡ w → IsWorldLeft w who request next)
     → Q ⊎ IsRefused w Memory reply next → MatchBool w.begun P Q ⊎ IsStarved w who request reply next
 before_or w next who request reply P Q before left (inl q) = inl (on_false w.begun P Q before q)
 before_or w next who request reply P Q before left (inr memory) = inr (record { reply_is = memory.reply_is; left = left memory.same })

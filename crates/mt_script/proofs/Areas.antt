@@ -1,5 +1,5 @@
 -- What a script answers to a line that adds an area, and to one that asks for areas.
-use Rattle.std.proofs.Common.{◌≡◌, ◌⊎◌, inl, inr, ℕ, true, false, List, [], ◌∷◌, ◌++◌, length, Result, Ok, Err, refl, ap, subst}
+use Rattle.std.proofs.Common.{◌≡◌, ◌⊎◌, inl, inr, ℕ, true, false, List, [], ◌∷◌, ◌++◌, length, Ok, Err, refl, ap, subst}
 use Rattle.std.specs.Prelude.{⊤}
 use Rattle.mt_area.specs.declared.area_no.AreaNo.{AreaNo}
 use Rattle.mt_area.specs.declared.area_no.AreaNo.TheVariants as area_no

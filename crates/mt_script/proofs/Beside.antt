@@ -1,5 +1,5 @@
 -- A script's world is that of its setting, or the one that has begun, with its areas beside.
-use Rattle.std.proofs.Common.{◌≡◌, ◌⊎◌, ◌∙◌, ℕ, List, Option, sym, ap, subst}
+use Rattle.std.proofs.Common.{◌≡◌, ◌⊎◌, ◌∙◌, ℕ, List, Option, ap, subst}
 use Rattle.std.specs.Prelude.{unwrap_or}
 use Rattle.mt_base.specs.declared.area.Area.{Area}
 use Rattle.mt_read.specs.declared.request.Request.{Request}

@@ -4,7 +4,7 @@ use Rattle.mt_base.specs.Tables.{Tables}
 use Rattle.mt_world.specs.World.{World}
 
 -- the rules and the tables stand as they were set up, and the picture has begun in both or in none
-pub record IsKept (before after : World) : Type 0 where
+pub record IsSetupKept (before after : World) : Type 0 where
   pub rules_are : after.rules ≡ before.rules
   pub tables_are : after.tables ≡ before.tables
   pub begun_is : after.begun ≡ before.begun

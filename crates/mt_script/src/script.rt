@@ -131,7 +131,7 @@ impl Script {
         }
     }
 
-    // Puts an area behind the others, before the picture begins.
+    // Puts an area after the others, before the picture begins.
     fn add_area(&mut self, alloc: Global, area: &Area) -> Reply
         requires { IsBoundedArea area.now }
         ensures served { (who : ℕ) → IsServed self.old who (requests.Area area.now) result self.new

@@ -3,8 +3,6 @@ ghost use Rattle.std.specs.Prelude.{◌≡◌, ◌⊎◌, ℕ, [], IfOk, true, f
 ghost use Rattle.std.specs.Arc.{arc_value};
 ghost use Rattle.mt_base.specs.Bounds.{AreBoundedBands, AreWithinBounds, IsInPlane};
 ghost use Rattle.mt_base.specs.Checks.{judged};
-ghost use Rattle.mt_base.specs.Rules.{usual_rules};
-ghost use Rattle.mt_base.specs.Tables.{no_tables};
 ghost use Rattle.mt_tables.specs.Adding.{fix_adding, type_adding, with_fix, with_type};
 ghost use Rattle.mt_write.specs.declared.reply.DoneWord.TheVariants as done;
 ghost use Rattle.mt_write.specs.declared.reply.Reply.TheVariants as replies;

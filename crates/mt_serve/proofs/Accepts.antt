@@ -5,18 +5,18 @@ use Rattle.std.specs.Option.{option_to_list}
 use Rattle.std.proofs.lemmas.List.Elements.{All-push}
 use Rattle.std.specs.declared.option.Option.{Option}
 use Rattle.mt_base.specs.Tables.{Setup}
-use Rattle.mt_desk.specs.Desk.{Desk, IsReady}
+use Rattle.mt_desk.specs.Desk.{Desk, IsSeatOfDesk}
 use Rattle.mt_turn.specs.Places.{Place}
 use Rattle.mt_base.specs.declared.command.Entry.{Entry}
-use Rattle.mt_io.specs.Door.{Count, Loses, Gains, gave_one}
-use Rattle.mt_serve.specs.Sitting.{HaveNoChannel, Start, HasBegun, seats_of}
+use Rattle.mt_io.specs.Door.{Count, LosesFront, Gains, gave_one}
+use Rattle.mt_serve.specs.Sitting.{HaveNoChannel, Start, HasSeatedLinks, seats_of}
 use Rattle.mt_serve.specs.Accepting.{Accepting}
 
-pub loses_none : {A : Type 0} (a : Option (List A)) → Loses a a []
+pub loses_none : {A : Type 0} (a : Option (List A)) → LosesFront a a []
 loses_none None = tt
 loses_none (Some xs) = refl
 
-pub loses_on : {A : Type 0} (a b c : Option (List A)) (xs ys : List A) → Loses a b xs → Loses b c ys → Loses a c (xs ++ ys)
+pub loses_on : {A : Type 0} (a b c : Option (List A)) (xs ys : List A) → LosesFront a b xs → LosesFront b c ys → LosesFront a c (xs ++ ys)
 loses_on None b c xs ys ab bc = tt
 loses_on (Some as_) None c xs ys ab bc = absurd ab
 loses_on (Some as_) (Some bs) None xs ys ab bc = bc
@@ -61,7 +61,7 @@ pub all_front : {A : Type 0} (P : A → Type 0) (x : A) (xs ys : List A) → All
 all_front P x xs ys all is = all_first P x xs (subst (All P) is all)
 
 pub accepting_more : {L : Type 0} (desk : Desk) (c d e : Count) (still left now : Option (List L)) (seats rest after : List (Place Entry Setup)) (starts : List (Start L)) (link : L) (seat : Place Entry Setup)
-    (has_channel : Bool) → Accepting desk c d still left seats rest starts → (d.given < d.sessions) × (e ≡ gave_one d) × Loses left now (link ∷ []) → rest ≡ seat ∷ after
+    (has_channel : Bool) → Accepting desk c d still left seats rest starts → (d.given < d.sessions) × (e ≡ gave_one d) × LosesFront left now (link ∷ []) → rest ≡ seat ∷ after
     → Accepting desk c e still now seats after (starts ++ record { link = link; seat = seat; has_channel = has_channel } ∷ [])
 accepting_more {L} desk c d e still left now seats rest after starts link seat has_channel so gave is =
     let s : Start L = record { link = link; seat = seat; has_channel = has_channel } in
@@ -72,10 +72,10 @@ accepting_more {L} desk c d e still left now seats rest after starts link seat h
         sessions = ap (λ (z : Count). z.sessions) same ∙ so.begun.sessions;
         given = omega (arith, ap (λ (z : Count). z.given) same, so.begun.given, length_push starts s);
         back = ap (λ (z : Count). z.back) same ∙ so.begun.back;
-        links = subst (λ ls. Loses still now ls) (sym (map_push (λ (z : Start L). z.link) starts s)) (loses_on _ _ _ _ _ so.begun.links gave.2);
+        links = subst (λ ls. LosesFront still now ls) (sym (map_push (λ (z : Start L). z.link) starts s)) (loses_on _ _ _ _ _ so.begun.links gave.2);
         seats_are = so.begun.seats_are ∙ ap (λ zs. seats_of starts ++ zs) is ∙ sym (append_assoc (seats_of starts) (seat ∷ []) after) ∙ ap (λ zs. zs ++ after) (sym (map_push (λ (z : Start L). z.seat) starts s));
       };
-      ready = all_rest (IsReady desk) seat after (subst (λ zs. All (IsReady desk) zs) is so.ready);
+      ready = all_rest (IsSeatOfDesk desk) seat after (subst (λ zs. All (IsSeatOfDesk desk) zs) is so.ready);
       seated = omega (arith, ap (λ (z : Count). z.given) same, ap (λ (z : Count). z.sessions) same, so.seated, ap (λ (zs : List (Place Entry Setup)). length zs) is);
     }
 
@@ -96,5 +96,5 @@ channels_more {L} {S} all before after job starts more s so taken is own none =
 
 -- what holds of the door that the scope gives back holds of the door afterwards
 pub begun_at : {L D : Type 0} (count : D → Count) (still : D → Option (List L)) (c : Count) (all : Option (List L)) (seats rest : List (Place Entry Setup)) (starts : List (Start L)) (d e : D)
-    → HasBegun c (count e) all (still e) seats rest starts → d ≡ e → HasBegun c (count d) all (still d) seats rest starts
-begun_at count still c all seats rest starts d e begun is = subst (λ z. HasBegun c (count z) all (still z) seats rest starts) (sym is) begun
+    → HasSeatedLinks c (count e) all (still e) seats rest starts → d ≡ e → HasSeatedLinks c (count d) all (still d) seats rest starts
+begun_at count still c all seats rest starts d e begun is = subst (λ z. HasSeatedLinks c (count z) all (still z) seats rest starts) (sym is) begun

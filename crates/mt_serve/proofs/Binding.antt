@@ -3,19 +3,19 @@ use Rattle.std.proofs.Common.{◌≡◌, ◌+◌, ◌==◌, ◌⊎◌, inl, inr,
 use Rattle.std.specs.List.{range_with_len}
 use Rattle.std.proofs.lemmas.List.Elements.{All-append, All-contains, Contains-append_cases, Contains-append_left, Contains-append_right}
 use Rattle.mt_base.specs.Tables.{Setup}
-use Rattle.mt_desk.specs.Desk.{Desk, IsReady}
+use Rattle.mt_desk.specs.Desk.{Desk, IsSeatOfDesk}
 use Rattle.mt_io.specs.declared.source.Source as Source
 use Rattle.mt_io.specs.declared.sink.Sink as Sink
 use Rattle.mt_turn.specs.declared.view.View.{View}
 use Rattle.mt_turn.specs.declared.view.Joined.{Joined}
 use Rattle.mt_turn.specs.Places.{Place}
 use Rattle.mt_turn.specs.Views.{joined_as, first_view, entries_of}
-use Rattle.mt_turn.specs.Lending.{AllJoined, IsJoined, Closes}
+use Rattle.mt_turn.specs.Lending.{AllJoined, IsJoined, ClosesHistory}
 use Rattle.mt_base.specs.declared.command.Entry.{Entry}
 use Rattle.mt_serve.specs.Sitting.{Met, Start, starts_of, seats_of}
 use Rattle.mt_serve.specs.Working.{Worked, IsRenewal, IsRested, froms_of, rests_of}
 use Rattle.mt_serve.specs.Serving.{HasServed}
-use Rattle.mt_serve.specs.Seating.{IsFresh, AllSplit, HasSplit, HasJoined, numbers_of, views_of, joined_of}
+use Rattle.mt_serve.specs.Seating.{IsNewSeat, AllSplit, HasSplit, HasJoined, numbers_of, views_of, joined_of}
 use Rattle.mt_serve.specs.Tied.{AreOver, ends_of, number_of, IsSessions, IsInHistory, IsTied}
 use Rattle.mt_serve.proofs.Seats.{length_map}
 use Rattle.mt_base.proofs.Members.{All-from_held, Contains-map, Contains-none}
@@ -115,17 +115,17 @@ module _ {L : Type 0} (source : Source.Ghosts L) (sink : Sink.Ghosts L) where
       | inr in_works_ ↦ let a = contains_unmap (λ (z : Place Entry Setup). z.view.number) (froms_of works ++ hands) n in_works_ in subst (IsJoined w.joined) a.2 (hand_joined a.0 a.1)
     ]
 
-    fresh_of : (s : Place Entry Setup) → Contains ((seats_of (starts_of mets) ++ rest) ++ (froms_of works ++ hands)) s → IsFresh desk (first_view desk.fixed) s
-    fresh_of s c = All-contains (IsFresh desk (first_view desk.fixed)) _ s so.split.fresh c
+    fresh_of : (s : Place Entry Setup) → Contains ((seats_of (starts_of mets) ++ rest) ++ (froms_of works ++ hands)) s → IsNewSeat desk (first_view desk.fixed) s
+    fresh_of s c = All-contains (IsNewSeat desk (first_view desk.fixed)) _ s so.split.fresh c
 
-    module _ (h : List Entry) (closes : Closes number_of w h) where
+    module _ (h : List Entry) (closes : ClosesHistory number_of w h) where
       mine_of : (x : View Entry Setup) → Contains (all_views mets rest works hands) x → entries_of number_of x.number h ≡ x.mine
       mine_of x c = closes.joined_mine (joined_as x) (join_of x c)
 
       in_mine : (e : Entry) (x : View Entry Setup) → Contains h e → Contains (all_views mets rest works hands) x → x.number ≡ e.who → Contains x.mine e
       in_mine e x ce cx is = subst (λ es. Contains es e) (mine_of x cx) (in_entries h e x.number ce is)
 
-      fresh_start : (m : Met L) → Contains mets m → IsFresh desk (first_view desk.fixed) m.from.seat
+      fresh_start : (m : Met L) → Contains mets m → IsNewSeat desk (first_view desk.fixed) m.from.seat
       fresh_start m c =
           fresh_of m.from.seat (Contains-append_left _ _ _ (Contains-append_left _ _ _ (Contains-map (λ (z : Start L). z.seat) (starts_of mets) m.from (Contains-map (λ (z : Met L). z.from) mets m c))))
 
@@ -143,7 +143,7 @@ module _ {L : Type 0} (source : Source.Ghosts L) (sink : Sink.Ghosts L) where
             mine = mine_of m.seat.view at;
           }
 
-      idle_has_none : (e : Entry) (s : Place Entry Setup) → Contains h e → Contains (all_views mets rest works hands) s.view → s.view.number ≡ e.who → IsFresh desk (first_view desk.fixed) s → ⊥
+      idle_has_none : (e : Entry) (s : Place Entry Setup) → Contains h e → Contains (all_views mets rest works hands) s.view → s.view.number ≡ e.who → IsNewSeat desk (first_view desk.fixed) s → ⊥
       idle_has_none e s ce cs is fresh = Contains-none e (subst (λ es. Contains es e) fresh.mine (in_mine e s.view ce cs is))
 
       other : (e : Entry) → Contains h e → (x : View Entry Setup) → Contains (all_views mets rest works hands) x → x.number ≡ e.who → IsSessions mets e.who ⊎ IsRenewal e
@@ -200,22 +200,22 @@ all_split desk v w seats hands a b = record {
   gave = b.gave ∙ ap (λ ns. ns ++ numbers_of hands) a.gave;
   numbers = a.numbers;
   fresh =
-      All-append (IsFresh desk (first_view desk.fixed)) seats hands a.fresh
+      All-append (IsNewSeat desk (first_view desk.fixed)) seats hands a.fresh
       (λ k d below. let f = b.fresh k d below in record { ready = f.ready; seen = f.seen ∙ a.seen; mine = f.mine });
 }
 
 module _ {L : Type 0} (desk : Desk) (v : View Entry Setup) (mets : List (Met L)) (rest : List (Place Entry Setup)) (works : List Worked) (hands : List (Place Entry Setup)) (split : AllSplit desk v (seats_of (starts_of mets) ++ rest) (froms_of works ++ hands)) where
-  fresh_at : (s : Place Entry Setup) → Contains ((seats_of (starts_of mets) ++ rest) ++ (froms_of works ++ hands)) s → IsFresh desk (first_view desk.fixed) s
-  fresh_at s c = All-contains (IsFresh desk (first_view desk.fixed)) _ s split.fresh c
+  fresh_at : (s : Place Entry Setup) → Contains ((seats_of (starts_of mets) ++ rest) ++ (froms_of works ++ hands)) s → IsNewSeat desk (first_view desk.fixed) s
+  fresh_at s c = All-contains (IsNewSeat desk (first_view desk.fixed)) _ s split.fresh c
 
-  pub ready_mets : All (λ (m : Met L). IsReady desk m.from.seat) mets
-  ready_mets = All-from_held (λ (m : Met L). IsReady desk m.from.seat) mets (λ m c. (fresh_at m.from.seat (Contains-append_left _ _ _ (Contains-append_left _ _ _ (Contains-map (λ (z : Start L). z.seat) (starts_of mets) m.from (Contains-map (λ (z : Met L). z.from) mets m c))))).ready)
+  pub ready_mets : All (λ (m : Met L). IsSeatOfDesk desk m.from.seat) mets
+  ready_mets = All-from_held (λ (m : Met L). IsSeatOfDesk desk m.from.seat) mets (λ m c. (fresh_at m.from.seat (Contains-append_left _ _ _ (Contains-append_left _ _ _ (Contains-map (λ (z : Start L). z.seat) (starts_of mets) m.from (Contains-map (λ (z : Met L). z.from) mets m c))))).ready)
 
-  pub ready_rest : All (IsReady desk) rest
-  ready_rest = All-from_held (IsReady desk) rest (λ s c. let f = fresh_at s (Contains-append_left _ _ _ (Contains-append_right (seats_of (starts_of mets)) _ _ c)) in f.ready)
+  pub ready_rest : All (IsSeatOfDesk desk) rest
+  ready_rest = All-from_held (IsSeatOfDesk desk) rest (λ s c. let f = fresh_at s (Contains-append_left _ _ _ (Contains-append_right (seats_of (starts_of mets)) _ _ c)) in f.ready)
 
-  pub ready_works : All (λ (w : Worked). IsReady desk w.from) works
-  ready_works = All-from_held (λ (w : Worked). IsReady desk w.from) works (λ w c. (fresh_at w.from (Contains-append_right (seats_of (starts_of mets) ++ rest) _ _ (Contains-append_left _ _ _ (Contains-map (λ (z : Worked). z.from) works w c)))).ready)
+  pub ready_works : All (λ (w : Worked). IsSeatOfDesk desk w.from) works
+  ready_works = All-from_held (λ (w : Worked). IsSeatOfDesk desk w.from) works (λ w c. (fresh_at w.from (Contains-append_right (seats_of (starts_of mets) ++ rest) _ _ (Contains-append_left _ _ _ (Contains-map (λ (z : Worked). z.from) works w c)))).ready)
 
-  pub ready_hands : All (IsReady desk) hands
-  ready_hands = All-from_held (IsReady desk) hands (λ s c. let f = fresh_at s (Contains-append_right (seats_of (starts_of mets) ++ rest) _ _ (Contains-append_right (froms_of works) _ _ c)) in f.ready)
+  pub ready_hands : All (IsSeatOfDesk desk) hands
+  ready_hands = All-from_held (IsSeatOfDesk desk) hands (λ s c. let f = fresh_at s (Contains-append_right (seats_of (starts_of mets) ++ rest) _ _ (Contains-append_right (froms_of works) _ _ c)) in f.ready)

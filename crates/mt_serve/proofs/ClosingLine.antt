@@ -13,7 +13,7 @@ parts_are : (c : Closing) → codes "{\"conflicts\":" ++ (decimal c.conflicts ++
 unfolding json_on_literals
 parts_are c = simp append_assoc
 
--- parts put behind one another
+-- parts put one after another
 joined : (l k1 n1 k2 n2 k3 n3 k4 n4 k5 n5 k6 n6 end : List ℕ)
     → (((((((l ++ (k1 ++ n1)) ++ (k2 ++ n2)) ++ (k3 ++ n3)) ++ (k4 ++ n4)) ++ (k5 ++ n5)) ++ (k6 ++ n6)) ++ end)
     ≡ l ++ (k1 ++ (n1 ++ (k2 ++ (n2 ++ (k3 ++ (n3 ++ (k4 ++ (n4 ++ (k5 ++ (n5 ++ (k6 ++ (n6 ++ end))))))))))))

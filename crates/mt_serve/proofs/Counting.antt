@@ -3,7 +3,8 @@ use Rattle.std.proofs.Common.{◌≡◌, ◌≤◌, ◌+◌, Bool, true, false, 
 use Rattle.mt_base.proofs.FewAdvised.{few_filtered}
 use Rattle.mt_serve.specs.Sitting.{Met}
 use Rattle.mt_serve.specs.declared.counts.Counts.{Counts}
-use Rattle.mt_serve.specs.Summary.{counted, is_faulted, is_starved, one_if, with_outcome}
+use Rattle.mt_base.specs.StrikeOut.{one_if}
+use Rattle.mt_serve.specs.Summary.{counted, is_faulted, is_starved_session, with_outcome}
 use Rattle.mt_serve.proofs.Accepts.{length_push}
 
 length_cond : {A : Type 0} (b : Bool) (y : A) (xs : List A) → length (cond b (y ∷ xs) xs) ≡ length xs + one_if b
@@ -20,8 +21,8 @@ pub counted_more : {L : Type 0} (past : List (Met L)) (x : Met L) → counted (p
 counted_more {L} past x =
     ap (λ n. record { sessions = n; faulted = (counted (past ++ x ∷ [])).faulted; starved = (counted (past ++ x ∷ [])).starved }) (length_push past x)
     ∙ ap (λ n. record { sessions = length past + 1; faulted = n; starved = (counted (past ++ x ∷ [])).starved }) (filter_push (λ (m : Met L). is_faulted m.outcome) past x)
-    ∙ ap (λ n. record { sessions = length past + 1; faulted = (with_outcome x.outcome (counted past)).faulted; starved = n }) (filter_push (λ (m : Met L). is_starved m.outcome) past x)
+    ∙ ap (λ n. record { sessions = length past + 1; faulted = (with_outcome x.outcome (counted past)).faulted; starved = n }) (filter_push (λ (m : Met L). is_starved_session m.outcome) past x)
 
 pub counted_parts : {L : Type 0} (past : List (Met L)) (counts : Counts) → counts ≡ counted past → (counts.faulted ≤ counts.sessions) × (counts.starved ≤ counts.sessions)
 counted_parts {L} past counts is = subst (λ (c : Counts). (c.faulted ≤ c.sessions) × (c.starved ≤ c.sessions)) (sym is)
-    (few_filtered (λ (m : Met L). is_faulted m.outcome) past, few_filtered (λ (m : Met L). is_starved m.outcome) past)
+    (few_filtered (λ (m : Met L). is_faulted m.outcome) past, few_filtered (λ (m : Met L). is_starved_session m.outcome) past)

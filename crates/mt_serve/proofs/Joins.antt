@@ -2,7 +2,7 @@
 use Rattle.std.proofs.Common.{Bool, ◌≡◌, ◌<◌, ◌≤◌, ◌+◌, ◌^◌, List, [], ◌∷◌, ◌++◌, length, All, Option, refl, sym, ap, ◌∙◌, subst, append-nil, length-append, arith}
 use Rattle.std.proofs.lemmas.List.Elements.{All-push}
 use Rattle.mt_base.specs.Tables.{Setup}
-use Rattle.mt_desk.specs.Desk.{Desk, IsReady}
+use Rattle.mt_desk.specs.Desk.{Desk, IsSeatOfDesk}
 use Rattle.mt_io.specs.declared.source.Source as Source
 use Rattle.mt_io.specs.declared.sink.Sink as Sink
 use Rattle.mt_turn.specs.declared.view.Phase.TheVariants.{Idle}
@@ -13,7 +13,7 @@ use Rattle.mt_base.specs.declared.command.Entry.{Entry}
 use Rattle.mt_io.specs.Door.{Count, Gains, took_one}
 use Rattle.mt_session.specs.declared.outcome.Outcome.{Outcome}
 use Rattle.mt_serve.specs.Sitting.{Met}
-use Rattle.mt_serve.specs.Working.{Worked, HasWorked, IsRested, rests_of}
+use Rattle.mt_serve.specs.Working.{Worked, HasWorkedInSeat, IsRested, rests_of}
 use Rattle.mt_serve.specs.Serving.{HasServed}
 use Rattle.mt_serve.specs.Seating.{HasJoined, views_of}
 use Rattle.mt_serve.specs.declared.counts.Counts.{Counts}
@@ -30,11 +30,11 @@ seats_more desk v w w' all rest rest' x so front takes = record {
   past = so.past ++ x ∷ [];
   parts = moved_on all so.past rest (so.past ++ x ∷ []) rest' x x so.parts front refl refl;
   joined = subst (HasJoined v w') (sym (map_push (λ (s : Place Entry Setup). s.view) so.past x)) (joined_more v w w' (views_of so.past) x.view so.joined takes);
-  ready = all_moved (IsReady desk) x rest' rest so.ready front;
+  ready = all_moved (IsSeatOfDesk desk) x rest' rest so.ready front;
 }
 
 pub workers_more : (desk : Desk) (v w w' : View Entry Setup) (all rest rest' : List Worked) (x y : Worked)
-    → JoinsWorkers desk v w all rest → rest ≡ y ∷ rest' → x ≡ y → w' ≡ taker w x.seat.view → HasWorked x.from x.seat → JoinsWorkers desk v w' all rest'
+    → JoinsWorkers desk v w all rest → rest ≡ y ∷ rest' → x ≡ y → w' ≡ taker w x.seat.view → HasWorkedInSeat x.from x.seat → JoinsWorkers desk v w' all rest'
 workers_more desk v w w' all rest rest' x y so front same takes worked = record {
   past = so.past ++ x ∷ [];
   parts = moved_on all so.past rest (so.past ++ x ∷ []) rest' y x so.parts front refl same;
@@ -42,13 +42,13 @@ workers_more desk v w w' all rest rest' x y so front same takes worked = record 
       subst (HasJoined v w')
       (sym (ap views_of (map_push (λ (z : Worked). z.seat) so.past x) ∙ map_push (λ (s : Place Entry Setup). s.view) (rests_of so.past) x.seat))
       (joined_more v w w' (views_of (rests_of so.past)) x.seat.view so.joined takes);
-  ready = all_moved (λ (z : Worked). IsReady desk z.from) y rest' rest so.ready front;
+  ready = all_moved (λ (z : Worked). IsSeatOfDesk desk z.from) y rest' rest so.ready front;
   worked = All-push IsRested so.past x so.worked worked;
 }
 
 module _ {L : Type 0} (source : Source.Ghosts L) (sink : Sink.Ghosts L) where
   pub sessions_none : (desk : Desk) (v : View Entry Setup) (all : List (Met L)) (c : Count) (back : Option (List L)) (counts : Counts) → v.phase ≡ Idle
-      → All (λ (x : Met L). IsReady desk x.from.seat) all → counts ≡ no_counts → JoinsSessions source sink desk v v all all c c back back counts
+      → All (λ (x : Met L). IsSeatOfDesk desk x.from.seat) all → counts ≡ no_counts → JoinsSessions source sink desk v v all all c c back back counts
   sessions_none desk v all c back counts idle ready none = record {
     past = [];
     parts = refl;
@@ -71,7 +71,7 @@ module _ {L : Type 0} (source : Source.Ghosts L) (sink : Sink.Ghosts L) where
         subst (HasJoined v w')
         (sym (ap views_of (map_push (λ (z : Met L). z.seat) so.past x) ∙ map_push (λ (s : Place Entry Setup). s.view) (ends_of so.past) x.seat))
         (joined_more v w w' (views_of (ends_of so.past)) x.seat.view so.joined takes);
-    ready = all_moved (λ (z : Met L). IsReady desk z.from.seat) y rest' rest so.ready front;
+    ready = all_moved (λ (z : Met L). IsSeatOfDesk desk z.from.seat) y rest' rest so.ready front;
     served = All-push (λ (m : Met L). HasServed source sink m.from.link m.from.seat m.from.has_channel m.link m.seat m.outcome) so.past x so.served served;
     count =
         let more : c.back + length so.past + 1 ≡ c.back + length (so.past ++ x ∷ []) = omega (arith, length_push so.past x) in
@@ -99,7 +99,7 @@ module _ {L : Type 0} (source : Source.Ghosts L) (sink : Sink.Ghosts L) where
 
   -- a session that is over leaves a seat of the desk that it got one of
   pub done_ready : (desk : Desk) (a : L) (before : Place Entry Setup) (has_channel : Bool) (b : L) (after : Place Entry Setup) (outcome : Outcome)
-      → HasServed source sink a before has_channel b after outcome → IsReady desk before → IsReady desk after
+      → HasServed source sink a before has_channel b after outcome → IsSeatOfDesk desk before → IsSeatOfDesk desk after
   done_ready desk a before has_channel b after outcome served ready = record {
     home_is = served.home ∙ ready.home_is;
     idle = served.idle;

@@ -12,13 +12,13 @@ use Rattle.mt_board.specs.declared.no.No.TheVariants.{Memory, Refused}
 use Rattle.mt_board.specs.Changing.{IsChanged}
 use Rattle.mt_base.specs.Tables.{Setup}
 use Rattle.mt_board.specs.Seat.{GoesOn, IsSameSeat as IsSameBoardSeat, Seat}
-use Rattle.mt_board.specs.Settling.{AreRenewed}
-use Rattle.mt_desk.specs.Desk.{Desk, Hand, IsReady, place_of, seat_of}
+use Rattle.mt_board.specs.Settling.{AreRenewalsAsked}
+use Rattle.mt_desk.specs.Desk.{Desk, Hand, IsSeatOfDesk, seat_of_hand, seat_of}
 use Rattle.mt_desk.specs.declared.home.Home.{Home}
 use Rattle.mt_turn.specs.declared.view.View.{View}
 use Rattle.mt_turn.specs.Places.{Place}
 use Rattle.mt_workers.specs.Work.{HasWorkedAll}
-use Rattle.mt_serve.specs.Working.{HasWorked, IsRenewal}
+use Rattle.mt_serve.specs.Working.{HasWorkedInSeat, IsRenewal}
 
 abbrev home_of : Hand → Home
 home_of h = record { turn = h.desk.home; gave = h.view.gave; joined = h.view.joined }
@@ -38,7 +38,7 @@ once s t call (Ok entered) is =
 once s t call (Err (Refused refusal version)) is = no_more s t is.0.looked.mine
 once s t call (Err Memory) is = no_more s t is.mine
 
-pub renews : (s t : Seat) (calls : List (List ℕ)) (results : List (Result Entered No)) → AreRenewed s calls results t → Renews s t
+pub renews : (s t : Seat) (calls : List (List ℕ)) (results : List (Result Entered No)) → AreRenewalsAsked s calls results t → Renews s t
 renews s t [] [] is = no_more s t (ap (λ (u : Seat). u.mine) is)
 renews s t (call ∷ calls) (result ∷ results) is =
     let first = once s is.0 call result is.1 in
@@ -51,11 +51,11 @@ renews s t [] (result ∷ results) is = absurd is
 renews s t (call ∷ calls) [] is = absurd is
 
 -- what a worker's hand did, by its seat
-pub worked_as : (desk : Desk) (before after : Place Entry Setup) (hand back : Hand) (left : Option (List (List ℕ))) → IsReady desk before
-    → hand ≡ record { desk = desk; view = before.view } → after ≡ place_of back → IsReady back.desk after
+pub worked_as : (desk : Desk) (before after : Place Entry Setup) (hand back : Hand) (left : Option (List (List ℕ))) → IsSeatOfDesk desk before
+    → hand ≡ record { desk = desk; view = before.view } → after ≡ seat_of_hand back → IsSeatOfDesk back.desk after
     → HasWorkedAll left (seat_of hand.desk.fixed hand.view) (seat_of back.desk.fixed back.view)
     → IsSameBoardSeat (seat_of hand.desk.fixed hand.view) (seat_of back.desk.fixed back.view) × GoesOn hand.view.seen back.view.seen
-    → home_of back ≡ home_of hand → HasWorked before after
+    → home_of back ≡ home_of hand → HasWorkedInSeat before after
 worked_as desk before after hand back left ready is after_is ready_after worked on home =
     let view : after.view ≡ back.view = ap (λ (p : Place Entry Setup). p.view) after_is in
     let from : hand.view ≡ before.view = ap (λ (h : Hand). h.view) is in

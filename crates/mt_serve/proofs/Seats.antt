@@ -3,14 +3,14 @@ use Rattle.std.proofs.Common.{◌≡◌, ◌+◌, ℕ, zero, suc, List, [], ◌�
 use Rattle.std.specs.List.{range_with_len}
 use Rattle.std.proofs.lemmas.List.Elements.{All-push}
 use Rattle.mt_base.specs.Tables.{Setup}
-use Rattle.mt_desk.specs.Desk.{Desk, IsReady}
+use Rattle.mt_desk.specs.Desk.{Desk, IsSeatOfDesk}
 use Rattle.mt_turn.specs.declared.view.Phase.TheVariants.{Idle}
 use Rattle.mt_turn.specs.declared.view.View.{View}
 use Rattle.mt_turn.specs.declared.view.Joined.{Joined}
 use Rattle.mt_turn.specs.Places.{Place}
 use Rattle.mt_turn.specs.Views.{giver, newcomer, taker, joined_as}
 use Rattle.mt_base.specs.declared.command.Entry.{Entry}
-use Rattle.mt_serve.specs.Seating.{IsFresh, HasSplit, HasJoined, numbers_of, joined_of}
+use Rattle.mt_serve.specs.Seating.{IsNewSeat, HasSplit, HasJoined, numbers_of, joined_of}
 use Rattle.mt_serve.proofs.Accepts.{map_push, length_push}
 
 range_push : (a n : ℕ) → range_with_len a n ++ (a + n) ∷ [] ≡ range_with_len a (suc n)
@@ -28,7 +28,7 @@ length_both [] ys = omega arith
 length_both (x ∷ xs) ys = omega (arith, length_both xs ys)
 
 pub split_more : (desk : Desk) (v w w' : View Entry Setup) (seats : List (Place Entry Setup)) (s : Place Entry Setup) → HasSplit desk v w seats
-    → w' ≡ giver w → s.view ≡ newcomer w → IsReady desk s → HasSplit desk v w' (seats ++ s ∷ [])
+    → w' ≡ giver w → s.view ≡ newcomer w → IsSeatOfDesk desk s → HasSplit desk v w' (seats ++ s ∷ [])
 split_more desk v w w' seats s so gives comes own =
     let number : s.view.number ≡ length w.gave + 1 = ap (λ (z : View Entry Setup). z.number) comes in
     let many : length w.gave ≡ length v.gave + length seats = omega (arith, ap (λ (ns : List ℕ). length ns) so.gave, length_both v.gave (numbers_of seats), length_map (λ (z : Place Entry Setup). z.view.number) seats) in
@@ -53,7 +53,7 @@ split_more desk v w w' seats s so gives comes own =
           ∙ ap (λ n. range_with_len (length v.gave + 1) (length seats) ++ n ∷ []) next
           ∙ range_push (length v.gave + 1) (length seats)
           ∙ ap (λ n. range_with_len (length v.gave + 1) n) (sym pushed);
-      fresh = All-push (IsFresh desk v) seats s so.fresh (record {
+      fresh = All-push (IsNewSeat desk v) seats s so.fresh (record {
         ready = own;
         seen = ap (λ (z : View Entry Setup). z.seen) comes ∙ so.seen;
         mine = ap (λ (z : View Entry Setup). z.mine) comes;

@@ -7,7 +7,7 @@ use Rattle.mt_base.specs.History.{IsLegal}
 use Rattle.mt_picture.specs.Story.{Story}
 use Rattle.mt_serve.specs.declared.counts.Counts.{Counts}
 use Rattle.mt_serve.specs.Summary.{HasServedWhole, counted}
-use Rattle.mt_desk.specs.Desk.{Desk, IsReady}
+use Rattle.mt_desk.specs.Desk.{Desk, IsSeatOfDesk}
 use Rattle.mt_io.specs.Causes.{Rose}
 use Rattle.mt_io.specs.declared.source.Source as Source
 use Rattle.mt_io.specs.declared.sink.Sink as Sink
@@ -15,9 +15,9 @@ use Rattle.mt_turn.specs.declared.view.View.{View}
 use Rattle.mt_turn.specs.Places.{Place}
 use Rattle.mt_turn.specs.Views.{first_view}
 use Rattle.mt_base.specs.declared.command.Entry.{Entry}
-use Rattle.mt_io.specs.Door.{Count, Loses, Gains, listened}
-use Rattle.mt_serve.specs.Sitting.{HaveNoChannel, Met, Start, HasBegun, IsOver, starts_of, seats_of, links_of}
-use Rattle.mt_serve.specs.Seating.{IsFresh, AllSplit, HasSplit}
+use Rattle.mt_io.specs.Door.{Count, LosesFront, Gains, listened}
+use Rattle.mt_serve.specs.Sitting.{HaveNoChannel, Met, Start, HasSeatedLinks, IsDoorOver, starts_of, seats_of, links_of}
+use Rattle.mt_serve.specs.Seating.{IsNewSeat, AllSplit, HasSplit}
 use Rattle.mt_serve.specs.Tied.{IsTied, HasServedAll, gave_back, backs_of}
 use Rattle.mt_serve.proofs.Accepts.{loses_none}
 use Rattle.mt_serve.proofs.Seats.{length_map}
@@ -29,22 +29,22 @@ split_as desk f v w seats hands seats' hands' new a b is is' =
     subst (λ s. AllSplit desk w s hands') is
     (subst (AllSplit desk w seats) is' (all_split desk v w seats hands (subst (λ z. HasSplit desk z v seats) new a) b))
 
-pub ready_of : (desk : Desk) (v : View Entry Setup) (seats : List (Place Entry Setup)) → All (IsFresh desk v) seats → All (IsReady desk) seats
+pub ready_of : (desk : Desk) (v : View Entry Setup) (seats : List (Place Entry Setup)) → All (IsNewSeat desk v) seats → All (IsSeatOfDesk desk) seats
 ready_of desk v seats fresh k d below = (fresh k d below).ready
 
 -- there are no more sessions than seats for them
 pub few_met : {L : Type 0} (sessions workers : ℕ) (old new : Count) (still left : Option (List L)) (seats rest : List (Place Entry Setup)) (mets : List (Met L))
-    → HasBegun old new still left seats rest (starts_of mets) → length seats ≡ sessions → sessions + workers ≤ 2 ^ 31 → length mets ≤ 2 ^ 31
+    → HasSeatedLinks old new still left seats rest (starts_of mets) → length seats ≡ sessions → sessions + workers ≤ 2 ^ 31 → length mets ≤ 2 ^ 31
 few_met {L} sessions workers old new still left seats rest mets begun many few =
     let parts : length seats ≡ length (seats_of (starts_of mets)) + length rest =
     ap (λ (xs : List (Place Entry Setup)). length xs) begun.seats_are ∙ length-append (seats_of (starts_of mets)) rest in
     omega (arith, parts, length_map (λ (s : Start L). s.seat) (starts_of mets), length_map (λ (m : Met L). m.from) mets, many, few)
 
-over_cause : (b : Bool) (c : Count) (f f' : ℕ) → IsOver b c f f' → b ≡ true → Rose f f'
+over_cause : (b : Bool) (c : Count) (f f' : ℕ) → IsDoorOver b c f f' → b ≡ true → Rose f f'
 over_cause true c f f' over is = over.0
 over_cause false c f f' over is = absurd (false≢true is)
 
-over_all : (b : Bool) (c : Count) (f f' given sessions : ℕ) → IsOver b c f f' → c.given ≡ given → c.sessions ≡ sessions
+over_all : (b : Bool) (c : Count) (f f' given sessions : ℕ) → IsDoorOver b c f f' → c.given ≡ given → c.sessions ≡ sessions
     → MatchBool b (given < sessions) (given ≡ sessions)
 over_all true c f f' given sessions over g s = omega (arith, over.1, g, s)
 over_all false c f f' given sessions over g s = sym g ∙ over ∙ s
@@ -59,7 +59,7 @@ count_is c port sessions given back a b d e =
 module _ {L : Type 0} (source : Source.Ghosts L) (sink : Sink.Ghosts L) where
   pub served_all : (setup : Setup) (port sessions workers staff : ℕ) (c0 c1 c2 c3 : Count) (s0 s1 s2 s3 b0 b1 b2 b3 : Option (List L)) (f0 f1 f2 f3 : ℕ) (faulted : Bool) (h : List Entry) (mets : List (Met L)) (seats rest : List (Place Entry Setup))
       → c1 ≡ listened port sessions → s1 ≡ s0 → b1 ≡ b0 → f0 ≤ f1
-      → HasBegun c1 c2 s1 s2 seats rest (starts_of mets) → b2 ≡ b1 → f1 ≤ f2 → IsOver faulted c2 f1 f2
+      → HasSeatedLinks c1 c2 s1 s2 seats rest (starts_of mets) → b2 ≡ b1 → f1 ≤ f2 → IsDoorOver faulted c2 f1 f2
       → IsTied source sink setup h mets → c3 ≡ gave_back c2 (length mets) → s3 ≡ s2 → Gains b2 b3 (backs_of mets) → f2 ≤ f3
       → staff ≤ workers → (staff ≡ 0 → HaveNoChannel (starts_of mets)) → HasServedAll source sink setup port sessions workers c0 c3 s0 s3 b0 b3 f0 f3 faulted h mets
   served_all setup port sessions workers staff c0 c1 c2 c3 s0 s1 s2 s3 b0 b1 b2 b3 f0 f1 f2 f3 faulted h mets seats rest listen ss bs later1 begun bs2 later2 over tied back ss3 gains later3 staff_is channels =
@@ -69,7 +69,7 @@ module _ {L : Type 0} (source : Source.Ghosts L) (sink : Sink.Ghosts L) where
       let k3 : c3.back ≡ length mets = omega (arith, ap (λ (z : Count). z.back) back, begun.back, k1) in
       record {
         tied = tied;
-        given = subst (λ s. Loses s s3 (links_of (starts_of mets))) ss (subst (λ s. Loses s1 s (links_of (starts_of mets))) (sym ss3) begun.links);
+        given = subst (λ s. LosesFront s s3 (links_of (starts_of mets))) ss (subst (λ s. LosesFront s1 s (links_of (starts_of mets))) (sym ss3) begun.links);
         returned = subst (λ b. Gains b b3 (backs_of mets)) (bs2 ∙ bs) gains;
         count = inl (
           count_is c3 port sessions (length mets) (length mets) (ap (λ (z : Count). z.port) back ∙ begun.port ∙ p1) (ap (λ (z : Count). z.sessions) back ∙ begun.sessions ∙ n1) (ap (λ (z : Count). z.given) back ∙ given) k3,
@@ -90,7 +90,7 @@ module _ {L : Type 0} (source : Source.Ghosts L) (sink : Sink.Ghosts L) where
       let same : c1.back + length mets ≡ c1.back = omega (arith, zero_) in
       record {
         tied = tied;
-        given = subst (λ ms. Loses s0 s3 (links_of (starts_of ms))) (sym none) (subst (λ s. Loses s0 s []) (sym (ss3 ∙ ss)) (loses_none s0));
+        given = subst (λ ms. LosesFront s0 s3 (links_of (starts_of ms))) (sym none) (subst (λ s. LosesFront s0 s []) (sym (ss3 ∙ ss)) (loses_none s0));
         returned = subst (λ b. Gains b b3 (backs_of mets)) bs gains;
         count = inr (back ∙ ap (λ n. record { port = c1.port; sessions = c1.sessions; given = c1.given; back = n }) same ∙ listen, zero_, refl);
         cause = λ is. omega (arith, rose, later);

@@ -2,7 +2,7 @@
 use Rattle.std.specs.Prelude.{◌≡◌, List, ◌++◌, length, All, Option}
 use Rattle.mt_base.specs.declared.command.Entry.{Entry}
 use Rattle.mt_base.specs.Tables.{Setup}
-use Rattle.mt_desk.specs.Desk.{Desk, IsReady}
+use Rattle.mt_desk.specs.Desk.{Desk, IsSeatOfDesk}
 use Rattle.mt_io.specs.Door.{Count, Gains}
 use Rattle.mt_io.specs.declared.source.Source as Source
 use Rattle.mt_io.specs.declared.sink.Sink as Sink
@@ -20,13 +20,13 @@ pub record JoinsSeats (desk : Desk) (v w : View Entry Setup) (all rest : List (P
   pub past : List (Place Entry Setup)
   pub parts : all ≡ past ++ rest
   pub joined : HasJoined v w (views_of past)
-  pub ready : All (IsReady desk) rest
+  pub ready : All (IsSeatOfDesk desk) rest
 
 pub record JoinsWorkers (desk : Desk) (v w : View Entry Setup) (all rest : List Worked) : Type 0 where
   pub past : List Worked
   pub parts : all ≡ past ++ rest
   pub joined : HasJoined v w (views_of (rests_of past))
-  pub ready : All (λ (x : Worked). IsReady desk x.from) rest
+  pub ready : All (λ (x : Worked). IsSeatOfDesk desk x.from) rest
   pub worked : All IsRested past
 
 module _ {L : Type 0} (source : Source.Ghosts L) (sink : Sink.Ghosts L) where
@@ -34,7 +34,7 @@ module _ {L : Type 0} (source : Source.Ghosts L) (sink : Sink.Ghosts L) where
     pub past : List (Met L)
     pub parts : all ≡ past ++ rest
     pub joined : HasJoined v w (views_of (ends_of past))
-    pub ready : All (λ (x : Met L). IsReady desk x.from.seat) rest
+    pub ready : All (λ (x : Met L). IsSeatOfDesk desk x.from.seat) rest
     pub served : AreOver source sink past
     pub count : new ≡ gave_back old (length past)
     pub returned : Gains back now (backs_of past)

@@ -3,7 +3,7 @@ use Rattle.std.specs.Prelude.{◌≡◌, ℕ, ◌+◌, List, [], ◌++◌, map, 
 use Rattle.std.specs.List.{range_with_len}
 use Rattle.mt_base.specs.declared.command.Entry.{Entry}
 use Rattle.mt_base.specs.Tables.{Setup}
-use Rattle.mt_desk.specs.Desk.{Desk, IsReady}
+use Rattle.mt_desk.specs.Desk.{Desk, IsSeatOfDesk}
 use Rattle.mt_turn.specs.declared.view.Phase.TheVariants.{Idle}
 use Rattle.mt_turn.specs.declared.view.View.{View}
 use Rattle.mt_turn.specs.declared.view.Joined.{Joined}
@@ -11,8 +11,8 @@ use Rattle.mt_turn.specs.Places.{Place}
 use Rattle.mt_turn.specs.Views.{joined_as, first_view}
 
 -- a seat that was split off a first seat which knew v, and that did nothing yet
-pub record IsFresh (desk : Desk) (v : View Entry Setup) (s : Place Entry Setup) : Type 0 where
-  pub ready : IsReady desk s
+pub record IsNewSeat (desk : Desk) (v : View Entry Setup) (s : Place Entry Setup) : Type 0 where
+  pub ready : IsSeatOfDesk desk s
   pub seen : s.view.seen ≡ v.seen
   pub mine : s.view.mine ≡ []
 
@@ -31,7 +31,7 @@ pub record HasSplit (desk : Desk) (v w : View Entry Setup) (seats : List (Place 
   pub idle : w.phase ≡ Idle
   pub gave : w.gave ≡ v.gave ++ numbers_of seats
   pub numbers : numbers_of seats ≡ range_with_len (length v.gave + 1) (length seats)
-  pub fresh : All (IsFresh desk v) seats
+  pub fresh : All (IsNewSeat desk v) seats
 
 abbrev pub joined_of : List (View Entry Setup) → List (Joined Entry)
 joined_of views = map joined_as views
@@ -45,7 +45,7 @@ pub record HasJoined (v w : View Entry Setup) (views : List (View Entry Setup)) 
   pub joined : w.joined ≡ v.joined ++ joined_of views
 
 -- All seats are split off a new first seat, which knows w and has joined none: those for sessions have the numbers from 1 on, and those for
--- workers come behind them.
+-- workers come after them.
 pub record AllSplit (desk : Desk) (w : View Entry Setup) (seats hands : List (Place Entry Setup)) : Type 0 where
   pub number : w.number ≡ 0
   pub mine : w.mine ≡ []
@@ -53,4 +53,4 @@ pub record AllSplit (desk : Desk) (w : View Entry Setup) (seats hands : List (Pl
   pub idle : w.phase ≡ Idle
   pub gave : w.gave ≡ numbers_of seats ++ numbers_of hands
   pub numbers : numbers_of seats ≡ range_with_len 1 (length seats)
-  pub fresh : All (IsFresh desk (first_view desk.fixed)) (seats ++ hands)
+  pub fresh : All (IsNewSeat desk (first_view desk.fixed)) (seats ++ hands)

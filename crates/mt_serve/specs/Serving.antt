@@ -8,7 +8,7 @@ use Rattle.mt_io.specs.declared.sink.Sink as Sink
 use Rattle.mt_session.specs.declared.outcome.Outcome.{Outcome}
 use Rattle.mt_session.specs.Run.{IsSession, Link}
 use Rattle.mt_turn.specs.declared.view.Phase.TheVariants.{Idle}
-use Rattle.mt_turn.specs.Lending.{IsSameSeat}
+use Rattle.mt_turn.specs.Lending.{AreViewsOfOneSeat}
 use Rattle.mt_turn.specs.Places.{Place}
 use Rattle.mt_workers.specs.Jobs.{Jobs}
 
@@ -27,7 +27,7 @@ module _ {L : Type 0} (source : Source.Ghosts L) (sink : Sink.Ghosts L) where
   pub record HasServed (a : L) (before : Place Entry Setup) (has_channel : Bool) (b : L) (after : Place Entry Setup) (outcome : Outcome) : Type 0 where
     pub home : after.home ≡ before.home
     pub idle : after.view.phase ≡ Idle
-    pub same : IsSameSeat before.view after.view
+    pub same : AreViewsOfOneSeat before.view after.view
     pub fixed : Setup
     pub fixed_is : before.view.fixed ≡ Some fixed
     pub session : IsSession (seat_of fixed before.view) (seat_of fixed after.view) (link_of a) (link_of b)

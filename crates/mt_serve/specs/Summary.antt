@@ -11,6 +11,7 @@ use Rattle.mt_session.specs.declared.outcome.Outcome.TheVariants.{Ended, ReadFau
 use Rattle.mt_serve.specs.declared.counts.Counts.{Counts}
 use Rattle.mt_serve.specs.Sitting.{Met}
 use Rattle.mt_serve.specs.Tied.{HasServedAll}
+use Rattle.mt_base.specs.StrikeOut.{one_if}
 
 -- a session that its link ended: a fault, or all bytes that a link may give
 abbrev pub is_faulted : Outcome → Bool
@@ -21,13 +22,9 @@ is_faulted Spent = true
 is_faulted Memory = false
 
 -- a session for which there was no memory
-abbrev pub is_starved : Outcome → Bool
-is_starved Memory = true
-is_starved outcome = false
-
-abbrev pub one_if : Bool → ℕ
-one_if true = 1
-one_if false = 0
+abbrev pub is_starved_session : Outcome → Bool
+is_starved_session Memory = true
+is_starved_session outcome = false
 
 abbrev pub no_counts : Counts
 no_counts = record { sessions = 0; faulted = 0; starved = 0 }
@@ -37,7 +34,7 @@ abbrev pub counted : {L : Type 0} → List (Met L) → Counts
 counted {L} mets = record {
   sessions = length mets;
   faulted = length (filter (λ (m : Met L). is_faulted m.outcome) mets);
-  starved = length (filter (λ (m : Met L). is_starved m.outcome) mets);
+  starved = length (filter (λ (m : Met L). is_starved_session m.outcome) mets);
 }
 
 -- with one session more, of that outcome
@@ -45,7 +42,7 @@ abbrev pub with_outcome : Outcome → Counts → Counts
 with_outcome outcome counts = record {
   sessions = counts.sessions + 1;
   faulted = counts.faulted + one_if (is_faulted outcome);
-  starved = counts.starved + one_if (is_starved outcome);
+  starved = counts.starved + one_if (is_starved_session outcome);
 }
 
 module _ {L : Type 0} (source : Source.Ghosts L) (sink : Sink.Ghosts L) where

@@ -4,11 +4,11 @@ use Rattle.std.specs.List.{range_with_len}
 use Rattle.mt_base.specs.declared.command.Entry.{Entry}
 use Rattle.mt_base.specs.Tables.{Setup}
 use Rattle.mt_io.specs.Causes.{Rose}
-use Rattle.mt_io.specs.Door.{Count, Gains, Loses}
+use Rattle.mt_io.specs.Door.{Count, Gains, LosesFront}
 use Rattle.mt_io.specs.declared.source.Source as Source
 use Rattle.mt_io.specs.declared.sink.Sink as Sink
 use Rattle.mt_turn.specs.Places.{Place}
-use Rattle.mt_turn.specs.Views.{GoesOn, entries_of}
+use Rattle.mt_turn.specs.Views.{Extends, entries_of}
 use Rattle.mt_serve.specs.Seating.{numbers_of}
 use Rattle.mt_serve.specs.Serving.{HasServed}
 use Rattle.mt_serve.specs.Sitting.{HaveNoChannel, Met, links_of, seats_of, starts_of}
@@ -43,7 +43,7 @@ module _ {L : Type 0} (source : Source.Ghosts L) (sink : Sink.Ghosts L) where
     pub fixed : m.from.seat.view.fixed ≡ Some setup
     pub began : (m.from.seat.view.seen ≡ []) × (m.from.seat.view.mine ≡ [])
     pub served : HasServed source sink m.from.link m.from.seat m.from.has_channel m.link m.seat m.outcome
-    pub begins : GoesOn m.seat.view.seen h
+    pub begins : Extends m.seat.view.seen h
     pub mine : entries_of number_of m.seat.view.number h ≡ m.seat.view.mine
 
   -- The history ties all sessions: they have the numbers 1, 2, 3 and so on, and every entry of another number is a renewal.
@@ -58,7 +58,7 @@ module _ {L : Type 0} (source : Source.Ghosts L) (sink : Sink.Ghosts L) where
   pub record HasServedAll (setup : Setup) (port sessions workers : ℕ) (old new : Count) (still left back now : Option (List L)) (before after : ℕ)
       (faulted : Bool) (h : List Entry) (mets : List (Met L)) : Type 0 where
     pub tied : IsTied setup h mets
-    pub given : Loses still left (links_of (starts_of mets))
+    pub given : LosesFront still left (links_of (starts_of mets))
     pub returned : Gains back now (backs_of mets)
     pub count : ((new ≡ record { port = port; sessions = sessions; given = length mets; back = length mets }) × MatchBool faulted (length mets < sessions) (length mets ≡ sessions))
         ⊎ ((new ≡ old) × (length mets ≡ 0) × (faulted ≡ true))

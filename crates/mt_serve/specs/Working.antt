@@ -4,9 +4,9 @@ use Rattle.mt_base.specs.declared.command.Command.TheVariants.{Renew}
 use Rattle.mt_base.specs.declared.command.Entry.{Entry}
 use Rattle.mt_base.specs.Tables.{Setup}
 use Rattle.mt_board.specs.Seat.{GoesOn}
-use Rattle.mt_desk.specs.Desk.{Desk, IsReady}
+use Rattle.mt_desk.specs.Desk.{Desk, IsSeatOfDesk}
 use Rattle.mt_turn.specs.declared.view.Phase.TheVariants.{Idle}
-use Rattle.mt_turn.specs.Lending.{IsSameSeat}
+use Rattle.mt_turn.specs.Lending.{AreViewsOfOneSeat}
 use Rattle.mt_turn.specs.Places.{Place}
 
 -- the entry renews a flight
@@ -15,10 +15,10 @@ IsRenewal e = (call : List ℕ) × (e.command ≡ Renew call)
 
 -- A worker with the seat `before` gave back `after`, the same seat of the same turn, which doesn't hold it. Each entry that it made is a
 -- renewal.
-pub record HasWorked (before after : Place Entry Setup) : Type 0 where
+pub record HasWorkedInSeat (before after : Place Entry Setup) : Type 0 where
   pub home : after.home ≡ before.home
   pub idle : after.view.phase ≡ Idle
-  pub same : IsSameSeat before.view after.view
+  pub same : AreViewsOfOneSeat before.view after.view
   pub begins : GoesOn before.view.seen after.view.seen
   pub added : List Entry
   pub mine : after.view.mine ≡ before.view.mine ++ added
@@ -36,11 +36,11 @@ abbrev pub rests_of : List Worked → List (Place Entry Setup)
 rests_of works = map (λ (w : Worked). w.seat) works
 
 abbrev pub IsRested : Worked → Type 0
-IsRested w = HasWorked w.from w.seat
+IsRested w = HasWorkedInSeat w.from w.seat
 
 -- What it takes to start workers: seats of this desk, and room for so many that work and so many that have ended.
 pub record IsStaffed (desk : Desk) (seats : List (Place Entry Setup)) (many working ended : ℕ) (workings : List (Place Entry Setup)) (resteds : List Worked) : Type 0 where
-  pub ready : All (IsReady desk) seats
+  pub ready : All (IsSeatOfDesk desk) seats
   pub first : many ≤ working
   pub second : many ≤ ended
   pub no_working : workings ≡ []

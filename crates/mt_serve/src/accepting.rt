@@ -2,8 +2,8 @@
 ghost use Rattle.std.specs.Prelude.{◌≡◌, ◌≤◌, [], All};
 ghost use Rattle.std.specs.Thread.{IsSync};
 ghost use Rattle.std.specs.VecDeque.{deque_len, deque_capacity};
-ghost use Rattle.mt_desk.specs.Desk.{IsReady};
-ghost use Rattle.mt_serve.specs.Sitting.{HasBegun, HaveNoChannel, IsOver, IsPrepared, IsSeated, starts_of};
+ghost use Rattle.mt_desk.specs.Desk.{IsSeatOfDesk};
+ghost use Rattle.mt_serve.specs.Sitting.{HasSeatedLinks, HaveNoChannel, IsDoorOver, IsReadyToServe, IsSeated, starts_of};
 
 use crate::serving::{begin, finish};
 use crate::sitting::{Done, Sitting};
@@ -32,15 +32,15 @@ fn accept<'s, E, R: Threads + Wait + Sync, D: Door, G: Gate + Sync>(
 where
     D::Link: 's,
     requires sync { IsSync R.row }
-    requires ready { All (IsReady desk.now) seats.old.items }
+    requires ready { All (IsSeatOfDesk desk.now) seats.old.items }
     requires seated { IsSeated (D.count door.old) seats.old.items }
     requires room { deque_len seats.old ≤ deque_capacity sittings.old }
     requires none { sittings.old.items ≡ [] }
-    ensures begun { HasBegun (D.count door.old) (D.count door.new) (D.still door.old) (D.still door.new) seats.old.items seats.new.items sittings.new.items }
-    ensures ready { All (IsReady desk.now) seats.new.items }
+    ensures begun { HasSeatedLinks (D.count door.old) (D.count door.new) (D.still door.old) (D.still door.new) seats.old.items seats.new.items sittings.new.items }
+    ensures ready { All (IsSeatOfDesk desk.now) seats.new.items }
     ensures returned { D.returned door.new ≡ D.returned door.old }
     ensures faults { D.faults door.old ≤ D.faults door.new }
-    ensures over { IsOver result (D.count door.new) (D.faults door.old) (D.faults door.new) }
+    ensures over { IsDoorOver result (D.count door.new) (D.faults door.old) (D.faults door.new) }
     ensures channels { senders.old.items ≡ [] → HaveNoChannel sittings.new.items }
 {
     for _ in rt.forever() {
@@ -90,25 +90,25 @@ pub(crate) fn serve_links<R: Threads + Wait + Sync, D: Door, G: Gate + Sync>(
     senders: VecDeque<JobSender>,
 ) -> (VecDeque<Seat>, VecDeque<Done<D::Link>>, bool)
     requires sync { IsSync R.row }
-    requires prepared { IsPrepared desk.now (D.count door.old) seats.items (deque_len seats) (deque_capacity sittings) (deque_capacity dones) sittings.items dones.items }
-    ensures begun { HasBegun (D.count door.old) (D.count door.new) (D.still door.old) (D.still door.new) seats.items result.0.items (starts_of result.1.items) }
-    ensures ready { All (IsReady desk.now) result.0.items }
+    requires prepared { IsReadyToServe desk.now (D.count door.old) seats.items (deque_len seats) (deque_capacity sittings) (deque_capacity dones) sittings.items dones.items }
+    ensures begun { HasSeatedLinks (D.count door.old) (D.count door.new) (D.still door.old) (D.still door.new) seats.items result.0.items (starts_of result.1.items) }
+    ensures ready { All (IsSeatOfDesk desk.now) result.0.items }
     ensures returned { D.returned door.new ≡ D.returned door.old }
     ensures faults { D.faults door.old ≤ D.faults door.new }
-    ensures over { IsOver result.2 (D.count door.new) (D.faults door.old) (D.faults door.new) }
+    ensures over { IsDoorOver result.2 (D.count door.new) (D.faults door.old) (D.faults door.new) }
     ensures channels { senders.items ≡ [] → HaveNoChannel (starts_of result.1.items) }
 {
     let (door, seats, dones, faulted) = thread::scope(
         thread::scope_env(),
         rt,
         move |scope| -> (&mut D, VecDeque<Seat>, VecDeque<Done<D::Link>>, bool)
-            requires { IsPrepared desk.now (D.count door.now) seats.items (deque_len seats) (deque_capacity sittings) (deque_capacity dones) sittings.items dones.items }
+            requires { IsReadyToServe desk.now (D.count door.now) seats.items (deque_len seats) (deque_capacity sittings) (deque_capacity dones) sittings.items dones.items }
             ensures same { result.0.ghost_name ≡ door.entry.ghost_name }
-            ensures begun { HasBegun (D.count door.entry.now) (D.count result.0.now) (D.still door.entry.now) (D.still result.0.now) seats.items result.1.items (starts_of result.2.items) }
-            ensures ready { All (IsReady desk.entry.now) result.1.items }
+            ensures begun { HasSeatedLinks (D.count door.entry.now) (D.count result.0.now) (D.still door.entry.now) (D.still result.0.now) seats.items result.1.items (starts_of result.2.items) }
+            ensures ready { All (IsSeatOfDesk desk.entry.now) result.1.items }
             ensures returned { D.returned result.0.now ≡ D.returned door.entry.now }
             ensures faults { D.faults door.entry.now ≤ D.faults result.0.now }
-            ensures over { IsOver result.3 (D.count result.0.now) (D.faults door.entry.now) (D.faults result.0.now) }
+            ensures over { IsDoorOver result.3 (D.count result.0.now) (D.faults door.entry.now) (D.faults result.0.now) }
             ensures channels { senders.items ≡ [] → HaveNoChannel (starts_of result.2.items) }
         {
             let mut seats = seats;

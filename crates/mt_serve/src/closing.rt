@@ -39,7 +39,7 @@ pub fn sum_up(served: &Served) -> Closing
     }
 }
 
-/// Puts the line of a summary behind what stands: one compact object, its keys in byte order, and 0x0A at its end. It has at most 191 bytes.
+/// Puts the line of a summary after what stands: one compact object, its keys in byte order, and 0x0A at its end. It has at most 191 bytes.
 /// `Memory` is the one error, and a front of the line may stand there then; where there is room for the line it succeeds.
 pub fn put_closing(line: &mut Vec<u8>, closing: &Closing) -> Result<(), Memory>
     ensures put { OnOk result (line.new.items ≡ line.old.items ++ closing_text closing.now) }

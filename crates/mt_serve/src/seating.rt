@@ -1,7 +1,7 @@
 //! Seats split off the first one, and joined into it again.
 ghost use Rattle.std.specs.Prelude.{◌≡◌, ◌<◌, ◌≤◌, ◌+◌, ◌-◌, ◌^◌, [], ◌∷◌, All, length};
 ghost use Rattle.std.specs.VecDeque.{deque_len, deque_capacity};
-ghost use Rattle.mt_desk.specs.Desk.{IsReady};
+ghost use Rattle.mt_desk.specs.Desk.{IsSeatOfDesk};
 ghost use Rattle.mt_io.specs.Door.{Gains, took_one};
 ghost use Rattle.mt_serve.specs.Seating.{HasJoined, HasSplit, views_of};
 ghost use Rattle.mt_serve.specs.Summary.{counted, with_outcome};
@@ -18,12 +18,12 @@ use std::collections::VecDeque;
 
 /// Splits so many seats off.
 pub(crate) fn split_all(desk: &Desk, first: &mut Seat, seats: &mut VecDeque<Seat>, many: u32)
-    requires ready { IsReady desk.now first.old }
+    requires ready { IsSeatOfDesk desk.now first.old }
     requires first { first.old.view.number ≡ 0 }
     requires few { length first.old.view.gave + many ≤ 2 ^ 31 }
     requires room { many ≤ deque_capacity seats.old }
     requires none { seats.old.items ≡ [] }
-    ensures ready { IsReady desk.now first.new }
+    ensures ready { IsSeatOfDesk desk.now first.new }
     ensures split { HasSplit desk.now first.old.view first.new.view seats.new.items }
     ensures many { (length seats.new.items ≡ many) × (deque_len seats.new ≡ many) }
 {
@@ -35,10 +35,10 @@ pub(crate) fn split_all(desk: &Desk, first: &mut Seat, seats: &mut VecDeque<Seat
 
 /// Joins these seats.
 pub(crate) fn join_seats(desk: &Desk, first: &mut Seat, mut seats: VecDeque<Seat>)
-    requires ready { IsReady desk.now first.old }
+    requires ready { IsSeatOfDesk desk.now first.old }
     requires first { first.old.view.number ≡ 0 }
-    requires others { All (IsReady desk.now) seats.items }
-    ensures ready { IsReady desk.now first.new }
+    requires others { All (IsSeatOfDesk desk.now) seats.items }
+    ensures ready { IsSeatOfDesk desk.now first.new }
     ensures joined { HasJoined first.old.view first.new.view (views_of seats.items) }
 {
     while let Some(seat) = seats.pop_front() {
@@ -48,10 +48,10 @@ pub(crate) fn join_seats(desk: &Desk, first: &mut Seat, mut seats: VecDeque<Seat
 
 /// Joins the workers' seats.
 pub(crate) fn join_workers(desk: &Desk, first: &mut Seat, mut resteds: VecDeque<Rested>)
-    requires ready { IsReady desk.now first.old }
+    requires ready { IsSeatOfDesk desk.now first.old }
     requires first { first.old.view.number ≡ 0 }
-    requires others { All (λ w. IsReady desk.now w.from) resteds.items }
-    ensures ready { IsReady desk.now first.new }
+    requires others { All (λ w. IsSeatOfDesk desk.now w.from) resteds.items }
+    ensures ready { IsSeatOfDesk desk.now first.new }
     ensures joined { HasJoined first.old.view first.new.view (views_of (rests_of resteds.items)) }
     ensures worked { All IsRested resteds.items }
 {
@@ -69,13 +69,13 @@ fn join_session<D: Door>(
     counts: &mut Counts,
     back: Back<D::Link>,
 )
-    requires ready { IsReady desk.now first.old }
+    requires ready { IsSeatOfDesk desk.now first.old }
     requires first { first.old.view.number ≡ 0 }
-    requires other { IsReady desk.now back.seat }
+    requires other { IsSeatOfDesk desk.now back.seat }
     requires given { (D.count door.old).back < (D.count door.old).given }
     requires room { counts.old.sessions < 2 ^ 32 }
     requires parts { (counts.old.faulted ≤ counts.old.sessions) × (counts.old.starved ≤ counts.old.sessions) }
-    ensures ready { IsReady desk.now first.new }
+    ensures ready { IsSeatOfDesk desk.now first.new }
     ensures joins { first.new.view ≡ taker first.old.view back.seat.view }
     ensures count { D.count door.new ≡ took_one (D.count door.old) }
     ensures still { D.still door.new ≡ D.still door.old }
@@ -100,12 +100,12 @@ pub(crate) fn join_sessions<D: Door>(
     first: &mut Seat,
     mut dones: VecDeque<Done<D::Link>>,
 ) -> Counts
-    requires ready { IsReady desk.now first.old }
+    requires ready { IsSeatOfDesk desk.now first.old }
     requires first { first.old.view.number ≡ 0 }
-    requires others { All (λ m. IsReady desk.now m.from.seat) dones.items }
+    requires others { All (λ m. IsSeatOfDesk desk.now m.from.seat) dones.items }
     requires given { length dones.items ≤ (D.count door.old).given - (D.count door.old).back }
     requires few { length dones.items ≤ 2 ^ 31 }
-    ensures ready { IsReady desk.now first.new }
+    ensures ready { IsSeatOfDesk desk.now first.new }
     ensures joined { HasJoined first.old.view first.new.view (views_of (ends_of dones.items)) }
     ensures served { AreOver D.Link.Source D.Link.Sink dones.items }
     ensures count { D.count door.new ≡ gave_back (D.count door.old) (length dones.items) }

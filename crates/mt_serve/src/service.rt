@@ -3,10 +3,10 @@ ghost use Rattle.std.specs.Prelude.{◌≡◌, ◌≤◌, ◌+◌, ◌-◌, ◌^
 ghost use Rattle.std.specs.Thread.{IsSync};
 ghost use Rattle.std.specs.VecDeque.{deque_len, deque_capacity};
 ghost use Rattle.mt_base.specs.History.{IsLegal};
-ghost use Rattle.mt_desk.specs.Desk.{IsReady};
+ghost use Rattle.mt_desk.specs.Desk.{IsSeatOfDesk};
 ghost use Rattle.mt_io.specs.Door.{Gains};
 ghost use Rattle.mt_serve.specs.Seating.{AllSplit};
-ghost use Rattle.mt_serve.specs.Sitting.{HasBegun, HaveNoChannel, IsOver, IsPrepared, seats_of, starts_of};
+ghost use Rattle.mt_serve.specs.Sitting.{HasSeatedLinks, HaveNoChannel, IsDoorOver, IsReadyToServe, seats_of, starts_of};
 ghost use Rattle.mt_serve.specs.Summary.{HasServedWhole, counted};
 ghost use Rattle.mt_serve.specs.Tied.{IsTied, backs_of, gave_back};
 ghost use Rattle.mt_serve.specs.Working.{IsStaffed, froms_of};
@@ -77,15 +77,15 @@ fn serve_beside<R: Threads + Wait + Sync, D: Door, G: Gate + Sync>(
     room: Room<D::Link>,
 ) -> Left<D::Link>
     requires sync { IsSync R.row }
-    requires served { IsPrepared desk.now (D.count door.old) seats.items (deque_len seats) (deque_capacity room.sittings) (deque_capacity room.dones) room.sittings.items room.dones.items }
+    requires served { IsReadyToServe desk.now (D.count door.old) seats.items (deque_len seats) (deque_capacity room.sittings) (deque_capacity room.dones) room.sittings.items room.dones.items }
     requires staffed { IsStaffed desk.now hands.items (deque_len hands) (deque_capacity room.workings) (deque_capacity room.resteds) room.workings.items room.resteds.items }
-    ensures begun { HasBegun (D.count door.old) (D.count door.new) (D.still door.old) (D.still door.new) seats.items result.seats.items (starts_of result.dones.items) }
-    ensures ready { All (IsReady desk.now) result.seats.items }
+    ensures begun { HasSeatedLinks (D.count door.old) (D.count door.new) (D.still door.old) (D.still door.new) seats.items result.seats.items (starts_of result.dones.items) }
+    ensures ready { All (IsSeatOfDesk desk.now) result.seats.items }
     ensures staff { hands.items ≡ froms_of result.resteds.items ++ result.hands.items }
-    ensures rest { All (IsReady desk.now) result.hands.items }
+    ensures rest { All (IsSeatOfDesk desk.now) result.hands.items }
     ensures returned { D.returned door.new ≡ D.returned door.old }
     ensures faults { D.faults door.old ≤ D.faults door.new }
-    ensures over { IsOver result.faulted (D.count door.new) (D.faults door.old) (D.faults door.new) }
+    ensures over { IsDoorOver result.faulted (D.count door.new) (D.faults door.old) (D.faults door.new) }
     ensures staffed { result.staff ≤ deque_len hands }
     ensures channels { result.staff ≡ 0 → HaveNoChannel (starts_of result.dones.items) }
 {
@@ -101,16 +101,16 @@ fn serve_beside<R: Threads + Wait + Sync, D: Door, G: Gate + Sync>(
         thread::scope_env(),
         rt,
         move |scope| -> (&mut D, Left<D::Link>)
-            requires served { IsPrepared desk.now (D.count door.now) seats.items (deque_len seats) (deque_capacity sittings) (deque_capacity dones) sittings.items dones.items }
+            requires served { IsReadyToServe desk.now (D.count door.now) seats.items (deque_len seats) (deque_capacity sittings) (deque_capacity dones) sittings.items dones.items }
             requires staffed { IsStaffed desk.now hands.items (deque_len hands) (deque_capacity workings) (deque_capacity resteds) workings.items resteds.items }
             ensures same { result.0.ghost_name ≡ door.entry.ghost_name }
-            ensures begun { HasBegun (D.count door.entry.now) (D.count result.0.now) (D.still door.entry.now) (D.still result.0.now) seats.items result.1.seats.items (starts_of result.1.dones.items) }
-            ensures ready { All (IsReady desk.entry.now) result.1.seats.items }
+            ensures begun { HasSeatedLinks (D.count door.entry.now) (D.count result.0.now) (D.still door.entry.now) (D.still result.0.now) seats.items result.1.seats.items (starts_of result.1.dones.items) }
+            ensures ready { All (IsSeatOfDesk desk.entry.now) result.1.seats.items }
             ensures staff { hands.items ≡ froms_of result.1.resteds.items ++ result.1.hands.items }
-            ensures rest { All (IsReady desk.entry.now) result.1.hands.items }
+            ensures rest { All (IsSeatOfDesk desk.entry.now) result.1.hands.items }
             ensures returned { D.returned result.0.now ≡ D.returned door.entry.now }
             ensures faults { D.faults door.entry.now ≤ D.faults result.0.now }
-            ensures over { IsOver result.1.faulted (D.count result.0.now) (D.faults door.entry.now) (D.faults result.0.now) }
+            ensures over { IsDoorOver result.1.faulted (D.count result.0.now) (D.faults door.entry.now) (D.faults result.0.now) }
             ensures staffed { result.1.staff ≤ deque_len hands }
             ensures channels { result.1.staff ≡ 0 → HaveNoChannel (starts_of result.1.dones.items) }
         {
@@ -149,7 +149,7 @@ fn serve_beside<R: Threads + Wait + Sync, D: Door, G: Gate + Sync>(
 
 // Hands the links back in order, joins all seats, and closes the desk.
 fn settle<D: Door>(desk: Desk, door: &mut D, first: Seat, left: Left<D::Link>) -> Served
-    requires ready { IsReady desk first }
+    requires ready { IsSeatOfDesk desk first }
     requires split { AllSplit desk first.view (seats_of (starts_of left.dones.items) ++ left.seats.items) (froms_of left.resteds.items ++ left.hands.items) }
     requires given { length left.dones.items ≤ (D.count door.old).given - (D.count door.old).back }
     requires few { length left.dones.items ≤ 2 ^ 31 }

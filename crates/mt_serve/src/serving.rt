@@ -1,7 +1,7 @@
 //! Sessions begun and ended.
 ghost use Rattle.std.specs.Prelude.{◌≡◌, is_some};
 ghost use Rattle.std.specs.Thread.{IsSync};
-ghost use Rattle.mt_desk.specs.Desk.{IsReady};
+ghost use Rattle.mt_desk.specs.Desk.{IsSeatOfDesk};
 ghost use Rattle.mt_serve.specs.Serving.{HasServed};
 
 use crate::sitting::{Back, Done, Given, Sitting};
@@ -25,7 +25,7 @@ fn serve_one<L: Duplex, R: Threads + Wait + Sync, G: Gate>(
     gate: &G,
 ) -> Back<L>
     requires sync { IsSync R.row }
-    requires ready { IsReady desk.now seat }
+    requires ready { IsSeatOfDesk desk.now seat }
     ensures { HasServed L.Source L.Sink link seat (is_some jobs) result.link result.seat result.outcome }
 {
     let hand = desk.hand(seat);
@@ -52,7 +52,7 @@ pub(crate) fn begin<'s, E, L: Duplex + Send + Drop + 's, R: Threads + Wait + Syn
     gate: &'s G,
 ) -> Sitting<L>
     requires sync { IsSync R.row }
-    requires ready { IsReady desk.now seat }
+    requires ready { IsSeatOfDesk desk.now seat }
     ensures { result ≡ record { link = link; seat = seat; has_channel = is_some jobs } }
 {
     let has_channel = jobs.is_some();
@@ -69,7 +69,7 @@ pub(crate) fn begin<'s, E, L: Duplex + Send + Drop + 's, R: Threads + Wait + Syn
     match scope.spawn_with(
         promise,
         move ||
-            requires { IsSync R.row × IsReady desk.now seat }
+            requires { IsSync R.row × IsSeatOfDesk desk.now seat }
         { serve_one(rt, alloc, desk, seat, link, jobs, gate) },
     ) {
         Ok(handle) => Sitting {

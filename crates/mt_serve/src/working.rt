@@ -2,8 +2,8 @@
 ghost use Rattle.std.specs.Prelude.{◌≡◌, ◌≤◌, [], ◌++◌, All};
 ghost use Rattle.std.specs.Thread.{IsSync};
 ghost use Rattle.std.specs.VecDeque.{deque_len, deque_capacity};
-ghost use Rattle.mt_desk.specs.Desk.{IsReady};
-ghost use Rattle.mt_serve.specs.Working.{HasWorked, froms_of};
+ghost use Rattle.mt_desk.specs.Desk.{IsSeatOfDesk};
+ghost use Rattle.mt_serve.specs.Working.{HasWorkedInSeat, froms_of};
 
 use crate::worked::{Post, Rested, Working};
 use mt_desk::{Desk, Seat};
@@ -26,8 +26,8 @@ fn work_at<R: Threads + Wait + Sync, G: Gate>(
     gate: &G,
 ) -> Seat
     requires sync { IsSync R.row }
-    requires ready { IsReady desk.now seat }
-    ensures { HasWorked seat result }
+    requires ready { IsSeatOfDesk desk.now seat }
+    ensures { HasWorkedInSeat seat result }
 {
     if left_out.load(Ordering::SeqCst) == place {
         return seat;
@@ -48,7 +48,7 @@ fn begin_work<'s, E, R: Threads + Wait + Sync, G: Gate + Sync>(
     gate: &'s G,
 ) -> Working
     requires sync { IsSync R.row }
-    requires ready { IsReady desk.now seat }
+    requires ready { IsSeatOfDesk desk.now seat }
     ensures { result ≡ seat }
 {
     let promise = Post {
@@ -60,7 +60,7 @@ fn begin_work<'s, E, R: Threads + Wait + Sync, G: Gate + Sync>(
     match scope.spawn_with(
         promise,
         move ||
-            requires { IsSync R.row × IsReady desk.now seat }
+            requires { IsSync R.row × IsSeatOfDesk desk.now seat }
         { work_at(rt, desk, seat, jobs, place, left_out, gate) },
     ) {
         Ok(handle) => Working {
@@ -103,11 +103,11 @@ pub(crate) fn begin_all<'s, E, R: Threads + Wait + Sync, G: Gate + Sync>(
     workings: &mut VecDeque<Working>,
 ) -> u64
     requires sync { IsSync R.row }
-    requires ready { All (IsReady desk.now) seats.old.items }
+    requires ready { All (IsSeatOfDesk desk.now) seats.old.items }
     requires room { deque_len seats.old ≤ deque_capacity workings.old }
     requires none { workings.old.items ≡ [] }
     ensures begun { seats.old.items ≡ workings.new.items ++ seats.new.items }
-    ensures ready { All (IsReady desk.now) seats.new.items }
+    ensures ready { All (IsSeatOfDesk desk.now) seats.new.items }
     ensures started { result ≤ deque_len seats.old }
 {
     let mut place = 0;

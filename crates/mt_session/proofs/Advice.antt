@@ -3,7 +3,7 @@ use Rattle.std.proofs.Common.{◌≡◌, ℕ, List, [], ◌∷◌, ◌++◌, len
 use Rattle.mt_base.specs.Tally.{raised}
 use Rattle.mt_board.specs.Probing.{Probe}
 use Rattle.mt_write.specs.declared.reply.AdviceItem.{AdviceItem}
-use Rattle.mt_session.specs.Served.{items_from}
+use Rattle.mt_session.specs.Served.{probe_items_from}
 
 -- the number of the last of some probes
 abbrev pub number_after : ℕ → List Probe → ℕ
@@ -15,10 +15,10 @@ number_more count [] p = refl
 number_more count (q ∷ ps) p = number_more (raised count) ps p
 
 pub item_more : (count : ℕ) (ps : List Probe) (p : Probe)
-    → items_from count (ps ++ p ∷ []) ≡ items_from count ps ++ record { clearance = p.clearance; probe = raised (number_after count ps) } ∷ []
+    → probe_items_from count (ps ++ p ∷ []) ≡ probe_items_from count ps ++ record { clearance = p.clearance; probe = raised (number_after count ps) } ∷ []
 item_more count [] p = refl
 item_more count (q ∷ ps) p = ap (λ (is : List AdviceItem). record { clearance = q.clearance; probe = raised count } ∷ is) (item_more (raised count) ps p)
 
-pub items_length : (count : ℕ) (ps : List Probe) → length (items_from count ps) ≡ length ps
+pub items_length : (count : ℕ) (ps : List Probe) → length (probe_items_from count ps) ≡ length ps
 items_length count [] = refl
 items_length count (p ∷ ps) = let rest = items_length (raised count) ps in omega (arith, rest)

@@ -17,7 +17,7 @@ use Rattle.mt_machine.proofs.Books.{all_at, all_more, told_at}
 use Rattle.mt_write.specs.declared.reply.Reply.{Reply}
 use Rattle.mt_base.proofs.Cases.{empty_list}
 use Rattle.mt_session.specs.Keeping.{ArePast}
-use Rattle.mt_session.specs.Served.{IsAcceptedOf, IsCommanded, IsLooked, IsNumberRefused, entered_reply, is_empty}
+use Rattle.mt_session.specs.Served.{IsAcceptanceAnswered, IsCommanded, IsLooked, IsNumberRefused, board_reply, is_none_listed}
 use Rattle.mt_session.specs.Session.{Session}
 
 module _ {P : Type 0} (told : P → Probe) where
@@ -28,14 +28,14 @@ module _ {P : Type 0} (told : P → Probe) where
     past_all = all_more (λ q. IsPast s (fixed q) (state q) (told q).version)
 
   accepted_of : (s next : Session) (p : Probe) (hits : p.hits ≡ []) (reply : Reply)
-      → IsCommanded s (acceptance p) reply next → IsAcceptedOf s (Some p) reply next
+      → IsCommanded s (acceptance p) reply next → IsAcceptanceAnswered s (Some p) reply next
   accepted_of s next p none reply commanded = rw none commanded
 
   -- a probe of the book that was free was accepted
   pub accepted : (role : Option Role) (book : Book P) (seat new : Seat) (number : ℕ) (p : P) (result : Result Entered No) (reply : Reply)
       → probe_at book number ≡ Some p → (length (told p).hits == 0) ≡ true
-      → IsChanged seat (acceptance (told p)) result new → reply ≡ entered_reply result
-      → IsAcceptedOf (record { role = role; book = told_book told book; seat = seat }) (probe_at (told_book told book) number) reply
+      → IsChanged seat (acceptance (told p)) result new → reply ≡ board_reply result
+      → IsAcceptanceAnswered (record { role = role; book = told_book told book; seat = seat }) (probe_at (told_book told book) number) reply
       (record { role = role; book = told_book told book; seat = new })
   accepted role book seat new number p result reply found none changed is =
       rw (told_at told book number, found) (accepted_of (record { role = role; book = told_book told book; seat = seat })
@@ -53,20 +53,20 @@ module _ {P : Type 0} (told : P → Probe) where
 
     -- the book has no probe of a number
     pub no_such : probe_at book number ≡ None → IsNumberRefused s NoProbe reply next ⊎ IsLooked s reply next
-        → IsAcceptedOf s (probe_at s.book number) reply next ⊎ IsLooked s reply next
-    no_such none refused = subst (λ (found : Option Probe). IsAcceptedOf s found reply next ⊎ IsLooked s reply next) (sym (found_as None none)) refused
+        → IsAcceptanceAnswered s (probe_at s.book number) reply next ⊎ IsLooked s reply next
+    no_such none refused = subst (λ (found : Option Probe). IsAcceptanceAnswered s found reply next ⊎ IsLooked s reply next) (sym (found_as None none)) refused
 
-    full : (hits : List Hit) → (length hits == 0) ≡ false → is_empty hits ≡ false
+    full : (hits : List Hit) → (length hits == 0) ≡ false → is_none_listed hits ≡ false
     full [] none = cc
     full (x ∷ xs) some = refl
 
-    hit_refused : (p : Probe) → (length p.hits == 0) ≡ false → IsNumberRefused s NotFree reply next → IsAcceptedOf s (Some p) reply next
+    hit_refused : (p : Probe) → (length p.hits == 0) ≡ false → IsNumberRefused s NotFree reply next → IsAcceptanceAnswered s (Some p) reply next
     hit_refused p some refused = subst (λ (b : Bool). MatchBool b (IsCommanded s (acceptance p) reply next) (IsNumberRefused s NotFree reply next))
         (sym (full p.hits some)) refused
 
     -- that probe had hits
     pub not_free : (p : P) → probe_at book number ≡ Some p → (length (told p).hits == 0) ≡ false
         → IsNumberRefused s NotFree reply next ⊎ IsLooked s reply next
-        → IsAcceptedOf s (probe_at s.book number) reply next ⊎ IsLooked s reply next
-    not_free p found some refused = subst (λ (found : Option Probe). IsAcceptedOf s found reply next ⊎ IsLooked s reply next)
+        → IsAcceptanceAnswered s (probe_at s.book number) reply next ⊎ IsLooked s reply next
+    not_free p found some refused = subst (λ (found : Option Probe). IsAcceptanceAnswered s found reply next ⊎ IsLooked s reply next)
         (sym (found_as (Some p) found)) (⊎_elim (λ one. inl (hit_refused (told p) some one)) (λ looked. inr looked) refused)

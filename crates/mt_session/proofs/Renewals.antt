@@ -12,14 +12,14 @@ use Rattle.mt_board.specs.declared.no.No.TheVariants as no
 use Rattle.mt_board.specs.Asking.{IsRead}
 use Rattle.mt_board.specs.Changing.{IsChanged}
 use Rattle.mt_board.specs.Seat.{Seat}
-use Rattle.mt_board.specs.Settling.{AreMade, AreRenewed}
+use Rattle.mt_board.specs.Settling.{AreMade, AreRenewalsAsked}
 use Rattle.mt_board.proofs.SeatLemmas.{renewals_add}
 use Rattle.mt_session.specs.Settles.{Settles, is_starved, told_due}
 
 -- these flights have been renewed, or that was refused
 pub record HasRenewed (s : Seat) (calls : List (List ℕ)) (t : Seat) : Type 0 where
   pub results : List (Result Entered No)
-  pub renewed : AreRenewed s calls results t
+  pub renewed : AreRenewalsAsked s calls results t
   pub made : AreMade results
 
 pub none_renewed : (s : Seat) → HasRenewed s [] s

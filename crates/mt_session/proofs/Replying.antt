@@ -20,7 +20,7 @@ use Rattle.mt_lines.specs.Given.{IsGivenFor, is_brief}
 use Rattle.mt_lines.proofs.Brief.{not_given}
 use Rattle.mt_base.specs.Rules.{usual_rules}
 use Rattle.mt_machine.specs.Book.{probe_at}
-use Rattle.mt_read.specs.Line.{Gives, line as read_as}
+use Rattle.mt_read.specs.Line.{GivesReading, line as read_as}
 use Rattle.mt_read.specs.declared.request.LineNo.{LineNo}
 use Rattle.mt_read.specs.declared.request.LineNo.TheVariants as nos
 use Rattle.mt_read.specs.declared.request.Request.{Request}
@@ -28,15 +28,16 @@ use Rattle.mt_read.specs.declared.request.Request.TheVariants as requests
 use Rattle.mt_write.specs.declared.reply.Reply.{Reply}
 use Rattle.mt_write.specs.declared.reply.Reply.TheVariants as replies
 use Rattle.mt_base.proofs.Cases.{on_either}
-use Rattle.mt_session.specs.Following.{IsDone, Standing, job_if, job_of}
-use Rattle.mt_session.specs.Served.{IsAcceptedOf, IsAnswered, IsCommanded, IsGiven, IsLeft, IsRepliedTo, IsServed, IsStarvedOf, IsTold, IsTried, ask_of, entered_reply, is_empty}
-use Rattle.mt_session.specs.Session.{Session, asked, or_reply, place_of, with_seat}
+use Rattle.mt_session.specs.Following.{IsRenewalDone, Standing, job_if, job_of}
+use Rattle.mt_session.specs.Served.{IsAcceptanceAnswered, IsAskAnswered, IsCommanded, IsReplyGiven, IsSessionLeft, IsRepliedTo, IsServedInSession, IsStarvedOf, IsReadAnswered, IsTrialInSession, ask_of, board_reply, is_none_listed}
+use Rattle.mt_wire.specs.Refused.{or_reply}
+use Rattle.mt_session.specs.Session.{Session, asked_in_role, role_place, with_seat}
 
 -- nothing but what was seen has changed
 abbrev pub IsIdle : Session → Session → Type 0
 IsIdle s next = (seat : Seat) × HasLooked s.seat seat × (next ≡ with_seat s seat)
 
-given_idle : (s : Session) (given reply : Reply) (next : Session) → IsGiven given s reply next → IsIdle s next
+given_idle : (s : Session) (given reply : Reply) (next : Session) → IsReplyGiven given s reply next → IsIdle s next
 given_idle s given reply next g = (s.seat, looked_itself s.seat, g.next_is)
 
 denied_looked : (s t : Seat) (why : Refusal → Type 0) (denied : No) → IsDenied s why denied t → HasLooked s t
@@ -47,10 +48,10 @@ read_looked : (s t : Seat) (ask : Ask) (result : Result Answer No) → IsRead s 
 read_looked s t ask (Ok answer) r = r.0.looked
 read_looked s t ask (Err denied) d = denied_looked s t _ denied d
 
-told_idle : (s : Session) (ask : Ask) (reply : Reply) (next : Session) → IsTold s ask reply next → IsIdle s next
+told_idle : (s : Session) (ask : Ask) (reply : Reply) (next : Session) → IsReadAnswered s ask reply next → IsIdle s next
 told_idle s ask reply next t = (t.seat, read_looked s.seat t.seat ask t.result t.read, t.given.next_is)
 
-changed_looked : (s t : Seat) (command : Command) (result : Result Entered No) (reply : Reply) → is_brief reply ≡ false → reply ≡ entered_reply result
+changed_looked : (s t : Seat) (command : Command) (result : Result Entered No) (reply : Reply) → is_brief reply ≡ false → reply ≡ board_reply result
     → IsChanged s command result t → HasLooked s t
 changed_looked s t command (Ok entered) reply b is changed = not_given _ reply _ is refl b
 changed_looked s t command (Err denied) reply b is changed = denied_looked s t _ denied changed
@@ -59,16 +60,16 @@ command_idle : (s : Session) (command : Command) (reply : Reply) (next : Session
 command_idle s command reply next b c = (c.seat, changed_looked s.seat c.seat command c.result reply b c.given.reply_is c.changed, c.given.next_is)
 
 tried_idle : (s : Session) (call : List ℕ) (clearance : Clearance) (eff : Option ℕ) (seat : Seat) (result : Result Probe No) (reply : Reply) (next : Session)
-    → is_brief reply ≡ false → IsTried s call clearance eff seat result reply next → IsIdle s next
+    → is_brief reply ≡ false → IsTrialInSession s call clearance eff seat result reply next → IsIdle s next
 tried_idle s call clearance eff seat (Ok probe) reply next b tried = not_given _ reply _ tried.1.reply_is refl b
 tried_idle s call clearance eff seat (Err denied) reply next b tried = (seat, denied_looked s.seat seat _ denied tried.0, tried.1.next_is)
 
-accepted_idle : (s : Session) (found : Option Probe) (reply : Reply) (next : Session) → is_brief reply ≡ false → IsAcceptedOf s found reply next → IsIdle s next
+accepted_idle : (s : Session) (found : Option Probe) (reply : Reply) (next : Session) → is_brief reply ≡ false → IsAcceptanceAnswered s found reply next → IsIdle s next
 accepted_idle s None reply next b r = (r.seat, r.seen.looked, r.given.next_is)
 accepted_idle s (Some probe) reply next b a =
-    on_either (is_empty probe.hits) _ _ _ (command_idle s _ reply next b) (λ r. (r.seat, r.seen.looked, r.given.next_is)) a
+    on_either (is_none_listed probe.hits) _ _ _ (command_idle s _ reply next b) (λ r. (r.seat, r.seen.looked, r.given.next_is)) a
 
-served_idle : (s : Session) (request : Request) (reply : Reply) (next : Session) → is_brief reply ≡ false → IsServed s request reply next → IsIdle s next
+served_idle : (s : Session) (request : Request) (reply : Reply) (next : Session) → is_brief reply ≡ false → IsServedInSession s request reply next → IsIdle s next
 served_idle s (requests.Hello role) reply next b g = not_given _ reply _ g.reply_is refl b
 served_idle s requests.Bye reply next b g = not_given _ reply _ g.reply_is refl b
 served_idle s requests.List reply next b told = told_idle s _ reply next told
@@ -92,7 +93,7 @@ served_idle s requests.Take reply next b g = given_idle s _ reply next g
 served_idle s (requests.Area area) reply next b g = given_idle s _ reply next g
 served_idle s requests.Areas reply next b g = given_idle s _ reply next g
 
-answered_idle : (s : Session) (a : Result (ℕ × Request) Reply) (reply : Reply) (next : Session) → is_brief reply ≡ false → IsAnswered s a reply next → IsIdle s next
+answered_idle : (s : Session) (a : Result (ℕ × Request) Reply) (reply : Reply) (next : Session) → is_brief reply ≡ false → IsAskAnswered s a reply next → IsIdle s next
 answered_idle s (Ok a) reply next b served = served_idle s a.1 reply next b served
 answered_idle s (Err refusal) reply next b g = given_idle s refusal reply next g
 
@@ -100,7 +101,7 @@ starved_memory : (s : Session) (a : Result (ℕ × Request) Reply) (reply : Repl
 starved_memory s (Ok a) reply next starved = starved.given.reply_is
 starved_memory s (Err refusal) reply next starved = starved.given.reply_is
 
-left_looked : (request : Request) (s t : Seat) → HasLooked s t → IsLeft request s t
+left_looked : (request : Request) (s t : Seat) → HasLooked s t → IsSessionLeft request s t
 left_looked requests.Settle s t looked = inl looked
 left_looked request s t looked = looked
 
@@ -113,15 +114,15 @@ idle_starved s (Err refusal) next (seat, looked, is) = record { seat = seat; lef
 -- a reply that is not brief follows no change
 replied_idle : (s next : Session) (line : List ℕ) (reply : Reply) → IsRepliedTo s line reply next → is_brief reply ≡ false → IsIdle s next
 replied_idle s next line reply replied b = ⊎_elim
-    (answered_idle s (asked s.role line) reply next b)
-    (λ wants. not_given _ reply _ (starved_memory s (asked s.role line) reply next wants.1) refl b)
+    (answered_idle s (asked_in_role s.role line) reply next b)
+    (λ wants. not_given _ reply _ (starved_memory s (asked_in_role s.role line) reply next wants.1) refl b)
     replied
 
 pub given_replied : (s next : Session) (line : List ℕ) (reply given : Reply) → IsRepliedTo s line reply next → IsGivenFor reply given
     → (is_brief reply ≡ false → length line ≤ 65536) → IsRepliedTo s line given next
 given_replied s next line reply given replied for short = ⊎_elim
     (λ same. rw same replied)
-    (λ (memory, not_brief). rw memory (inr (short not_brief, idle_starved s (asked s.role line) next (replied_idle s next line reply replied not_brief))))
+    (λ (memory, not_brief). rw memory (inr (short not_brief, idle_starved s (asked_in_role s.role line) next (replied_idle s next line reply replied not_brief))))
     for
 
 no_job : (request : Request) (reply : Reply) → is_brief reply ≡ false → job_if request reply ≡ None
@@ -147,18 +148,18 @@ given_job a reply given for = ⊎_elim
 pub long_replied : (s : Session) (line : List ℕ) → 65536 < length line → IsRepliedTo s line replies.Long s
 long_replied s line long = inl (rw (lt-ltb 65536 (length line) long) (record { reply_is = refl; next_is = refl }))
 
-long_job : (s : Session) (line : List ℕ) → 65536 < length line → job_of (asked s.role line) replies.Long ≡ None
+long_job : (s : Session) (line : List ℕ) → 65536 < length line → job_of (asked_in_role s.role line) replies.Long ≡ None
 long_job s line long = rw (lt-ltb 65536 (length line) long) refl
 
-pub long_done : (s : Session) (line : List ℕ) → 65536 < length line → (w : Standing) → IsDone (job_of (asked s.role line) replies.Long) w w
+pub long_done : (s : Session) (line : List ℕ) → 65536 < length line → (w : Standing) → IsRenewalDone (job_of (asked_in_role s.role line) replies.Long) w w
 long_done s line long w = rw (long_job s line long) refl
 
-same_ask : {asked ask : Ask} → Some asked ≡ Some ask → asked ≡ ask
+same_ask : {asked_in_role ask : Ask} → Some asked_in_role ≡ Some ask → asked_in_role ≡ ask
 same_ask is = cc
 
 -- a request that asks for a read is served by what is told
-pub told_served : (s : Session) (request : Request) (ask : Ask) (reply : Reply) (next : Session) → ask_of request ≡ Some ask → IsTold s ask reply next
-    → IsServed s request reply next
+pub told_served : (s : Session) (request : Request) (ask : Ask) (reply : Reply) (next : Session) → ask_of request ≡ Some ask → IsReadAnswered s ask reply next
+    → IsServedInSession s request reply next
 told_served s requests.List ask reply next is told = rw (same_ask is) told
 told_served s requests.Check ask reply next is told = rw (same_ask is) told
 told_served s requests.Due ask reply next is told = rw (same_ask is) told
@@ -167,23 +168,23 @@ told_served s (requests.History from to) ask reply next is told = rw (same_ask i
 told_served s request ask reply next is told = cc
 
 -- what a line that isn't too long asks for
-asked_as : (s : Session) (line : List ℕ) (a : Result (ℕ × Request) LineNo) → length line ≤ 65536 → a ≡ read_as (place_of s.role) usual_rules line
-    → asked s.role line ≡ or_reply a
+asked_as : (s : Session) (line : List ℕ) (a : Result (ℕ × Request) LineNo) → length line ≤ 65536 → a ≡ read_as (role_place s.role) usual_rules line
+    → asked_in_role s.role line ≡ or_reply a
 asked_as s line a short is =
     let fits : nat_lt 65536 (length line) ≡ false = grind (arith, nat_tests) in
     rw (fits, ← is) refl
 
 -- a line that was refused
 refused_replied : (s : Session) (line : List ℕ) (a : Result (ℕ × Request) LineNo) (reply : Reply) → length line ≤ 65536
-    → a ≡ read_as (place_of s.role) usual_rules line → Err reply ≡ or_reply a → IsRepliedTo s line reply s
+    → a ≡ read_as (role_place s.role) usual_rules line → Err reply ≡ or_reply a → IsRepliedTo s line reply s
 refused_replied s line a reply short is refusal =
     inl (rw (asked_as s line a short is, ← refusal) (record { reply_is = refl; next_is = refl }))
 
 pub unread_replied : (s : Session) (line : List ℕ) (refusal : LineNo) (reply : Reply) → length line ≤ 65536
-    → Gives {A = ℕ × Request} (Err refusal) (read_as (place_of s.role) usual_rules line) → Err reply ≡ or_reply (Err refusal) → IsRepliedTo s line reply s
+    → GivesReading {A = ℕ × Request} (Err refusal) (read_as (role_place s.role) usual_rules line) → Err reply ≡ or_reply (Err refusal) → IsRepliedTo s line reply s
 unread_replied s line nos.Memory reply short is refusal =
     let memory : reply ≡ replies.Memory = cc in
-    rw memory (inr (short, idle_starved s (asked s.role line) s (s.seat, looked_itself s.seat, refl)))
+    rw memory (inr (short, idle_starved s (asked_in_role s.role line) s (s.seat, looked_itself s.seat, refl)))
 unread_replied s line nos.Json reply short is refusal = refused_replied s line (Err nos.Json) reply short is refusal
 unread_replied s line (nos.Form name) reply short is refusal = refused_replied s line (Err (nos.Form name)) reply short is refusal
 unread_replied s line (nos.Range name) reply short is refusal = refused_replied s line (Err (nos.Range name)) reply short is refusal

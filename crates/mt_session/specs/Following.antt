@@ -10,11 +10,11 @@ use Rattle.mt_board.specs.Changing.{IsChanged}
 use Rattle.mt_board.specs.Seat.{Seat}
 use Rattle.mt_read.specs.declared.request.Request.{Request}
 use Rattle.mt_read.specs.declared.request.Request.TheVariants as requests
-use Rattle.mt_workers.specs.Jobs.{GivesBack, Jobs, Takes}
+use Rattle.mt_workers.specs.Jobs.{GivesBack, Jobs, TakesJob}
 use Rattle.mt_write.specs.declared.reply.Reply.{Reply}
 use Rattle.mt_write.specs.declared.reply.Reply.TheVariants as replies
 use Rattle.mt_session.specs.Served.{IsRepliedTo}
-use Rattle.mt_session.specs.Session.{Session, asked, with_seat}
+use Rattle.mt_session.specs.Session.{Session, asked_in_role, with_seat}
 
 -- the flight that a command reports
 abbrev pub reported : Command → Option (List ℕ)
@@ -36,7 +36,7 @@ job_if request (replies.Entered entered) = job_by request entered
 job_if request reply = None
 
 abbrev pub job_of : Result (ℕ × Request) Reply → Reply → Option (List ℕ)
-job_of (Ok asked) reply = job_if asked.1 reply
+job_of (Ok asked_in_role) reply = job_if asked_in_role.1 reply
 job_of (Err refusal) reply = None
 
 -- A session, and the outbox beside it, as far as it tells its jobs.
@@ -45,11 +45,11 @@ pub record Standing : Type 0 where
   pub jobs : Option Jobs
 
 -- a reply touches no job
-abbrev pub IsReplied : Standing → List ℕ → Reply → Standing → Type 0
-IsReplied w line reply next = IsRepliedTo w.session line reply next.session × (next.jobs ≡ w.jobs)
+abbrev pub TouchesNoJob : Standing → List ℕ → Reply → Standing → Type 0
+TouchesNoJob w line reply next = IsRepliedTo w.session line reply next.session × (next.jobs ≡ w.jobs)
 
 -- the session asked to renew a flight, whatever it was answered
-pub record IsRenewed (s : Session) (call : List ℕ) (next : Session) : Type 0 where
+pub record HasAskedToRenew (s : Session) (call : List ℕ) (next : Session) : Type 0 where
   pub result : Result Entered No
   pub seat : Seat
   pub changed : IsChanged s.seat (Renew call) result seat
@@ -57,13 +57,13 @@ pub record IsRenewed (s : Session) (call : List ℕ) (next : Session) : Type 0 w
 
 -- The outbox took the job; or it gave it back, and the session renewed the flight itself.
 abbrev pub IsHanded : List ℕ → Standing → Standing → Type 0
-IsHanded call w next = (Takes w.jobs call next.jobs × (next.session ≡ w.session)) ⊎ (GivesBack w.jobs next.jobs × IsRenewed w.session call next.session)
+IsHanded call w next = (TakesJob w.jobs call next.jobs × (next.session ≡ w.session)) ⊎ (GivesBack w.jobs next.jobs × HasAskedToRenew w.session call next.session)
 
 -- it is done where there is one
-abbrev pub IsDone : Option (List ℕ) → Standing → Standing → Type 0
-IsDone None w next = next ≡ w
-IsDone (Some call) w next = IsHanded call w next
+abbrev pub IsRenewalDone : Option (List ℕ) → Standing → Standing → Type 0
+IsRenewalDone None w next = next ≡ w
+IsRenewalDone (Some call) w next = IsHanded call w next
 
 -- what follows once the reply is written
 abbrev pub IsFollowed : Standing → List ℕ → Reply → Standing → Standing → Type 0
-IsFollowed w line reply answered next = IsDone (job_of (asked w.session.role line) reply) answered next
+IsFollowed w line reply answered next = IsRenewalDone (job_of (asked_in_role w.session.role line) reply) answered next

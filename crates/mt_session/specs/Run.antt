@@ -8,20 +8,20 @@ use Rattle.mt_workers.specs.Jobs.{Jobs, no_jobs}
 use Rattle.mt_write.specs.Reply.{reply_text}
 use Rattle.mt_session.specs.declared.outcome.Outcome.{Outcome}
 use Rattle.mt_session.specs.declared.outcome.Outcome.TheVariants.{Ended, ReadFault, WriteFault, Spent, Memory}
-use Rattle.mt_session.specs.Following.{IsFollowed, IsReplied, Standing}
+use Rattle.mt_session.specs.Following.{IsFollowed, TouchesNoJob, Standing}
 use Rattle.mt_session.specs.Session.{Session, new_session}
 
 -- What an outcome says, by the session at first and at last, of the link's whole input, what was left of it, and what was written. A session
 -- is lines answered one by one, up to the one that is answered with a farewell. Memory is wanted only before the first line: then nothing
 -- was read and nothing written.
 abbrev pub SessionMeans : Standing → Standing → Outcome → List ℕ → List ℕ → List ℕ → Type 0
-SessionMeans start end Ended input left written = AnswersAll reply_text is_farewell IsReplied IsFollowed start input left written end
-    ⊎ AnswersToLast reply_text is_farewell IsReplied IsFollowed start input left written end
+SessionMeans start end Ended input left written = AnswersAll reply_text is_farewell TouchesNoJob IsFollowed start input left written end
+    ⊎ AnswersToLast reply_text is_farewell TouchesNoJob IsFollowed start input left written end
 SessionMeans start end ReadFault input left written =
-    (taken : List ℕ) × AnswersWhole reply_text is_farewell IsReplied IsFollowed start input left taken written end
+    (taken : List ℕ) × AnswersWhole reply_text is_farewell TouchesNoJob IsFollowed start input left taken written end
 SessionMeans start end Spent input left written =
-    (taken : List ℕ) × (length taken ≡ 2 ^ 32) × AnswersWhole reply_text is_farewell IsReplied IsFollowed start input left taken written end
-SessionMeans start end WriteFault input left written = AnswersFront reply_text is_farewell IsReplied IsFollowed start input left written end
+    (taken : List ℕ) × (length taken ≡ 2 ^ 32) × AnswersWhole reply_text is_farewell TouchesNoJob IsFollowed start input left taken written end
+SessionMeans start end WriteFault input left written = AnswersFront reply_text is_farewell TouchesNoJob IsFollowed start input left written end
 SessionMeans start end Memory input left written = (left ≡ input) × (written ≡ []) × (end ≡ start)
 
 -- What is known of a link: the bytes left to read and the bytes written, as far as it tells them, and the counts of its faults.
@@ -50,9 +50,9 @@ pub record IsSession (seat seat_after : Seat) (link link_after : Link) (outbox o
   pub write_cause : outcome ≡ WriteFault → Rose link.write_faults link_after.write_faults
 
 -- no fault of the outside
-abbrev pub IsNoFault : Outcome → Type 0
-IsNoFault Ended = Unit {0}
-IsNoFault Spent = Unit {0}
-IsNoFault Memory = Unit {0}
-IsNoFault ReadFault = ⊥
-IsNoFault WriteFault = ⊥
+abbrev pub IsNoLinkFault : Outcome → Type 0
+IsNoLinkFault Ended = Unit {0}
+IsNoLinkFault Spent = Unit {0}
+IsNoLinkFault Memory = Unit {0}
+IsNoLinkFault ReadFault = ⊥
+IsNoLinkFault WriteFault = ⊥

@@ -6,7 +6,7 @@ use Rattle.mt_board.specs.declared.ask.Answer.TheVariants as answers
 use Rattle.mt_board.specs.declared.no.No.{No}
 use Rattle.mt_board.specs.declared.no.No.TheVariants as no
 use Rattle.mt_board.specs.Seat.{Seat}
-use Rattle.mt_board.specs.Settling.{IsNotSettled, IsSettled}
+use Rattle.mt_board.specs.Settling.{IsNotSettled, HasSettled}
 
 -- memory was wanted
 abbrev pub is_starved : Result Entered No → Bool
@@ -20,5 +20,5 @@ told_due result = None
 
 -- what it gives: the flights left and the version, or that memory was wanted
 abbrev pub Settles : Seat → Option (List (List ℕ) × ℕ) → Seat → Type 0
-Settles s (Some told) t = IsSettled s t told.0 told.1
+Settles s (Some told) t = HasSettled s t told.0 told.1
 Settles s None t = IsNotSettled s t

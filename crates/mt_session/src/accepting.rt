@@ -4,7 +4,7 @@ ghost use Rattle.std.specs.Thread.{IsSync};
 ghost use Rattle.mt_lines.specs.Fit.{IsFit};
 ghost use Rattle.mt_machine.specs.Book.{probe_at};
 ghost use Rattle.mt_session.specs.Keeping.{StaysOn};
-ghost use Rattle.mt_session.specs.Served.{IsAcceptedOf, IsLooked};
+ghost use Rattle.mt_session.specs.Served.{IsAcceptanceAnswered, IsLooked};
 
 use crate::serving::Serving;
 use crate::telling::changed;
@@ -24,7 +24,7 @@ impl<B: Board> Serving<B> {
         gate: &G,
     ) -> Reply
         requires sync { IsSync R.row }
-        ensures accepted { IsAcceptedOf self.old.session (probe_at self.old.session.book number) result self.new.session
+        ensures accepted { IsAcceptanceAnswered self.old.session (probe_at self.old.session.book number) result self.new.session
             ⊎ IsLooked self.old.session result self.new.session }
         ensures on { StaysOn self.old self.new }
         ensures fit { IsFit result }

@@ -6,7 +6,7 @@ ghost use Rattle.mt_lines.specs.Fit.{IsFit};
 ghost use Rattle.mt_write.specs.Short.{IsShortAdvised};
 ghost use Rattle.mt_machine.specs.Book.{with_all};
 ghost use Rattle.mt_session.specs.Keeping.{ArePast, StaysOn};
-ghost use Rattle.mt_session.specs.Served.{IsAdviceDenied, IsAdvisedTo, IsLooked, items_from};
+ghost use Rattle.mt_session.specs.Served.{IsAdviceDenied, IsAdvisedTo, IsLooked, probe_items_from};
 ghost use Rattle.mt_session.specs.Session.{with_seat};
 
 use crate::serving::Serving;
@@ -19,9 +19,9 @@ use std::alloc::Global;
 use std::sync::Wait;
 use std::thread::Threads;
 
-// The clearances of some probes, each with the number that its probe gets behind so many.
+// The clearances of some probes, each with the number that its probe gets after so many.
 fn items_from<P: Probed>(alloc: Global, count: u64, probes: &[P]) -> Result<AdviceList, Memory>
-    ensures exact { IfOk result (λ items. items ≡ items_from count (map P.told probes.now)) }
+    ensures exact { IfOk result (λ items. items ≡ probe_items_from count (map P.told probes.now)) }
     ensures short { IfOk result (All IsShortAdvised) }
 {
     let mut items = AdviceList::make(alloc)?;

@@ -9,8 +9,9 @@ ghost use Rattle.mt_read.specs.declared.request.Request.TheVariants.{Change};
 ghost use Rattle.mt_write.specs.declared.reply.Reply.TheVariants as replies;
 ghost use Rattle.mt_session.specs.Following.{job_if, job_of};
 ghost use Rattle.mt_session.specs.Keeping.{StaysOn};
-ghost use Rattle.mt_session.specs.Served.{IsCommanded, IsForeign, IsLooked, IsNoChange, IsRepliedTo, IsServed, IsStarved, ask_of};
-ghost use Rattle.mt_session.specs.Session.{Session, asked, or_reply, place_of};
+ghost use Rattle.mt_session.specs.Served.{IsCommanded, IsNotOfSessions, IsLooked, IsNoChange, IsRepliedTo, IsServedInSession, IsStarvedInSession, ask_of};
+ghost use Rattle.mt_wire.specs.Refused.{or_reply};
+ghost use Rattle.mt_session.specs.Session.{Session, asked_in_role, role_place};
 
 use crate::following::{due_if, reported};
 use crate::serving::Serving;
@@ -38,7 +39,7 @@ fn unread(no: LineNo) -> Reply
 
 // The refusal of a command that no session has.
 fn foreign(alloc: Global) -> Reply
-    ensures refused { (s : Session) → IsForeign s result s ⊎ IsLooked s result s }
+    ensures refused { (s : Session) → IsNotOfSessions s result s ⊎ IsLooked s result s }
     ensures fit { IsFit result }
 {
     match FieldName::of(alloc, b"do") {
@@ -70,7 +71,7 @@ fn ask_of(request: &Request) -> Option<Ask>
 impl<B: Board> Serving<B> {
     // Where its lines come from.
     fn place(&self) -> Place
-        ensures { result ≡ place_of self.now.session.role }
+        ensures { result ≡ role_place self.now.session.role }
     {
         match self.role {
             None => Place::Plain,
@@ -91,7 +92,7 @@ impl<B: Board> Serving<B> {
         requires sync { IsSync R.row }
         requires short { length line.now ≤ 65536 }
         ensures replied { IsRepliedTo self.old.session line.now result.0 self.new.session }
-        ensures job { result.1 ≡ job_of (asked self.old.session.role line.now) result.0 }
+        ensures job { result.1 ≡ job_of (asked_in_role self.old.session.role line.now) result.0 }
         ensures on { StaysOn self.old self.new }
         ensures fit { IsFit result.0 }
     {
@@ -111,7 +112,7 @@ impl<B: Board> Serving<B> {
     ) -> (Reply, Option<Callsign>)
         requires sync { IsSync R.row }
         requires bounded { IsBoundedRequest usual_rules request }
-        ensures served { IsServed self.old.session request result.0 self.new.session ⊎ IsStarved self.old.session request result.0 self.new.session }
+        ensures served { IsServedInSession self.old.session request result.0 self.new.session ⊎ IsStarvedInSession self.old.session request result.0 self.new.session }
         ensures job { result.1 ≡ job_if request result.0 }
         ensures on { StaysOn self.old self.new }
         ensures fit { IsFit result.0 }
@@ -133,7 +134,7 @@ impl<B: Board> Serving<B> {
         requires sync { IsSync R.row }
         requires bounded { IsBoundedRequest usual_rules request.now }
         requires other { IsNoChange request.now }
-        ensures served { IsServed self.old.session request.now result self.new.session ⊎ IsStarved self.old.session request.now result self.new.session }
+        ensures served { IsServedInSession self.old.session request.now result self.new.session ⊎ IsStarvedInSession self.old.session request.now result self.new.session }
         ensures on { StaysOn self.old self.new }
         ensures fit { IsFit result }
     {

@@ -1,7 +1,7 @@
 //! What follows the reply to a report.
 ghost use Rattle.std.specs.Prelude.{◌≡◌, Option};
 ghost use Rattle.std.specs.Thread.{IsSync};
-ghost use Rattle.mt_session.specs.Following.{IsDone, due_if, reported};
+ghost use Rattle.mt_session.specs.Following.{IsRenewalDone, due_if, reported};
 ghost use Rattle.mt_session.specs.Keeping.{StaysOn};
 
 use crate::serving::Serving;
@@ -42,7 +42,7 @@ impl<B: Board> Serving<B> {
         gate: &G,
     )
         requires sync { IsSync R.row }
-        ensures done { IsDone job (record { session = self.old.session; jobs = O.jobs jobs.old }) (record { session = self.new.session; jobs = O.jobs jobs.new }) }
+        ensures done { IsRenewalDone job (record { session = self.old.session; jobs = O.jobs jobs.old }) (record { session = self.new.session; jobs = O.jobs jobs.new }) }
         ensures on { StaysOn self.old self.new }
     {
         let Some(call) = job else {

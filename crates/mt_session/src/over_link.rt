@@ -10,8 +10,8 @@ ghost use Rattle.std.specs.Thread.{IsSync};
 ghost use Rattle.mt_session.specs.Following.{Standing};
 ghost use Rattle.mt_session.specs.Keeping.{StaysOn};
 ghost use Rattle.mt_session.specs.Outboxes.{outbox_after, outbox_before};
-ghost use Rattle.mt_session.specs.Run.{IsNoFault, IsSession, SessionMeans};
-ghost use Rattle.mt_session.specs.SoFar.{GivesTill, HasRun, IsLineAnswered, Turned, ended_by};
+ghost use Rattle.mt_session.specs.Run.{IsNoLinkFault, IsSession, SessionMeans};
+ghost use Rattle.mt_session.specs.SoFar.{GivesTill, HasRun, IsLineAnswered, SessionTurned, outcome_after};
 ghost use Rattle.mt_session.specs.declared.outcome.Outcome.TheVariants.{ReadFault, WriteFault};
 
 use crate::outcome::Outcome;
@@ -51,7 +51,7 @@ pub fn session<R: Threads + Wait + Sync, B: Board, L: Duplex, O: Outbox, G: Gate
         (record { left = L.left link.new; held = L.held link.new; read_faults = L.Source.faults link.new; write_faults = L.Sink.faults link.new })
         (outbox_before O.jobs jobs.entry) (outbox_after O.jobs jobs.exit) result.1 }
     ensures complete { ¬ Rose (L.Source.faults link.old) (L.Source.faults link.new) → ¬ Rose (L.Sink.faults link.old) (L.Sink.faults link.new)
-        → IsNoFault result.1 }
+        → IsNoLinkFault result.1 }
     ensures home { B.home result.0 ≡ B.home board }
 {
     match jobs {
@@ -140,7 +140,7 @@ fn turns<R: Threads + Wait + Sync, B: Board, L: Duplex, O: Outbox, G: Gate>(
 
 // The outcome that a session ends with, once a reply was given so; none where it goes on.
 fn ended_by(given: Result<bool, mt_io::WriteFault>) -> Option<Outcome>
-    ensures { result ≡ ended_by given }
+    ensures { result ≡ outcome_after given }
 {
     match given {
         Ok(true) => Some(Outcome::Ended),
@@ -215,7 +215,7 @@ fn turn<R: Threads + Wait + Sync, B: Board, L: Duplex, O: Outbox, G: Gate>(
     requires room { 65536 ≤ vec_capacity room.old }
     ensures turned { (start : Standing) (before held : Option (List ℕ))
         → HasRun start before (L.left link.old) held (L.held link.old) reader.old (record { session = serving.old.session; jobs = O.jobs jobs.old })
-        → Turned start result before (L.left link.new) held (L.held link.new) reader.new (record { session = serving.new.session; jobs = O.jobs jobs.new }) }
+        → SessionTurned start result before (L.left link.new) held (L.held link.new) reader.new (record { session = serving.new.session; jobs = O.jobs jobs.new }) }
     ensures rises { IfNone result ((reader.new.given ≡ reader.old.given + 1) × (reader.new.given ≤ 2 ^ 32) × (reader.new.fault ≡ None)) }
     ensures room { 65536 ≤ vec_capacity room.new }
     ensures on { StaysOn serving.old serving.new }

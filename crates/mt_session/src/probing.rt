@@ -4,7 +4,6 @@ ghost use Rattle.std.specs.Thread.{IsSync};
 ghost use Rattle.mt_base.specs.Bounds.{IsBoundedClearance};
 ghost use Rattle.mt_base.specs.Name.{is_name};
 ghost use Rattle.mt_board.specs.Probing.{IsNotProbed, IsPast, IsProbed};
-ghost use Rattle.mt_board.specs.Seat.{Seat};
 ghost use Rattle.mt_board.specs.Short.{AreShortHits};
 ghost use Rattle.mt_lines.specs.Fit.{AreBrief, IsFit};
 ghost use Rattle.mt_write.specs.Short.{IsShortHit};

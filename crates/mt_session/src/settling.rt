@@ -2,12 +2,11 @@
 ghost use Rattle.std.specs.Prelude.{◌≡◌, ◌⊎◌, IfSome, Result};
 ghost use Rattle.std.specs.Thread.{IsSync};
 ghost use Rattle.mt_board.specs.Seat.{Seat};
-ghost use Rattle.mt_board.specs.Settling.{IsNotSettled};
-ghost use Rattle.mt_board.specs.Short.{AreShortCalls};
+ghost use Rattle.mt_board.specs.Short.{AreFewCalls};
 ghost use Rattle.mt_lines.specs.Fit.{IsFit};
 ghost use Rattle.mt_session.specs.Keeping.{StaysOn};
 ghost use Rattle.mt_session.specs.Settles.{Settles, is_starved, told_due};
-ghost use Rattle.mt_session.specs.Served.{IsSettledBy, IsStarved};
+ghost use Rattle.mt_session.specs.Served.{IsSettledBy, IsStarvedInSession};
 ghost use Rattle.mt_session.specs.Session.{with_seat};
 ghost use Rattle.mt_read.specs.declared.request.Request.TheVariants as requests;
 
@@ -50,7 +49,7 @@ impl<B: Board> Serving<B> {
     // Renews the flights that are due, and tells those that are due then.
     pub(crate) fn settle<R: Threads + Wait + Sync, G: Gate>(&mut self, rt: &R, gate: &G) -> Reply
         requires sync { IsSync R.row }
-        ensures settled { IsSettledBy self.old.session result self.new.session ⊎ IsStarved self.old.session requests.Settle result self.new.session }
+        ensures settled { IsSettledBy self.old.session result self.new.session ⊎ IsStarvedInSession self.old.session requests.Settle result self.new.session }
         ensures on { StaysOn self.old self.new }
         ensures fit { IsFit result }
     {
@@ -68,7 +67,7 @@ impl<B: Board> Serving<B> {
     ) -> Option<(Calls, u64)>
         requires sync { IsSync R.row }
         ensures settled { (seat : Seat) × Settles self.old.session.seat result seat × (self.new.session ≡ with_seat self.old.session seat) }
-        ensures short { IfSome result (λ told. AreShortCalls told.0) }
+        ensures short { IfSome result (λ told. AreFewCalls told.0) }
         ensures on { StaysOn self.old self.new }
     {
         let Some((calls, _)) = due(self.read(rt, &Ask::Due)) else {

@@ -3,7 +3,7 @@ ghost use Rattle.std.specs.Prelude.{◌≡◌, ◌⊎◌, Option};
 ghost use Rattle.std.specs.Thread.{IsSync};
 ghost use Rattle.mt_lines.specs.Fit.{IsFit};
 ghost use Rattle.mt_session.specs.Keeping.{StaysOn};
-ghost use Rattle.mt_session.specs.Served.{IsLooked, IsNumberRefused, IsTold, entered_reply, no_reply, read_reply, told_version};
+ghost use Rattle.mt_session.specs.Served.{IsLooked, IsNumberRefused, IsReadAnswered, board_reply, board_no, read_reply, told_version};
 
 use crate::serving::Serving;
 use mt_base::{Entered, Refusal};
@@ -14,7 +14,7 @@ use std::thread::Threads;
 
 /// Why a board gives nothing, as a reply.
 pub(crate) fn refused(no: No) -> Reply
-    ensures reply { result ≡ no_reply no }
+    ensures reply { result ≡ board_no no }
     ensures fit { IsFit result }
 {
     match no {
@@ -25,7 +25,7 @@ pub(crate) fn refused(no: No) -> Reply
 
 /// What a command is answered, as a reply.
 pub(crate) fn changed(outcome: Result<Entered, No>) -> Reply
-    ensures reply { result ≡ entered_reply outcome }
+    ensures reply { result ≡ board_reply outcome }
     ensures fit { IsFit result }
 {
     match outcome {
@@ -70,7 +70,7 @@ impl<B: Board> Serving<B> {
     // Tells what is asked for.
     pub(crate) fn tell<R: Threads + Wait + Sync>(&mut self, rt: &R, ask: &Ask) -> Reply
         requires sync { IsSync R.row }
-        ensures told { IsTold self.old.session ask.now result self.new.session }
+        ensures told { IsReadAnswered self.old.session ask.now result self.new.session }
         ensures on { StaysOn self.old self.new }
         ensures fit { IsFit result }
     {

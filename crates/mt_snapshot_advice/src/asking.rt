@@ -2,7 +2,7 @@
 ghost use Rattle.std.specs.Prelude.{◌≡◌, IfOk, IfErr};
 ghost use Rattle.mt_board.specs.declared.no.No.TheVariants.{Refused};
 ghost use Rattle.mt_snapshot_advice.specs.Advised.{IsNotAdvisedOn};
-ghost use Rattle.mt_snapshot_advice.specs.Trying.{AreAsked};
+ghost use Rattle.mt_snapshot_advice.specs.Trying.{AreAdviceCandidates};
 
 use mt_advise::candidates;
 use mt_base::{Callsign, Clearance, Kind, Path, Refusal};
@@ -27,7 +27,7 @@ pub(crate) fn asked(
     snapshot: &Snapshot,
     call: Callsign,
 ) -> Result<Vec<Clearance>, No>
-    ensures asked { IfOk result (λ list. AreAsked snapshot.now call list.items) }
+    ensures asked { IfOk result (λ list. AreAdviceCandidates snapshot.now call list.items) }
     ensures refused { IfErr result (IsNotAdvisedOn snapshot.now call) }
 {
     let _version = snapshot.version();

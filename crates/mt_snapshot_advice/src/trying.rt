@@ -2,7 +2,7 @@
 ghost use Rattle.std.specs.Prelude.{◌≡◌, ◌<◌, None, length, slice_index_or, IfOk};
 ghost use denote.Param.Send.{IsSync};
 ghost use Rattle.mt_probe.specs.Hits.{IsFreeOrConflicting};
-ghost use Rattle.mt_snapshot_advice.specs.Trying.{AreAsked, AreFreeOf};
+ghost use Rattle.mt_snapshot_advice.specs.Trying.{AreAdviceCandidates, AreFreeOf};
 
 use mt_base::{Callsign, Clearance, Memory, Tally};
 use mt_board::No;
@@ -23,7 +23,7 @@ fn try_one<R: Threads + Sync>(
     list: &[Clearance],
     i: usize,
 ) -> Result<Option<Probe>, Memory>
-    requires asked { AreAsked snapshot.now call list.now }
+    requires asked { AreAdviceCandidates snapshot.now call list.now }
     requires inside { i < length list.now }
     ensures { IfOk result (λ found. (d : _) → IsFreeOrConflicting snapshot.now call (slice_index_or list.now i d) None found) }
 {
@@ -44,7 +44,7 @@ fn try_each<R: Threads + Sync>(
     list: &[Clearance],
     tries: &mut [Result<Option<Probe>, Memory>],
 )
-    requires asked { AreAsked snapshot.now call list.now }
+    requires asked { AreAdviceCandidates snapshot.now call list.now }
     requires len { length tries.old ≡ length list.now }
     ensures len { length tries.new ≡ length list.now }
     ensures each { (i : _) (t : _) (d : _) → i < length list.now
@@ -55,7 +55,7 @@ fn try_each<R: Threads + Sync>(
         tries,
         THREADS,
         &|i, place: &mut Result<Option<Probe>, Memory>|
-            requires { IsSync R.row × AreAsked snapshot.now call list.now × (i < length list.now) }
+            requires { IsSync R.row × AreAdviceCandidates snapshot.now call list.now × (i < length list.now) }
             ensures { IfOk place.new (λ p. (d : _) → IsFreeOrConflicting snapshot.entry.now call (slice_index_or list.entry.now i d) None p) }
         {
             *place = try_one(rt, alloc, snapshot, call, list, i);
@@ -71,7 +71,7 @@ pub(crate) fn tries<R: Threads + Sync>(
     call: Callsign,
     list: &[Clearance],
 ) -> Result<Vec<Result<Option<Probe>, Memory>>, Memory>
-    requires asked { AreAsked snapshot.now call list.now }
+    requires asked { AreAdviceCandidates snapshot.now call list.now }
     ensures len { IfOk result (λ tries. length tries.items ≡ length list.now) }
     ensures each { IfOk result (λ tries. (i : _) (t : _) (d : _) → i < length list.now
         → IfOk (slice_index_or tries.items i t) (IsFreeOrConflicting snapshot.now call (slice_index_or list.now i d) None)) }

@@ -1,5 +1,5 @@
 //! The places of a snapshot in the order in which their flights were filed.
-ghost use Rattle.std.specs.Prelude.{◌≡◌, ◌↔◌, ◌<◌, Contains, IfOk, IfSome};
+ghost use Rattle.std.specs.Prelude.{◌≡◌, ◌↔◌, ◌<◌, Contains, IfOk};
 ghost use Rattle.mt_snapshot_view.specs.Order.{ArePlaced, IsFilledPlace};
 
 use mt_base::Memory;

@@ -1,8 +1,8 @@
 //! The flights for which a new trajectory is due.
 ghost use Rattle.std.specs.Prelude.{◌≡◌, IfOk};
 ghost use Rattle.mt_base.specs.Settled.{due_calls, is_due};
-ghost use Rattle.mt_board.specs.Short.{AreShortCalls};
-ghost use Rattle.mt_probe.specs.Shot.{state_of};
+ghost use Rattle.mt_board.specs.Short.{AreFewCalls};
+ghost use Rattle.mt_probe.specs.Shot.{state_in_shot};
 
 use crate::order::in_order;
 use mt_base::{Calls, Memory, Path, Record};
@@ -21,8 +21,8 @@ fn is_due(flight: &Record) -> bool
 
 /// The callsigns of the flights for which a new trajectory is due, in the order of filing. There are at most 1,024.
 pub fn due(alloc: Global, snapshot: &Snapshot) -> Result<Calls, Memory>
-    ensures exact { IfOk result (λ calls. calls ≡ due_calls (state_of snapshot.now).records) }
-    ensures short { IfOk result AreShortCalls }
+    ensures exact { IfOk result (λ calls. calls ≡ due_calls (state_in_shot snapshot.now).records) }
+    ensures short { IfOk result AreFewCalls }
 {
     let _version = snapshot.version();
     let places = in_order(alloc, snapshot)?;

@@ -2,7 +2,7 @@
 ghost use Rattle.std.specs.Prelude.{◌≡◌, option_map};
 ghost use Rattle.mt_base.specs.Picture.{flight_of};
 ghost use Rattle.mt_base.specs.View.{view_of};
-ghost use Rattle.mt_probe.specs.Shot.{state_of};
+ghost use Rattle.mt_probe.specs.Shot.{state_in_shot};
 
 use mt_base::{Callsign, FlightView, Kind, Second};
 use mt_probe::Snapshot;
@@ -10,7 +10,7 @@ use mt_track::view_of;
 
 /// What is told of a flight at a second, by default the moment; `None` exactly where no flight has that callsign.
 pub fn view(snapshot: &Snapshot, call: Callsign, sec: Option<Second>) -> Option<FlightView>
-    ensures { result ≡ option_map (view_of snapshot.now.setup (state_of snapshot.now) sec) (flight_of (state_of snapshot.now).records call) }
+    ensures { result ≡ option_map (view_of snapshot.now.setup (state_in_shot snapshot.now) sec) (flight_of (state_in_shot snapshot.now).records call) }
 {
     let version = snapshot.version();
     let k = sec.unwrap_or(snapshot.now());

@@ -11,14 +11,14 @@ use Rattle.mt_base.specs.History.{IsDecided, IsInTime, IsReplayable, state_of}
 use Rattle.mt_base.specs.Picture.{IsPublished}
 use Rattle.mt_base.specs.Tables.{Setup}
 use Rattle.mt_history.proofs.LinesRead.{slice_get_at}
-use Rattle.mt_history.specs.Printed.{AreRead}
+use Rattle.mt_history.specs.Printed.{AreReadAsEntries}
 use Rattle.mt_read.specs.declared.following.FeedLine.{FeedLine}
 use Rattle.mt_read.specs.declared.following.FeedLine.TheVariants.{Followed}
 use Rattle.mt_read.specs.declared.request.LineNo.{LineNo}
 use Rattle.mt_read.specs.Entry.{entry}
 use Rattle.mt_write.specs.declared.reply.Reply.{Reply}
 use Rattle.mt_standby.specs.Law.{AreAnswered, FollowFirst, HasCaughtUp}
-use Rattle.mt_standby.specs.Standby.{IsAnswered, IsFollowed, asked}
+use Rattle.mt_standby.specs.Standby.{IsFeedAnswered, IsEntryAnswered, fed_line}
 use Rattle.mt_read.proofs.FeedEntries.{entry_followed}
 use Rattle.mt_world.specs.World.{World, picture_of, setup_of}
 use Rattle.mt_world.proofs.OneSolution.{one_decision}
@@ -27,14 +27,14 @@ abbrev read_as : Entry → Result Entry LineNo
 read_as e = Ok e
 
 -- what the line of an entry asks for
-asked_for : (line : List ℕ) (e : Entry) → entry line ≡ Ok e → length line ≤ 65536 → asked line ≡ Ok (Followed e)
+asked_for : (line : List ℕ) (e : Entry) → entry line ≡ Ok e → length line ≤ 65536 → fed_line line ≡ Ok (Followed e)
 asked_for line e is short =
     let fits : nat_lt 65536 (length line) ≡ false = grind (arith, nat_tests) in
     rw (fits, entry_followed line e is) refl
 
--- an entry that is decided so, and comes in time, is put behind the history
+-- an entry that is decided so, and comes in time, is put after the history
 put_behind : (w : World) (e : Entry) (reply : Reply) (next : World) → IsInTime (length w.history) e.command
-    → IsDecided (setup_of w) (picture_of w) e.who e.command (Ok e) → IsFollowed w e reply next → next ≡ record w { history = w.history ++ e ∷ [] }
+    → IsDecided (setup_of w) (picture_of w) e.who e.command (Ok e) → IsEntryAnswered w e reply next → next ≡ record w { history = w.history ++ e ∷ [] }
 put_behind w e reply next in_time decided followed = ⊎_elim
     (λ late. absurd (late.ahead in_time))
     (λ rest. ⊎_elim
@@ -49,7 +49,7 @@ put_behind w e reply next in_time decided followed = ⊎_elim
 
 -- the next entry of a history that can be replayed
 stepped : (setup : Setup) (before later : List Entry) (e : Entry) (w : World) (line : List ℕ) (reply : Reply) (next : World) → setup_of w ≡ setup
-    → w.history ≡ before → IsReplayable setup (before ++ e ∷ later) → entry line ≡ Ok e → length line ≤ 65536 → IsAnswered w (asked line) reply next
+    → w.history ≡ before → IsReplayable setup (before ++ e ∷ later) → entry line ≡ Ok e → length line ≤ 65536 → IsFeedAnswered w (fed_line line) reply next
     → next ≡ record w { history = before ++ e ∷ [] }
 stepped setup before later e w line reply next same history replayable is short answered =
     let place = replayable (length before) e (slice_get_at before e later (length before) refl) in
@@ -58,7 +58,7 @@ stepped setup before later e w line reply next same history replayable is short 
     subst (λ (s : Setup). IsDecided s (state_of s w.history) e.who e.command (Ok e)) (sym same)
     (subst (λ (h : List Entry). IsDecided setup (state_of setup h) e.who e.command (Ok e)) front place.0) in
     let in_time : IsInTime (length w.history) e.command = subst (λ (h : List Entry). IsInTime (length h) e.command) (sym history) place.1 in
-    let followed : IsFollowed w e reply next = subst (λ (a : Result FeedLine Reply). IsAnswered w a reply next) (asked_for line e is short) answered in
+    let followed : IsEntryAnswered w e reply next = subst (λ (a : Result FeedLine Reply). IsFeedAnswered w a reply next) (asked_for line e is short) answered in
     put_behind w e reply next in_time decided followed ∙ ap (λ (h : List Entry). record w { history = h ++ e ∷ [] }) history
 
 -- a standby that has some entries, and follows some more
@@ -92,7 +92,7 @@ of_read setup primary n w lines bytes end f read =
 
 them : (setup : Setup) (primary : List Entry) (n : ℕ) (w : World) (lines : List (List ℕ)) (bytes : List ℕ) (end : World)
     → FollowFirst setup primary n w lines bytes end → HasThem setup (take n primary) end
-unfolding AreRead
+unfolding AreReadAsEntries
 them setup primary n w lines bytes end f = of_read setup primary n w lines bytes end f f.read
 
 pub caught_up : (setup : Setup) (primary : List Entry) (n : ℕ) (w : World) (lines : List (List ℕ)) (bytes : List ℕ) (end : World)

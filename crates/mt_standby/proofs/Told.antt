@@ -32,15 +32,15 @@ use Rattle.mt_read.specs.declared.request.Request.TheVariants as requests
 use Rattle.mt_read.specs.Following.{IsReading, feed}
 use Rattle.mt_write.specs.declared.reply.Reply.{Reply}
 use Rattle.mt_write.specs.declared.reply.Reply.TheVariants as replies
-use Rattle.mt_standby.specs.Reading.{IsToldNow, IsUntold, ask_of, follow_reply, read_reply}
-use Rattle.mt_standby.specs.Standby.{IsFollowed, IsReplied, asked, world_of}
-use Rattle.mt_world.specs.World.{IsListed, IsRefused, IsServed, World}
+use Rattle.mt_standby.specs.Reading.{IsToldNow, IsUntold, read_ask, follow_reply, read_answer_reply}
+use Rattle.mt_standby.specs.Standby.{IsEntryAnswered, IsStandbyReplied, fed_line, world_of}
+use Rattle.mt_world.specs.World.{IsListAnswered, IsRefused, IsServed, World}
 use Rattle.mt_world.proofs.Viewed.{not_there, there}
 
 -- ---- entries
 
 followed_told : (before after : Story) (e : Entry) (entered : Entered) → HasFollowed before e after entered
-    → IsFollowed (world_of before) e (replies.Entered entered) (world_of after)
+    → IsEntryAnswered (world_of before) e (replies.Entered entered) (world_of after)
 followed_told before after e entered has = inr (inr (record {
   in_time = has.in_time;
   decided = has.decided;
@@ -48,7 +48,7 @@ followed_told before after e entered has = inr (inr (record {
 }))
 
 pub follow_told : (before after : Story) (e : Entry) (r : Result Entered FollowNo) → IfOk r (HasFollowed before e after) → IfErr r (IsNotFollowed before e)
-    → OnErr r (after ≡ before) → IsFollowed (world_of before) e (follow_reply r) (world_of after)
+    → OnErr r (after ≡ before) → IsEntryAnswered (world_of before) e (follow_reply r) (world_of after)
     ⊎ IsRefused (world_of before) replies.Memory (follow_reply r) (world_of after)
 follow_told before after e (Ok entered) has why same = inl (followed_told before after e entered has)
 follow_told before after e (Err (follow.Late version)) has why same =
@@ -73,37 +73,37 @@ still_replays (Err why) before after more same replays = subst Replays (sym same
 -- ---- reads
 
 told_list : (s : Story) (answer : Answer) → IsTold s.setup s.history asks.List answer → version_of answer ≡ length s.history
-    → IsListed (world_of s) (read_reply (Ok answer)) (world_of s)
+    → IsListAnswered (world_of s) (read_answer_reply (Ok answer)) (world_of s)
 told_list s (answers.List conflicts version) told now =
     record { conflicts = conflicts; published = told; reply_is = ap (replies.List conflicts) now; same = refl }
 told_list s answer told now = absurd told
 
 told_check : (s : Story) (answer : Answer) → IsTold s.setup s.history asks.Check answer → version_of answer ≡ length s.history
-    → IsListed (world_of s) (read_reply (Ok answer)) (world_of s)
+    → IsListAnswered (world_of s) (read_answer_reply (Ok answer)) (world_of s)
 told_check s (answers.Check conflicts version) told now =
     record { conflicts = conflicts; published = told; reply_is = ap (replies.List conflicts) now; same = refl }
 told_check s answer told now = absurd told
 
 told_due : (s : Story) (answer : Answer) → IsTold s.setup s.history asks.Due answer → version_of answer ≡ length s.history
-    → IsServed (world_of s) 0 requests.Due (read_reply (Ok answer)) (world_of s)
+    → IsServed (world_of s) 0 requests.Due (read_answer_reply (Ok answer)) (world_of s)
 told_due s (answers.Due calls version) told now = record { reply_is = λ i. replies.Due (told i) (now i); next_is = refl }
 told_due s answer told now = absurd told
 
 told_flight : (s : Story) (call : List ℕ) (sec : Option ℕ) (answer : Answer) → IsTold s.setup s.history (asks.Flight call sec) answer
-    → IsServed (world_of s) 0 (requests.Flight call sec) (read_reply (Ok answer)) (world_of s)
+    → IsServed (world_of s) 0 (requests.Flight call sec) (read_answer_reply (Ok answer)) (world_of s)
 told_flight s call sec (answers.Flight view) told =
     there (world_of s) call sec (flight_of (state_of s.setup s.history).records call) view told
 told_flight s call sec answer told = absurd told
 
-told_served : (s : Story) (request : Request) (answer : Answer) → IsReading request → IsTold s.setup s.history (ask_of request) answer
-    → version_of answer ≡ length s.history → IsServed (world_of s) 0 request (read_reply (Ok answer)) (world_of s)
+told_served : (s : Story) (request : Request) (answer : Answer) → IsReading request → IsTold s.setup s.history (read_ask request) answer
+    → version_of answer ≡ length s.history → IsServed (world_of s) 0 request (read_answer_reply (Ok answer)) (world_of s)
 told_served s requests.List answer reading told now = told_list s answer told now
 told_served s requests.Check answer reading told now = told_check s answer told now
 told_served s requests.Due answer reading told now = told_due s answer told now
 told_served s (requests.Flight call sec) answer reading told now = told_flight s call sec answer told
 told_served s request answer reading told now = absurd reading
 
-untold_served : (s : Story) (request : Request) (refusal : Refusal) (version : ℕ) → IsReading request → IsNotTold s.setup s.history (ask_of request) refusal
+untold_served : (s : Story) (request : Request) (refusal : Refusal) (version : ℕ) → IsReading request → IsNotTold s.setup s.history (read_ask request) refusal
     → version ≡ length s.history → IsServed (world_of s) 0 request (replies.Refused refusal version) (world_of s)
 untold_served s (requests.Flight call sec) refusal version reading untold now =
     not_there (world_of s) call sec (flight_of (state_of s.setup s.history).records call) (replies.Refused refusal version)
@@ -113,9 +113,9 @@ untold_served s requests.Check refusal version reading untold now = absurd untol
 untold_served s requests.Due refusal version reading untold now = absurd untold
 untold_served s request refusal version reading untold now = absurd reading
 
-pub read_told : (s : Story) (request : Request) (r : Result Answer No) → IsReading request → IfOk r (IsToldNow s (ask_of request))
-    → IfErr r (IsUntold s (ask_of request)) → IsServed (world_of s) 0 request (read_reply r) (world_of s)
-    ⊎ IsRefused (world_of s) replies.Memory (read_reply r) (world_of s)
+pub read_told : (s : Story) (request : Request) (r : Result Answer No) → IsReading request → IfOk r (IsToldNow s (read_ask request))
+    → IfErr r (IsUntold s (read_ask request)) → IsServed (world_of s) 0 request (read_answer_reply r) (world_of s)
+    ⊎ IsRefused (world_of s) replies.Memory (read_answer_reply r) (world_of s)
 read_told s request (Ok answer) reading told untold = inl (told_served s request answer reading told.told told.now)
 read_told s request (Err (nos.Refused refusal version)) reading told untold = inl (untold_served s request refusal version reading untold.0 untold.1)
 read_told s request (Err nos.Memory) reading told untold = inr (record { reply_is = refl; same = refl })
@@ -143,20 +143,20 @@ flight_told s call sec view is =
 -- ---- lines
 
 -- what a line that isn't too long asks for
-asked_is : (line : List ℕ) (l : FeedLine) → length line ≤ 65536 → Ok l ≡ feed line → asked line ≡ Ok l
+asked_is : (line : List ℕ) (l : FeedLine) → length line ≤ 65536 → Ok l ≡ feed line → fed_line line ≡ Ok l
 asked_is line l short is =
     let fits : nat_lt 65536 (length line) ≡ false = grind (arith, nat_tests) in
     rw (fits, ← is) refl
 
 pub entry_replied : (w next : World) (line : List ℕ) (e : Entry) (reply : Reply) → length line ≤ 65536 → Ok (Followed e) ≡ feed line
-    → IsFollowed w e reply next ⊎ IsRefused w replies.Memory reply next → IsReplied w line reply next
+    → IsEntryAnswered w e reply next ⊎ IsRefused w replies.Memory reply next → IsStandbyReplied w line reply next
 entry_replied w next line e reply short is answered = ⊎_elim
     (λ followed. inl (rw (asked_is line (Followed e) short is) followed))
     (λ wants. inr (record { short = short; refused = wants }))
     answered
 
 pub read_replied : (w next : World) (line : List ℕ) (request : Request) (reply : Reply) → length line ≤ 65536 → Ok (Asked request) ≡ feed line
-    → IsServed w 0 request reply next ⊎ IsRefused w replies.Memory reply next → IsReplied w line reply next
+    → IsServed w 0 request reply next ⊎ IsRefused w replies.Memory reply next → IsStandbyReplied w line reply next
 read_replied w next line request reply short is answered = ⊎_elim
     (λ served. inl (rw (asked_is line (Asked request) short is) served))
     (λ wants. inr (record { short = short; refused = wants }))

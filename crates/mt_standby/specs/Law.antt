@@ -5,17 +5,17 @@ use Rattle.mt_base.specs.declared.conflict.Conflict.{Conflict}
 use Rattle.mt_base.specs.History.{IsReplayable, state_of}
 use Rattle.mt_base.specs.Picture.{IsPublished}
 use Rattle.mt_base.specs.Tables.{Setup}
-use Rattle.mt_history.specs.Printed.{AreRead}
+use Rattle.mt_history.specs.Printed.{AreReadAsEntries}
 use Rattle.mt_lines.specs.Answering as answering
 use Rattle.mt_lines.specs.Given.{is_farewell}
 use Rattle.mt_write.specs.declared.reply.Reply.{Reply}
 use Rattle.mt_write.specs.Reply.{reply_text}
-use Rattle.mt_standby.specs.Standby.{IsAnswered, asked}
+use Rattle.mt_standby.specs.Standby.{IsFeedAnswered, fed_line}
 use Rattle.mt_world.specs.World.{World, picture_of, setup_of}
 
 -- the reply to a line in whose place no `memory` stands
 abbrev pub IsToLine : World → List ℕ → Reply → World → Type 0
-IsToLine w line reply next = IsAnswered w (asked line) reply next
+IsToLine w line reply next = IsFeedAnswered w (fed_line line) reply next
 
 -- nothing follows the reply to a line
 abbrev pub IsLast : World → List ℕ → Reply → World → World → Type 0
@@ -32,7 +32,7 @@ pub record FollowFirst (setup : Setup) (primary : List Entry) (n : ℕ) (w : Wor
   pub setup_is : setup_of w ≡ setup
   pub none : w.history ≡ []
   pub replayable : IsReplayable setup primary
-  pub read : AreRead lines (take n primary)
+  pub read : AreReadAsEntries lines (take n primary)
   pub short : All (λ line. length line ≤ 65536) lines
   pub answered : AreAnswered w lines bytes end
 

@@ -27,21 +27,21 @@ IsUntold story asked (nos.Refused refusal version) = IsNotTold story.setup story
 IsUntold story asked nos.Memory = ⊤
 
 -- what a request that asks for what holds is, as what a read asks for
-abbrev pub ask_of : Request → Ask
-ask_of requests.Check = asks.Check
-ask_of (requests.Flight call sec) = asks.Flight call sec
-ask_of requests.Due = asks.Due
-ask_of request = asks.List
+abbrev pub read_ask : Request → Ask
+read_ask requests.Check = asks.Check
+read_ask (requests.Flight call sec) = asks.Flight call sec
+read_ask requests.Due = asks.Due
+read_ask request = asks.List
 
 -- what a read is answered, as a reply
-abbrev pub read_reply : Result Answer No → Reply
-read_reply (Ok (answers.List conflicts version)) = replies.List conflicts version
-read_reply (Ok (answers.Check conflicts version)) = replies.List conflicts version
-read_reply (Ok (answers.Due calls version)) = replies.Due calls version
-read_reply (Ok (answers.Flight view)) = replies.Flight view
-read_reply (Ok (answers.History entries version)) = replies.History entries version
-read_reply (Err (nos.Refused refusal version)) = replies.Refused refusal version
-read_reply (Err nos.Memory) = replies.Memory
+abbrev pub read_answer_reply : Result Answer No → Reply
+read_answer_reply (Ok (answers.List conflicts version)) = replies.List conflicts version
+read_answer_reply (Ok (answers.Check conflicts version)) = replies.List conflicts version
+read_answer_reply (Ok (answers.Due calls version)) = replies.Due calls version
+read_answer_reply (Ok (answers.Flight view)) = replies.Flight view
+read_answer_reply (Ok (answers.History entries version)) = replies.History entries version
+read_answer_reply (Err (nos.Refused refusal version)) = replies.Refused refusal version
+read_answer_reply (Err nos.Memory) = replies.Memory
 
 -- what an entry is answered, as a reply
 abbrev pub follow_reply : Result Entered FollowNo → Reply

@@ -7,13 +7,12 @@ use Rattle.mt_base.specs.History.{IsDecided, IsInTime, entered_by}
 use Rattle.mt_picture.specs.Story.{Story}
 use Rattle.mt_read.specs.declared.following.FeedLine.{FeedLine}
 use Rattle.mt_read.specs.declared.following.FeedLine.TheVariants.{Followed, Asked, Ended}
-use Rattle.mt_read.specs.declared.request.LineNo.{LineNo}
-use Rattle.mt_read.specs.declared.request.LineNo.TheVariants as nos
 use Rattle.mt_read.specs.declared.request.Request.TheVariants as requests
 use Rattle.mt_read.specs.Following.{feed}
 use Rattle.mt_write.specs.declared.reply.Reply.{Reply}
 use Rattle.mt_write.specs.declared.reply.Reply.TheVariants as replies
 use Rattle.mt_world.specs.World.{IsGiven, IsRefused, IsServed, World, new_actor, picture_of, setup_of}
+use Rattle.mt_wire.specs.Refused.{or_reply}
 
 -- a picture as the world of a standby
 abbrev pub world_of : Story → World
@@ -38,40 +37,32 @@ pub record IsIllegal (w : World) (e : Entry) (reply : Reply) (next : World) : Ty
   pub decided : IsDecided (setup_of w) (picture_of w) e.who e.command (Err refusal)
   pub refused : IsRefused w (replies.Illegal (length w.history) refusal) reply next
 
--- It is entered where it is that which is decided: it is put behind the history.
+-- It is entered where it is that which is decided: it is put after the history.
 pub record IsPut (w : World) (e : Entry) (reply : Reply) (next : World) : Type 0 where
   pub in_time : IsInTime (length w.history) e.command
   pub decided : IsDecided (setup_of w) (picture_of w) e.who e.command (Ok e)
   pub given : IsGiven (replies.Entered (entered_by (setup_of w) (picture_of w) e)) (record w { history = w.history ++ e ∷ [] }) reply next
 
 -- what an entry is answered
-abbrev pub IsFollowed : World → Entry → Reply → World → Type 0
-IsFollowed w e reply next = IsLate w e reply next ⊎ (IsIllegal w e reply next ⊎ IsPut w e reply next)
-
--- the refusal of a line as a reply
-abbrev pub or_reply : Result FeedLine LineNo → Result FeedLine Reply
-or_reply (Ok line) = Ok line
-or_reply (Err nos.Json) = Err replies.Json
-or_reply (Err (nos.Form name)) = Err (replies.Form name)
-or_reply (Err (nos.Range name)) = Err (replies.Range name)
-or_reply (Err nos.Memory) = Err replies.Memory
+abbrev pub IsEntryAnswered : World → Entry → Reply → World → Type 0
+IsEntryAnswered w e reply next = IsLate w e reply next ⊎ (IsIllegal w e reply next ⊎ IsPut w e reply next)
 
 -- what a line asks for, or its refusal
-abbrev pub asked : List ℕ → Result FeedLine Reply
-asked line = if nat_lt 65536 (length line) then Err replies.Long else or_reply (feed line)
+abbrev pub fed_line : List ℕ → Result FeedLine Reply
+fed_line line = if nat_lt 65536 (length line) then Err replies.Long else or_reply (feed line)
 
 -- What is answered of it, and the world after it. What holds is told, and the end is said, as in a script, where it doesn't matter who asks.
-abbrev pub IsAnswered : World → Result FeedLine Reply → Reply → World → Type 0
-IsAnswered w (Err refusal) reply next = IsRefused w refusal reply next
-IsAnswered w (Ok (Followed e)) reply next = IsFollowed w e reply next
-IsAnswered w (Ok (Asked request)) reply next = IsServed w 0 request reply next
-IsAnswered w (Ok Ended) reply next = IsServed w 0 requests.Bye reply next
+abbrev pub IsFeedAnswered : World → Result FeedLine Reply → Reply → World → Type 0
+IsFeedAnswered w (Err refusal) reply next = IsRefused w refusal reply next
+IsFeedAnswered w (Ok (Followed e)) reply next = IsEntryAnswered w e reply next
+IsFeedAnswered w (Ok (Asked request)) reply next = IsServed w 0 request reply next
+IsFeedAnswered w (Ok Ended) reply next = IsServed w 0 requests.Bye reply next
 
 -- In place of any reply but `long`, `memory` may stand; then the line changed nothing.
-pub record WantsMemory (w : World) (line : List ℕ) (reply : Reply) (next : World) : Type 0 where
+pub record StandbyWantsMemory (w : World) (line : List ℕ) (reply : Reply) (next : World) : Type 0 where
   pub short : length line ≤ 65536
   pub refused : IsRefused w replies.Memory reply next
 
 -- this reply is given to a line of a standby, and leaves this world
-abbrev pub IsReplied : World → List ℕ → Reply → World → Type 0
-IsReplied w line reply next = IsAnswered w (asked line) reply next ⊎ WantsMemory w line reply next
+abbrev pub IsStandbyReplied : World → List ℕ → Reply → World → Type 0
+IsStandbyReplied w line reply next = IsFeedAnswered w (fed_line line) reply next ⊎ StandbyWantsMemory w line reply next

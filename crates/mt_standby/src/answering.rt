@@ -1,9 +1,9 @@
 //! A line for a standby, and its reply.
 ghost use Rattle.std.specs.Prelude.{◌≡◌, ◌⊎◌, ◌≤◌, length};
-ghost use Rattle.mt_history.specs.Rebuilt.{IsReady};
+ghost use Rattle.mt_history.specs.Rebuilt.{IsReadyToDecide};
 ghost use Rattle.mt_lines.specs.Fit.{IsFit};
 ghost use Rattle.mt_read.specs.Following.{IsReading};
-ghost use Rattle.mt_standby.specs.Standby.{IsFollowed, IsReplied, world_of};
+ghost use Rattle.mt_standby.specs.Standby.{IsEntryAnswered, IsStandbyReplied, world_of};
 ghost use Rattle.mt_world.specs.World.{IsRefused, IsServed};
 ghost use Rattle.mt_write.specs.declared.reply.Reply.TheVariants as replies;
 
@@ -15,11 +15,11 @@ use mt_write::{DoneWord, Reply};
 use std::thread::Threads;
 
 impl Standby {
-    /// Answers a line of at most 65,536 bytes: an entry that it is to follow, or a line that asks what holds. The definition is `IsReplied`. A text
+    /// Answers a line of at most 65,536 bytes: an entry that it is to follow, or a line that asks what holds. The definition is `IsStandbyReplied`. A text
     /// with an escape goes into `scratch`, which is kept from line to line.
     pub fn answer<R: Threads + Sync>(&mut self, rt: &R, scratch: &mut Scratch, line: &[u8]) -> Reply
         requires { length line.now ≤ 65536 }
-        ensures replied { IsReplied (world_of self.old) line.now result (world_of self.new) }
+        ensures replied { IsStandbyReplied (world_of self.old) line.now result (world_of self.new) }
         ensures fit { IsFit result }
     {
         match read_feed(self.alloc, scratch, line) {
@@ -35,8 +35,8 @@ impl Standby {
 
     // Follows an entry, and says so.
     fn enter(&mut self, entry: &Entry) -> Reply
-        requires { IsReady entry.now }
-        ensures followed { IsFollowed (world_of self.old) entry.now result (world_of self.new)
+        requires { IsReadyToDecide entry.now }
+        ensures followed { IsEntryAnswered (world_of self.old) entry.now result (world_of self.new)
             ⊎ IsRefused (world_of self.old) replies.Memory result (world_of self.new) }
         ensures fit { IsFit result }
     {

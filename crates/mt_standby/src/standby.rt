@@ -2,7 +2,7 @@
 ghost use Rattle.std.specs.Prelude.{◌≡◌, [], IfErr, IfOk, OnErr};
 ghost use Rattle.mt_base.specs.History.{IsReplayable};
 ghost use Rattle.mt_history.specs.Followed.{HasFollowed, IsNotFollowed};
-ghost use Rattle.mt_history.specs.Rebuilt.{IsReady};
+ghost use Rattle.mt_history.specs.Rebuilt.{IsReadyToDecide};
 
 use mt_base::{Entered, Entry, Tally};
 use mt_history::{FollowNo, follow_entry};
@@ -43,13 +43,13 @@ impl Standby {
         }
     }
 
-    /// Follows an entry: puts it behind the history, where it is what is decided of its command, asked for by who made it, on the state of that
+    /// Follows an entry: puts it after the history, where it is what is decided of its command, asked for by who made it, on the state of that
     /// history. Else it says why not, and changes nothing; that an acceptance names a version above the one now is told before any refusal.
     /// Whether its clearance was free on the version that it names isn't tested again.
     ///
     /// It asks that the numbers of the entry are within their bounds and that its clearance says from when it holds, as those do that are read.
     pub fn follow(&mut self, entry: &Entry) -> Result<Entered, FollowNo>
-        requires { IsReady entry.now }
+        requires { IsReadyToDecide entry.now }
         ensures followed { IfOk result (HasFollowed self.old entry.now self.new) }
         ensures no { IfErr result (IsNotFollowed self.old entry.now) }
         ensures unchanged { OnErr result (self.new ≡ self.old) }

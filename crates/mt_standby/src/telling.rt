@@ -2,7 +2,7 @@
 ghost use Rattle.std.specs.Prelude.{◌≡◌};
 ghost use Rattle.mt_lines.specs.Fit.{IsFit};
 ghost use Rattle.mt_read.specs.Following.{IsReading};
-ghost use Rattle.mt_standby.specs.Reading.{ask_of, follow_reply, read_reply};
+ghost use Rattle.mt_standby.specs.Reading.{read_ask, follow_reply, read_answer_reply};
 
 use mt_base::Entered;
 use mt_board::{Answer, Ask, No};
@@ -13,7 +13,7 @@ use mt_write::Reply;
 /// What a request that asks for what holds is, as what a read asks for.
 pub(crate) fn ask_of(request: &Request) -> Ask
     requires { IsReading request.now }
-    ensures { result ≡ ask_of request.now }
+    ensures { result ≡ read_ask request.now }
 {
     match request {
         Request::List => Ask::List,
@@ -29,7 +29,7 @@ pub(crate) fn ask_of(request: &Request) -> Ask
 
 /// What a read is answered, as a reply.
 pub(crate) fn told(outcome: Result<Answer, No>) -> Reply
-    ensures reply { result ≡ read_reply outcome }
+    ensures reply { result ≡ read_answer_reply outcome }
     ensures fit { IsFit result }
 {
     match outcome {

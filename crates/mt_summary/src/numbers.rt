@@ -4,7 +4,7 @@ ghost use Rattle.std.specs.Prelude.{◌≡◌, ◌≤◌, ◌+◌, ◌++◌, OnO
 use itoa::Buffer;
 use mt_memory::Memory;
 
-/// Puts a number behind what stands in a line, in at most 20 decimal digits, with its key before it. `Memory` is the one error; the line may
+/// Puts a number after what stands in a line, in at most 20 decimal digits, with its key before it. `Memory` is the one error; the line may
 /// have grown by a front of what was to be put then. Where the line has room for the key and 20 bytes it succeeds.
 pub fn put_number(line: &mut Vec<u8>, key: &[u8], number: u64) -> Result<(), Memory>
     ensures put { OnOk result (line.new.items ≡ line.old.items ++ (key.now ++ decimal number)) }

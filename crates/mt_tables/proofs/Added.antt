@@ -12,7 +12,7 @@ use Rattle.mt_base.proofs.CheckLemmas.{all_passed, refused_has}
 use Rattle.mt_base.proofs.Cases.{is_none}
 use Rattle.mt_tables.specs.declared.add_no.AddNo.{AddNo}
 use Rattle.mt_tables.specs.declared.add_no.AddNo.TheVariants.{Taken, Bands, Full, Memory}
-use Rattle.mt_tables.specs.Adding.{Answers, fix_adding, type_adding, with_fix, with_type}
+use Rattle.mt_tables.specs.Adding.{AnswersAsChecked, fix_adding, type_adding, with_fix, with_type}
 
 -- where the checks are passed, the name is new, and its pair goes last
 pub fix_last : {S : Type 0} (fixes : IndexMap (List ℕ) Point S) (types : List (List ℕ × List Band)) (name : List ℕ) (point : Point)
@@ -47,7 +47,7 @@ bounded_with_type tables name bands kept bounded = record {
 }
 
 -- a refusal of the checks answers them
-itself : (why : AddNo) → why ≢ Memory → Answers (Err why) (Err why)
+itself : (why : AddNo) → why ≢ Memory → AnswersAsChecked (Err why) (Err why)
 itself Taken other = refl
 itself Bands other = refl
 itself Full other = refl
@@ -63,11 +63,11 @@ full : Full ≢ Memory
 full = λ e. cc
 
 pub fix_refused : (tables : Tables) (name : List ℕ) (why : AddNo) → judged (fix_adding tables name) (tt {0}) ≡ Err why
-    → Answers (judged (fix_adding tables name) (tt {0})) (Err why)
+    → AnswersAsChecked (judged (fix_adding tables name) (tt {0})) (Err why)
 fix_refused tables name why refused =
-    subst (λ answer. Answers answer (Err why)) (sym refused) (itself why (refused_has (λ w. w ≢ Memory) (fix_adding tables name) (tt {0}) why (taken, (full, tt)) refused))
+    subst (λ answer. AnswersAsChecked answer (Err why)) (sym refused) (itself why (refused_has (λ w. w ≢ Memory) (fix_adding tables name) (tt {0}) why (taken, (full, tt)) refused))
 
 pub type_refused : (tables : Tables) (name : List ℕ) (bs : List Band) (why : AddNo) → judged (type_adding tables name bs) (tt {0}) ≡ Err why
-    → Answers (judged (type_adding tables name bs) (tt {0})) (Err why)
+    → AnswersAsChecked (judged (type_adding tables name bs) (tt {0})) (Err why)
 type_refused tables name bs why refused =
-    subst (λ answer. Answers answer (Err why)) (sym refused) (itself why (refused_has (λ w. w ≢ Memory) (type_adding tables name bs) (tt {0}) why (taken, (bands, (full, tt))) refused))
+    subst (λ answer. AnswersAsChecked answer (Err why)) (sym refused) (itself why (refused_has (λ w. w ≢ Memory) (type_adding tables name bs) (tt {0}) why (taken, (bands, (full, tt))) refused))

@@ -29,9 +29,9 @@ abbrev pub with_type : Tables → List ℕ → List Band → Tables
 with_type tables name bands = record { fixes = tables.fixes; types = tables.types ++ (name, bands) ∷ [] }
 
 -- An answer is what the checks say. Want of memory comes only where all of them are passed.
-abbrev pub Answers : Result ⊤ AddNo → Result ⊤ AddNo → Type 0
-Answers checked (Ok _) = checked ≡ Ok (tt {0})
-Answers checked (Err Taken) = checked ≡ Err Taken
-Answers checked (Err Bands) = checked ≡ Err Bands
-Answers checked (Err Full) = checked ≡ Err Full
-Answers checked (Err Memory) = checked ≡ Ok (tt {0})
+abbrev pub AnswersAsChecked : Result ⊤ AddNo → Result ⊤ AddNo → Type 0
+AnswersAsChecked checked (Ok _) = checked ≡ Ok (tt {0})
+AnswersAsChecked checked (Err Taken) = checked ≡ Err Taken
+AnswersAsChecked checked (Err Bands) = checked ≡ Err Bands
+AnswersAsChecked checked (Err Full) = checked ≡ Err Full
+AnswersAsChecked checked (Err Memory) = checked ≡ Ok (tt {0})

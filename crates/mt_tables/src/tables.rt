@@ -4,7 +4,7 @@ ghost use Rattle.mt_base.specs.Bounds.{AreBoundedBands, AreBoundedTables, IsInPl
 ghost use Rattle.mt_base.specs.Checks.{judged};
 ghost use Rattle.mt_base.specs.Predictor.{band_at};
 ghost use Rattle.mt_base.specs.Tables.{no_tables, bands_of, ceiling_of, fix_of, fix_checks, length_checks};
-ghost use Rattle.mt_tables.specs.Adding.{Answers, fix_adding, type_adding, with_fix, with_type};
+ghost use Rattle.mt_tables.specs.Adding.{AnswersAsChecked, fix_adding, type_adding, with_fix, with_type};
 
 use crate::add_no::AddNo;
 use crate::bands::{band_at, ceiling_of, tops_rise};
@@ -53,11 +53,11 @@ impl Tables {
         })
     }
 
-    /// Puts a fix behind the others, at a position in the plane, in 1/3600 of a nautical mile. `Taken` where one of that name stands,
+    /// Puts a fix after the others, at a position in the plane, in 1/3600 of a nautical mile. `Taken` where one of that name stands,
     /// and `Full` where 20,000 fixes stand. On an error the tables stay as they were.
     pub fn add_fix(&mut self, name: FixName, x: i64, y: i64) -> Result<(), AddNo>
         requires { IsInPlane x y }
-        ensures answer { Answers (judged (fix_adding self.old name) (tt {0})) result }
+        ensures answer { AnswersAsChecked (judged (fix_adding self.old name) (tt {0})) result }
         ensures ok { OnOk result (self.new ≡ with_fix self.old name (record { x = x; y = y })) }
         ensures err { OnErr result (self.new ≡ self.old) }
     {
@@ -73,11 +73,11 @@ impl Tables {
         must(self.fixes.len() < MOST_FIXES, AddNo::Full)
     }
 
-    /// Puts a type behind the others. `Taken` where one of that name stands, `Bands` where the tops of its bands do not rise strictly,
+    /// Puts a type after the others. `Taken` where one of that name stands, `Bands` where the tops of its bands do not rise strictly,
     /// and `Full` where 1,000 types stand. On an error the tables stay as they were.
     pub fn add_type(&mut self, name: TypeName, bands: &[Band]) -> Result<(), AddNo>
         requires { AreBoundedBands bands.now }
-        ensures answer { Answers (judged (type_adding self.old name bands.now) (tt {0})) result }
+        ensures answer { AnswersAsChecked (judged (type_adding self.old name bands.now) (tt {0})) result }
         ensures ok { OnOk result (self.new ≡ with_type self.old name bands.now) }
         ensures err { OnErr result (self.new ≡ self.old) }
     {

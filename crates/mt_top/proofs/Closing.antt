@@ -12,8 +12,8 @@ use Rattle.mt_write.specs.declared.reply.Reply.{Reply}
 use Rattle.mt_write.specs.Reply.{reply_text}
 use Rattle.mt_top.specs.declared.status.Status.{Status}
 use Rattle.mt_top.specs.declared.status.Status.TheVariants.{Done, WriteFault}
-use Rattle.mt_top.specs.Lines.{LinesMean, SoFar, Turned, is_last}
-use Rattle.mt_top.specs.Script.{IsFollowed}
+use Rattle.mt_top.specs.Lines.{LinesMean, LinesSoFar, Turned, is_last}
+use Rattle.mt_top.specs.Script.{NothingFollows}
 use Rattle.mt_world.specs.World.{World, opening_world}
 
 -- what is told of bytes is told of an output to which they were appended
@@ -34,17 +34,17 @@ told_of M N before now held held_now all implies e written =
 
 -- more lines are to be answered
 pub goes_on : (HasReply : World → List ℕ → Reply → World → Type 0) (until_begun : Bool) (before old now held held_now held_after : Option (List ℕ)) (waited waiting : List ℕ)
-    (reader new : Reading) (w v : World) → ((sent : List ℕ) × Appends held held_now sent × SoFar HasReply until_begun before old (sent ++ waited) reader w)
-    → ((before : Option (List ℕ)) (sent : List ℕ) → SoFar HasReply until_begun before old (sent ++ waited) reader w
+    (reader new : Reading) (w v : World) → ((sent : List ℕ) × Appends held held_now sent × LinesSoFar HasReply until_begun before old (sent ++ waited) reader w)
+    → ((before : Option (List ℕ)) (sent : List ℕ) → LinesSoFar HasReply until_begun before old (sent ++ waited) reader w
     → Turned HasReply until_begun None before now sent held_now held_after waiting new v)
-    → (sent : List ℕ) × Appends held held_after sent × SoFar HasReply until_begun before now (sent ++ waiting) new v
+    → (sent : List ℕ) × Appends held held_after sent × LinesSoFar HasReply until_begun before now (sent ++ waiting) new v
 goes_on HasReply until_begun before old now held held_now held_after waited waiting reader new w v (sent, first, so_far) turn =
     let t = turn before sent so_far in
     (sent ++ t.more, appends_on held held_now held_after sent t.more first t.written, t.leaves)
 
 module _ (HasReply : World → List ℕ → Reply → World → Type 0) (until_begun : Bool) (before now held held_now held_after held_last : Option (List ℕ)) (sent waiting : List ℕ) (reader : Reading) (w : World) (status : Status) where
   abbrev Last : List ℕ → List ℕ → List ℕ → Type 0
-  Last input left written = answering.AnswersToLast reply_text (is_last until_begun) HasReply IsFollowed opening_world input left written w
+  Last input left written = answering.AnswersToLast reply_text (is_last until_begun) HasReply NothingFollows opening_world input left written w
 
   -- all that waited was written
   pub closed : Appends held held_now sent → Turned HasReply until_begun (Some status) before now sent held_now held_after waiting reader w
@@ -80,5 +80,5 @@ module _ (HasReply : World → List ℕ → Reply → World → Type 0) (until_b
               told = e.told;
               told_after = e.told_after;
               appended = all;
-              means = cuts.last_cut reply_text (is_last until_begun) HasReply IsFollowed opening_world e.input e.left ((sent ++ turn.more) ++ front) rest w (rw bytes_are at e.means);
+              means = cuts.last_cut reply_text (is_last until_begun) HasReply NothingFollows opening_world e.input e.left ((sent ++ turn.more) ++ front) rest w (rw bytes_are at e.means);
             }

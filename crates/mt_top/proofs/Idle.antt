@@ -4,7 +4,7 @@ use Rattle.std.specs.Prelude.{Contains, IsTrue, ◌↔◌}
 use Rattle.std.proofs.lemmas.List.Elements.{Contains-append_left}
 use Rattle.std.specs.declared.option.Option.{Option}
 use Rattle.mt_io.specs.Lines.{IsPart}
-use Rattle.mt_io.specs.Reading.{IsDone, IsStopped, Reading}
+use Rattle.mt_io.specs.Reading.{IsAllGiven, IsStopped, Reading}
 use Rattle.mt_io.specs.declared.line.LineFault.{LineFault}
 
 -- nothing waits where the reader was asked and has no line
@@ -18,7 +18,7 @@ no_break (b ∷ part) is_part (zero, within, is) = is_part.0 is
 no_break (b ∷ part) is_part (suc k, within, is) = no_break part is_part.1 (k, omega arith, is)
 
 -- it had none where the source has ended
-pub none_at_end : (old new : Reading) (before after : Option (List ℕ)) → IsDone old new before after → ¬ Contains old.store.ahead 10
+pub none_at_end : (old new : Reading) (before after : Option (List ℕ)) → IsAllGiven old new before after → ¬ Contains old.store.ahead 10
 none_at_end old new before after done has =
     let all : old.store.ahead ++ done.passes.read ≡ [] = done.passes.bytes ∙ done.empty in
     no_break [] tt (rw all at (Contains-append_left old.store.ahead done.passes.read 10 has))

@@ -6,7 +6,7 @@ use Rattle.mt_lines.proofs.Answering as steps
 use Rattle.mt_picture.specs.Story.{Story}
 use Rattle.mt_write.specs.declared.reply.Reply.{Reply}
 use Rattle.mt_top.specs.Lines.{LinesMean}
-use Rattle.mt_top.specs.Opening.{Begins, OpeningMeans}
+use Rattle.mt_top.specs.Opening.{BeginsPicture, OpeningMeans}
 use Rattle.mt_top.specs.Run.{AnswersMean}
 use Rattle.mt_top.specs.Script.{IsReplied}
 use Rattle.mt_top.specs.Status.{is_done}
@@ -43,7 +43,7 @@ module _ (before after held held_after : Option (List ℕ)) (w : World) where
 
   -- they set a picture up, and it has begun
   begun_by : (picture : Story) → picture ≡ record { setup = setup_of w; history = w.history } → w.history ≡ [] → w.begun ≡ true
-      → (input left written : List ℕ) → LinesMean IsReplied true w Done input left written → Begins input left written picture
+      → (input left written : List ℕ) → LinesMean IsReplied true w Done input left written → BeginsPicture input left written picture
   begun_by picture is none begun input left written answers = ⊎_elim
       (λ all. absurd (true≢false (sym begun ∙ all.1 refl)))
       (λ last. record { end = w; answers = last; begun = begun; picture_is = is ∙ ap (λ entries. record { setup = setup_of w; history = entries }) none })
@@ -51,9 +51,9 @@ module _ (before after held held_after : Option (List ℕ)) (w : World) where
 
   pub begins : (picture : Story) → picture ≡ record { setup = setup_of w; history = w.history } → w.history ≡ [] → w.begun ≡ true
       → Explains (LinesMean IsReplied true w Done) before after held held_after
-      → Explains (λ input left written. Begins input left written picture) before after held held_after
+      → Explains (λ input left written. BeginsPicture input left written picture) before after held held_after
   begins picture is none begun explained =
-      steps.explained_as (LinesMean IsReplied true w Done) (λ input left written. Begins input left written picture) before after held held_after
+      steps.explained_as (LinesMean IsReplied true w Done) (λ input left written. BeginsPicture input left written picture) before after held held_after
       (begun_by picture is none begun) explained
 
   -- they were to, and it hasn't

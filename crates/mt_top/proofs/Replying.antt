@@ -21,7 +21,7 @@ use Rattle.mt_top.specs.Script.{IsAnswered, IsLeftBy, IsReplied, asked}
 use Rattle.mt_machine.specs.Book.{probe_at}
 use Rattle.mt_board.specs.Probing.{Probe}
 use Rattle.mt_world.proofs.Areas.{added_either}
-use Rattle.mt_world.specs.World.{IsAcceptedOf, IsAdded, IsAdvisedAs, IsLeft, IsOutcome, IsServed, IsTold, IsTried, World, actor_of, is_empty, picture_of}
+use Rattle.mt_world.specs.World.{IsAcceptedOf, IsAdded, IsAdvisedAs, IsWorldLeft, IsOutcome, IsServed, IsFlightTold, IsTrialAnswered, World, actor_of, is_empty, picture_of}
 
 -- so nothing was added where the reply is not brief
 added : (w next : World) (checked : Result ⊤ AddNo) (word : DoneWord) (taken : Reply) (tables : Tables) (reply : Reply) → is_brief reply ≡ false
@@ -36,7 +36,7 @@ outcome w next (Err refusal) reply b r = r.same
 
 -- nor kept
 tried : (w next : World) (who : ℕ) (call : List ℕ) (clearance : Clearance) (eff : ℕ) (result : Result (List Hit) Refusal) (reply : Reply)
-    → is_brief reply ≡ false → IsTried w who call clearance eff result reply next → next ≡ w
+    → is_brief reply ≡ false → IsTrialAnswered w who call clearance eff result reply next → next ≡ w
 tried w next who call clearance eff (Ok hits) reply b g = not_given _ reply _ g.reply_is refl b
 tried w next who call clearance eff (Err refusal) reply b r = r.same
 
@@ -65,7 +65,7 @@ unchanged_by w next who requests.Bye reply served b = served.next_is
 unchanged_by w next who requests.List reply served b = on_either w.begun _ _ _ (λ l. l.same) (λ r. r.same) served
 unchanged_by w next who requests.Check reply served b = on_either w.begun _ _ _ (λ l. l.same) (λ r. r.same) served
 unchanged_by w next who (requests.Flight call sec) reply served b = on_either w.begun _ _ _ (told (flight_of (picture_of w).records call)) (λ r. r.same) served where
-  told : (found : Option Record) → IsTold w call sec found reply next → next ≡ w
+  told : (found : Option Record) → IsFlightTold w call sec found reply next → next ≡ w
   told (Some flight) g = g.next_is
   told None r = r.same
 unchanged_by w next who (requests.History from to) reply served b = on_either w.begun _ _ _ (λ g. g.next_is) (λ r. r.same) served
@@ -95,7 +95,7 @@ unchanged w next line reply replied b = ⊎_elim (λ answered. unchanged_of w ne
 left_same : (w next : World) (a : Result (ℕ × Request) Reply) → next ≡ w → IsLeftBy w a next
 left_same w next (Err refusal) same = same
 left_same w next (Ok a) same = by_request a.1 where
-  by_request : (request : Request) → IsLeft w a.0 request next
+  by_request : (request : Request) → IsWorldLeft w a.0 request next
   by_request requests.Settle = inl same
   by_request request = same
 

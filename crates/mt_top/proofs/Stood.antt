@@ -2,7 +2,6 @@
 use Rattle.std.proofs.Common.{◌≡◌, ◌<◌, ◌≤◌, inl, inr, ⊎_elim, ℕ, Bool, true, false, cond, List, length, Option, Some, None, Result, Ok, Err, refl, true≢false}
 use Rattle.std.proofs.lemmas.Bool.{lt-ltb}
 use Rattle.std.specs.Prelude.{MatchBool}
-use Rattle.mt_base.proofs.Cases.{on_either}
 use Rattle.mt_base.specs.declared.command.Entry.{Entry}
 use Rattle.mt_lines.specs.Given.{IsGivenFor, is_brief}
 use Rattle.mt_lines.proofs.Brief.{not_given}
@@ -10,35 +9,35 @@ use Rattle.mt_read.specs.declared.following.FeedLine.{FeedLine}
 use Rattle.mt_read.specs.declared.following.FeedLine.TheVariants.{Followed, Asked, Ended}
 use Rattle.mt_read.specs.declared.request.Request.TheVariants as requests
 use Rattle.mt_picture.specs.Story.{Story}
-use Rattle.mt_standby.specs.Standby.{IsAnswered, IsFollowed, asked, world_of}
+use Rattle.mt_standby.specs.Standby.{IsFeedAnswered, IsEntryAnswered, fed_line, world_of}
 use Rattle.mt_standby.specs.Standby as standby
 use Rattle.mt_write.specs.declared.reply.Reply.{Reply}
 use Rattle.mt_write.specs.declared.reply.Reply.TheVariants as replies
 use Rattle.mt_top.specs.Script.{IsReplied}
-use Rattle.mt_top.specs.Standby.{IsOneOf, IsStoodBy, opened, shown}
+use Rattle.mt_top.specs.Standby.{IsOneOf, IsStoodBy, opened, world_shown}
 use Rattle.mt_top.proofs.Replying.{given_replied, long_replied, unchanged_by}
 use Rattle.mt_world.specs.World.{World, setup_of}
 
 -- a reply that is not brief follows no change
-followed_same : (w next : World) (e : Entry) (reply : Reply) → is_brief reply ≡ false → IsFollowed w e reply next → next ≡ w
+followed_same : (w next : World) (e : Entry) (reply : Reply) → is_brief reply ≡ false → IsEntryAnswered w e reply next → next ≡ w
 followed_same w next e reply b followed = ⊎_elim
     (λ late. late.refused.same)
     (λ rest. ⊎_elim (λ illegal. illegal.refused.same) (λ put. not_given _ reply _ put.given.reply_is refl b) rest)
     followed
 
-answered_same : (w next : World) (line : Result FeedLine Reply) (reply : Reply) → is_brief reply ≡ false → IsAnswered w line reply next → next ≡ w
+answered_same : (w next : World) (line : Result FeedLine Reply) (reply : Reply) → is_brief reply ≡ false → IsFeedAnswered w line reply next → next ≡ w
 answered_same w next (Err refusal) reply b refused = refused.same
 answered_same w next (Ok (Followed e)) reply b followed = followed_same w next e reply b followed
 answered_same w next (Ok (Asked request)) reply b served = unchanged_by w next 0 request reply served b
 answered_same w next (Ok Ended) reply b served = unchanged_by w next 0 requests.Bye reply served b
 
 -- what is given in place of a reply is a reply
-given_followed : (w next : World) (line : List ℕ) (reply given : Reply) → standby.IsReplied w line reply next → IsGivenFor reply given
-    → (is_brief reply ≡ false → length line ≤ 65536) → standby.IsReplied w line given next
+given_followed : (w next : World) (line : List ℕ) (reply given : Reply) → standby.IsStandbyReplied w line reply next → IsGivenFor reply given
+    → (is_brief reply ≡ false → length line ≤ 65536) → standby.IsStandbyReplied w line given next
 given_followed w next line reply given replied for short = ⊎_elim
     (λ same. rw same replied)
     (λ (memory, not_brief). ⊎_elim
-    (λ answered. inr (record { short = short not_brief; refused = record { reply_is = memory; same = answered_same w next (asked line) reply not_brief answered } }))
+    (λ answered. inr (record { short = short not_brief; refused = record { reply_is = memory; same = answered_same w next (fed_line line) reply not_brief answered } }))
     (λ wants. not_given _ reply _ wants.refused.reply_is refl not_brief)
     replied)
     for
@@ -47,8 +46,8 @@ pub given_stood : (w next : World) (line : List ℕ) (reply given : Reply) → I
     → (is_brief reply ≡ false → length line ≤ 65536) → IsStoodBy w line given next
 given_stood w next line reply given replied for short = by_begun w.begun replied where
   by_begun : (begun : Bool)
-      → MatchBool begun (standby.IsReplied w line reply next) ((answered : World) × IsReplied w line reply answered × (next ≡ opened answered))
-      → MatchBool begun (standby.IsReplied w line given next) ((answered : World) × IsReplied w line given answered × (next ≡ opened answered))
+      → MatchBool begun (standby.IsStandbyReplied w line reply next) ((answered : World) × IsReplied w line reply answered × (next ≡ opened answered))
+      → MatchBool begun (standby.IsStandbyReplied w line given next) ((answered : World) × IsReplied w line given answered × (next ≡ opened answered))
   by_begun true followed = given_followed w next line reply given followed for short
   by_begun false (answered, is, next_is) = (answered, given_replied w answered line reply given is for short, next_is)
 
@@ -81,11 +80,11 @@ opened_is m p is setup history = by_begun m.begun is where
   by_begun false is = cc
 
 -- the script answers as long as the picture hasn't begun
-pub is_script : (script : Option World) (standby : Option Story) (s : World) → script ≡ Some s → (shown script standby).begun ≡ false → shown script standby ≡ s
+pub is_script : (script : Option World) (standby : Option Story) (s : World) → script ≡ Some s → (world_shown script standby).begun ≡ false → world_shown script standby ≡ s
 is_script script None s is before = rw is refl
 is_script script (Some story) s is before = absurd (true≢false before)
 
-pub is_some : (script : Option World) (standby : Option Story) (P : Type 0) → script ≡ None → IsOneOf script standby → (shown script standby).begun ≡ false → P
+pub is_some : (script : Option World) (standby : Option Story) (P : Type 0) → script ≡ None → IsOneOf script standby → (world_shown script standby).begun ≡ false → P
 is_some None None P none one before = absurd one
 is_some None (Some story) P none one before = absurd (true≢false before)
 is_some (Some s) standby P none one before = cc
@@ -93,7 +92,7 @@ is_some (Some s) standby P none one before = cc
 pub set_up : (w s m next : World) (line : List ℕ) (reply : Reply) → w ≡ s → w.begun ≡ false → IsReplied s line reply m → next ≡ opened m → IsStoodBy w line reply next
 set_up w s m next line reply same before replied is = by_begun w.begun before where
   by_begun : (b : Bool) → b ≡ false
-      → MatchBool b (standby.IsReplied w line reply next) ((answered : World) × IsReplied w line reply answered × (next ≡ opened answered))
+      → MatchBool b (standby.IsStandbyReplied w line reply next) ((answered : World) × IsReplied w line reply answered × (next ≡ opened answered))
   by_begun false e = (m, rw same replied, is)
   by_begun true e = cc
 
@@ -101,6 +100,6 @@ set_up w s m next line reply same before replied is = by_begun w.begun before wh
 pub long_stood : (w : World) (line : List ℕ) → 65536 < length line → IsStoodBy w line replies.Long w
 long_stood w line long = by_begun w.begun refl where
   by_begun : (begun : Bool) → w.begun ≡ begun
-      → MatchBool begun (standby.IsReplied w line replies.Long w) ((answered : World) × IsReplied w line replies.Long answered × (w ≡ opened answered))
+      → MatchBool begun (standby.IsStandbyReplied w line replies.Long w) ((answered : World) × IsReplied w line replies.Long answered × (w ≡ opened answered))
   by_begun true is = inl (rw (lt-ltb 65536 (length line) long) (record { reply_is = refl; same = refl }))
   by_begun false is = (w, long_replied w line long, opened_still w is)

@@ -10,7 +10,7 @@ use Rattle.mt_script.specs.Begun.{is_begin}
 use Rattle.mt_write.specs.Reply.{reply_text}
 use Rattle.mt_top.specs.declared.status.Status.{Status}
 use Rattle.mt_top.specs.declared.status.Status.TheVariants.{Done, Usage, Setup, ReadFault, WriteFault, DoorFault, Spent, Memory}
-use Rattle.mt_top.specs.Script.{IsFollowed}
+use Rattle.mt_top.specs.Script.{NothingFollows}
 use Rattle.mt_world.specs.World.{World, opening_world}
 
 -- the reply after which no line is answered where the lines set a picture up: a farewell, or that which begins it
@@ -24,23 +24,23 @@ is_last true = ends_opening
 
 module _ (HasReply : World → List ℕ → Reply → World → Type 0) (until_begun : Bool) where
   -- The lines so far: some were read, and these bytes answer them.
-  abbrev pub SoFar : Option (List ℕ) → Option (List ℕ) → List ℕ → Reading → World → Type 0
-  SoFar before now bytes reader w =
-      answering.SoFar reply_text (is_last until_begun) HasReply IsFollowed opening_world before now (Some []) (Some bytes) reader w
+  abbrev pub LinesSoFar : Option (List ℕ) → Option (List ℕ) → List ℕ → Reading → World → Type 0
+  LinesSoFar before now bytes reader w =
+      answering.SoFar reply_text (is_last until_begun) HasReply NothingFollows opening_world before now (Some []) (Some bytes) reader w
 
   -- What a status says of lines of which no more will be answered, which leave this world: the last one was answered, which is that at the input's
-  -- end where no reply was the last; or the input failed; or the output did, which may have cut off replies, so that some world is left behind those
+  -- end where no reply was the last; or the input failed; or the output did, which may have cut off replies, so that some world is left after those
   -- that were written.
   abbrev pub LinesMean : World → Status → List ℕ → List ℕ → List ℕ → Type 0
   LinesMean w Done input left written =
-      (answering.AnswersAll reply_text (is_last until_begun) HasReply IsFollowed opening_world input left written w × (until_begun ≡ true → w.begun ≡ false))
-      ⊎ answering.AnswersToLast reply_text (is_last until_begun) HasReply IsFollowed opening_world input left written w
+      (answering.AnswersAll reply_text (is_last until_begun) HasReply NothingFollows opening_world input left written w × (until_begun ≡ true → w.begun ≡ false))
+      ⊎ answering.AnswersToLast reply_text (is_last until_begun) HasReply NothingFollows opening_world input left written w
   LinesMean w ReadFault input left written = (taken : List ℕ)
-      × answering.AnswersWhole reply_text (is_last until_begun) HasReply IsFollowed opening_world input left taken written w
+      × answering.AnswersWhole reply_text (is_last until_begun) HasReply NothingFollows opening_world input left taken written w
   LinesMean w Spent input left written = (taken : List ℕ) × (length taken ≡ 2 ^ 32)
-      × answering.AnswersWhole reply_text (is_last until_begun) HasReply IsFollowed opening_world input left taken written w
+      × answering.AnswersWhole reply_text (is_last until_begun) HasReply NothingFollows opening_world input left taken written w
   LinesMean w WriteFault input left written = (end : World)
-      × answering.AnswersFront reply_text (is_last until_begun) HasReply IsFollowed opening_world input left written end
+      × answering.AnswersFront reply_text (is_last until_begun) HasReply NothingFollows opening_world input left written end
   LinesMean w Usage input left written = ⊥
   LinesMean w Setup input left written = ⊥
   LinesMean w DoorFault input left written = ⊥
@@ -51,12 +51,12 @@ module _ (HasReply : World → List ℕ → Reply → World → Type 0) (until_b
   abbrev pub HaveEnded : Status → Option (List ℕ) → Option (List ℕ) → List ℕ → List ℕ → World → Type 0
   HaveEnded status before now written waiting w =
       ((waiting ≡ []) × Explains (LinesMean w status) before now (Some []) (Some written))
-      ⊎ ((status ≡ Done) × Explains (λ input left all. answering.AnswersToLast reply_text (is_last until_begun) HasReply IsFollowed opening_world input left all w)
+      ⊎ ((status ≡ Done) × Explains (λ input left all. answering.AnswersToLast reply_text (is_last until_begun) HasReply NothingFollows opening_world input left all w)
       before now (Some []) (Some (written ++ waiting)))
 
   -- more lines are to be answered, or no more
   abbrev pub GoOnOrEnd : Option Status → Option (List ℕ) → Option (List ℕ) → List ℕ → List ℕ → Reading → World → Type 0
-  GoOnOrEnd None before now written waiting reader w = SoFar before now (written ++ waiting) reader w
+  GoOnOrEnd None before now written waiting reader w = LinesSoFar before now (written ++ waiting) reader w
   GoOnOrEnd (Some status) before now written waiting reader w = HaveEnded status before now written waiting w
 
   -- What a turn leaves, before which these bytes were sent: it wrote more, and others wait.

@@ -15,7 +15,7 @@ use Rattle.mt_write.specs.Reply.{reply_text}
 use Rattle.mt_top.specs.declared.status.Status.{Status}
 use Rattle.mt_top.specs.declared.status.Status.TheVariants.{Done, Usage, Setup, ReadFault, WriteFault, DoorFault, Spent, Memory}
 use Rattle.mt_top.specs.Load.{LoadMeans}
-use Rattle.mt_top.specs.Script.{IsFollowed, IsReplied}
+use Rattle.mt_top.specs.Script.{NothingFollows, IsReplied}
 use Rattle.mt_top.specs.Serve.{Doorway, ServeMeans}
 use Rattle.mt_top.specs.Standby.{IsStoodBy}
 use Rattle.mt_world.specs.World.{World, opening_world}
@@ -24,32 +24,32 @@ use Rattle.mt_world.specs.World.{World, opening_world}
 -- world, and which world that leaves, is said by `HasReply`. At the end there is some world.
 module _ (HasReply : World → List ℕ → Reply → World → Type 0) where
   -- The input was read to its end, and the bytes written answer all its lines.
-  abbrev pub AnswersAll : List ℕ → List ℕ → List ℕ → Type 0
-  AnswersAll input left written = (end : World)
-      × answering.AnswersAll reply_text is_farewell HasReply IsFollowed opening_world input left written end
+  abbrev pub AnswersAllLines : List ℕ → List ℕ → List ℕ → Type 0
+  AnswersAllLines input left written = (end : World)
+      × answering.AnswersAll reply_text is_farewell HasReply NothingFollows opening_world input left written end
 
   -- The input was read to the line that ends the lines, and the bytes written answer those up to it.
   abbrev pub AnswersToBye : List ℕ → List ℕ → List ℕ → Type 0
   AnswersToBye input left written = (end : World)
-      × answering.AnswersToLast reply_text is_farewell HasReply IsFollowed opening_world input left written end
+      × answering.AnswersToLast reply_text is_farewell HasReply NothingFollows opening_world input left written end
 
   -- Of the input these bytes were taken, and the bytes written answer the lines that are whole in them.
-  abbrev pub AnswersWhole : List ℕ → List ℕ → List ℕ → List ℕ → Type 0
-  AnswersWhole input left taken written = (end : World)
-      × answering.AnswersWhole reply_text is_farewell HasReply IsFollowed opening_world input left taken written end
+  abbrev pub AnswersWholeLines : List ℕ → List ℕ → List ℕ → List ℕ → Type 0
+  AnswersWholeLines input left taken written = (end : World)
+      × answering.AnswersWhole reply_text is_farewell HasReply NothingFollows opening_world input left taken written end
 
   -- The bytes written answer the lines that were read of the input, but that the last reply is cut short.
-  abbrev pub AnswersFront : List ℕ → List ℕ → List ℕ → Type 0
-  AnswersFront input left written = (end : World)
-      × answering.AnswersFront reply_text is_farewell HasReply IsFollowed opening_world input left written end
+  abbrev pub AnswersFrontOfLines : List ℕ → List ℕ → List ℕ → Type 0
+  AnswersFrontOfLines input left written = (end : World)
+      × answering.AnswersFront reply_text is_farewell HasReply NothingFollows opening_world input left written end
 
   -- What a status says of the whole input, of what is left of it, and of the bytes written. Memory is wanted only before the first line: then
   -- nothing was read and nothing written.
   abbrev pub AnswersMean : Status → List ℕ → List ℕ → List ℕ → Type 0
-  AnswersMean Done input left written = AnswersAll input left written ⊎ AnswersToBye input left written
-  AnswersMean ReadFault input left written = (taken : List ℕ) × AnswersWhole input left taken written
-  AnswersMean Spent input left written = (taken : List ℕ) × (length taken ≡ 2 ^ 32) × AnswersWhole input left taken written
-  AnswersMean WriteFault input left written = AnswersFront input left written
+  AnswersMean Done input left written = AnswersAllLines input left written ⊎ AnswersToBye input left written
+  AnswersMean ReadFault input left written = (taken : List ℕ) × AnswersWholeLines input left taken written
+  AnswersMean Spent input left written = (taken : List ℕ) × (length taken ≡ 2 ^ 32) × AnswersWholeLines input left taken written
+  AnswersMean WriteFault input left written = AnswersFrontOfLines input left written
   AnswersMean Memory input left written = (left ≡ input) × (written ≡ [])
   AnswersMean Usage input left written = ⊥
   AnswersMean Setup input left written = ⊥

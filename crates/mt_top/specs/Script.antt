@@ -3,19 +3,10 @@ use Rattle.std.specs.Prelude.{◌≡◌, ◌≤◌, ℕ, ◌⊎◌, List, length
 use Rattle.mt_write.specs.declared.reply.Reply.{Reply}
 use Rattle.mt_write.specs.declared.reply.Reply.TheVariants as replies
 use Rattle.mt_read.specs.declared.request.Request.{Request}
-use Rattle.mt_read.specs.declared.request.LineNo.{LineNo}
-use Rattle.mt_read.specs.declared.request.LineNo.TheVariants as nos
 use Rattle.mt_read.specs.declared.request.Place.TheVariants.{Replay}
 use Rattle.mt_read.specs.Line.{line as read_as}
-use Rattle.mt_world.specs.World.{World, IsLeft, IsRefused, IsServed}
-
--- the refusal of a line as a reply
-abbrev pub or_reply : Result (ℕ × Request) LineNo → Result (ℕ × Request) Reply
-or_reply (Ok asked) = Ok asked
-or_reply (Err nos.Json) = Err replies.Json
-or_reply (Err (nos.Form name)) = Err (replies.Form name)
-or_reply (Err (nos.Range name)) = Err (replies.Range name)
-or_reply (Err nos.Memory) = Err replies.Memory
+use Rattle.mt_world.specs.World.{World, IsWorldLeft, IsRefused, IsServed}
+use Rattle.mt_wire.specs.Refused.{or_reply}
 
 -- what a line asks for, or its refusal
 abbrev pub asked : World → List ℕ → Result (ℕ × Request) Reply
@@ -28,7 +19,7 @@ IsAnswered w (Ok asked) reply next = IsServed w asked.0 asked.1 reply next
 
 -- what a line leaves for which there was no memory: the world as it was, but for what settling had renewed
 abbrev pub IsLeftBy : World → Result (ℕ × Request) Reply → World → Type 0
-IsLeftBy w (Ok asked) next = IsLeft w asked.0 asked.1 next
+IsLeftBy w (Ok asked) next = IsWorldLeft w asked.0 asked.1 next
 IsLeftBy w (Err refusal) next = next ≡ w
 
 -- In place of any reply but `long`, `memory` may stand; then the line changed nothing, but that settling may have renewed some flights.
@@ -42,5 +33,5 @@ abbrev pub IsReplied : World → List ℕ → Reply → World → Type 0
 IsReplied w line reply next = IsAnswered w (asked w line) reply next ⊎ WantsMemory w line reply next
 
 -- nothing follows the reply to a line of a script
-abbrev pub IsFollowed : World → List ℕ → Reply → World → World → Type 0
-IsFollowed w line reply answered next = next ≡ answered
+abbrev pub NothingFollows : World → List ℕ → Reply → World → World → Type 0
+NothingFollows w line reply answered next = next ≡ answered

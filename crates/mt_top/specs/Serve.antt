@@ -10,7 +10,7 @@ use Rattle.mt_serve.specs.Closing.{IsClosing, closing_text}
 use Rattle.mt_serve.specs.Summary.{HasServedWhole}
 use Rattle.mt_serve.specs.declared.closing.Closing.{Closing}
 use Rattle.mt_serve.specs.declared.counts.Counts.{Counts}
-use Rattle.mt_top.specs.Opening.{Begins, OpeningMeans}
+use Rattle.mt_top.specs.Opening.{BeginsPicture, OpeningMeans}
 use Rattle.mt_top.specs.declared.status.Status.{Status}
 use Rattle.mt_top.specs.declared.status.Status.TheVariants.{Done, Usage, Setup, ReadFault, WriteFault, DoorFault, Spent, Memory}
 
@@ -31,16 +31,16 @@ pub record IsClosingLine (closed : Story) (counts : Counts) (line : List ℕ) : 
 abbrev pub IsFront : Story → Counts → List ℕ → Type 0
 IsFront closed counts shown = (rest : List ℕ) × IsClosingLine closed counts (shown ++ rest)
 
-abbrev pub IsShown : ℕ → ℕ → Story → Counts → List ℕ → Type 0
-IsShown before now closed counts shown = IsClosingLine closed counts shown ⊎ (Rose before now × IsFront closed counts shown)
+abbrev pub IsSummaryWritten : ℕ → ℕ → Story → Counts → List ℕ → Type 0
+IsSummaryWritten before now closed counts shown = IsClosingLine closed counts shown ⊎ (Rose before now × IsFront closed counts shown)
 
 module _ {L : Type 0} (source : Source.Ghosts L) (sink : Sink.Ghosts L) (port sessions workers : ℕ) (old new : Doorway L) where
   -- Lines of the input up to the one that begins a picture were answered. Links of the door were served over that picture: one legal history, that
-  -- of the closed picture, ties all that each was sent and answered. What sums it up was written behind the answers, as far as `Sums` says.
+  -- of the closed picture, ties all that each was sent and answered. What sums it up was written after the answers, as far as `Sums` says.
   pub record AreServed (faulted : Bool) (Sums : Story → Counts → List ℕ → Type 0) (input left written : List ℕ) : Type 0 where
     pub picture : Story
     pub opened : List ℕ
-    pub begins : Begins input left opened picture
+    pub begins : BeginsPicture input left opened picture
     pub closed : Story
     pub counts : Counts
     pub served : HasServedWhole source sink picture.setup port sessions workers old.count new.count old.still new.still old.returned new.returned
@@ -51,13 +51,13 @@ module _ {L : Type 0} (source : Source.Ghosts L) (sink : Sink.Ghosts L) (port se
 
   -- the picture has begun, and the door wasn't called
   abbrev pub AreUnserved : List ℕ → List ℕ → List ℕ → Type 0
-  AreUnserved input left written = (picture : Story) × Begins input left written picture × (new ≡ old)
+  AreUnserved input left written = (picture : Story) × BeginsPicture input left written picture × (new ≡ old)
 
   -- What a status says of serving, of the input, of what is left of it, and of the bytes written: before the picture has begun it is that of the
   -- lines so far, and the door wasn't called; nor was it where memory is wanted. `before` and `now` are what the output counts of its faults.
   abbrev pub ServeMeans : ℕ → ℕ → Status → List ℕ → List ℕ → List ℕ → Type 0
   ServeMeans before now Done input left written = AreServed false IsClosingLine input left written
-  ServeMeans before now DoorFault input left written = AreServed true (IsShown before now) input left written
+  ServeMeans before now DoorFault input left written = AreServed true (IsSummaryWritten before now) input left written
   ServeMeans before now WriteFault input left written = (OpeningMeans WriteFault input left written × (new ≡ old)) ⊎ AreServed false IsFront input left written
   ServeMeans before now Memory input left written = (OpeningMeans Memory input left written × (new ≡ old)) ⊎ AreUnserved input left written
   ServeMeans before now Setup input left written = OpeningMeans Setup input left written × (new ≡ old)
@@ -71,7 +71,7 @@ Appended Sums held after = (shown : List ℕ) × Sums shown × Appends held afte
 
 abbrev pub SaysClosing : Story → Counts → Bool → ℕ → ℕ → Status → Option (List ℕ) → Option (List ℕ) → Type 0
 SaysClosing closed counts faulted before now Done held after = (faulted ≡ false) × Appended (IsClosingLine closed counts) held after
-SaysClosing closed counts faulted before now DoorFault held after = (faulted ≡ true) × Appended (IsShown before now closed counts) held after
+SaysClosing closed counts faulted before now DoorFault held after = (faulted ≡ true) × Appended (IsSummaryWritten before now closed counts) held after
 SaysClosing closed counts faulted before now WriteFault held after = (faulted ≡ false) × Appended (IsFront closed counts) held after
 SaysClosing closed counts faulted before now Memory held after = ⊥
 SaysClosing closed counts faulted before now Setup held after = ⊥

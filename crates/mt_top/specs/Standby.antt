@@ -14,13 +14,13 @@ opened w = if w.begun then world_of (record { setup = setup_of w; history = w.hi
 -- this reply is given to a line of a standby's world, and leaves this world
 abbrev pub IsStoodBy : World → List ℕ → Reply → World → Type 0
 IsStoodBy w line reply next = MatchBool w.begun
-    (standby.IsReplied w line reply next)
+    (standby.IsStandbyReplied w line reply next)
     ((answered : World) × IsReplied w line reply answered × (next ≡ opened answered))
 
 -- the world of a script whose picture hasn't begun, or of the standby
-abbrev pub shown : Option World → Option Story → World
-shown script (Some story) = world_of story
-shown script None = unwrap_or script opening_world
+abbrev pub world_shown : Option World → Option Story → World
+world_shown script (Some story) = world_of story
+world_shown script None = unwrap_or script opening_world
 
 -- a script whose picture hasn't begun, or a standby
 abbrev pub IsOneOf : Option World → Option Story → Type 0

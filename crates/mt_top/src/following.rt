@@ -2,7 +2,7 @@
 ghost use Rattle.std.specs.Prelude.{◌≡◌, ◌≤◌, [], IfOk, false, length};
 ghost use Rattle.mt_lines.specs.Fit.{IsFit};
 ghost use Rattle.mt_script.specs.Begun.{is_begin};
-ghost use Rattle.mt_top.specs.Standby.{IsOneOf, IsStoodBy, opened, shown};
+ghost use Rattle.mt_top.specs.Standby.{IsOneOf, IsStoodBy, opened, world_shown};
 ghost use Rattle.mt_world.specs.World.{opening_world};
 
 use crate::answering::{Answers, answer};
@@ -22,12 +22,12 @@ pub(crate) struct Follower {
 }
 
 impl Model for Follower {
-    ghost use Rattle.mt_top.specs.Standby.{IsOneOf, shown};
+    ghost use Rattle.mt_top.specs.Standby.{IsOneOf, world_shown};
     ghost use Rattle.mt_world.specs.World.{World};
 
     ghost Value = { World };
 
-    ghost view = { λ f. shown f.script f.standby };
+    ghost view = { λ f. world_shown f.script f.standby };
 
     ghost invariant = { λ f. IsOneOf f.script f.standby };
 }
@@ -75,7 +75,7 @@ fn opened<R: Threads + Sync>(
     script: Script,
 ) -> (Option<Script>, Option<Standby>)
     requires { script.history ≡ [] }
-    ensures shown { shown result.0 result.1 ≡ opened script }
+    ensures world_shown { world_shown result.0 result.1 ≡ opened script }
     ensures one { IsOneOf result.0 result.1 }
 {
     if !script.has_begun() {

@@ -13,7 +13,7 @@ pub fn one_reply_law()
 {}
 
 /// Once the picture has begun, `areas` is answered each passage of a trajectory of the state of the history through one of the areas, over
-/// every instant of the window, and no other, in order, with the version; and it changes nothing. Before that, `area` puts an area behind the
+/// every instant of the window, and no other, in order, with the version; and it changes nothing. Before that, `area` puts an area after the
 /// others, or is refused for the first reason of three. All this but where memory is wanted.
 pub fn areas_law()
     ensures told { (w : World) (who : ℕ) (reply : Reply) (next : World) → w.begun ≡ true → IsAnswered w (Ok (who, requests.Areas)) reply next

@@ -8,7 +8,7 @@ ghost use Rattle.mt_io.specs.Writing.{AppendsFront};
 ghost use Rattle.mt_lines.specs.Answering.{Explains};
 ghost use Rattle.mt_lines.specs.Waiting.{LeavesWaiting};
 ghost use Rattle.mt_lines.specs.Waits.{waits};
-ghost use Rattle.mt_top.specs.Lines.{LinesMean, SoFar, Turned};
+ghost use Rattle.mt_top.specs.Lines.{LinesMean, LinesSoFar, Turned};
 ghost use Rattle.mt_top.specs.declared.status.Status.TheVariants.{ReadFault, WriteFault};
 ghost use Rattle.mt_world.specs.World.{opening_world, setup_of};
 
@@ -122,7 +122,7 @@ impl<A: Answers> Lines<A> {
         requires room { 65536 ≤ vec_capacity self.old.room }
         requires unbegun { until_begun ≡ true → (A.world self.old.script).begun ≡ false }
         ensures turned { (before : Option (List ℕ)) (sent : List ℕ)
-            → SoFar A.replied until_begun before (S.left input.old) (sent ++ waits self.old.waiting) self.old.reader (A.world self.old.script)
+            → LinesSoFar A.replied until_begun before (S.left input.old) (sent ++ waits self.old.waiting) self.old.reader (A.world self.old.script)
             → Turned A.replied until_begun result before (S.left input.new) sent (K.held output.old) (K.held output.new) (waits self.new.waiting)
             self.new.reader (A.world self.new.script) }
         ensures rises { IfNone result ((self.new.reader.given ≡ self.old.reader.given + 1) × (self.new.reader.given ≤ 2 ^ 32) × (self.new.reader.fault ≡ None)
@@ -158,7 +158,7 @@ impl<A: Answers> Lines<A> {
         requires idle { ¬ Contains self.old.reader.store.ahead 10 → waits self.old.waiting ≡ [] }
         requires unbegun { until_begun ≡ true → (A.world self.old.script).begun ≡ false }
         ensures turned { (before : Option (List ℕ)) (sent : List ℕ)
-            → SoFar A.replied until_begun before (S.left input.old) (sent ++ waits self.old.waiting) self.old.reader (A.world self.old.script)
+            → LinesSoFar A.replied until_begun before (S.left input.old) (sent ++ waits self.old.waiting) self.old.reader (A.world self.old.script)
             → Turned A.replied until_begun result before (S.left input.new) sent (K.held output.old) (K.held output.new) (waits self.new.waiting)
             self.new.reader (A.world self.new.script) }
         ensures rises { IfNone result ((self.new.reader.given ≡ self.old.reader.given + 1) × (self.new.reader.given ≤ 2 ^ 32) × (self.new.reader.fault ≡ None)

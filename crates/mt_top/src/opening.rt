@@ -3,7 +3,7 @@ ghost use Rattle.std.specs.Prelude.{◌≡◌, ◌≤◌, [], IfOk, IfErr, vec_c
 ghost use Rattle.std.specs.Thread.{IsSync};
 ghost use Rattle.mt_io.specs.Causes.{Rose};
 ghost use Rattle.mt_lines.specs.Answering.{Explains};
-ghost use Rattle.mt_top.specs.Opening.{Begins, OpeningMeans};
+ghost use Rattle.mt_top.specs.Opening.{BeginsPicture, OpeningMeans};
 ghost use Rattle.mt_top.specs.declared.status.Status.TheVariants.{ReadFault, WriteFault};
 
 use crate::lines::script_lines;
@@ -22,7 +22,7 @@ pub(crate) fn open<R: Threads + Sync, S: Source, K: Sink>(
     output: &mut K,
 ) -> Result<(Picture, Vec<u8>), Status>
     requires sync { IsSync R.row }
-    ensures begins { IfOk result (λ r. Explains (λ input left written. Begins input left written r.0) (S.left input.old) (S.left input.new) (K.held output.old) (K.held output.new)) }
+    ensures begins { IfOk result (λ r. Explains (λ input left written. BeginsPicture input left written r.0) (S.left input.old) (S.left input.new) (K.held output.old) (K.held output.new)) }
     ensures room { IfOk result (λ r. 65536 ≤ vec_capacity r.1) }
     ensures opening { IfOk result (λ r. r.0.history ≡ []) }
     ensures over { IfErr result (λ status. Explains (OpeningMeans status) (S.left input.old) (S.left input.new) (K.held output.old) (K.held output.new)) }

@@ -11,10 +11,10 @@ use Rattle.mt_board.specs.declared.no.No.{No}
 use Rattle.mt_base.proofs.HistoryLemmas.{version_is}
 use Rattle.mt_picture.specs.Story.{IsEntered, IsPrepFor, Story}
 use Rattle.mt_picture.proofs.Given.{prepared_for}
-use Rattle.mt_top_checks.specs.Growing.{IsLater, IsOfPast}
+use Rattle.mt_top_checks.specs.Growing.{IsLaterStory, IsOfPast}
 use Rattle.mt_probe.specs.Prepared.{IsPrepOf, MakesStrand, Prepared}
 use Rattle.mt_probe.specs.Shot.{Shot}
-use Rattle.mt_probe.specs.Shot.{state_of as state_in}
+use Rattle.mt_probe.specs.Shot.{state_in_shot as state_in}
 
 -- a prep that is made on the snapshot now is of the past
 pub past_now : (story : Story) (shot : Shot) (who : ℕ) (command : Command) (p : Prepared) → shot.setup ≡ story.setup
@@ -30,7 +30,7 @@ past_now story shot who command p setup state of =
     }
 
 -- what is of the past stays so
-pub past_later : (before after : Story) (p : Prepared) → IsLater before after → IsOfPast before p → IsOfPast after p
+pub past_later : (before after : Story) (p : Prepared) → IsLaterStory before after → IsOfPast before p → IsOfPast after p
 past_later before after p later past =
     let more : length after.history ≡ length before.history + length later.entries = ap length later.longer ∙ length-append before.history later.entries in
     let front : take p.state.version after.history ≡ take p.state.version before.history =
@@ -58,7 +58,7 @@ pub prepared_now : (story : Story) (shot : Shot) (who : ℕ) (command : Command)
 prepared_now story shot who command p setup state makes of =
     prep_for story who command p makes of.command_is of.who_is (past_now story shot who command p setup state of)
 
-pub prepared_later : (before after : Story) (who : ℕ) (command : Command) (p : Prepared) → IsLater before after → IsPrepFor before who command p
+pub prepared_later : (before after : Story) (who : ℕ) (command : Command) (p : Prepared) → IsLaterStory before after → IsPrepFor before who command p
     → IsPrepFor after who command p
 prepared_later before after who command p later prep =
     let past = past_later before after p later (record { setup_is = prep.setup_is; within = prep.within; state_is = prep.state_is }) in
@@ -72,11 +72,11 @@ prepared_later before after who command p later prep =
     }
 
 -- after a command the story is a later one, entered or not
-pub later_same : (before after : Story) → after ≡ before → IsLater before after
+pub later_same : (before after : Story) → after ≡ before → IsLaterStory before after
 later_same before after same = record { same = ap (λ (s : Story). s.setup) same; entries = []; longer = ap (λ (s : Story). s.history) same ∙ sym (append-nil before.history) }
 
 pub later_published : (before after : Story) (who : ℕ) (command : Command) (result : Result Entered No) → IfOk result (IsEntered before after who command)
-    → OnErr result (after ≡ before) → IsLater before after
+    → OnErr result (after ≡ before) → IsLaterStory before after
 later_published before after who command (Ok entered) is same = record { same = is.same; entries = is.entry ∷ []; longer = is.longer }
 later_published before after who command (Err e) is same = later_same before after same
 

@@ -5,8 +5,8 @@ use Rattle.mt_base.specs.History.{state_of}
 use Rattle.mt_picture.specs.Story.{Story}
 use Rattle.mt_probe.specs.Prepared.{Prepared}
 
--- A story that begins as an earlier one: it has the same rules and tables, and its history is that one's with entries behind.
-pub record IsLater (before after : Story) : Type 0 where
+-- A story that begins as an earlier one: it has the same rules and tables, and its history is that one's with entries after them.
+pub record IsLaterStory (before after : Story) : Type 0 where
   pub same : after.setup ≡ before.setup
   pub entries : List Entry
   pub longer : after.history ≡ before.history ++ entries

@@ -6,25 +6,25 @@ use Rattle.std.specs.Prelude.{slice_get}
 use Rattle.mt_base.specs.declared.row.Row.{Row}
 use Rattle.mt_base.specs.Trajectory.{Trajectory}
 use Rattle.mt_track.specs.declared.segment.Segment.{Segment}
-use Rattle.mt_track.specs.Laid.{Adjoin, AreApart, AreSegmentsOf, all_rows, rows_of}
+use Rattle.mt_track.specs.Laid.{Adjoin, AreSeparateSegments, AreSegmentsOf, all_rows, rows_of}
 use Rattle.mt_track.specs.Rows.{row_after}
 use Rattle.mt_track.proofs.Segments.{row_in}
 use Rattle.mt_track.proofs.Straight.{row_after-none}
 
-pub AreApart-first : (ss : List Segment) (s : Segment) → length ss ≡ 0 → AreApart (ss ++ s ∷ [])
+pub AreApart-first : (ss : List Segment) (s : Segment) → length ss ≡ 0 → AreSeparateSegments (ss ++ s ∷ [])
 AreApart-first [] s none = tt
 AreApart-first (t ∷ ts) s none = absurd (omega arith)
 
-pub AreApart-push : (ss : List Segment) (i : ℕ) (t s : Segment) → AreApart ss → i + 1 ≡ length ss → t ≡ get_or ss i t
-    → ¬ (s.first ≡ row_after t.first (t.to - t.from)) → AreApart (ss ++ s ∷ [])
+pub AreApart-push : (ss : List Segment) (i : ℕ) (t s : Segment) → AreSeparateSegments ss → i + 1 ≡ length ss → t ≡ get_or ss i t
+    → ¬ (s.first ≡ row_after t.first (t.to - t.from)) → AreSeparateSegments (ss ++ s ∷ [])
 AreApart-push [] i t s apart last is other = absurd (omega arith)
 AreApart-push (u ∷ []) zero t s apart last is other = (rw is at other, tt)
 AreApart-push (u ∷ []) (suc i) t s apart last is other = absurd (omega arith)
 AreApart-push (u ∷ v ∷ vs) zero t s apart last is other = absurd (omega arith)
 AreApart-push (u ∷ v ∷ vs) (suc i) t s apart last is other = (apart.0, AreApart-push (v ∷ vs) i t s apart.1 (omega arith) is other)
 
-pub AreApart-lengthened : (ss : List Segment) (i : ℕ) (t : Segment) (to : ℕ) → AreApart ss → i + 1 ≡ length ss → t ≡ get_or ss i t
-    → AreApart (set ss i (record t { to = to }))
+pub AreApart-lengthened : (ss : List Segment) (i : ℕ) (t : Segment) (to : ℕ) → AreSeparateSegments ss → i + 1 ≡ length ss → t ≡ get_or ss i t
+    → AreSeparateSegments (set ss i (record t { to = to }))
 AreApart-lengthened [] i t to apart last is = absurd (omega arith)
 AreApart-lengthened (u ∷ []) zero t to apart last is = tt
 AreApart-lengthened (u ∷ []) (suc i) t to apart last is = absurd (omega arith)
@@ -52,7 +52,7 @@ first_row from to s ss lie =
     rw (none, begun, row_after-none s.first) at at
 
 shorter : (from to : ℕ) (s t : Segment) (ss ts : List Segment) → Adjoin from (s ∷ ss) to → Adjoin from (t ∷ ts) to → all_rows (s ∷ ss) ≡ all_rows (t ∷ ts)
-    → s.first ≡ t.first → AreApart (s ∷ ss) → s.to < t.to → ⊥
+    → s.first ≡ t.first → AreSeparateSegments (s ∷ ss) → s.to < t.to → ⊥
 shorter from to s t [] ts lie also same first apart less =
     let few = few_segments t.to to ts also.2 in
     absurd (omega (arith, few, lie.2))
@@ -64,11 +64,11 @@ shorter from to s t (u ∷ us) ts lie also same first apart less =
     let begun : s.to - t.from ≡ s.to - s.from = omega (arith, lie.0, also.0) in
     apart.0 (rw (none, row_after-none u.first, begun, ← first) at both)
 
-rest_apart : (s : Segment) (ss : List Segment) → AreApart (s ∷ ss) → AreApart ss
+rest_apart : (s : Segment) (ss : List Segment) → AreSeparateSegments (s ∷ ss) → AreSeparateSegments ss
 rest_apart s [] apart = tt
 rest_apart s (t ∷ ts) apart = apart.1
 
-pub one_list : (from to : ℕ) (ss ts : List Segment) → Adjoin from ss to → Adjoin from ts to → AreApart ss → AreApart ts → all_rows ss ≡ all_rows ts → ss ≡ ts
+pub one_list : (from to : ℕ) (ss ts : List Segment) → Adjoin from ss to → Adjoin from ts to → AreSeparateSegments ss → AreSeparateSegments ts → all_rows ss ≡ all_rows ts → ss ≡ ts
 one_list from to [] [] lie also apart other same = refl
 one_list from to [] (t ∷ ts) lie also apart other same = let few = few_segments from to (t ∷ ts) also in absurd (omega (arith, few, lie))
 one_list from to (s ∷ ss) [] lie also apart other same = let few = few_segments from to (s ∷ ss) lie in absurd (omega (arith, few, also))

@@ -1,4 +1,4 @@
--- Rows that keep their gains stay in a layer that holds the first and the one behind the last.
+-- Rows that keep their gains stay in a layer that holds the first and the one after the last.
 use Rattle.std.proofs.Common.{◌≡◌, ◌∙◌, sym, ℕ, suc, ◌<◌, ◌≤◌, ◌+◌, ℤ, pos, negsuc, neg_ℤ, ◌+ℤ◌, ◌-ℤ◌, ◌*ℤ◌, ◌≤ℤ◌, List, ◌++◌, arith, mul-le-mul, le_refl, to_z, of_z, w64}
 use Rattle.std.proofs.lemmas.Int.{clamps, ints, to_z-of_z}
 use Rattle.std.specs.Int.{int_max, int_min}
@@ -9,7 +9,7 @@ use Rattle.mt_base.specs.declared.row.Row.{Row}
 use Rattle.mt_base.specs.Bounds.{IsWithin}
 use Rattle.mt_base.specs.Trajectory.{next_row, straight_rows}
 use Rattle.mt_track.specs.declared.layer.Layer.{Layer}
-use Rattle.mt_track.specs.Layer.{AreInLayer, Holds, IsBoundedHeight, IsInLayer, IsLayerKept, IsWider}
+use Rattle.mt_track.specs.Layer.{AreInLayer, HoldsHeight, IsBoundedHeight, IsInLayer, IsLayerKept, IsWider}
 use Rattle.mt_track.specs.Rows.{row_after}
 use Rattle.mt_track.proofs.Straight.{get_or-straight_rows, length-straight_rows, row_after-add, row_after-next, row_after-none}
 
@@ -29,7 +29,7 @@ less_after z w v g n = simp spread (omega (arith, lin))
 more_after : (z w v g n : ℤ) → ((z +ℤ v *ℤ n) +ℤ (w +ℤ g *ℤ n)) ≡ ((z +ℤ w) +ℤ (v +ℤ g) *ℤ n)
 more_after z w v g n = simp spread (omega (arith, lin))
 
-Holds-row_after : (layer : Layer) (a : Row) (k n : ℕ) → k ≤ n → Holds layer a → Holds layer (row_after a n) → Holds layer (row_after a k)
+Holds-row_after : (layer : Layer) (a : Row) (k n : ℕ) → k ≤ n → HoldsHeight layer a → HoldsHeight layer (row_after a n) → HoldsHeight layer (row_after a k)
 Holds-row_after layer a k n below first last = record {
   margin = not_below (pos 0) a.w a.gw k n below first.margin last.margin;
   low = rw (less_after a.z a.w a.vz a.gw (pos k)) (not_below layer.low (a.z -ℤ a.w) (a.vz -ℤ a.gw) k n below first.low
@@ -41,7 +41,7 @@ Holds-row_after layer a k n below first last = record {
 next_is : (a : Row) → next_row a ≡ row_after a 1
 next_is a = sym (row_after-none (next_row a)) ∙ row_after-next a 0
 
-pub AreInLayer-straight : (layer : Layer) (a : Row) (n : ℕ) → Holds layer a → Holds layer (row_after a n) → AreInLayer layer (straight_rows a n)
+pub AreInLayer-straight : (layer : Layer) (a : Row) (n : ℕ) → HoldsHeight layer a → HoldsHeight layer (row_after a n) → AreInLayer layer (straight_rows a n)
 AreInLayer-straight layer a n first last k d below =
     let within : k < n = omega (arith, below, length-straight_rows a n) in
     let after : next_row (row_after a k) ≡ row_after a (k + 1) = next_is (row_after a k) ∙ row_after-add a k 1 in
@@ -51,7 +51,7 @@ AreInLayer-straight layer a n first last k d below =
     })
 
 -- what a layer holds a wider one does
-pub Holds-wider : (layer wider : Layer) (row : Row) → IsWider layer wider → Holds layer row → Holds wider row
+pub Holds-wider : (layer wider : Layer) (row : Row) → IsWider layer wider → HoldsHeight layer row → HoldsHeight wider row
 Holds-wider layer wider row more h = record { margin = h.margin; low = omega (arith, lin, more.low, h.low); high = omega (arith, lin, more.high, h.high) }
 
 pub AreInLayer-wider : (layer wider : Layer) (rows : List Row) → IsWider layer wider → AreInLayer layer rows → AreInLayer wider rows

@@ -7,13 +7,13 @@ use Rattle.mt_track.specs.Laid.{Adjoin, all_rows, edge, rows_of}
 use Rattle.mt_track.specs.Rows.{row_after}
 use Rattle.mt_track.proofs.Straight.{length-straight_rows, slice_get-straight_rows}
 
--- a place of the list behind another
+-- a place of the list after another
 pub slice_get-append_right : {X : Type 0} (xs ys : List X) (i j : ℕ) → i ≡ length xs + j → slice_get (xs ++ ys) i ≡ slice_get ys j
 slice_get-append_right [] ys i j e = ap (slice_get ys) (e ∙ omega arith)
 slice_get-append_right (x ∷ xs) ys zero j e = absurd (omega arith)
 slice_get-append_right (x ∷ xs) ys (suc i) j e = slice_get-append_right xs ys i j (omega arith)
 
--- behind the last segment is the end
+-- after the last segment is the end
 pub edge-length : (from to : ℕ) (ss : List Segment) → Adjoin from ss to → edge from ss (length ss) ≡ to
 edge-length from to [] lie = lie
 edge-length from to (s ∷ ss) lie = edge-length s.to to ss lie.2

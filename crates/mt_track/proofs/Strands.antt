@@ -13,12 +13,12 @@ use Rattle.mt_base.specs.declared.row.Row.{Row}
 use Rattle.mt_base.specs.Bounds.{IsBoundedOver, IsBoundedRow}
 use Rattle.mt_base.specs.Trajectory.{Trajectory, row_at}
 use Rattle.mt_track.specs.declared.segment.Segment.{Segment}
-use Rattle.mt_track.specs.Laid.{AreApart, Follows, Holds, IsLaid, IsStrand, all_rows, edge, extended, rows_of}
+use Rattle.mt_track.specs.Laid.{AreSeparateSegments, Follows, CoversSecond, IsLaid, IsStrand, all_rows, edge, extended, rows_of}
 use Rattle.mt_track.specs.Rows.{Continues, row_after}
 use Rattle.mt_track.proofs.Segments.{Adjoin-push, LiesAt, length-all_rows, lies_at, row_in}
 use Rattle.mt_track.proofs.Straight.{All-straight_rows, AllAdjacent-straight_rows, get_or-straight_rows, length-straight_rows, row_after-none}
 
--- two lists, one behind the other: where each goes on from element to element, and from the first list to the second, so do both
+-- two lists, one after the other: where each goes on from element to element, and from the first list to the second, so do both
 AllAdjacent-append : {X : Type 0} (R : X → X → Type 0) (xs ys : List X) → AllAdjacentBelow R xs (length xs) → AllAdjacentBelow R ys (length ys)
     → ((d : X) → 0 < length xs → 0 < length ys → R (get_or xs (length xs - 1) d) (get_or ys 0 d)) → AllAdjacentBelow R (xs ++ ys) (length (xs ++ ys))
 AllAdjacent-append R xs ys front back seam k d below = ⊎_elim
@@ -48,7 +48,7 @@ IsBoundedRow-row_at t k row kept at = ⊎_elim
     (λ begun. IsBoundedRow-slice_get t.rows (k - t.start) row kept.bounded (rw (le-ltb k t.start begun) at at))
     (cases_lt k t.start)
 
--- a segment that follows a strand: the rows on both sides of the border, and what is kept with its rows behind those of the strand
+-- a segment that follows a strand: the rows on both sides of the border, and what is kept with its rows after those of the strand
 seam : (t : Trajectory) (s : Segment) → Follows t s → (d : Row) → 0 < length t.rows → Continues (get_or t.rows (length t.rows - 1) d) (get_or (rows_of s) 0 d)
 seam t s follows d some =
     let last = slice_get-get_or t.rows (length t.rows - 1) d (omega arith) in
@@ -72,7 +72,7 @@ all_rows-push ss s = flat_map-append rows_of ss (s ∷ []) ∙ ap (λ (rows : Li
 -- one segment more is laid
 pub IsLaid-push : (start end : ℕ) (rvsm : Bool) (ss : List Segment) (s : Segment) → IsLaid start end ss
     → Follows (record { start = start; rows = all_rows ss; rvsm = rvsm }) s
-    → AreApart (ss ++ s ∷ []) → IsLaid start s.to (ss ++ s ∷ [])
+    → AreSeparateSegments (ss ++ s ∷ []) → IsLaid start s.to (ss ++ s ∷ [])
 IsLaid-push start end rvsm ss s laid follows apart = record {
   apart = apart;
   adjoin = Adjoin-push start end ss s laid.adjoin (follows.adjoins ∙ length-all_rows start end ss laid.adjoin) follows.some;
@@ -91,7 +91,7 @@ IsBoundedOver-ends a n first last = record {
 
 -- the segment that is left by halving holds second k
 pub found : (start end : ℕ) (rvsm : Bool) (ss : List Segment) (low high k : ℕ) (s : Segment) → IsLaid start end ss → low < high → high ≤ length ss → high - low ≤ 1
-    → start ≤ k → edge start ss low ≤ k → k < edge start ss high → s ≡ get_or ss low s → Holds (record { start = start; rows = all_rows ss; rvsm = rvsm }) k s
+    → start ≤ k → edge start ss low ≤ k → k < edge start ss high → s ≡ get_or ss low s → CoversSecond (record { start = start; rows = all_rows ss; rvsm = rvsm }) k s
 found start end rvsm ss low high k s laid some within one covered begun ahead is = record {
   begun = omega (arith, lies.from);
   kept = IsBoundedOver-ends s.first (k - s.from) first_bounded row_bounded;

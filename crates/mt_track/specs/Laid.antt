@@ -19,7 +19,7 @@ abbrev pub Adjoin : ℕ → List Segment → ℕ → Type 0
 Adjoin from [] to = from ≡ to
 Adjoin from (s ∷ ss) to = (s.from ≡ from) × (s.from < s.to) × Adjoin s.to ss to
 
--- the second at which segment i of these begins, from the one at which the first does; behind the last one, that at which it ends
+-- the second at which segment i of these begins, from the one at which the first does; after the last one, that at which it ends
 abbrev pub edge : ℕ → List Segment → ℕ → ℕ
 edge from ss zero = from
 edge from [] (suc i) = from
@@ -38,16 +38,16 @@ abbrev pub IsStrand : Trajectory → Type 0
 IsStrand t = AreStrandRows t.start t.rows
 
 -- Of two neighbouring segments the second does not go on from the first: the gains or the leg are others, or w does not continue.
-abbrev pub AreApart : List Segment → Type 0
-AreApart [] = ⊤
-AreApart (s ∷ []) = ⊤
-AreApart (s ∷ t ∷ ts) = ¬ (t.first ≡ row_after s.first (s.to - s.from)) × AreApart (t ∷ ts)
+abbrev pub AreSeparateSegments : List Segment → Type 0
+AreSeparateSegments [] = ⊤
+AreSeparateSegments (s ∷ []) = ⊤
+AreSeparateSegments (s ∷ t ∷ ts) = ¬ (t.first ≡ row_after s.first (s.to - s.from)) × AreSeparateSegments (t ∷ ts)
 
 -- These are the segments of a trajectory. Its rows have only this one such list.
 pub record AreSegmentsOf (t : Trajectory) (segments : List Segment) : Type 0 where
   pub adjoin : Adjoin t.start segments (t.start + length t.rows)
   pub rows : all_rows segments ≡ t.rows
-  pub apart : AreApart segments
+  pub apart : AreSeparateSegments segments
 
 -- Segment i of a trajectory covers every second from `from` up to `to`.
 pub record Covers (t : Trajectory) (i from to : ℕ) : Type 0 where
@@ -62,7 +62,7 @@ pub record Covers (t : Trajectory) (i from to : ℕ) : Type 0 where
 -- how a strand is kept: its segments lie from its start to its end, and no two neighbours are in one
 pub record IsLaid (start end : ℕ) (segments : List Segment) : Type 0 where
   pub adjoin : Adjoin start segments end
-  pub apart : AreApart segments
+  pub apart : AreSeparateSegments segments
   pub kept : AreStrandRows start (all_rows segments)
 
 -- A segment can follow a strand: it begins where the strand ends, its first row continues the last one, and it keeps what every strand keeps.
@@ -74,12 +74,12 @@ pub record Follows (t : Trajectory) (s : Segment) : Type 0 where
   pub short : s.to ≤ t.start + 14400
   pub early : s.to ≤ 10014400
 
--- with the rows of a segment behind its own
+-- with the rows of a segment after its own
 abbrev pub extended : Trajectory → Segment → Trajectory
 extended t s = record t { rows = t.rows ++ rows_of s }
 
 -- A segment holds second k of a trajectory: the row of k is that many seconds after the segment's first row, and within bounds until then.
-pub record Holds (t : Trajectory) (k : ℕ) (s : Segment) : Type 0 where
+pub record CoversSecond (t : Trajectory) (k : ℕ) (s : Segment) : Type 0 where
   pub begun : s.from ≤ k
   pub row : row_at t k ≡ Some (row_after s.first (k - s.from))
   pub kept : IsBoundedOver s.first (k - s.from)

@@ -6,15 +6,15 @@ use Rattle.mt_base.specs.Trajectory.{next_row}
 use Rattle.mt_track.specs.declared.layer.Layer.{Layer}
 
 -- a layer holds the height of a row at the start of its second, with the vertical margin, which isn't below 0, below and above
-pub record Holds (layer : Layer) (row : Row) : Type 0 where
+pub record HoldsHeight (layer : Layer) (row : Row) : Type 0 where
   pub margin : pos 0 ≤ℤ row.w
   pub low : layer.low ≤ℤ (row.z -ℤ row.w)
   pub high : (row.z +ℤ row.w) ≤ℤ layer.high
 
 -- a row is in a layer during its whole second, at whose end it is the next row
 pub record IsInLayer (layer : Layer) (row : Row) : Type 0 where
-  pub start : Holds layer row
-  pub end : Holds layer (next_row row)
+  pub start : HoldsHeight layer row
+  pub end : HoldsHeight layer (next_row row)
 
 abbrev pub AreInLayer : Layer → List Row → Type 0
 AreInLayer layer rows = All (IsInLayer layer) rows

@@ -13,8 +13,8 @@ abbrev pub HasName : List ℕ → Kind → NamedTrajectory → Type 0
 HasName call kind t = (t.call ≡ call) × (t.kind ≡ kind)
 
 -- none of the list has
-abbrev pub IsFree : List NamedTrajectory → List ℕ → Kind → Type 0
-IsFree list call kind = All (λ t. ¬ HasName call kind t) list
+abbrev pub IsNameFree : List NamedTrajectory → List ℕ → Kind → Type 0
+IsNameFree list call kind = All (λ t. ¬ HasName call kind t) list
 
 -- no two of the list have one callsign and one kind
 abbrev pub AreNamedApart : List NamedTrajectory → Type 0

@@ -1,7 +1,7 @@
 //! The heights that a trajectory takes.
 ghost use Rattle.std.specs.Prelude.{◌-◌, ◌≤◌};
 ghost use Rattle.mt_base.specs.Bounds.{IsBoundedOver};
-ghost use Rattle.mt_track.specs.Layer.{AreInLayer, Holds, IsLayerKept, IsWider, IsBoundedHeight};
+ghost use Rattle.mt_track.specs.Layer.{AreInLayer, HoldsHeight, IsLayerKept, IsWider, IsBoundedHeight};
 ghost use Rattle.mt_track.specs.Laid.{rows_of};
 
 use crate::segment::{Segment, later};
@@ -31,7 +31,7 @@ fn with_start(layer: Layer, row: &Row) -> Layer
     requires kept { IsLayerKept layer }
     requires bounded { IsBoundedHeight row.now }
     ensures wider { IsWider layer result }
-    ensures holds { Holds result row.now }
+    ensures holds { HoldsHeight result row.now }
     ensures kept { IsLayerKept result }
 {
     Layer {

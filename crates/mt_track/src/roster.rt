@@ -1,6 +1,6 @@
 ghost use Rattle.std.specs.Prelude.{◌≡◌, [], ◌∷◌, ◌++◌, map, Ok, OnOk, OnErr};
 ghost use Rattle.std.specs.Arc.{arc_value};
-ghost use Rattle.mt_track.specs.Named.{AreNamedApart, IsFree, named};
+ghost use Rattle.mt_track.specs.Named.{AreNamedApart, IsNameFree, named};
 
 use crate::strand::Strand;
 use mt_base::{Callsign, Kind, Memory};
@@ -47,9 +47,9 @@ impl Roster {
         })
     }
 
-    /// Puts an item behind the others; it shares the strand. On an error the roster stays as it was.
+    /// Puts an item after the others; it shares the strand. On an error the roster stays as it was.
     pub fn add(&mut self, call: Callsign, kind: Kind, strand: &Arc<Strand>) -> Result<(), Memory>
-        requires { IsFree self.old call kind }
+        requires { IsNameFree self.old call kind }
         ensures ok { OnOk result (self.new ≡ self.old ++ record { call = call; kind = kind; path = arc_value strand.now } ∷ []) }
         ensures err { OnErr result (self.new ≡ self.old) }
     {

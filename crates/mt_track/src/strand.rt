@@ -1,7 +1,7 @@
 ghost use Rattle.std.specs.Prelude.{◌≡◌, ◌+◌, ◌<◌, ◌≤◌, [], length, IfOk, IfSome, OnOk, OnErr};
 ghost use Rattle.mt_base.specs.Bounds.{IsBoundedRow, IsBoundedStretch};
 ghost use Rattle.mt_base.specs.Trajectory.{row_at, straight};
-ghost use Rattle.mt_track.specs.Laid.{AreSegmentsOf, IsStrand, Follows, Holds, extended};
+ghost use Rattle.mt_track.specs.Laid.{AreSegmentsOf, IsStrand, Follows, CoversSecond, extended};
 ghost use Rattle.mt_track.specs.Layer.{AreInLayer, IsLayerKept};
 
 use crate::layer::{Layer, no_height, with_segment};
@@ -54,7 +54,7 @@ impl Strand {
         }
     }
 
-    /// Puts the rows of a segment behind those of the strand: into its last segment where they go on from it with the same gains and leg,
+    /// Puts the rows of a segment after those of the strand: into its last segment where they go on from it with the same gains and leg,
     /// else as a segment of their own. On an error the strand stays as it was.
     pub fn push(&mut self, segment: Segment) -> Result<(), Memory>
         requires { Follows self.old segment }
@@ -91,7 +91,7 @@ impl Strand {
     fn holding(&self, k: Second) -> &Segment
         requires begun { self.now.start ≤ k }
         requires within { k < self.now.start + length self.now.rows }
-        ensures { Holds self.now k result.now }
+        ensures { CoversSecond self.now k result.now }
     {
         let mut low = 0;
         let mut high = self.segments.len();

@@ -9,8 +9,8 @@ use Rattle.mt_turn.specs.declared.view.Phase.TheVariants.{Idle}
 use Rattle.mt_turn.specs.declared.view.Joined.{Joined}
 use Rattle.mt_turn.specs.declared.view.View.{View}
 use Rattle.mt_turn.specs.Views.{entries_of, up_to, first_view}
-use Rattle.mt_turn.specs.Lending.{HaveOwnNumbers, IsJoined, AllJoined, Closes}
-use Rattle.mt_turn.specs.Turning.{IsUnspent, HasTicket, IsServed, Knows, Taken, AtHome, IsOut, Turning}
+use Rattle.mt_turn.specs.Lending.{HaveOwnNumbers, IsJoined, AllJoined, ClosesHistory}
+use Rattle.mt_turn.specs.Turning.{IsUnspent, HasTicket, HasSlot, Knows, Taken, AtHome, IsOut, Turning}
 use Rattle.mt_turn.proofs.Facts.{goes_self, up_to_has}
 use Rattle.mt_turn.proofs.Lists.{inside, same_at}
 use Rattle.mt_turn.proofs.Serving.{same_some}
@@ -35,7 +35,7 @@ module _ {E F S : Type 0} (history : S → List E) (number : E → ℕ) (fixed :
       there = refl;
       is = empty;
       same = refl;
-      none_served = λ i v e sv. one_place (λ (_ : ℕ) (z : View E F). IsServed z.phase → ⊥) (first_view (fixed x)) (λ h. h) i v e sv;
+      none_served = λ i v e sv. one_place (λ (_ : ℕ) (z : View E F). HasSlot z.phase → ⊥) (first_view (fixed x)) (λ h. h) i v e sv;
     };
     tickets_out = refl;
     short = omega arith;
@@ -68,17 +68,17 @@ module _ {E F S : Type 0} (history : S → List E) (number : E → ℕ) (fixed :
     gone k pos l = let f = r.first in let n = f.all in let same : length v.gave ≡ length f.root.gave = ap (λ (z : View E F). length z.gave) root_is in
         all k (subst (λ g. Contains g k) (sym (subst (λ (z : View E F). z.gave ≡ up_to (length z.gave)) (sym root_is) f.gave_is)) (up_to_has (length v.gave) k pos (omega arith)))
 
-    unserved : (i : ℕ) (u : View E F) → get_elem? s.views i ≡ some u → IsServed u.phase → ⊥
+    unserved : (i : ℕ) (u : View E F) → get_elem? s.views i ≡ some u → HasSlot u.phase → ⊥
     unserved i u e sv = dite (ℕ_discrete i 0)
-        (λ z. subst IsServed (ap (λ (y : View E F). y.phase) (same_at s.views 0 u v (subst (λ k. get_elem? s.views k ≡ some u) z e) (subst (λ k. get_elem? s.views k ≡ some v) here at)) ∙ idle) sv)
+        (λ z. subst HasSlot (ap (λ (y : View E F). y.phase) (same_at s.views 0 u v (subst (λ k. get_elem? s.views k ≡ some u) z e) (subst (λ k. get_elem? s.views k ≡ some v) here at)) ∙ idle) sv)
         (λ pos. let j = gone i (omega arith) (inside s.views i u e) in let t = taken j.0 j.1 in
-        subst IsServed (ap (λ (y : View E F). y.phase) (same_at s.views i u t.gone.0 e (subst (λ k. get_elem? s.views k ≡ some t.gone.0) j.2 t.gone.1)) ∙ t.gone.2) sv)
+        subst HasSlot (ap (λ (y : View E F). y.phase) (same_at s.views i u t.gone.0 e (subst (λ k. get_elem? s.views k ≡ some t.gone.0) j.2 t.gone.1)) ∙ t.gone.2) sv)
 
     home : AtHome history fixed plain r.log s ⊎ IsOut s → AtHome history fixed plain r.log s
     home (inl h) = h
     home (inr o) = let b = o.by_whom in absurd (unserved b.0 b.1 b.2 b.3)
 
-    closes : Closes number v r.log
+    closes : ClosesHistory number v r.log
     closes = record {
       begins = knows.begins;
       mine = subst (λ n. entries_of number n r.log ≡ v.mine) zeroth knows.mine;
@@ -89,11 +89,11 @@ module _ {E F S : Type 0} (history : S → List E) (number : E → ℕ) (fixed :
     }
 
   ends : (plain : F) (id : ℕ) (v : View E F) (ws : List ℕ) (xs : List (Option S)) → v.number ≡ 0 → v.phase ≡ Idle → AllJoined v → Final (Seen (Turning history number fixed plain) id v) ws xs
-      → (x : S) × (get_elem? xs 0 ≡ some (Some x)) × Closes number v (history x) × (Some (fixed x) ≡ v.fixed)
+      → (x : S) × (get_elem? xs 0 ≡ some (Some x)) × ClosesHistory number v (history x) × (Some (fixed x) ≡ v.fixed)
   ends plain id v ws xs zeroth idle all (s, seen, words, long, there) = let r = seen.0 in let h = home plain id v zeroth idle all s r seen.1 r.slot in (
     h.value,
     there 0 (Some h.value) (ap (λ hs. get_elem? hs 0) h.there),
-    subst (Closes number v) (sym h.is) (closes plain id v zeroth idle all s r seen.1),
+    subst (ClosesHistory number v) (sym h.is) (closes plain id v zeroth idle all s r seen.1),
     ap Some h.same ∙ sym (knows plain id v zeroth idle all s r seen.1).same,
   )
 
@@ -101,6 +101,6 @@ module _ {E F S : Type 0} (history : S → List E) (number : E → ℕ) (fixed :
   ends_some plain id v ws xs o zeroth idle all final taken = let e = ends plain id v ws xs zeroth idle all final in (e.0, same_at xs 0 o (Some e.0) taken e.1)
 
   pub ends_with : (plain : F) (id : ℕ) (v : View E F) (ws : List ℕ) (xs : List (Option S)) (o : Option S) (y : S) → v.number ≡ 0 → v.phase ≡ Idle → AllJoined v → Final (Seen (Turning history number fixed plain) id v) ws xs → get_elem? xs 0 ≡ some o → o ≡ Some y
-      → Closes number v (history y) × (Some (fixed y) ≡ v.fixed)
+      → ClosesHistory number v (history y) × (Some (fixed y) ≡ v.fixed)
   ends_with plain id v ws xs o y zeroth idle all final taken is = let e = ends plain id v ws xs zeroth idle all final in let same : e.0 ≡ y = same_some e.0 y (sym (same_at xs 0 o (Some e.0) taken e.1) ∙ is) in
-      subst (λ z. Closes number v (history z) × (Some (fixed z) ≡ v.fixed)) same (e.2, e.3)
+      subst (λ z. ClosesHistory number v (history z) × (Some (fixed z) ≡ v.fixed)) same (e.2, e.3)

@@ -4,7 +4,7 @@ use mathlib.Core.Logic.{dite}
 use native.Mathlib.Decide.{dec_le}
 use Rattle.std.proofs.lemmas.List.{nil_from_length, append_cancel_left}
 use Rattle.std.proofs.lemmas.List.Elements.{filter-append, Contains-append_left, Contains-append_right, Contains-append_cases}
-use Rattle.mt_turn.specs.Views.{entries_of, GoesOn, longer, up_to}
+use Rattle.mt_turn.specs.Views.{entries_of, Extends, longer, up_to}
 use Rattle.mt_turn.specs.Lending.{Grows}
 
 module _ {E : Type 0} where
@@ -15,14 +15,14 @@ module _ {E : Type 0} where
   only_there x e (zero, l, is) = is
   only_there x e (suc k, l, is) = absurd (omega arith)
 
-  pub goes_self : (log : List E) → GoesOn log log
+  pub goes_self : (log : List E) → Extends log log
   goes_self log = ([], sym (append-nil log))
 
-  pub goes_trans : (a b c : List E) → GoesOn a b → GoesOn b c → GoesOn a c
+  pub goes_trans : (a b c : List E) → Extends a b → Extends b c → Extends a c
   goes_trans a b c (x, e) (y, f) = (x ++ y, f ∙ (ap (λ l. l ++ y) e ∙ append_assoc a x y))
 
   -- of two beginnings of one list the shorter begins the longer
-  front_of : (a b x y : List E) → a ++ x ≡ b ++ y → length a ≤ length b → GoesOn a b
+  front_of : (a b x y : List E) → a ++ x ≡ b ++ y → length a ≤ length b → Extends a b
   front_of [] b x y e l = (b, refl)
   front_of (c ∷ a) [] x y e l = absurd (omega arith)
   front_of (c ∷ a) (d ∷ b) x y e l = let t : a ++ x ≡ b ++ y = ap rest e in let r = front_of a b x y t (omega arith) in
@@ -32,7 +32,7 @@ module _ {E : Type 0} where
       rest [] = []
       rest (z ∷ zs) = zs
 
-  pub shorter_begins : (a b log : List E) → GoesOn a log → GoesOn b log → length a ≤ length b → GoesOn a b
+  pub shorter_begins : (a b log : List E) → Extends a log → Extends b log → length a ≤ length b → Extends a b
   shorter_begins a b log (x, e) (y, f) l = front_of a b x y (sym e ∙ f) l
 
   pub nil_first : (a b : List E) → a ++ b ≡ [] → a ≡ []
@@ -42,8 +42,8 @@ module _ {E : Type 0} where
   chosen P a b true pa pb = pb
   chosen P a b false pa pb = pa
 
-  pub longer_goes : (a b log : List E) → GoesOn a log → GoesOn b log → GoesOn (longer a b) log
-  longer_goes a b log p q = chosen (λ l. GoesOn l log) a b (nat_lt (length a) (length b)) p q
+  pub longer_goes : (a b log : List E) → Extends a log → Extends b log → Extends (longer a b) log
+  longer_goes a b log p q = chosen (λ l. Extends l log) a b (nat_lt (length a) (length b)) p q
 
   module _ (number : E → ℕ) where
     abbrev made_by : ℕ → List E → List E
@@ -54,18 +54,18 @@ module _ {E : Type 0} where
     none_later n front later e = append_cancel_left (made_by n front) (made_by n later) [] ((sym (filter-append (λ x. eqb (number x) n) front later) ∙ e) ∙ sym (append-nil (made_by n front)))
 
     -- a list between such a front and the history has all of them too
-    pub same_between : (n : ℕ) (a b log : List E) → GoesOn a b → GoesOn b log → made_by n a ≡ made_by n log → made_by n b ≡ made_by n log
+    pub same_between : (n : ℕ) (a b log : List E) → Extends a b → Extends b log → made_by n a ≡ made_by n log → made_by n b ≡ made_by n log
     same_between n a b log (x, e) (y, f) same = let p = λ (z : E). eqb (number z) n in
         let h : made_by n a ++ (made_by n x ++ made_by n y) ≡ made_by n a = sym (append_assoc (made_by n a) (made_by n x) (made_by n y)) ∙ (ap (λ l. l ++ made_by n y) (sym (filter-append p a x) ∙ ap (made_by n) (sym e)) ∙ (sym (filter-append p b y) ∙ (ap (made_by n) (sym f) ∙ sym same))) in
         let none : made_by n x ++ made_by n y ≡ [] = append_cancel_left (made_by n a) (made_by n x ++ made_by n y) [] (h ∙ sym (append-nil (made_by n a))) in
         let gone : made_by n x ≡ [] = nil_first (made_by n x) (made_by n y) none in
         ap (made_by n) e ∙ (filter-append p a x ∙ (ap (λ l. made_by n a ++ l) gone ∙ (append-nil (made_by n a) ∙ same)))
 
-    longer_by : (n : ℕ) (a b log : List E) (t : Bool) → nat_lt (length a) (length b) ≡ t → GoesOn a log → GoesOn b log → made_by n a ≡ made_by n log → made_by n (cond t b a) ≡ made_by n log
+    longer_by : (n : ℕ) (a b log : List E) (t : Bool) → nat_lt (length a) (length b) ≡ t → Extends a log → Extends b log → made_by n a ≡ made_by n log → made_by n (cond t b a) ≡ made_by n log
     longer_by n a b log true is p q same = let l = ltb-true (length a) (length b) is in same_between n a b log (shorter_begins a b log p q (omega arith)) q same
     longer_by n a b log false is p q same = same
 
-    pub longer_same : (n : ℕ) (a b log : List E) → GoesOn a log → GoesOn b log → made_by n a ≡ made_by n log → made_by n (longer a b) ≡ made_by n log
+    pub longer_same : (n : ℕ) (a b log : List E) → Extends a log → Extends b log → made_by n a ≡ made_by n log → made_by n (longer a b) ≡ made_by n log
     longer_same n a b log p q same = longer_by n a b log (nat_lt (length a) (length b)) refl p q same
 
     pub own_more : (n : ℕ) (log : List E) (e : E) → number e ≡ n → made_by n (log ++ e ∷ []) ≡ made_by n log ++ e ∷ []
@@ -79,7 +79,7 @@ module _ {E : Type 0} where
     none_made n (x ∷ xs) below = let here = below x (head_there x xs) in
         ap (λ b. cond b (x ∷ made_by n xs) (made_by n xs)) (ne_eqb (number x) n (λ e. omega arith)) ∙ none_made n xs (λ e i. below e (Contains-append_right (x ∷ []) xs e i))
 
-    pub grows_goes : (n : ℕ) (lent log : List E) → Grows number n lent log → GoesOn lent log
+    pub grows_goes : (n : ℕ) (lent log : List E) → Grows number n lent log → Extends lent log
     grows_goes n lent log (inl e) = ([], e ∙ sym (append-nil lent))
     grows_goes n lent log (inr (e, is, more)) = (e ∷ [], more)
 

@@ -10,7 +10,7 @@ use Rattle.mt_turn.specs.declared.view.Joined.{Joined}
 use Rattle.mt_turn.specs.declared.view.View.{View}
 use Rattle.mt_turn.specs.Views.{entries_of, longer, up_to, taker, spent, joined_as}
 use Rattle.mt_turn.specs.Lending.{HaveOwnNumbers}
-use Rattle.mt_turn.specs.Turning.{IsUnspent, HasTicket, IsServed, tickets, drawn, IsInPhase, Knows, Taken, AtHome, IsOut, Turning}
+use Rattle.mt_turn.specs.Turning.{IsUnspent, HasTicket, HasSlot, tickets, numbers_drawn, IsInPhase, Knows, Taken, AtHome, IsOut, Turning}
 use Rattle.mt_turn.proofs.Facts.{longer_goes, longer_same, only_there}
 use Rattle.mt_turn.proofs.Lists.{contained, inside, at_longer_place, same_at, out_set}
 
@@ -122,14 +122,14 @@ module _ {E F S : Type 0} (history : S → List E) (number : E → ℕ) (fixed :
     no_ticket : (t : ℕ) → HasTicket v.phase t → ⊥
     no_ticket t h = subst (λ p. HasTicket p t) idle h
 
-    unserved : IsServed v.phase → ⊥
-    unserved h = subst IsServed idle h
+    unserved : HasSlot v.phase → ⊥
+    unserved h = subst HasSlot idle h
 
-    unserved' : IsServed w.phase → ⊥
-    unserved' h = subst IsServed idle' h
+    unserved' : HasSlot w.phase → ⊥
+    unserved' h = subst HasSlot idle' h
 
-    not_served_at : (k : ℕ) (a z : View E F) → get_elem? s.views k ≡ some a → (IsServed a.phase → ⊥) → (i : ℕ) → get_elem? s.views i ≡ some z → IsServed z.phase → i ≢ k
-    not_served_at k a z ea na i ez sv e = na (subst (λ (y : View E F). IsServed y.phase) (sym (same_at s.views k a z ea (subst (λ j. get_elem? s.views j ≡ some z) e ez))) sv)
+    not_served_at : (k : ℕ) (a z : View E F) → get_elem? s.views k ≡ some a → (HasSlot a.phase → ⊥) → (i : ℕ) → get_elem? s.views i ≡ some z → HasSlot z.phase → i ≢ k
+    not_served_at k a z ea na i ez sv e = na (subst (λ (y : View E F). HasSlot y.phase) (sym (same_at s.views k a z ea (subst (λ j. get_elem? s.views j ≡ some z) e ez))) sv)
 
     slot_still : AtHome history fixed plain r.log s ⊎ IsOut s → AtHome history fixed plain r.log record { words = s.words; homes = s.homes; views = after } ⊎ IsOut record { words = s.words; homes = s.homes; views = after }
     slot_still (inl h) = inl record {
@@ -137,7 +137,7 @@ module _ {E F S : Type 0} (history : S → List E) (number : E → ℕ) (fixed :
       there = h.there;
       is = h.is;
       same = h.same;
-      none_served = λ i u e sv. h.none_served i u (old_place (λ z. IsServed z.phase) unserved (λ k. k) i u e sv) sv;
+      none_served = λ i u e sv. h.none_served i u (old_place (λ z. HasSlot z.phase) unserved (λ k. k) i u e sv) sv;
     }
     slot_still (inr o) = let b = o.by_whom in
         inr record { empty = o.empty; by_whom = (b.0, b.1, still_there b.0 b.1 (not_served_at id v b.1 at unserved b.0 b.2 b.3) (not_served_at other w b.1 at' unserved' b.0 b.2 b.3) b.2, b.3) }
@@ -164,7 +164,7 @@ module _ {E F S : Type 0} (history : S → List E) (number : E → ℕ) (fixed :
             unspent = un;
             gave_is = subst (λ (z : View E F). z.gave ≡ up_to (length z.gave)) (sym root_is) f.gave_is;
             all = ap (λ (z : View E F). length z.gave + 1) root_is ∙ (f.all ∙ sym kept_length);
-            next_number = f.next_number ∙ (ap (λ (z : View E F). length s.views + drawn z.phase) (sym root_is) ∙ ap (λ n. n + drawn v.phase) (sym kept_length));
+            next_number = f.next_number ∙ (ap (λ (z : View E F). length s.views + numbers_drawn z.phase) (sym root_is) ∙ ap (λ n. n + numbers_drawn v.phase) (sym kept_length));
             taken = all_taken;
             own_numbers = all_own;
           };

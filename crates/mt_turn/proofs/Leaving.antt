@@ -3,10 +3,10 @@ use Rattle.std.proofs.Common.{◌≡◌, ℕ, ◌+◌, ◌-◌, ◌⊎◌, inl, 
 use Rattle.atomic_table.specs.Table.{rest, Allows}
 use Rattle.mt_turn.specs.declared.view.Phase.TheVariants.{Idle, Holds}
 use Rattle.mt_turn.specs.declared.view.View.{View}
-use Rattle.mt_turn.specs.Views.{entries_of, GoesOn, with_phase}
+use Rattle.mt_turn.specs.Views.{entries_of, Extends, with_phase}
 use Rattle.mt_turn.specs.Lending.{Grows, Left}
 use Rattle.mt_turn.specs.Turning.{Turning}
-use Rattle.mt_turn.specs.Steps.{Seated, counted_view, Counts, Passes}
+use Rattle.mt_turn.specs.Steps.{Seated, counted_view, SeesHistory, HandsOn}
 use Rattle.mt_turn.proofs.Facts.{own_more}
 use Rattle.mt_turn.proofs.Serving.{passes}
 
@@ -20,11 +20,11 @@ put_there v cs y m there empty = there ∙ ap (λ l. (v, (0, Some y) ∷ rest l)
 
 module _ {E F S : Type 0} (history : S → List E) (number : E → ℕ) where
   -- after the count
-  pub counted : (v : View E F) (y : S) (t : ℕ) (lent : List E) (m m' : Seated E F S) (r : ℕ) → v.phase ≡ Holds t lent → m ≡ (v, (0, Some y) ∷ []) → Counts history number m r m' → m' ≡ (counted_view number v t (history y), (0, Some y) ∷ [])
+  pub counted : (v : View E F) (y : S) (t : ℕ) (lent : List E) (m m' : Seated E F S) (r : ℕ) → v.phase ≡ Holds t lent → m ≡ (v, (0, Some y) ∷ []) → SeesHistory history number m r m' → m' ≡ (counted_view number v t (history y), (0, Some y) ∷ [])
   counted v y t lent m m' r holds is c = let h = c y t lent (ap (λ z. z.1) is) (ap (λ z. z.0.phase) is ∙ holds) in h.0 ∙ ap (λ z. (counted_view number z.0 t (history y), z.1)) is
 
-  pub passes_counted : (fixed : S → F) (plain : F) (slots id : ℕ) (v : View E F) (y : S) (t : ℕ) (lent : List E) (m m' : Seated E F S) (r : ℕ) → v.phase ≡ Holds t lent → m ≡ (v, (0, Some y) ∷ []) → Counts history number m r m' → Some (fixed y) ≡ v.fixed
-      → Allows (Turning history number fixed plain) slots id m' 1 (λ n. (n + 1) % 2 ^ 64) (Passes m')
+  pub passes_counted : (fixed : S → F) (plain : F) (slots id : ℕ) (v : View E F) (y : S) (t : ℕ) (lent : List E) (m m' : Seated E F S) (r : ℕ) → v.phase ≡ Holds t lent → m ≡ (v, (0, Some y) ∷ []) → SeesHistory history number m r m' → Some (fixed y) ≡ v.fixed
+      → Allows (Turning history number fixed plain) slots id m' 1 (λ n. (n + 1) % 2 ^ 64) (HandsOn m')
   passes_counted fixed plain slots id v y t lent m m' r holds is c same = let at : m' ≡ (counted_view number v t (history y), (0, Some y) ∷ []) = counted v y t lent m m' r holds is c in
       passes history number fixed plain slots id t y m' (ap (λ z. z.0.phase) at) (ap (λ z. z.1) at) (sym (ap (λ z. z.0.seen) at)) (same ∙ sym (ap (λ z. z.0.fixed) at))
 
@@ -33,7 +33,7 @@ module _ {E F S : Type 0} (history : S → List E) (number : E → ℕ) where
   left_mine v lent log mine (inl same) = inl (same, ap (entries_of number v.number) same ∙ mine)
   left_mine v lent log mine (inr (e, is, more)) = inr (e, is, more, ap (entries_of number v.number) more ∙ (own_more number v.number lent e is ∙ ap (λ l. l ++ e ∷ []) mine))
 
-  pub leaves : (v : View E F) (y : S) (t : ℕ) (lent : List E) (m m' m'' : Seated E F S) (r r' : ℕ) → v.phase ≡ Holds t lent → m ≡ (v, (0, Some y) ∷ []) → Counts history number m r m' → Passes m' r' m''
+  pub leaves : (v : View E F) (y : S) (t : ℕ) (lent : List E) (m m' m'' : Seated E F S) (r r' : ℕ) → v.phase ≡ Holds t lent → m ≡ (v, (0, Some y) ∷ []) → SeesHistory history number m r m' → HandsOn m' r' m''
       → Grows number v.number lent (history y) → (m''.0.phase ≡ Idle) × (m''.1 ≡ []) × Left number v lent (history y) m''.0
   leaves v y t lent m m' m'' r r' holds is c p grows =
       let h = c y t lent (ap (λ z. z.1) is) (ap (λ z. z.0.phase) is ∙ holds) in
@@ -45,7 +45,7 @@ module _ {E F S : Type 0} (history : S → List E) (number : E → ℕ) where
         ap (λ z. z.1) end,
         record {
           seen = ap (λ z. z.0.seen) end;
-          begins = subst (λ (z : View E F). GoesOn z.seen (history y)) (ap (λ z. z.0) is) h.2;
+          begins = subst (λ (z : View E F). Extends z.seen (history y)) (ap (λ z. z.0) is) h.2;
           mine = ⊎_elim
               (λ (o : (history y ≡ lent) × (entries_of number v.number (history y) ≡ v.mine)). inl (o.0, mine ∙ o.1))
               (λ (o : (e : E) × (number e ≡ v.number) × (history y ≡ lent ++ e ∷ []) × (entries_of number v.number (history y) ≡ v.mine ++ e ∷ [])). inr (o.0, o.1, o.2, mine ∙ o.3))

@@ -8,9 +8,9 @@ use Rattle.atomic_table.specs.Table.{State}
 use Rattle.atomic_table.proofs.Lists.{at_set, set_here, set_else}
 use Rattle.mt_turn.specs.declared.view.Joined.{Joined}
 use Rattle.mt_turn.specs.declared.view.View.{View}
-use Rattle.mt_turn.specs.Views.{entries_of, GoesOn, up_to}
+use Rattle.mt_turn.specs.Views.{entries_of, Extends, up_to}
 use Rattle.mt_turn.specs.Lending.{HaveOwnNumbers}
-use Rattle.mt_turn.specs.Turning.{IsUnspent, HasTicket, IsServed, drawn, IsInPhase, out, Knows, Taken, Rooted, AtHome, IsOut, Turning}
+use Rattle.mt_turn.specs.Turning.{IsUnspent, HasTicket, HasSlot, numbers_drawn, IsInPhase, out, Knows, Taken, Rooted, AtHome, IsOut, Turning}
 use Rattle.mt_turn.proofs.Facts.{goes_trans}
 use Rattle.mt_turn.proofs.Lists.{inside, same_at}
 
@@ -21,7 +21,7 @@ module _ {E F S : Type 0} (history : S → List E) (number : E → ℕ) (fixed :
     pub unspent : IsUnspent v.phase
     pub stays : IsUnspent w.phase
     pub mine : Knows number plain log' served' next' (length s.views) id w
-    pub goes : GoesOn r.log log'
+    pub goes : Extends r.log log'
     pub others_entries : (k : ℕ) → k ≢ id → entries_of number k log' ≡ entries_of number k r.log
     pub others_at : (j : ℕ) (u : View E F) → j ≢ id → get_elem? s.views j ≡ some u → IsUnspent u.phase → IsInPhase log' served' next' (length s.views) u.seen u.phase
     pub alone : (j t : ℕ) (u : View E F) → j ≢ id → get_elem? s.views j ≡ some u → HasTicket w.phase t → HasTicket u.phase t → ⊥
@@ -30,7 +30,7 @@ module _ {E F S : Type 0} (history : S → List E) (number : E → ℕ) (fixed :
     pub entries : (e : E) → Contains log' e → number e < length s.views
     pub gave_same : w.gave ≡ v.gave
     pub joined_same : w.joined ≡ v.joined
-    pub drawn_same : numbers' + drawn v.phase ≡ r.numbers + drawn w.phase
+    pub drawn_same : numbers' + numbers_drawn v.phase ≡ r.numbers + numbers_drawn w.phase
     pub words : words' ≡ next' % 2 ^ 64 ∷ served' % 2 ^ 64 ∷ length log' ∷ numbers' ∷ []
     pub slot : AtHome history fixed plain log' record { words = words'; homes = homes'; views = set s.views id w } ⊎ IsOut {S = S} record { words = words'; homes = homes'; views = set s.views id w }
 
@@ -75,7 +75,7 @@ module _ {E F S : Type 0} (history : S → List E) (number : E → ℕ) (fixed :
     rooted_here z = let f = r.first in let is : v ≡ f.root = same_at s.views 0 v f.root (subst (λ i. get_elem? s.views i ≡ some v) z m.at) f.place in
         let gave : w.gave ≡ f.root.gave = m.gave_same ∙ ap (λ (z : View E F). z.gave) is in
         let joined : w.joined ≡ f.root.joined = m.joined_same ∙ ap (λ (z : View E F). z.joined) is in
-        let drawn_is : drawn v.phase ≡ drawn f.root.phase = ap (λ (z : View E F). drawn z.phase) is in
+        let drawn_is : numbers_drawn v.phase ≡ numbers_drawn f.root.phase = ap (λ (z : View E F). numbers_drawn z.phase) is in
         let was = f.next_number in let same = m.drawn_same in let len = long in
         record {
           root = w;
@@ -120,15 +120,15 @@ module _ {E F S : Type 0} (history : S → List E) (number : E → ℕ) (fixed :
     }
 
   -- the slot stays as it is, where the seat has it neither before nor after
-  pub slot_stays : (s : State (Option S) (View E F)) (log : List E) (id : ℕ) (v w : View E F) (words' : List ℕ) → get_elem? s.views id ≡ some v → (IsServed v.phase → ⊥) → (IsServed w.phase → ⊥)
+  pub slot_stays : (s : State (Option S) (View E F)) (log : List E) (id : ℕ) (v w : View E F) (words' : List ℕ) → get_elem? s.views id ≡ some v → (HasSlot v.phase → ⊥) → (HasSlot w.phase → ⊥)
       → AtHome history fixed plain log s ⊎ IsOut s → AtHome history fixed plain log record { words = words'; homes = s.homes; views = set s.views id w } ⊎ IsOut record { words = words'; homes = s.homes; views = set s.views id w }
   slot_stays s log id v w words' at nv nw (inl h) = inl record {
     value = h.value;
     there = h.there;
     is = h.is;
     same = h.same;
-    none_served = λ i u e sv. ⊎_elim (λ (t : (i ≡ id) × (w ≡ u)). nw (subst (λ (z : View E F). IsServed z.phase) (sym t.1) sv)) (λ (t : (i ≢ id) × (get_elem? s.views i ≡ some u)). h.none_served i u t.1 sv) (at_set s.views id i w u e);
+    none_served = λ i u e sv. ⊎_elim (λ (t : (i ≡ id) × (w ≡ u)). nw (subst (λ (z : View E F). HasSlot z.phase) (sym t.1) sv)) (λ (t : (i ≢ id) × (get_elem? s.views i ≡ some u)). h.none_served i u t.1 sv) (at_set s.views id i w u e);
   }
   slot_stays s log id v w words' at nv nw (inr o) = let b = o.by_whom in
-      let ne : b.0 ≢ id = λ e. nv (subst (λ (z : View E F). IsServed z.phase) (same_at s.views id b.1 v (subst (λ i. get_elem? s.views i ≡ some b.1) e b.2) at) b.3) in
+      let ne : b.0 ≢ id = λ e. nv (subst (λ (z : View E F). HasSlot z.phase) (same_at s.views id b.1 v (subst (λ i. get_elem? s.views i ≡ some b.1) e b.2) at) b.3) in
       inr record { empty = o.empty; by_whom = (b.0, b.1, set_else s.views id b.0 w ne ∙ b.2, b.3) }

@@ -6,7 +6,7 @@ use Rattle.atomic_table.specs.Table.{keeps, Allows}
 use Rattle.mt_turn.specs.declared.view.Phase.TheVariants.{Idle, Splits}
 use Rattle.mt_turn.specs.declared.view.View.{View}
 use Rattle.mt_turn.specs.Views.{up_to, with_phase}
-use Rattle.mt_turn.specs.Turning.{IsUnspent, IsServed, tickets, drawn, Turning}
+use Rattle.mt_turn.specs.Turning.{IsUnspent, HasSlot, tickets, numbers_drawn, Turning}
 use Rattle.mt_turn.specs.Steps.{Seated, Numbers}
 use Rattle.mt_turn.proofs.Facts.{goes_self}
 use Rattle.mt_turn.proofs.Lists.{same_at, out_set}
@@ -23,8 +23,8 @@ module _ {E F S : Type 0} (history : S → List E) (number : E → ℕ) (fixed :
       let f = r.first in
       let is : m.0 ≡ f.root = same_at s.views 0 m.0 f.root (subst (λ i. get_elem? s.views i ≡ some m.0) here at) f.place in
       let found : n ≡ r.numbers = ap (λ ws. get_or ws 3 0) r.words in
-      let none_drawn : drawn f.root.phase ≡ 0 = ap (λ (z : View E F). drawn z.phase) (sym is) ∙ ap drawn idle in
-      let none_drawn' : drawn m.0.phase ≡ 0 = ap drawn idle in
+      let none_drawn : numbers_drawn f.root.phase ≡ 0 = ap (λ (z : View E F). numbers_drawn z.phase) (sym is) ∙ ap numbers_drawn idle in
+      let none_drawn' : numbers_drawn m.0.phase ≡ 0 = ap numbers_drawn idle in
       let next = f.next_number in
       let few = r.few in
       let all = f.all in
@@ -32,7 +32,7 @@ module _ {E F S : Type 0} (history : S → List E) (number : E → ℕ) (fixed :
       let none_out : tickets m.0.phase ≡ 0 = ap tickets idle in
       let counted = out_set s.views id m.0 w at in
       let total = r.tickets_out in
-      let unserved : IsServed m.0.phase → ⊥ = λ h. subst IsServed idle h in
+      let unserved : HasSlot m.0.phase → ⊥ = λ h. subst HasSlot idle h in
       let within : (r.numbers + 1) % 2 ^ 64 ≡ r.numbers + 1 = mod-eq_of_lt (omega arith) in (
         w,
         keeps,

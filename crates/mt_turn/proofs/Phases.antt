@@ -2,7 +2,7 @@
 use Rattle.std.proofs.Common.{◌≡◌, ℕ, ◌+◌, ◌<◌, ◌≤◌, List, arith}
 use Rattle.mt_turn.specs.declared.view.Phase.{Phase}
 use Rattle.mt_turn.specs.declared.view.Phase.TheVariants.{Idle, Splits, Waits, Holds, Counted, Spent}
-use Rattle.mt_turn.specs.Turning.{IsUnspent, HasTicket, IsServed, drawn, IsInPhase}
+use Rattle.mt_turn.specs.Turning.{IsUnspent, HasTicket, HasSlot, numbers_drawn, IsInPhase}
 
 module _ {E : Type 0} where
   pub ticket_unspent : (p : Phase E) (t : ℕ) → HasTicket p t → IsUnspent p
@@ -13,7 +13,7 @@ module _ {E : Type 0} where
   ticket_unspent (Counted u) t h = tt
   ticket_unspent Spent t h = h
 
-  pub served_unspent : (p : Phase E) → IsServed p → IsUnspent p
+  pub served_unspent : (p : Phase E) → HasSlot p → IsUnspent p
   served_unspent Idle h = tt
   served_unspent (Splits n) h = tt
   served_unspent (Waits u) h = tt
@@ -30,7 +30,7 @@ module _ {E : Type 0} where
   ticket_within log served next seats seen Spent t h at = absurd h
 
   -- the seat that has the slot is the one being served
-  pub served_ticket : (log : List E) (served next seats : ℕ) (seen : List E) (p : Phase E) → IsServed p → IsInPhase log served next seats seen p → HasTicket p served
+  pub served_ticket : (log : List E) (served next seats : ℕ) (seen : List E) (p : Phase E) → HasSlot p → IsInPhase log served next seats seen p → HasTicket p served
   served_ticket log served next seats seen Idle h at = h
   served_ticket log served next seats seen (Splits n) h at = h
   served_ticket log served next seats seen (Waits u) h at = absurd h
@@ -56,7 +56,7 @@ module _ {E : Type 0} where
   after_pass log served next seats seen Spent n at = tt
 
   -- the history grows under the turn of another seat
-  pub after_count : (log log' : List E) (served next seats : ℕ) (seen : List E) (p : Phase E) → (IsServed p → ⊥) → IsInPhase log served next seats seen p → IsInPhase log' served next seats seen p
+  pub after_count : (log log' : List E) (served next seats : ℕ) (seen : List E) (p : Phase E) → (HasSlot p → ⊥) → IsInPhase log served next seats seen p → IsInPhase log' served next seats seen p
   after_count log log' served next seats seen Idle n at = tt
   after_count log log' served next seats seen (Splits k) n at = at
   after_count log log' served next seats seen (Waits u) n at = at
@@ -65,7 +65,7 @@ module _ {E : Type 0} where
   after_count log log' served next seats seen Spent n at = tt
 
   -- a new seat comes, and this one has drawn no number
-  pub after_split : (log : List E) (served next seats more : ℕ) (seen : List E) (p : Phase E) → drawn p ≡ 0 → IsInPhase log served next seats seen p → IsInPhase log served next more seen p
+  pub after_split : (log : List E) (served next seats more : ℕ) (seen : List E) (p : Phase E) → numbers_drawn p ≡ 0 → IsInPhase log served next seats seen p → IsInPhase log served next more seen p
   after_split log served next seats more seen Idle n at = tt
   after_split log served next seats more seen (Splits k) n at = absurd (omega arith)
   after_split log served next seats more seen (Waits u) n at = at

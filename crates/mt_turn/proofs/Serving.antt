@@ -8,10 +8,10 @@ use Rattle.atomic_table.proofs.Lists.{at_set, set_here}
 use Rattle.mt_turn.specs.declared.view.Phase.{Phase}
 use Rattle.mt_turn.specs.declared.view.Phase.TheVariants.{Idle, Holds, Counted}
 use Rattle.mt_turn.specs.declared.view.View.{View}
-use Rattle.mt_turn.specs.Views.{entries_of, GoesOn, with_phase}
+use Rattle.mt_turn.specs.Views.{entries_of, Extends, with_phase}
 use Rattle.mt_turn.specs.Lending.{Grows}
-use Rattle.mt_turn.specs.Turning.{IsUnspent, HasTicket, IsServed, tickets, drawn, IsInPhase, AtHome, IsOut, Turning}
-use Rattle.mt_turn.specs.Steps.{Seated, counted_view, Counts, Passes}
+use Rattle.mt_turn.specs.Turning.{IsUnspent, HasTicket, HasSlot, tickets, numbers_drawn, IsInPhase, AtHome, IsOut, Turning}
+use Rattle.mt_turn.specs.Steps.{Seated, counted_view, SeesHistory, HandsOn}
 use Rattle.mt_turn.proofs.Facts.{goes_self, goes_trans, grows_goes, grows_other, grows_entries}
 use Rattle.mt_turn.proofs.Lists.{inside, out_set}
 use Rattle.mt_turn.proofs.Phases.{served_unspent, served_ticket, after_count, after_pass}
@@ -44,17 +44,17 @@ module _ {E F S : Type 0} (history : S → List E) (number : E → ℕ) (fixed :
   Rule = Turning history number fixed plain
 
   -- no other seat has the turn
-  others_wait : (s : State (Option S) (View E F)) (r : Rule s) (id : ℕ) (v : View E F) → get_elem? s.views id ≡ some v → IsServed v.phase → (j : ℕ) (u : View E F) → j ≢ id → get_elem? s.views j ≡ some u → IsServed u.phase → ⊥
+  others_wait : (s : State (Option S) (View E F)) (r : Rule s) (id : ℕ) (v : View E F) → get_elem? s.views id ≡ some v → HasSlot v.phase → (j : ℕ) (u : View E F) → j ≢ id → get_elem? s.views j ≡ some u → HasSlot u.phase → ⊥
   others_wait s r id v at sv j u other e su = let k = r.each id v at (served_unspent v.phase sv) in let k' = r.each j u e (served_unspent u.phase su) in
       other (r.apart j id r.served u v e at (served_ticket r.log r.served r.next (length s.views) u.seen u.phase su k'.at) (served_ticket r.log r.served r.next (length s.views) v.seen v.phase sv k.at))
 
   pub counts : (slots id t added : ℕ) (y : S) (lent : List E) (m : Seated E F S) → m.0.phase ≡ Holds t lent → m.1 ≡ (0, Some y) ∷ []
       → Grows number m.0.number lent (history y) → length lent + added ≡ length (history y) → length (history y) ≤ 2 ^ 32
-      → Allows Rule slots id m 2 (λ n. (n + added) % 2 ^ 64) (Counts history number m)
+      → Allows Rule slots id m 2 (λ n. (n + added) % 2 ^ 64) (SeesHistory history number m)
   counts slots id t added y lent m holds has grows more room s r _ at _ =
       let w : View E F = counted_view number m.0 t (history y) in
       let un : IsUnspent m.0.phase = subst IsUnspent (sym holds) tt in
-      let served : IsServed m.0.phase = subst IsServed (sym holds) tt in
+      let served : HasSlot m.0.phase = subst HasSlot (sym holds) tt in
       let k = r.each id m.0 at un in
       let phase : (t ≡ r.served) × (t < r.next) × (lent ≡ r.log) = subst (IsInPhase r.log r.served r.next (length s.views) m.0.seen) holds k.at in
       let my_ticket : HasTicket m.0.phase t = subst (λ p. HasTicket p t) (sym holds) refl in
@@ -90,7 +90,7 @@ module _ {E F S : Type 0} (history : S → List E) (number : E → ℕ) (fixed :
           entries = grows_entries number m.0.number (length s.views) r.log (history y) grown (subst (λ n. n < length s.views) (sym k.own) (inside s.views id m.0 at)) r.entries;
           gave_same = refl;
           joined_same = refl;
-          drawn_same = ap (λ p. r.numbers + drawn p) holds;
+          drawn_same = ap (λ p. r.numbers + numbers_drawn p) holds;
           words = subst (λ ws. set ws 2 ((get_or ws 2 0 + added) % 2 ^ 64) ≡ r.next % 2 ^ 64 ∷ r.served % 2 ^ 64 ∷ length (history y) ∷ r.numbers ∷ []) (sym r.words)
               (ap (λ n. r.next % 2 ^ 64 ∷ r.served % 2 ^ 64 ∷ n ∷ r.numbers ∷ []) within);
           slot = ⊎_elim (λ (h : AtHome history fixed plain r.log s). absurd (h.none_served id m.0 at served))
@@ -99,16 +99,16 @@ module _ {E F S : Type 0} (history : S → List E) (number : E → ℕ) (fixed :
         λ y' t' lent' has' holds'. (
           ap (λ (z : ℕ × S). (counted_view number m.0 z.0 (history z.1), m.1)) (λ i. (subst (λ p. HasTicket p t') holds (subst (λ p. HasTicket p t') (sym holds') refl) i, same_value y y' m.1 has has' i)),
           ap (entries_of number m.0.number) (sym (same_lent t t' lent lent' m.0.phase holds holds') ∙ phase.2) ∙ k.mine,
-          subst (λ z. GoesOn m.0.seen (history z)) (same_value y y' m.1 has has') (goes_trans m.0.seen r.log (history y) k.begins goes),
+          subst (λ z. Extends m.0.seen (history z)) (same_value y y' m.1 has has') (goes_trans m.0.seen r.log (history y) k.begins goes),
         ),
       )
 
   pub passes : (slots id t : ℕ) (y : S) (m : Seated E F S) → m.0.phase ≡ Counted t → m.1 ≡ (0, Some y) ∷ [] → history y ≡ m.0.seen → Some (fixed y) ≡ m.0.fixed
-      → Allows Rule slots id m 1 (λ n. (n + 1) % 2 ^ 64) (Passes m)
+      → Allows Rule slots id m 1 (λ n. (n + 1) % 2 ^ 64) (HandsOn m)
   passes slots id t y m counted has is same s r _ at _ =
       let w : View E F = with_phase m.0 Idle in
       let un : IsUnspent m.0.phase = subst IsUnspent (sym counted) tt in
-      let served : IsServed m.0.phase = subst IsServed (sym counted) tt in
+      let served : HasSlot m.0.phase = subst HasSlot (sym counted) tt in
       let k = r.each id m.0 at un in
       let phase : (t ≡ r.served) × (t < r.next) × (m.0.seen ≡ r.log) = subst (IsInPhase r.log r.served r.next (length s.views) m.0.seen) counted k.at in
       let my_ticket : HasTicket m.0.phase r.served = served_ticket r.log r.served r.next (length s.views) m.0.seen m.0.phase served k.at in
@@ -140,7 +140,7 @@ module _ {E F S : Type 0} (history : S → List E) (number : E → ℕ) (fixed :
           entries = r.entries;
           gave_same = refl;
           joined_same = refl;
-          drawn_same = ap (λ p. r.numbers + drawn p) counted;
+          drawn_same = ap (λ p. r.numbers + numbers_drawn p) counted;
           words = subst (λ ws. set ws 1 ((get_or ws 1 0 + 1) % 2 ^ 64) ≡ r.next % 2 ^ 64 ∷ (r.served + 1) % 2 ^ 64 ∷ length r.log ∷ r.numbers ∷ []) (sym r.words)
               (ap (λ n. r.next % 2 ^ 64 ∷ n ∷ length r.log ∷ r.numbers ∷ []) (mod-add-mod r.served (2 ^ 64) 1));
           slot = ⊎_elim (λ (h : AtHome history fixed plain r.log s). absurd (h.none_served id m.0 at served))
@@ -149,7 +149,7 @@ module _ {E F S : Type 0} (history : S → List E) (number : E → ℕ) (fixed :
                 there = subst₂ (λ hs cs. put_back hs cs ≡ some (Some y) ∷ []) (sym o.empty) (sym has) refl;
                 is = is ∙ phase.2;
                 same = same_some (fixed y) plain (same ∙ k.same);
-                none_served = λ i u e sv. ⊎_elim (λ (p : (i ≡ id) × (w ≡ u)). subst (λ (z : View E F). IsServed z.phase) (sym p.1) sv)
+                none_served = λ i u e sv. ⊎_elim (λ (p : (i ≡ id) × (w ≡ u)). subst (λ (z : View E F). HasSlot z.phase) (sym p.1) sv)
                     (λ (p : (i ≢ id) × (get_elem? s.views i ≡ some u)). others_wait s r id m.0 at served i u p.0 p.1 sv) (at_set s.views id i w u e);
               }) r.slot;
         },

@@ -9,7 +9,7 @@ use Rattle.mt_turn.specs.declared.view.Joined.{Joined}
 use Rattle.mt_turn.specs.declared.view.View.{View}
 use Rattle.mt_turn.specs.Views.{entries_of, up_to, giver, newcomer}
 use Rattle.mt_turn.specs.Lending.{HaveOwnNumbers}
-use Rattle.mt_turn.specs.Turning.{IsUnspent, HasTicket, IsServed, tickets, drawn, Knows, Taken, AtHome, IsOut, Turning}
+use Rattle.mt_turn.specs.Turning.{IsUnspent, HasTicket, HasSlot, tickets, numbers_drawn, Knows, Taken, AtHome, IsOut, Turning}
 use Rattle.mt_turn.proofs.Facts.{none_made, nil_first, up_to_next}
 use Rattle.mt_turn.proofs.Lists.{inside, same_at, at_longer_place, out_set, out_more}
 use Rattle.mt_turn.proofs.Phases.{after_split}
@@ -29,14 +29,14 @@ module _ {E F S : Type 0} (history : S → List E) (number : E → ℕ) (fixed :
     knows : Knows number plain r.log r.served r.next seats id v
     knows = r.each id v at un
 
-    has_drawn : drawn v.phase ≡ 1
-    has_drawn = ap drawn splits
+    has_drawn : numbers_drawn v.phase ≡ 1
+    has_drawn = ap numbers_drawn splits
 
     -- it is the first seat
     here : id ≡ 0
-    here = let d = has_drawn in let l : 0 < id → drawn v.phase ≡ 0 = λ h. (knows.later h).2 in first_one l d
+    here = let d = has_drawn in let l : 0 < id → numbers_drawn v.phase ≡ 0 = λ h. (knows.later h).2 in first_one l d
       where
-        first_one : (0 < id → drawn v.phase ≡ 0) → drawn v.phase ≡ 1 → id ≡ 0
+        first_one : (0 < id → numbers_drawn v.phase ≡ 0) → numbers_drawn v.phase ≡ 1 → id ≡ 0
         first_one l d = grind (arith, l)
 
     root_is : v ≡ r.first.root
@@ -94,8 +94,8 @@ module _ {E F S : Type 0} (history : S → List E) (number : E → ℕ) (fixed :
       gone = (t.gone.0, still_there j.number t.gone.0 ne t.gone.1, t.gone.2);
     }
 
-    unserved : IsServed v.phase → ⊥
-    unserved h = subst IsServed splits h
+    unserved : HasSlot v.phase → ⊥
+    unserved h = subst HasSlot splits h
 
     slot_still : AtHome history fixed plain r.log s ⊎ IsOut s → AtHome history fixed plain r.log record { words = s.words; homes = s.homes; views = after } ⊎ IsOut record { words = s.words; homes = s.homes; views = after }
     slot_still (inl h) = inl record {
@@ -103,15 +103,15 @@ module _ {E F S : Type 0} (history : S → List E) (number : E → ℕ) (fixed :
       there = h.there;
       is = h.is;
       same = h.same;
-      none_served = λ i u e sv. h.none_served i u (old_place (λ z. IsServed z.phase) (λ k. k) (λ k. k) i u e sv).1 sv;
+      none_served = λ i u e sv. h.none_served i u (old_place (λ z. HasSlot z.phase) (λ k. k) (λ k. k) i u e sv).1 sv;
     }
     slot_still (inr o) = let b = o.by_whom in
-        let ne : b.0 ≢ id = λ e. unserved (subst (λ (z : View E F). IsServed z.phase) (same_at s.views id b.1 v (subst (λ i. get_elem? s.views i ≡ some b.1) e b.2) at) b.3) in
+        let ne : b.0 ≢ id = λ e. unserved (subst (λ (z : View E F). HasSlot z.phase) (same_at s.views id b.1 v (subst (λ i. get_elem? s.views i ≡ some b.1) e b.2) at) b.3) in
         inr record { empty = o.empty; by_whom = (b.0, b.1, still_there b.0 b.1 ne b.2, b.3) }
 
     split_off : Turning history number fixed plain record { words = s.words; homes = s.homes; views = after }
     split_off = let f = r.first in let more = one_more in let all = given in let next = f.next_number in
-        let one : drawn f.root.phase ≡ 1 = ap (λ (z : View E F). drawn z.phase) (sym root_is) ∙ has_drawn in
+        let one : numbers_drawn f.root.phase ≡ 1 = ap (λ (z : View E F). numbers_drawn z.phase) (sym root_is) ∙ has_drawn in
         let none : tickets v.phase ≡ 0 = ap tickets splits in
         let outs = out_set s.views id v (giver v) at in let outs' = out_more (set s.views id (giver v)) (newcomer v) in let total = r.tickets_out in
         record {

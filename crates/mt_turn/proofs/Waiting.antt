@@ -9,7 +9,7 @@ use Rattle.atomic_table.proofs.Lists.{set_here, one_turn}
 use Rattle.mt_turn.specs.declared.view.Phase.TheVariants.{Idle, Waits, Holds}
 use Rattle.mt_turn.specs.declared.view.View.{View}
 use Rattle.mt_turn.specs.Views.{entries_of, with_phase}
-use Rattle.mt_turn.specs.Turning.{IsUnspent, HasTicket, IsServed, tickets, drawn, Knows, AtHome, IsOut, Turning}
+use Rattle.mt_turn.specs.Turning.{IsUnspent, HasTicket, HasSlot, tickets, numbers_drawn, Knows, AtHome, IsOut, Turning}
 use Rattle.mt_turn.specs.Steps.{Seated, Draws, Looks}
 use Rattle.mt_turn.proofs.Facts.{goes_self, none_later}
 use Rattle.mt_turn.proofs.Lists.{inside, same_at, out_set, out_le}
@@ -28,7 +28,7 @@ module _ {E F S : Type 0} (history : S → List E) (number : E → ℕ) (fixed :
       let none_out : tickets m.0.phase ≡ 0 = ap tickets idle in
       let counted = out_set s.views id m.0 (with_phase m.0 (Waits r.next)) at in
       let total = r.tickets_out in
-      let unserved : IsServed m.0.phase → ⊥ = λ h. subst IsServed idle h in (
+      let unserved : HasSlot m.0.phase → ⊥ = λ h. subst HasSlot idle h in (
         with_phase m.0 (Waits r.next),
         keeps,
         tt,
@@ -54,7 +54,7 @@ module _ {E F S : Type 0} (history : S → List E) (number : E → ℕ) (fixed :
           entries = r.entries;
           gave_same = refl;
           joined_same = refl;
-          drawn_same = ap (λ p. r.numbers + drawn p) idle;
+          drawn_same = ap (λ p. r.numbers + numbers_drawn p) idle;
           words = subst (λ ws. set ws 0 ((get_or ws 0 0 + 1) % 2 ^ 64) ≡ (r.next + 1) % 2 ^ 64 ∷ r.served % 2 ^ 64 ∷ length r.log ∷ r.numbers ∷ []) (sym r.words)
               (ap (λ n. n ∷ r.served % 2 ^ 64 ∷ length r.log ∷ r.numbers ∷ []) (mod-add-mod r.next (2 ^ 64) 1));
           slot = slot_stays history number fixed plain s r.log id m.0 (with_phase m.0 (Waits r.next)) (set s.words 0 ((get_or s.words 0 0 + 1) % 2 ^ 64)) at unserved (λ h. h) r.slot;
@@ -79,8 +79,8 @@ module _ {E F S : Type 0} (history : S → List E) (number : E → ℕ) (fixed :
     within : (r.served ≤ t) × (t < r.next)
     within = ticket_within r.log r.served r.next (length s.views) m.0.seen m.0.phase t mine knows.at
 
-    unserved : IsServed m.0.phase → ⊥
-    unserved h = subst IsServed waits h
+    unserved : HasSlot m.0.phase → ⊥
+    unserved h = subst HasSlot waits h
 
     one_ticket : (t' : ℕ) → m.0.phase ≡ Waits t' → t ≡ t'
     one_ticket t' e = subst (λ p. HasTicket p t') waits (subst (λ p. HasTicket p t') (sym e) refl)
@@ -122,7 +122,7 @@ module _ {E F S : Type 0} (history : S → List E) (number : E → ℕ) (fixed :
         let theirs : HasTicket b.1.phase t = subst (HasTicket b.1.phase) here (served_ticket r.log r.served r.next (length s.views) b.1.seen b.1.phase b.3 kb.at) in
         let one : b.0 ≡ id = r.apart b.0 id t b.1 m.0 b.2 at theirs mine in
         let same : b.1 ≡ m.0 = same_at s.views id b.1 m.0 (subst (λ i. get_elem? s.views i ≡ some b.1) one b.2) at in
-        absurd (unserved (subst (λ (z : View E F). IsServed z.phase) same b.3))
+        absurd (unserved (subst (λ (z : View E F). HasSlot z.phase) same b.3))
     hits here eq (inl h) =
         let x = h.value in
         let w : View E F = with_phase m.0 (Holds t (history h.value)) in
@@ -156,7 +156,7 @@ module _ {E F S : Type 0} (history : S → List E) (number : E → ℕ) (fixed :
             entries = r.entries;
             gave_same = refl;
             joined_same = refl;
-            drawn_same = ap (λ p. r.numbers + drawn p) waits;
+            drawn_same = ap (λ p. r.numbers + numbers_drawn p) waits;
             words = same_words;
             slot = inr record { empty = ap (λ hs. set hs 0 none) h.there; by_whom = (id, w, set_here s.views id w (inside s.views id m.0 at), tt) };
           },

@@ -5,7 +5,7 @@ use lib.ListN.{get_elem?}
 use Rattle.mt_turn.specs.declared.view.Phase.TheVariants.{Holds}
 use Rattle.mt_turn.specs.declared.view.Joined.{Joined}
 use Rattle.mt_turn.specs.declared.view.View.{View}
-use Rattle.mt_turn.specs.Views.{entries_of, GoesOn}
+use Rattle.mt_turn.specs.Views.{entries_of, Extends}
 
 -- The value x is lent to a seat that knows v: its history begins with all that the seat has seen and has nothing later of the seat's number, and its plain data is the seat's
 pub record Lent {E F S : Type 0} (history : S → List E) (number : E → ℕ) (fixed : S → F) (v : View E F) (x : S) : Type 0 where
@@ -24,16 +24,16 @@ abbrev pub Grows : {E : Type 0} → (E → ℕ) → ℕ → List E → List E �
 Grows {E} number n lent log = (log ≡ lent) ⊎ ((e : E) × (number e ≡ n) × (log ≡ lent ++ e ∷ []))
 
 -- The two views are of one seat, which has split and joined nothing in between
-abbrev pub IsSameSeat : {E F : Type 0} → View E F → View E F → Type 0
-IsSameSeat v w = (w.number ≡ v.number) × (w.gave ≡ v.gave) × (w.joined ≡ v.joined) × (w.fixed ≡ v.fixed)
+abbrev pub AreViewsOfOneSeat : {E F : Type 0} → View E F → View E F → Type 0
+AreViewsOfOneSeat v w = (w.number ≡ v.number) × (w.gave ≡ v.gave) × (w.joined ≡ v.joined) × (w.fixed ≡ v.fixed)
 
 -- A seat that knew v leaves the history `log`, where it was lent `lent`, and knows w: it has seen all of `log`, and its own entries grew by the one that was added, or by none
 pub record Left {E F : Type 0} (number : E → ℕ) (v : View E F) (lent log : List E) (w : View E F) : Type 0 where
   pub seen : w.seen ≡ log
-  pub begins : GoesOn v.seen log
+  pub begins : Extends v.seen log
   pub mine : ((log ≡ lent) × (w.mine ≡ v.mine)) ⊎ ((e : E) × (number e ≡ v.number) × (log ≡ lent ++ e ∷ []) × (w.mine ≡ v.mine ++ e ∷ []))
   pub mine_seen : entries_of number v.number log ≡ w.mine
-  pub same : IsSameSeat v w
+  pub same : AreViewsOfOneSeat v w
 
 -- some joined seat has the number n
 abbrev pub IsJoined : {E : Type 0} → List (Joined E) → ℕ → Type 0
@@ -48,10 +48,10 @@ abbrev pub AllJoined : {E F : Type 0} → View E F → Type 0
 AllJoined v = (n : ℕ) → Contains v.gave n → IsJoined v.joined n
 
 -- The history at the end, where the first seat knows v: it begins with what each seat has seen, each seat's entries are its own, no two seats had one number, and there are no others
-pub record Closes {E F : Type 0} (number : E → ℕ) (v : View E F) (log : List E) : Type 0 where
-  pub begins : GoesOn v.seen log
+pub record ClosesHistory {E F : Type 0} (number : E → ℕ) (v : View E F) (log : List E) : Type 0 where
+  pub begins : Extends v.seen log
   pub mine : entries_of number 0 log ≡ v.mine
-  pub joined_begins : (j : Joined E) → Contains v.joined j → GoesOn j.seen log
+  pub joined_begins : (j : Joined E) → Contains v.joined j → Extends j.seen log
   pub joined_mine : (j : Joined E) → Contains v.joined j → entries_of number j.number log ≡ j.mine
   pub own_numbers : HaveOwnNumbers v.joined
   pub no_others : (e : E) → Contains log e → (number e ≡ 0) ⊎ IsJoined v.joined (number e)

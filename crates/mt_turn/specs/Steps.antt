@@ -3,7 +3,7 @@ use Rattle.std.specs.Prelude.{◌≡◌, ◌≢◌, ℕ, ◌+◌, ◌%◌, ◌^�
 use Rattle.atomic_table.specs.Table.{Me, rest}
 use Rattle.mt_turn.specs.declared.view.Phase.TheVariants.{Idle, Splits, Waits, Holds, Counted}
 use Rattle.mt_turn.specs.declared.view.View.{View}
-use Rattle.mt_turn.specs.Views.{entries_of, GoesOn, up_to, with_phase}
+use Rattle.mt_turn.specs.Views.{entries_of, Extends, up_to, with_phase}
 use Rattle.mt_turn.specs.Lending.{Lent}
 
 -- what a seat knows once it has counted: all of the history, and its own entries in it
@@ -25,13 +25,13 @@ module _ {E F S : Type 0} where
       → (t % 2 ^ 64 ≡ r → (x : S) × (m' ≡ (with_phase m.0 (Holds t (history x)), (0, Some x) ∷ m.1)) × Lent history number fixed m.0 x) × (t % 2 ^ 64 ≢ r → m' ≡ m)
 
   -- The value y lies in the slot, which the seat has. The seat has seen its history
-  abbrev pub Counts : (S → List E) → (E → ℕ) → Seated E F S → ℕ → Seated E F S → Type 0
-  Counts history number m r m' = (y : S) (t : ℕ) (lent : List E) → m.1 ≡ (0, Some y) ∷ [] → m.0.phase ≡ Holds t lent
-      → (m' ≡ (counted_view number m.0 t (history y), m.1)) × (entries_of number m.0.number lent ≡ m.0.mine) × GoesOn m.0.seen (history y)
+  abbrev pub SeesHistory : (S → List E) → (E → ℕ) → Seated E F S → ℕ → Seated E F S → Type 0
+  SeesHistory history number m r m' = (y : S) (t : ℕ) (lent : List E) → m.1 ≡ (0, Some y) ∷ [] → m.0.phase ≡ Holds t lent
+      → (m' ≡ (counted_view number m.0 t (history y), m.1)) × (entries_of number m.0.number lent ≡ m.0.mine) × Extends m.0.seen (history y)
 
   -- The slot is at home, and the seat outside
-  abbrev pub Passes : Seated E F S → ℕ → Seated E F S → Type 0
-  Passes m r m' = m' ≡ (with_phase m.0 Idle, rest m.1)
+  abbrev pub HandsOn : Seated E F S → ℕ → Seated E F S → Type 0
+  HandsOn m r m' = m' ≡ (with_phase m.0 Idle, rest m.1)
 
   -- The next seat's number was drawn. The numbers given so far are 1, 2, 3 and so on
   abbrev pub Numbers : Seated E F S → ℕ → Seated E F S → Type 0

@@ -8,7 +8,7 @@ use Rattle.mt_turn.specs.declared.view.Phase.{Phase}
 use Rattle.mt_turn.specs.declared.view.Phase.TheVariants.{Splits, Waits, Holds, Counted, Spent}
 use Rattle.mt_turn.specs.declared.view.Joined.{Joined}
 use Rattle.mt_turn.specs.declared.view.View.{View}
-use Rattle.mt_turn.specs.Views.{entries_of, GoesOn, up_to}
+use Rattle.mt_turn.specs.Views.{entries_of, Extends, up_to}
 use Rattle.mt_turn.specs.Lending.{HaveOwnNumbers}
 
 module _ {E : Type 0} where
@@ -30,15 +30,15 @@ module _ {E : Type 0} where
   HasTicket _ n = ⊥
 
   -- the seat has the slot
-  abbrev pub IsServed : Phase E → Type 0
-  IsServed (Holds t lent) = Unit {0}
-  IsServed (Counted t) = Unit {0}
-  IsServed _ = ⊥
+  abbrev pub HasSlot : Phase E → Type 0
+  HasSlot (Holds t lent) = Unit {0}
+  HasSlot (Counted t) = Unit {0}
+  HasSlot _ = ⊥
 
   -- how many numbers are drawn that no seat has yet
-  abbrev pub drawn : Phase E → ℕ
-  drawn (Splits n) = 1
-  drawn _ = 0
+  abbrev pub numbers_drawn : Phase E → ℕ
+  numbers_drawn (Splits n) = 1
+  numbers_drawn _ = 0
 
   -- what is true of a phase, where the history is `log`, the tickets from `served` on and below `next` are out, there are `seats` seats, and the seat has seen `seen`
   abbrev pub IsInPhase : List E → ℕ → ℕ → ℕ → List E → Phase E → Type 0
@@ -57,16 +57,16 @@ module _ {E F : Type 0} where
   -- of each unspent view v at the place id
   pub record Knows (number : E → ℕ) (plain : F) (log : List E) (served next seats id : ℕ) (v : View E F) : Type 0 where
     pub own : v.number ≡ id
-    pub begins : GoesOn v.seen log
+    pub begins : Extends v.seen log
     pub mine : entries_of number v.number log ≡ v.mine
     pub mine_seen : entries_of number v.number v.seen ≡ v.mine
     pub same : v.fixed ≡ Some plain
     pub at : IsInPhase log served next seats v.seen v.phase
-    pub later : 0 < id → (v.gave ≡ []) × (v.joined ≡ []) × (drawn v.phase ≡ 0)
+    pub later : 0 < id → (v.gave ≡ []) × (v.joined ≡ []) × (numbers_drawn v.phase ≡ 0)
 
   -- of each joined seat: the same, and its view is spent
   pub record Taken (number : E → ℕ) (log : List E) (views : List (View E F)) (j : Joined E) : Type 0 where
-    pub begins : GoesOn j.seen log
+    pub begins : Extends j.seen log
     pub mine : entries_of number j.number log ≡ j.mine
     pub gone : (w : View E F) × (get_elem? views j.number ≡ some w) × (w.phase ≡ Spent)
 
@@ -77,7 +77,7 @@ module _ {E F : Type 0} where
     pub unspent : IsUnspent root.phase
     pub gave_is : root.gave ≡ up_to (length root.gave)
     pub all : length root.gave + 1 ≡ length views
-    pub next_number : numbers ≡ length views + drawn root.phase
+    pub next_number : numbers ≡ length views + numbers_drawn root.phase
     pub taken : (j : Joined E) → Contains root.joined j → Taken number log views j
     pub own_numbers : HaveOwnNumbers root.joined
 
@@ -87,12 +87,12 @@ module _ {E F : Type 0} where
     pub there : s.homes ≡ some (Some value) ∷ []
     pub is : history value ≡ log
     pub same : fixed value ≡ plain
-    pub none_served : (i : ℕ) (v : View E F) → get_elem? s.views i ≡ some v → IsServed v.phase → ⊥
+    pub none_served : (i : ℕ) (v : View E F) → get_elem? s.views i ≡ some v → HasSlot v.phase → ⊥
 
   -- the slot is out with the seat that has the turn
   pub record IsOut {S : Type 0} (s : State (Option S) (View E F)) : Type 0 where
     pub empty : s.homes ≡ none ∷ []
-    pub by_whom : (i : ℕ) × (v : View E F) × (get_elem? s.views i ≡ some v) × IsServed v.phase
+    pub by_whom : (i : ℕ) × (v : View E F) × (get_elem? s.views i ≡ some v) × HasSlot v.phase
 
   pub record Turning {S : Type 0} (history : S → List E) (number : E → ℕ) (fixed : S → F) (plain : F) (s : State (Option S) (View E F)) : Type 0 where
     pub log : List E

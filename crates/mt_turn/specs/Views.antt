@@ -10,8 +10,8 @@ abbrev pub entries_of : {E : Type 0} → (E → ℕ) → ℕ → List E → List
 entries_of number n log = filter (λ e. number e == n) log
 
 -- the history goes on from `front`
-abbrev pub GoesOn : {E : Type 0} → List E → List E → Type 0
-GoesOn {E} front log = (later : List E) × (log ≡ front ++ later)
+abbrev pub Extends : {E : Type 0} → List E → List E → Type 0
+Extends {E} front log = (later : List E) × (log ≡ front ++ later)
 
 -- the longer of two lists, or the first
 abbrev pub longer : {E : Type 0} → List E → List E → List E

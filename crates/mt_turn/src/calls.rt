@@ -2,7 +2,7 @@
 ghost use Rattle.std.specs.Prelude.{◌≡◌, ℕ, ◌^◌, ◌<◌, ◌≤◌, [], length, IfOk, IfErr, Some};
 ghost use Rattle.mt_turn.specs.declared.view.Phase.TheVariants.{Idle, Holds};
 ghost use Rattle.mt_turn.specs.Views.{first_view, with_phase, giver, newcomer, taker, up_to};
-ghost use Rattle.mt_turn.specs.Lending.{HasTurn, Lent, Grows, Left, AllJoined, Closes};
+ghost use Rattle.mt_turn.specs.Lending.{HasTurn, Lent, Grows, Left, AllJoined, ClosesHistory};
 
 use crate::held::Held;
 use crate::kept::Kept;
@@ -113,13 +113,13 @@ impl<T: Kept> Turn<T> {
 
     /// Gives the value, where every seat that was split off is joined again, as `AllJoined` says. It takes no memory.
     ///
-    /// `Closes` says what its history is: it begins with what each seat has seen, has each seat's entries and no others.
+    /// `ClosesHistory` says what its history is: it begins with what each seat has seen, has each seat's entries and no others.
     pub fn close(self, seat: Seat<T>) -> T
         requires own { seat.home ≡ self }
         requires first { seat.view.number ≡ 0 }
         requires idle { seat.view.phase ≡ Idle }
         requires joined { AllJoined seat.view }
-        ensures history { Closes T.number seat.view (T.history result) }
+        ensures history { ClosesHistory T.number seat.view (T.history result) }
         ensures fixed { Some (T.fixed result) ≡ seat.view.fixed }
     {
         let Turn { inner } = self;

@@ -1,5 +1,5 @@
 //! The kinds of step: one type each, which says what the step tells or how it changes views.
-ghost use Rattle.mt_turn.specs.Steps.{Draws, Looks, Counts, Passes, Numbers};
+ghost use Rattle.mt_turn.specs.Steps.{Draws, Looks, SeesHistory, HandsOn, Numbers};
 ghost use Rattle.mt_turn.specs.Views.{giver, newcomer, taker, spent};
 
 use crate::kept::Kept;
@@ -29,14 +29,14 @@ pub(crate) struct Count<T> {
 }
 
 impl<T: Kept> Play<Option<T>, View<T::Entry, T::Fixed>> for Count<T> {
-    ghost then = { λ _. Counts T.history T.number };
+    ghost then = { λ _. SeesHistory T.history T.number };
 }
 
 /// Pass the turn on.
 pub(crate) struct Pass;
 
 impl<T, E, F> Play<Option<T>, View<E, F>> for Pass {
-    ghost then = { λ _. Passes };
+    ghost then = { λ _. HandsOn };
 }
 
 /// Draw the next seat's number.

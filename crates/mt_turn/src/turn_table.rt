@@ -3,7 +3,7 @@ ghost use Rattle.std.specs.Prelude.{◌≡◌, ℕ, ◌+◌, ◌%◌, ◌^◌, �
 ghost use Rattle.atomic_table.specs.Table.{rest};
 ghost use Rattle.mt_turn.specs.declared.view.Phase.TheVariants.{Idle, Waits, Holds};
 ghost use Rattle.mt_turn.specs.Views.{first_view, with_phase, giver, newcomer, taker, up_to};
-ghost use Rattle.mt_turn.specs.Lending.{HasTurn, Lent, Grows, Left, AllJoined, Closes};
+ghost use Rattle.mt_turn.specs.Lending.{HasTurn, Lent, Grows, Left, AllJoined, ClosesHistory};
 
 use crate::kept::Kept;
 use crate::plays::{Count, Cut, Draw, Glue, Look, Number, Pass};
@@ -237,7 +237,7 @@ impl<T: Kept> TurnTable<T> {
         requires first { token.me.0.number ≡ 0 }
         requires idle { token.me.0.phase ≡ Idle }
         requires joined { AllJoined token.me.0 }
-        ensures history { Closes T.number token.me.0 (T.history result) }
+        ensures history { ClosesHistory T.number token.me.0 (T.history result) }
         ensures fixed { Some (T.fixed result) ≡ token.me.0.fixed }
     {
         let TurnTable { table, beds: _ } = self;

@@ -6,7 +6,7 @@ use mir.Syntax.{w128}
 use Rattle.mt_ring.proofs.Sizes.{Abs, abs_add, abs_sub, abs_mul, fits_128}
 use Rattle.mt_base.specs.Bounds.{IsWithin}
 use Rattle.mt_watch.specs.declared.vector.Vector.{Vector}
-use Rattle.mt_watch.specs.Plane.{IsProduct, IsSmall, cross, dot}
+use Rattle.mt_watch.specs.Plane.{IsProduct, IsSmall, cross_product, dot}
 
 pub size_of : {m : ℕ} {z : ℤ} → IsWithin (neg_ℤ (pos m)) (pos m) z → Abs m z
 size_of {m} {z} h = record { low = h.least; high = h.most }
@@ -47,7 +47,7 @@ products_fit v w v_small w_small =
     }
 
 -- how great the products are
-pub cross_is_product : (v w : Vector) → IsSmall v → IsSmall w → IsProduct (cross v w)
+pub cross_is_product : (v w : Vector) → IsSmall v → IsSmall w → IsProduct (cross_product v w)
 cross_is_product v w v_small w_small =
     within_size (abs_sub (abs_mul (size_of v_small.x_within) (size_of w_small.y_within)) (abs_mul (size_of v_small.y_within) (size_of w_small.x_within)))
 

@@ -8,8 +8,8 @@ use Rattle.mt_base.specs.declared.row.Row.{Row}
 use Rattle.mt_watch.specs.declared.vector.Vector.{Vector}
 
 -- from the row's position to the reported one, and what the row's position gains in a second
-abbrev pub offset_of : Row → Report → Vector
-offset_of row report = record { x = off_x row report; y = off_y row report }
+abbrev pub offset_to_report : Row → Report → Vector
+offset_to_report row report = record { x = off_x row report; y = off_y row report }
 
 abbrev pub velocity_of : Row → Vector
 velocity_of row = record { x = row.vx; y = row.vy }
@@ -23,8 +23,8 @@ abbrev pub is_zero : Vector → Bool
 is_zero v = int_eq v.x (pos 0) && int_eq v.y (pos 0)
 
 -- the cross and the dot product
-abbrev pub cross : Vector → Vector → ℤ
-cross v w = v.x *ℤ w.y -ℤ v.y *ℤ w.x
+abbrev pub cross_product : Vector → Vector → ℤ
+cross_product v w = v.x *ℤ w.y -ℤ v.y *ℤ w.x
 
 abbrev pub dot : Vector → Vector → ℤ
 dot v w = v.x *ℤ w.x +ℤ v.y *ℤ w.y

@@ -1,6 +1,6 @@
 ghost use Rattle.std.specs.Prelude.{◌≡◌};
 ghost use Rattle.mt_base.specs.Bounds.{IsBoundedReport, IsBoundedRow};
-ghost use Rattle.mt_watch.specs.Plane.{IsProduct, IsSmall, cross, dot, is_zero, offset_of, velocity_of};
+ghost use Rattle.mt_watch.specs.Plane.{IsProduct, IsSmall, cross_product, dot, is_zero, offset_to_report, velocity_of};
 
 use mt_base::{Report, Row};
 
@@ -17,7 +17,7 @@ impl Vector {
     pub(crate) fn offset(row: &Row, report: &Report) -> Vector
         requires row_kept { IsBoundedRow row.now }
         requires report_kept { IsBoundedReport report.now }
-        ensures is { result ≡ offset_of row.now report.now }
+        ensures is { result ≡ offset_to_report row.now report.now }
         ensures small { IsSmall result }
     {
         Vector {
@@ -50,7 +50,7 @@ impl Vector {
     pub(crate) fn cross(self, other: Vector) -> i128
         requires self_small { IsSmall self }
         requires other_small { IsSmall other }
-        ensures is { result ≡ cross self other }
+        ensures is { result ≡ cross_product self other }
         ensures kept { IsProduct result }
     {
         self.x * other.y - self.y * other.x

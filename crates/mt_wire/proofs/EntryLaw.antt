@@ -31,7 +31,7 @@ use Rattle.mt_wire.proofs.TrailingLine.{tokens-line}
 abbrev parsed : List Token → Option Data
 parsed ts = option_and_then of_json (option_and_then (λ p. json.if_last p.0 p.1) (json.value max_depth ts))
 
--- an end of line behind a value changes nothing
+-- an end of line after a value changes nothing
 line_read : (d : Data) → HoldsWhole d → read (compact_text d ++ 10 ∷ []) ≡ read (compact_text d)
 line_read d h =
     let ts = tree.json_tokens (outline d) in

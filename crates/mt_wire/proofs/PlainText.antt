@@ -11,7 +11,7 @@ use Rattle.json.proofs.Printed.Utf8.{are_ascii, IsUtf8-are_ascii, IsUtf8-boolean
 use Rattle.serde_json.specs.Data.{Num, unsigned, negative, float, Data, null, boolean, number, string, array, object, Items, no_items, item, Members, no_members, member}
 use Rattle.serde_json.specs.Written.{comma_if, compact_text, items_text, members_text, number_text}
 use Rattle.mt_base.specs.Name.{is_letter, is_name}
-use Rattle.mt_wire.specs.Held.{IsHeld, HoldsWhole, ItemsHoldWhole, MembersHoldWhole}
+use Rattle.mt_wire.specs.Held.{IsWireNumber, HoldsWhole, ItemsHoldWhole, MembersHoldWhole}
 
 ascii_letters : (text : List ℕ) → list_all is_letter text ≡ true → are_ascii text ≡ true
 ascii_letters [] h = refl
@@ -46,7 +46,7 @@ utf8_comma : (later : Bool) → IsUtf8 (comma_if later)
 utf8_comma true = IsUtf8-are_ascii (44 ∷ []) refl
 utf8_comma false = IsUtf8-are_ascii [] refl
 
-utf8_number : (n : Num) → IsHeld n → IsUtf8 (number_text n)
+utf8_number : (n : Num) → IsWireNumber n → IsUtf8 (number_text n)
 utf8_number (unsigned n) h = IsUtf8-from_ascii _ (IsAscii-decimal n h)
 utf8_number (negative (pos n)) h = absurd h
 utf8_number (negative (negsuc n)) h = IsUtf8-from_ascii _ (IsAscii-signed (negsuc n) (omega arith))

@@ -16,11 +16,11 @@ use Rattle.serde_json.specs.Written.{compact_text, number_text, outline, items_o
 use Rattle.serde_json.proofs.Numbers.{number_of-decimal, number_of-negative}
 use Rattle.serde_json.proofs.Texts.{print-outline}
 use Rattle.mt_write.specs.Entry.{values, whole}
-use Rattle.mt_wire.specs.Held.{IsHeld, HoldsWhole, ItemsHoldWhole, MembersHoldWhole}
+use Rattle.mt_wire.specs.Held.{IsWireNumber, HoldsWhole, ItemsHoldWhole, MembersHoldWhole}
 
 -- ---- a number's text is a number, and is read as that number
 
-held_text : (n : Num) → IsHeld n → IsNumber (number_text n)
+held_text : (n : Num) → IsWireNumber n → IsNumber (number_text n)
 held_text (unsigned n) h = IsNumber-decimal n h
 held_text (negative (pos n)) h = absurd h
 held_text (negative (negsuc n)) h = IsNumber-signed_decimal (negsuc n) (omega arith)

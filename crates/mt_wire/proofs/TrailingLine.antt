@@ -1,4 +1,4 @@
--- Behind what is printed a line may end: the tokens are the same.
+-- After what is printed a line may end: the tokens are the same.
 use Rattle.std.proofs.Common.{◌≡◌, ℕ, Bool, true, false, cond, ◌&&◌, List, [], ◌∷◌, ◌++◌, refl, sym, ap, ap₂, ◌∙◌, append_assoc}
 use Rattle.json.specs.Token.{Token, begin_object, end_object, begin_array, end_array, key, string, number, boolean, null, bad}
 use Rattle.json.specs.Word.{ends_word, word}
@@ -74,7 +74,7 @@ lex-print_from c (t ∷ ts) r h ended =
     ∙ lex-token_text t (print_from (ends t) ts ++ r) h.0 (λ e. ap (λ b. ends_word (print_from b ts ++ r)) e ∙ after_value_ends ts r ended)
     ∙ ap (λ l. token_lexemes t ++ l) (lex-print_from (ends t) ts r h.1 ended))
 
--- with an end of line behind it, or without
+-- with an end of line after it, or without
 pub tokens-line : (ts : List Token) → ArePrintable ts → tokens (print ts ++ 10 ∷ []) ≡ tokens (print ts ++ [])
 unfolding lex
 tokens-line ts h = ap (punctuate fresh) (lex-print_from false ts (10 ∷ []) h refl ∙ sym (lex-print_from false ts [] h refl))

@@ -3,17 +3,17 @@ use Rattle.std.specs.Prelude.{pos, negsuc, ◌+◌, ◌<◌, ◌^◌, ⊤}
 use Rattle.serde_json.specs.Data.{Num, unsigned, negative, float, Data, null, boolean, number, string, array, object, Items, no_items, item, Members, no_members, member}
 
 -- from -2^63 + 1 to 2^64 - 1
-abbrev pub IsHeld : Num → Type 0
-IsHeld (unsigned n) = n < 2 ^ 64
-IsHeld (negative (pos n)) = ⊥
-IsHeld (negative (negsuc n)) = n + 1 < 2 ^ 63
-IsHeld (float x) = ⊥
+abbrev pub IsWireNumber : Num → Type 0
+IsWireNumber (unsigned n) = n < 2 ^ 64
+IsWireNumber (negative (pos n)) = ⊥
+IsWireNumber (negative (negsuc n)) = n + 1 < 2 ^ 63
+IsWireNumber (float x) = ⊥
 
 abbrev mutual
   pub HoldsWhole : Data → Type 0
   HoldsWhole null = ⊤
   HoldsWhole (boolean b) = ⊤
-  HoldsWhole (number n) = IsHeld n
+  HoldsWhole (number n) = IsWireNumber n
   HoldsWhole (string s) = ⊤
   HoldsWhole (array ds) = ItemsHoldWhole ds
   HoldsWhole (object ms) = MembersHoldWhole ms

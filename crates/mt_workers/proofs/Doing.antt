@@ -7,7 +7,7 @@ use Rattle.mt_board.specs.declared.no.No.{No}
 use Rattle.mt_board.specs.Changing.{IsChanged}
 use Rattle.mt_board.specs.Seat.{Seat}
 use Rattle.mt_board.proofs.SeatLemmas.{renewals_add}
-use Rattle.mt_workers.specs.Jobs.{AreTaken, IsOver}
+use Rattle.mt_workers.specs.Jobs.{AreTaken, AreJobsOver}
 use Rattle.mt_workers.specs.Work.{HasWorked, HasWorkedAll}
 
 none_taken : (left : Option (List (List ℕ))) → AreTaken left left []
@@ -34,14 +34,14 @@ works_on left now next s middle t call r so_far taken changed = record {
   renewed = renewals_add s middle t so_far.calls (call ∷ []) so_far.results (r ∷ []) so_far.renewed (t, changed, refl);
 }
 
-all_of : (left now end : Option (List (List ℕ))) (calls : List (List ℕ)) → AreTaken left now calls → AreTaken now end [] → IsOver end → IfSome left (λ xs. xs ≡ calls)
+all_of : (left now end : Option (List (List ℕ))) (calls : List (List ℕ)) → AreTaken left now calls → AreTaken now end [] → AreJobsOver end → IfSome left (λ xs. xs ≡ calls)
 all_of None now end calls taken last over = tt
 all_of (Some xs) None end calls taken last over = absurd taken
 all_of (Some xs) (Some ys) None calls taken last over = absurd last
 all_of (Some xs) (Some ys) (Some zs) calls taken last over = taken ∙ rw (last, over) (append-nil calls)
 
 -- no job is left
-pub works_all : (left now end : Option (List (List ℕ))) (s t : Seat) → HasWorked left now s t → AreTaken now end [] → IsOver end → HasWorkedAll left s t
+pub works_all : (left now end : Option (List (List ℕ))) (s t : Seat) → HasWorked left now s t → AreTaken now end [] → AreJobsOver end → HasWorkedAll left s t
 works_all left now end s t so_far last over = record {
   calls = so_far.calls;
   all = all_of left now end so_far.calls so_far.taken last over;

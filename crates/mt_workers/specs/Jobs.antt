@@ -10,10 +10,10 @@ pub record Jobs : Type 0 where
 abbrev pub no_jobs : Jobs
 no_jobs = record { taken = []; room = 0 }
 
--- A job is taken: it stands behind the others, and there was room. What tells nothing tells nothing then.
-abbrev pub Takes : Option Jobs → List ℕ → Option Jobs → Type 0
-Takes None call after = after ≡ None
-Takes (Some jobs) call after = (length jobs.taken < jobs.room) × (after ≡ Some (record jobs { taken = jobs.taken ++ call ∷ [] }))
+-- A job is taken: it stands after the others, and there was room. What tells nothing tells nothing then.
+abbrev pub TakesJob : Option Jobs → List ℕ → Option Jobs → Type 0
+TakesJob None call after = after ≡ None
+TakesJob (Some jobs) call after = (length jobs.taken < jobs.room) × (after ≡ Some (record jobs { taken = jobs.taken ++ call ∷ [] }))
 
 -- A job is given back: nothing has changed, and there was no room.
 abbrev pub GivesBack : Option Jobs → Option Jobs → Type 0
@@ -26,5 +26,5 @@ AreTaken (Some left) None calls = ⊥
 AreTaken (Some left) (Some rest) calls = left ≡ calls ++ rest
 
 -- none is left, where they are told
-abbrev pub IsOver : Option (List (List ℕ)) → Type 0
-IsOver left = IfSome left (λ calls. calls ≡ [])
+abbrev pub AreJobsOver : Option (List (List ℕ)) → Type 0
+AreJobsOver left = IfSome left (λ calls. calls ≡ [])

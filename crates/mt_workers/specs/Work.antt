@@ -3,7 +3,7 @@ use Rattle.std.specs.Prelude.{◌≡◌, ℕ, List, Option, Result, IfSome}
 use Rattle.mt_base.specs.declared.command.Entered.{Entered}
 use Rattle.mt_board.specs.declared.no.No.{No}
 use Rattle.mt_board.specs.Seat.{Seat}
-use Rattle.mt_board.specs.Settling.{AreRenewed}
+use Rattle.mt_board.specs.Settling.{AreRenewalsAsked}
 use Rattle.mt_workers.specs.Jobs.{AreTaken}
 
 -- These jobs were taken, and its seat asked to renew the flight of each, in order, whatever it was answered.
@@ -11,11 +11,11 @@ pub record HasWorked (left now : Option (List (List ℕ))) (s t : Seat) : Type 0
   pub calls : List (List ℕ)
   pub taken : AreTaken left now calls
   pub results : List (Result Entered No)
-  pub renewed : AreRenewed s calls results t
+  pub renewed : AreRenewalsAsked s calls results t
 
 -- all jobs were
 pub record HasWorkedAll (left : Option (List (List ℕ))) (s t : Seat) : Type 0 where
   pub calls : List (List ℕ)
   pub all : IfSome left (λ jobs. jobs ≡ calls)
   pub results : List (Result Entered No)
-  pub renewed : AreRenewed s calls results t
+  pub renewed : AreRenewalsAsked s calls results t

@@ -1,6 +1,6 @@
 //! Where jobs come from.
 ghost use Rattle.std.specs.Prelude.{◌≡◌, ◌≤◌, ◌∷◌, [], ℕ, List, length, Option, Some, MatchOption};
-ghost use Rattle.mt_workers.specs.Jobs.{AreTaken, IsOver};
+ghost use Rattle.mt_workers.specs.Jobs.{AreTaken, AreJobsOver};
 
 use crate::job::Job;
 use mt_base::Calls;
@@ -14,7 +14,7 @@ pub trait Inbox {
 
     /// The next job; none where no job will come. An inbox that tells its jobs gives the first, and none exactly where none is left.
     fn next<R: Threads + Wait + Sync>(&mut self, rt: &R) -> Option<Job>
-        ensures { MatchOption result (AreTaken (left self.old) (left self.new) [] × IsOver (left self.new))
+        ensures { MatchOption result (AreTaken (left self.old) (left self.new) [] × AreJobsOver (left self.new))
             (λ job. AreTaken (left self.old) (left self.new) (job.call ∷ [])) };
 }
 

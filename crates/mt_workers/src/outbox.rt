@@ -1,6 +1,6 @@
 //! Where jobs go.
 ghost use Rattle.std.specs.Prelude.{◌≡◌, ◌≤◌, [], vec_len, vec_capacity, map, IfOk, MatchResult, Option, Some};
-ghost use Rattle.mt_workers.specs.Jobs.{GivesBack, Jobs, Takes};
+ghost use Rattle.mt_workers.specs.Jobs.{GivesBack, Jobs, TakesJob};
 
 use crate::job::Job;
 use mt_memory::Memory;
@@ -15,7 +15,7 @@ pub trait Outbox {
 
     /// Takes a job, or gives it back. An outbox that tells its jobs gives one back exactly where it holds as many as it has room for.
     fn hand<R: Threads + Wait + Sync>(&mut self, rt: &R, job: Job) -> Result<(), Job>
-        ensures { MatchResult result (λ _. Takes (jobs self.old) job.call (jobs self.new))
+        ensures { MatchResult result (λ _. TakesJob (jobs self.old) job.call (jobs self.new))
             (λ back. (back ≡ job) × GivesBack (jobs self.old) (jobs self.new)) };
 }
 

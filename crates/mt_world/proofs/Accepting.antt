@@ -16,15 +16,15 @@ use Rattle.mt_board.specs.declared.no.No.{No}
 use Rattle.mt_board.specs.Probing.{Probe, acceptance}
 use Rattle.mt_machine.specs.Book.{probe_at}
 use Rattle.mt_machine.proofs.Books.{all_at, told_at}
-use Rattle.mt_picture.specs.Story.{IsEntered, IsGivenFor, IsRefused as IsDenied, Story}
+use Rattle.mt_picture.specs.Story.{IsEntered, IsPrepGivenFor, IsCommandRefused as IsDenied, Story}
 use Rattle.mt_picture.proofs.Counted.{history_counted}
-use Rattle.mt_probe.specs.Hits.{IsTried, Tried, told_of}
+use Rattle.mt_probe.specs.Hits.{IsTried, Trial, told_of}
 use Rattle.mt_write.specs.declared.reply.Reply.{Reply}
 use Rattle.mt_write.specs.declared.reply.Reply.TheVariants as replies
 use Rattle.mt_world.specs.declared.actor.Actor.{Actor}
-use Rattle.mt_world.specs.Sound.{IsKeptOf, IsSoundWorld, shown}
+use Rattle.mt_world.specs.Sound.{IsKeptOf, IsSoundWorld, actor_shown}
 use Rattle.mt_world.specs.Told.{entered_reply}
-use Rattle.mt_world.specs.World.{IsAcceptedOf, IsAccepted, IsChanged, IsRefused, World, actor_of, is_empty}
+use Rattle.mt_world.specs.World.{IsAcceptedOf, IsAccepted, IsCommandAnswered, IsRefused, World, actor_of, is_empty}
 use Rattle.mt_world.specs.World as world
 use Rattle.mt_world.proofs.Entering.{changed_is, same_setup}
 use Rattle.mt_world.proofs.Taking.{seen}
@@ -35,11 +35,11 @@ full_list [] some = cc
 full_list (x ∷ xs) some = refl
 
 -- the command that accepts what was tried
-abbrev pub accepting : Tried → Command
+abbrev pub accepting : Trial → Command
 accepting p = Accept p.call p.clearance p.eff p.prep.state.version
 
 module _ (story : Story) (actors : List Actor) (who : ℕ) (a : Actor) (sound : IsSoundWorld story actors) (below : who < 16) (is : a ≡ get_or actors who a)
-    (number : ℕ) (p : Tried) (found : probe_at a.book number ≡ Some p) where
+    (number : ℕ) (p : Trial) (found : probe_at a.book number ≡ Some p) where
   kept : IsKeptOf story.setup story.history p
   kept = all_at (IsKeptOf story.setup story.history) a.book number p (actor_sound story actors who a sound below is).kept found
 
@@ -52,7 +52,7 @@ module _ (story : Story) (actors : List Actor) (who : ℕ) (a : Actor) (sound : 
   pub accept_in_time : IsInTime (length story.history) (accepting p)
   accept_in_time = kept.past
 
-  pub accept_given : IsTried p → IsGivenFor story who (accepting p) (Some p.prep)
+  pub accept_given : IsTried p → IsPrepGivenFor story who (accepting p) (Some p.prep)
   accept_given tried = record {
     makes = tt;
     setup_is = kept.setup_is;
@@ -78,25 +78,25 @@ module _ (story : Story) (actors : List Actor) (who : ℕ) (a : Actor) (sound : 
   pub not_free : (reply : Reply) → (length p.hits == 0) ≡ false → reply ≡ replies.Refused NotFree (length story.history)
       → IsAccepted (seen story actors) who number reply (seen story actors)
   not_free reply some refused = subst (λ (o : Option Probe). IsAcceptedOf (seen story actors) who o reply (seen story actors)) (sym told_found)
-      (subst (λ (b : Bool). MatchBool b (IsChanged (seen story actors) who (acceptance (told_of p)) reply (seen story actors))
+      (subst (λ (b : Bool). MatchBool b (IsCommandAnswered (seen story actors) who (acceptance (told_of p)) reply (seen story actors))
       (IsRefused (seen story actors) (replies.Refused NotFree (length story.history)) reply (seen story actors))) (sym (full_list p.hits some))
       (record { reply_is = refused; same = refl }))
 
   pub accepted : (next : World) (reply : Reply) → p.hits ≡ []
-      → IsChanged (seen story actors) who (accepting p) reply next ⊎ IsRefused (seen story actors) replies.Memory reply next
+      → IsCommandAnswered (seen story actors) who (accepting p) reply next ⊎ IsRefused (seen story actors) replies.Memory reply next
       → IsAccepted (seen story actors) who number reply next ⊎ IsRefused (seen story actors) replies.Memory reply next
   accepted next reply none (inl changed) = inl (subst (λ (o : Option Probe). IsAcceptedOf (seen story actors) who o reply next) (sym told_found)
-      (subst (λ (hits : List Hit). MatchBool (is_empty hits) (IsChanged (seen story actors) who (acceptance (told_of p)) reply next)
+      (subst (λ (hits : List Hit). MatchBool (is_empty hits) (IsCommandAnswered (seen story actors) who (acceptance (told_of p)) reply next)
       (IsRefused (seen story actors) (replies.Refused NotFree (length story.history)) reply next)) (sym none) changed))
   accepted next reply none (inr memory) = inr memory
 
 -- what is answered of a command, by what the picture answers
 pub published_is : (story after : Story) (actors : List Actor) (who : ℕ) (c : Command) (result : Result Entered No) → IfOk result (IsEntered story after who c)
     → IfErr result (IsDenied story who c) → OnErr result (after ≡ story)
-    → IsChanged (seen story actors) who c (entered_reply result) (seen after actors)
+    → IsCommandAnswered (seen story actors) who c (entered_reply result) (seen after actors)
     ⊎ IsRefused (seen story actors) replies.Memory (entered_reply result) (seen after actors)
 published_is story after actors who c result entered denied unchanged = changed_is (seen story actors) (seen after actors) who c result
-    (λ i. record { rules = (same i).rules; tables = (same i).tables; areas = []; begun = true; history = after.history; actors = map shown actors })
+    (λ i. record { rules = (same i).rules; tables = (same i).tables; areas = []; begun = true; history = after.history; actors = map actor_shown actors })
     entered denied (seen_unchanged result unchanged) where
       same : after.setup ≡ story.setup
       same = same_setup story after who c result entered unchanged

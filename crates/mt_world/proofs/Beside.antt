@@ -17,7 +17,7 @@ use Rattle.mt_read.specs.declared.request.Request.TheVariants as requests
 use Rattle.mt_tables.specs.declared.add_no.AddNo.{AddNo}
 use Rattle.mt_write.specs.declared.reply.DoneWord.{DoneWord}
 use Rattle.mt_write.specs.declared.reply.Reply.{Reply}
-use Rattle.mt_world.specs.World.{IsAcceptedOf, IsAdded, IsAdvisedAs, IsChanged, IsGiven, IsLeft, IsListed, IsOfAreas, IsOutcome, IsRefused, IsServed, IsStarved, IsTold, IsTried, World, actor_of, is_empty, picture_of, with_areas}
+use Rattle.mt_world.specs.World.{IsAcceptedOf, IsAdded, IsAdvisedAs, IsCommandAnswered, IsGiven, IsWorldLeft, IsListAnswered, IsOfAreas, IsOutcome, IsRefused, IsServed, IsStarved, IsFlightTold, IsTrialAnswered, World, actor_of, is_empty, picture_of, with_areas}
 
 either_as : (b : Bool) (P Q P' Q' : Type 0) → (P → P') → (Q → Q') → MatchBool b P Q → MatchBool b P' Q'
 either_as true P Q P' Q' p q m = p m
@@ -39,7 +39,7 @@ module _ (areas : List Area) (w next : World) (reply : Reply) where
   given : (given : Reply) (then : World) → IsGiven given then reply next → IsGiven given (with_areas then areas) reply after
   given is then g = record { reply_is = g.reply_is; next_is = ap (λ (u : World). with_areas u areas) g.next_is }
 
-  listed : IsListed w reply next → IsListed v reply after
+  listed : IsListAnswered w reply next → IsListAnswered v reply after
   listed l = record { conflicts = l.conflicts; published = l.published; reply_is = l.reply_is; same = same_beside l.same }
 
   added : (checked : Result ⊤ AddNo) (word : DoneWord) (taken : Reply) (tables : Tables) → IsAdded w checked word taken tables reply next
@@ -47,7 +47,7 @@ module _ (areas : List Area) (w next : World) (reply : Reply) where
   added (Ok _) word taken tables g = given _ _ g
   added (Err refusal) word taken tables r = refused _ r
 
-  told : (call : List ℕ) (sec : Option ℕ) (found : Option Record) → IsTold w call sec found reply next → IsTold v call sec found reply after
+  told : (call : List ℕ) (sec : Option ℕ) (found : Option Record) → IsFlightTold w call sec found reply next → IsFlightTold v call sec found reply after
   told call sec (Some flight) g = given _ w g
   told call sec None r = refused _ r
 
@@ -55,11 +55,11 @@ module _ (areas : List Area) (w next : World) (reply : Reply) where
   outcome (Ok entry) g = given _ _ g
   outcome (Err refusal) r = refused _ r
 
-  changed : (who : ℕ) (command : Command) → IsChanged w who command reply next → IsChanged v who command reply after
+  changed : (who : ℕ) (command : Command) → IsCommandAnswered w who command reply next → IsCommandAnswered v who command reply after
   changed who command c = record { decision = c.decision; decided = c.decided; outcome = outcome c.decision c.outcome }
 
   tried : (who : ℕ) (call : List ℕ) (clearance : Clearance) (eff : ℕ) (result : Result (List Hit) Refusal)
-      → IsTried w who call clearance eff result reply next → IsTried v who call clearance eff result reply after
+      → IsTrialAnswered w who call clearance eff result reply next → IsTrialAnswered v who call clearance eff result reply after
   tried who call clearance eff (Ok hits) g = given _ _ g
   tried who call clearance eff (Err refusal) r = refused _ r
 
@@ -98,7 +98,7 @@ module _ (areas : List Area) (w next : World) (reply : Reply) where
       (λ h. record { history = h.history; settled = h.settled; given = given _ _ h.given }) (refused _) s
   served_beside who requests.Areas other s = absurd (other tt)
 
-  left_beside : (who : ℕ) (request : Request) → IsLeft w who request next → IsLeft v who request after
+  left_beside : (who : ℕ) (request : Request) → IsWorldLeft w who request next → IsWorldLeft v who request after
   left_beside who requests.Settle left = ⊎_elim (λ same. inl (same_beside same))
       (λ part. inr (record { history = part.history; part = part.part; next_is = ap (λ (u : World). with_areas u areas) part.next_is })) left
   left_beside who request same = same_beside same

@@ -10,12 +10,12 @@ use Rattle.mt_base.specs.History.{IsLegal, WasFree}
 use Rattle.mt_base.specs.Tables.{Setup}
 use Rattle.mt_board.specs.declared.no.No.{No}
 use Rattle.mt_board.specs.declared.no.No.TheVariants as nos
-use Rattle.mt_picture.specs.Story.{IsEntered, IsRefused as IsDenied, Story}
+use Rattle.mt_picture.specs.Story.{IsEntered, IsCommandRefused as IsDenied, Story}
 use Rattle.mt_write.specs.declared.reply.Reply.TheVariants as replies
 use Rattle.mt_world.specs.declared.actor.Actor.{Actor}
 use Rattle.mt_world.specs.Sound.{IsSoundWorld, story_of}
 use Rattle.mt_world.specs.Told.{entered_reply}
-use Rattle.mt_world.specs.World.{IsChanged, IsRefused, World}
+use Rattle.mt_world.specs.World.{IsCommandAnswered, IsRefused, World}
 use Rattle.mt_world.proofs.WorldLemmas.{sound_push}
 
 -- ---- commands that are asked for by themselves
@@ -47,7 +47,7 @@ sound_after before after actors who c (Err denied) sound free is unchanged legal
 -- what is answered of a command
 pub changed_is : (w next : World) (who : ℕ) (c : Command) (result : Result Entered No) → next ≡ record w { history = next.history }
     → IfOk result (IsEntered (story_of w) (story_of next) who c) → IfErr result (IsDenied (story_of w) who c) → OnErr result (next ≡ w)
-    → IsChanged w who c (entered_reply result) next ⊎ IsRefused w replies.Memory (entered_reply result) next
+    → IsCommandAnswered w who c (entered_reply result) next ⊎ IsRefused w replies.Memory (entered_reply result) next
 changed_is w next who c (Ok entered) kept is denied unchanged = inl (record {
   decision = Ok is.entry;
   decided = is.decided;

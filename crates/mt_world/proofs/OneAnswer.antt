@@ -29,7 +29,7 @@ use Rattle.mt_write.specs.declared.reply.Reply.{Reply}
 use Rattle.mt_write.specs.declared.reply.Reply.TheVariants.{Areas as areas_told, List as listed, Settled as settled}
 use Rattle.mt_board.specs.Probing.{Probe}
 use Rattle.mt_base.proofs.Cases.{on_both}
-use Rattle.mt_world.specs.World.{AreAreasTold, IsAcceptedOf, IsAdded, IsAdvised, IsAdvisedAs, IsAreaAdded, IsAreaGiven, IsChanged, IsGiven, IsListed, IsOutcome, IsProbed, IsRefused, IsServed, IsSettling, IsTold, IsTried, World, actor_of, is_empty, picture_of, picture_taken, setup_of}
+use Rattle.mt_world.specs.World.{AreAreasTold, IsAcceptedOf, IsAdded, IsAdviceAnswered, IsAdvisedAs, IsAreaAdded, IsAreaGiven, IsCommandAnswered, IsGiven, IsListAnswered, IsOutcome, IsProbeAnswered, IsRefused, IsServed, IsSettling, IsFlightTold, IsTrialAnswered, World, actor_of, is_empty, picture_of, picture_taken, setup_of}
 use Rattle.mt_world.proofs.OneSolution.{one_advised, one_decision, one_renewal, one_what_if}
 
 -- the same reply, and the same world after it
@@ -42,7 +42,7 @@ one_given given after r s next other x y = (x.reply_is ∙ sym y.reply_is, x.nex
 one_refused : (w : World) (refusal r s : Reply) (next other : World) → IsRefused w refusal r next → IsRefused w refusal s other → AreOne r s next other
 one_refused w refusal r s next other x y = (x.reply_is ∙ sym y.reply_is, x.same ∙ sym y.same)
 
-one_listed : (w : World) (r s : Reply) (next other : World) → IsListed w r next → IsListed w s other → AreOne r s next other
+one_listed : (w : World) (r s : Reply) (next other : World) → IsListAnswered w r next → IsListAnswered w s other → AreOne r s next other
 one_listed w r s next other x y =
     let conflicts : x.conflicts ≡ y.conflicts = one_order total x.conflicts y.conflicts x.published.sorted y.published.sorted
     (λ c h. (y.published.exact c).1 ((x.published.exact c).0 h)) (λ c h. (x.published.exact c).1 ((y.published.exact c).0 h)) in
@@ -86,25 +86,25 @@ one_outcome : (w : World) (d : Result Entry Refusal) (r s : Reply) (next other :
 one_outcome w (Ok entry) r s next other x y = one_given _ _ r s next other x y
 one_outcome w (Err refusal) r s next other x y = one_refused w _ r s next other x y
 
-one_changed : (w : World) (who : ℕ) (command : Command) (r s : Reply) (next other : World) → IsChanged w who command r next
-    → IsChanged w who command s other → AreOne r s next other
+one_changed : (w : World) (who : ℕ) (command : Command) (r s : Reply) (next other : World) → IsCommandAnswered w who command r next
+    → IsCommandAnswered w who command s other → AreOne r s next other
 one_changed w who command r s next other x y =
     let same : y.decision ≡ x.decision = one_decision (setup_of w) (picture_of w) who command y.decision x.decision y.decided x.decided in
     one_outcome w x.decision r s next other x.outcome (subst (λ (d : Result Entry Refusal). IsOutcome w d s other) same y.outcome)
 
 one_tried : (w : World) (who : ℕ) (call : List ℕ) (clearance : Clearance) (eff : ℕ) (found : Result (List Hit) Refusal) (r s : Reply) (next other : World)
-    → IsTried w who call clearance eff found r next → IsTried w who call clearance eff found s other → AreOne r s next other
+    → IsTrialAnswered w who call clearance eff found r next → IsTrialAnswered w who call clearance eff found s other → AreOne r s next other
 one_tried w who call clearance eff (Ok hits) r s next other x y = one_given _ _ r s next other x y
 one_tried w who call clearance eff (Err refusal) r s next other x y = one_refused w _ r s next other x y
 
 one_probed : (w : World) (who : ℕ) (call : List ℕ) (clearance : Clearance) (eff : Option ℕ) (r s : Reply) (next other : World)
-    → IsProbed w who call clearance eff r next → IsProbed w who call clearance eff s other → AreOne r s next other
+    → IsProbeAnswered w who call clearance eff r next → IsProbeAnswered w who call clearance eff s other → AreOne r s next other
 one_probed w who call clearance eff r s next other x y =
     let at : ℕ = unwrap_or eff (picture_taken w who).now in
     let same : y.result ≡ x.result =
     one_what_if (setup_of w) (picture_taken w who) call clearance eff y.result x.result y.follows x.follows in
     one_tried w who call clearance at x.result r s next other x.tried
-    (subst (λ (found : Result (List Hit) Refusal). IsTried w who call clearance at found s other) same y.tried)
+    (subst (λ (found : Result (List Hit) Refusal). IsTrialAnswered w who call clearance at found s other) same y.tried)
 
 one_accepted : (w : World) (who : ℕ) (found : Option Probe) (r s : Reply) (next other : World) → IsAcceptedOf w who found r next
     → IsAcceptedOf w who found s other → AreOne r s next other
@@ -117,7 +117,7 @@ one_told : (w : World) (who : ℕ) (call : List ℕ) (eff : ℕ) (advice : Resul
 one_told w who call eff (Ok advised) r s next other x y = one_given _ _ r s next other x y
 one_told w who call eff (Err refusal) r s next other x y = one_refused w _ r s next other x y
 
-one_advice_told : (w : World) (who : ℕ) (call : List ℕ) (r s : Reply) (next other : World) → IsAdvised w who call r next → IsAdvised w who call s other
+one_advice_told : (w : World) (who : ℕ) (call : List ℕ) (r s : Reply) (next other : World) → IsAdviceAnswered w who call r next → IsAdviceAnswered w who call s other
     → AreOne r s next other
 one_advice_told w who call r s next other x y =
     let eff : ℕ = (picture_taken w who).now in
@@ -148,7 +148,7 @@ one_served w who requests.List r s next other x y = on_both w.begun _ _ _ _ _ (o
 one_served w who requests.Check r s next other x y = on_both w.begun _ _ _ _ _ (one_listed w r s next other) (one_refused w _ r s next other) x y
 one_served w who (requests.Flight call sec) r s next other x y =
     on_both w.begun _ _ _ _ _ (one_told (flight_of (picture_of w).records call)) (one_refused w _ r s next other) x y where
-      one_told : (found : Option Record) → IsTold w call sec found r next → IsTold w call sec found s other → AreOne r s next other
+      one_told : (found : Option Record) → IsFlightTold w call sec found r next → IsFlightTold w call sec found s other → AreOne r s next other
       one_told (Some flight) a b = one_given _ _ r s next other a b
       one_told None a b = one_refused w _ r s next other a b
 one_served w who (requests.History from to) r s next other x y =

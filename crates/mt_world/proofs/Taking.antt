@@ -13,15 +13,15 @@ use Rattle.mt_board.specs.Probing.{Probe, free_probe}
 use Rattle.mt_lines.specs.Fit.{AreBrief}
 use Rattle.mt_machine.specs.Book.{with_all, with_probe}
 use Rattle.mt_picture.specs.Story.{Story}
-use Rattle.mt_probe.specs.Hits.{IsTried, Tried, told_of}
-use Rattle.mt_probe.specs.Shot.{state_of as state_in}
+use Rattle.mt_probe.specs.Hits.{IsTried, Trial, told_of}
+use Rattle.mt_probe.specs.Shot.{state_in_shot as state_in}
 use Rattle.mt_snapshot_advice.specs.Advised.{IsAdvisedOn}
 use Rattle.mt_write.specs.declared.reply.AdviceItem.{AdviceItem}
 use Rattle.mt_write.specs.declared.reply.Reply.TheVariants as replies
 use Rattle.mt_world.specs.declared.actor.Actor.{Actor}
-use Rattle.mt_world.specs.Sound.{IsAdvisedOf, IsProbeOf, IsSoundActor, IsSoundWorld, IsUnadvisedOf, IsUnprobedOf, clearances_of, shown}
+use Rattle.mt_world.specs.Sound.{IsAdvisedOf, IsProbeOf, IsSoundActor, IsSoundWorld, IsUnadvisedOf, IsUnprobedOf, clearances_of, actor_shown}
 use Rattle.mt_world.specs.Told.{no_reply}
-use Rattle.mt_world.specs.World.{IsAdvised, IsProbed, IsRefused, World, actor_of, items_from, picture_taken, with_book}
+use Rattle.mt_world.specs.World.{IsAdviceAnswered, IsProbeAnswered, IsRefused, World, actor_of, items_from, picture_taken, with_book}
 use Rattle.mt_world.specs.World as world
 use Rattle.mt_world.proofs.Advice.{tried_are}
 use Rattle.mt_world.proofs.BriefHits.{brief_hits}
@@ -29,7 +29,7 @@ use Rattle.mt_world.proofs.WorldLemmas.{actor_is, actor_sound}
 
 -- a world as its fields show it
 abbrev pub seen : Story → List Actor → World
-seen story actors = record { rules = story.setup.rules; tables = story.setup.tables; areas = []; begun = true; history = story.history; actors = map shown actors }
+seen story actors = record { rules = story.setup.rules; tables = story.setup.tables; areas = []; begun = true; history = story.history; actors = map actor_shown actors }
 
 module _ (story : Story) (actors : List Actor) (who : ℕ) (a : Actor) (sound : IsSoundWorld story actors) (below : who < 16) (is : a ≡ get_or actors who a) where
   actor : IsSoundActor story.setup story.history a
@@ -44,7 +44,7 @@ module _ (story : Story) (actors : List Actor) (who : ℕ) (a : Actor) (sound : 
   taken_state = actor.taken.state_is ∙ ap (λ (n : ℕ). state_of story.setup (take n story.history)) taken_version
 
   -- advice on it
-  pub advised_of : (call : List ℕ) (eff version : ℕ) (probes : List Tried) → IsAdvisedOn a.taken call eff version probes
+  pub advised_of : (call : List ℕ) (eff version : ℕ) (probes : List Trial) → IsAdvisedOn a.taken call eff version probes
       → IsAdvisedOf (seen story actors) who call eff version probes
   advised_of call eff version probes on = record {
     eff_is = on.eff_is ∙ ap (λ (s : State). s.now) taken_state;
@@ -56,17 +56,17 @@ module _ (story : Story) (actors : List Actor) (who : ℕ) (a : Actor) (sound : 
     few = on.few;
   }
 
-  pub advised_result : {A : Type 0} (r : Result A No) (eff version : A → ℕ) (probes : A → List Tried) (call : List ℕ)
+  pub advised_result : {A : Type 0} (r : Result A No) (eff version : A → ℕ) (probes : A → List Trial) (call : List ℕ)
       → IfOk r (λ x. IsAdvisedOn a.taken call (eff x) (version x) (probes x))
       → IfOk r (λ x. IsAdvisedOf (seen story actors) who call (eff x) (version x) (probes x))
   advised_result (Ok x) eff version probes call on = advised_of call (eff x) (version x) (probes x) on
   advised_result (Err denied) eff version probes call on = tt
 
 -- a probe of the actor's clearance
-pub probed_is : (w next : World) (who : ℕ) (call : List ℕ) (clearance : Clearance) (eff : Option ℕ) (p : Tried) (conflicts : List Hit) (at number version : ℕ)
+pub probed_is : (w next : World) (who : ℕ) (call : List ℕ) (clearance : Clearance) (eff : Option ℕ) (p : Trial) (conflicts : List Hit) (at number version : ℕ)
     → IsProbeOf w who call clearance eff p → conflicts ≡ p.hits → at ≡ p.eff → version ≡ p.prep.state.version
     → number ≡ raised (actor_of w who).book.count → next ≡ with_book w who (with_probe (actor_of w who).book (told_of p))
-    → IsProbed w who call clearance eff (replies.Probe conflicts at number version) next
+    → IsProbeAnswered w who call clearance eff (replies.Probe conflicts at number version) next
 probed_is w next who call clearance eff p conflicts at number version of hits second counted numbered is = record {
   result = Ok p.hits;
   follows = of.follows;
@@ -80,7 +80,7 @@ probed_is w next who call clearance eff p conflicts at number version of hits se
 -- or its refusal
 pub unprobed_is : (w next : World) (who : ℕ) (call : List ℕ) (clearance : Clearance) (eff : Option ℕ) (denied : No) → next ≡ w
     → IsUnprobedOf w who call clearance eff denied
-    → IsProbed w who call clearance eff (no_reply denied) next ⊎ IsRefused w replies.Memory (no_reply denied) next
+    → IsProbeAnswered w who call clearance eff (no_reply denied) next ⊎ IsRefused w replies.Memory (no_reply denied) next
 unprobed_is w next who call clearance eff (nos.Refused refusal version) same refused = inl (record {
   result = Err refusal;
   follows = refused.0;
@@ -89,13 +89,13 @@ unprobed_is w next who call clearance eff (nos.Refused refusal version) same ref
 unprobed_is w next who call clearance eff nos.Memory same refused = inr (record { reply_is = refl; same = same })
 
 -- the hits of a probe are few enough for its reply
-pub brief_tried : (p : Tried) → IsTried p → AreBrief p.hits
+pub brief_tried : (p : Trial) → IsTried p → AreBrief p.hits
 brief_tried p tried = brief_hits p.prep.setup p.prep.state p.call p.clearance (Some p.eff) p.hits tried.follows tried.short tried.kept.early
 
 -- advice to the actor
-pub advised_is : (w next : World) (who : ℕ) (call : List ℕ) (eff version count : ℕ) (probes : List Tried) (items : List AdviceItem)
+pub advised_is : (w next : World) (who : ℕ) (call : List ℕ) (eff version count : ℕ) (probes : List Trial) (items : List AdviceItem)
     → IsAdvisedOf w who call eff version probes → count ≡ (actor_of w who).book.count → items ≡ items_from count (clearances_of probes)
-    → next ≡ with_book w who (with_all (actor_of w who).book (map told_of probes)) → IsAdvised w who call (replies.Advice items call eff version) next
+    → next ≡ with_book w who (with_all (actor_of w who).book (map told_of probes)) → IsAdviceAnswered w who call (replies.Advice items call eff version) next
 advised_is w next who call eff version count probes items of counted listed is =
     let tried : clearances_of probes ≡ of.clearances = tried_are probes call eff version of.clearances of.told in
     record {
@@ -110,7 +110,7 @@ advised_is w next who call eff version count probes items of counted listed is =
     }
 
 pub unadvised_is : (w : World) (who : ℕ) (call : List ℕ) (denied : No) → IsUnadvisedOf w who call denied
-    → IsAdvised w who call (no_reply denied) w ⊎ IsRefused w replies.Memory (no_reply denied) w
+    → IsAdviceAnswered w who call (no_reply denied) w ⊎ IsRefused w replies.Memory (no_reply denied) w
 unadvised_is w who call (nos.Refused refusal version) refused = inl (record {
   result = Err refusal;
   advice = refused.0;

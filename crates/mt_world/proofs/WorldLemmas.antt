@@ -9,11 +9,11 @@ use Rattle.mt_base.specs.Tables.{Setup}
 use Rattle.mt_base.proofs.HistoryLemmas.{version_is}
 use Rattle.mt_machine.specs.Book.{Book, empty_book, told_book}
 use Rattle.mt_picture.specs.Story.{Story}
-use Rattle.mt_probe.specs.Hits.{Tried, told_of}
+use Rattle.mt_probe.specs.Hits.{Trial, told_of}
 use Rattle.mt_probe.specs.Shot.{Shot}
-use Rattle.mt_probe.specs.Shot.{state_of as state_in}
+use Rattle.mt_probe.specs.Shot.{state_in_shot as state_in}
 use Rattle.mt_world.specs.declared.actor.Actor.{Actor}
-use Rattle.mt_world.specs.Sound.{IsKeptOf, IsSoundActor, IsSoundWorld, IsTakenOf, shown}
+use Rattle.mt_world.specs.Sound.{IsKeptOf, IsSoundActor, IsSoundWorld, IsTakenOf, actor_shown}
 use Rattle.mt_world.specs.World.{new_actor}
 use Rattle.mt_world.specs.World as world
 
@@ -34,7 +34,7 @@ taken_push setup h e shot taken = record {
   state_is = taken.state_is ∙ ap (state_of setup) (sym (take-append-le shot.version h (e ∷ []) taken.past));
 }
 
-kept_push : (setup : Setup) (h : List Entry) (e : Entry) (p : Tried) → IsKeptOf setup h p → IsKeptOf setup (h ++ e ∷ []) p
+kept_push : (setup : Setup) (h : List Entry) (e : Entry) (p : Trial) → IsKeptOf setup h p → IsKeptOf setup (h ++ e ∷ []) p
 kept_push setup h e p kept = record {
   setup_is = kept.setup_is;
   past = omega (arith, length-append h (e ∷ []), kept.past);
@@ -75,7 +75,7 @@ sound_set story actors i a sound actor = record {
 }
 
 -- an actor of a world by its number is the actor of that place
-pub actor_at : (actors : List Actor) (i : ℕ) (d : Actor) (e : world.Actor) → i < length actors → get_or (map shown actors) i e ≡ shown (get_or actors i d)
+pub actor_at : (actors : List Actor) (i : ℕ) (d : Actor) (e : world.Actor) → i < length actors → get_or (map actor_shown actors) i e ≡ actor_shown (get_or actors i d)
 actor_at [] i d e below = absurd (omega arith)
 actor_at (a ∷ bs) zero d e below = refl
 actor_at (a ∷ bs) (suc i) d e below = actor_at bs i d e (omega arith)
@@ -88,22 +88,22 @@ actor_sound story actors i a sound below is =
     subst (IsSoundActor story.setup story.history) (sym is) (sound.each i a within)
 
 -- it is the actor of the definition of that number
-pub actor_is : (actors : List Actor) (i : ℕ) (a : Actor) → i < length actors → a ≡ get_or actors i a → get_or (map shown actors) i new_actor ≡ shown a
-actor_is actors i a below is = actor_at actors i a new_actor below ∙ sym (ap shown is)
+pub actor_is : (actors : List Actor) (i : ℕ) (a : Actor) → i < length actors → a ≡ get_or actors i a → get_or (map actor_shown actors) i new_actor ≡ actor_shown a
+actor_is actors i a below is = actor_at actors i a new_actor below ∙ sym (ap actor_shown is)
 
 -- the actors as the definition has them, once one has another book
-pub book_view : (actors : List Actor) (i : ℕ) (a : Actor) (book : Book Tried) → i < length actors → a ≡ get_or actors i a
-    → map shown (slice_set actors i (record { taken = a.taken; book = book }))
-    ≡ slice_set (map shown actors) i (record (get_or (map shown actors) i new_actor) { book = told_book told_of book })
-book_view actors i a book below is = map-set shown actors i (record { taken = a.taken; book = book })
-    ∙ ap (λ (b : world.Actor). slice_set (map shown actors) i (record b { book = told_book told_of book })) (sym (actor_is actors i a below is))
+pub book_view : (actors : List Actor) (i : ℕ) (a : Actor) (book : Book Trial) → i < length actors → a ≡ get_or actors i a
+    → map actor_shown (slice_set actors i (record { taken = a.taken; book = book }))
+    ≡ slice_set (map actor_shown actors) i (record (get_or (map actor_shown actors) i new_actor) { book = told_book told_of book })
+book_view actors i a book below is = map-set actor_shown actors i (record { taken = a.taken; book = book })
+    ∙ ap (λ (b : world.Actor). slice_set (map actor_shown actors) i (record b { book = told_book told_of book })) (sym (actor_is actors i a below is))
 
 -- and once one has taken another snapshot
 pub taken_view : (actors : List Actor) (i : ℕ) (a : Actor) (shot : Shot) → i < length actors → a ≡ get_or actors i a
-    → map shown (slice_set actors i (record { taken = shot; book = a.book }))
-    ≡ slice_set (map shown actors) i (record (get_or (map shown actors) i new_actor) { taken = shot.version })
-taken_view actors i a shot below is = map-set shown actors i (record { taken = shot; book = a.book })
-    ∙ ap (λ (b : world.Actor). slice_set (map shown actors) i (record b { taken = shot.version })) (sym (actor_is actors i a below is))
+    → map actor_shown (slice_set actors i (record { taken = shot; book = a.book }))
+    ≡ slice_set (map actor_shown actors) i (record (get_or (map actor_shown actors) i new_actor) { taken = shot.version })
+taken_view actors i a shot below is = map-set actor_shown actors i (record { taken = shot; book = a.book })
+    ∙ ap (λ (b : world.Actor). slice_set (map actor_shown actors) i (record b { taken = shot.version })) (sym (actor_is actors i a below is))
 
 -- ---- at first
 
@@ -122,13 +122,13 @@ IsFirst shot actor = (actor.taken ≡ shot) × (actor.book ≡ empty_book)
 
 -- actors as they are at first are those of the definition
 pub shown_first : (shot : Shot) (actors : List Actor) (n : ℕ) → shot.version ≡ 0 → length actors ≡ n → All (IsFirst shot) actors
-    → map shown actors ≡ replicate n new_actor
+    → map actor_shown actors ≡ replicate n new_actor
 shown_first shot [] zero none e all = refl
 shown_first shot [] (suc n) none e all = cc
 shown_first shot (a ∷ bs) zero none e all = cc
 shown_first shot (a ∷ bs) (suc n) none e all = ap₂ (λ (b : world.Actor) (cs : List world.Actor). b ∷ cs)
     (first_shown a (all 0 a (omega arith))) (shown_first shot bs n none (omega arith) (λ k d below. all (suc k) d (omega arith))) where
-      first_shown : (b : Actor) → IsFirst shot b → shown b ≡ new_actor
+      first_shown : (b : Actor) → IsFirst shot b → actor_shown b ≡ new_actor
       first_shown b is = rw (is.0, is.1, none) refl
 
 -- a world in which each actor has taken version 0 is sound where its history is legal
@@ -145,7 +145,7 @@ sound_first setup h shot actors legal setup_is none state sixteen all = record {
   sound_one : (actor : Actor) → IsFirst shot actor → IsSoundActor setup h actor
   sound_one actor first = record {
     taken = subst (IsTakenOf setup h) (sym first.0) taken;
-    kept = subst (λ (b : Book Tried). All (IsKeptOf setup h) b.last) (sym first.1) (λ k d below. absurd (omega arith));
+    kept = subst (λ (b : Book Trial). All (IsKeptOf setup h) b.last) (sym first.1) (λ k d below. absurd (omega arith));
   }
 
 -- an empty history is legal

@@ -11,9 +11,9 @@ use Rattle.mt_board.specs.declared.no.No.TheVariants as nos
 use Rattle.mt_board.specs.Probing.{free_probe}
 use Rattle.mt_machine.specs.Book.{told_book}
 use Rattle.mt_picture.specs.Story.{Story}
-use Rattle.mt_probe.specs.Hits.{Tried, told_of}
+use Rattle.mt_probe.specs.Hits.{Trial, told_of}
 use Rattle.mt_probe.specs.Shot.{Shot}
-use Rattle.mt_probe.specs.Shot.{state_of as state_in}
+use Rattle.mt_probe.specs.Shot.{state_in_shot as state_in}
 use Rattle.mt_world.specs.declared.actor.Actor.{Actor}
 use Rattle.mt_world.specs.World as world
 use Rattle.mt_world.specs.World.{World, actor_of, picture_taken, setup_of}
@@ -28,7 +28,7 @@ pub record IsTakenOf (setup : Setup) (h : List Entry) (shot : Shot) : Type 0 whe
   pub past : shot.version ≤ length h
   pub state_is : state_in shot ≡ state_of setup (take shot.version h)
 
-pub record IsKeptOf (setup : Setup) (h : List Entry) (p : Tried) : Type 0 where
+pub record IsKeptOf (setup : Setup) (h : List Entry) (p : Trial) : Type 0 where
   pub setup_is : p.prep.setup ≡ setup
   pub past : p.prep.state.version ≤ length h
   pub state_is : p.prep.state ≡ state_of setup (take p.prep.state.version h)
@@ -45,15 +45,15 @@ pub record IsSoundWorld (story : Story) (actors : List Actor) : Type 0 where
   pub each : All (IsSoundActor story.setup story.history) actors
 
 -- an actor as the definition has it
-abbrev pub shown : Actor → world.Actor
-shown actor = record { taken = actor.taken.version; book = told_book told_of actor.book }
+abbrev pub actor_shown : Actor → world.Actor
+actor_shown actor = record { taken = actor.taken.version; book = told_book told_of actor.book }
 
 -- what was tried, in order
-abbrev pub clearances_of : List Tried → List Clearance
-clearances_of ps = map (λ (p : Tried). p.clearance) ps
+abbrev pub clearances_of : List Trial → List Clearance
+clearances_of ps = map (λ (p : Trial). p.clearance) ps
 
 -- A clearance was tried on the snapshot that an actor has taken, and this is its probe; or it is refused there.
-pub record IsProbeOf (w : World) (who : ℕ) (call : List ℕ) (clearance : Clearance) (eff : Option ℕ) (p : Tried) : Type 0 where
+pub record IsProbeOf (w : World) (who : ℕ) (call : List ℕ) (clearance : Clearance) (eff : Option ℕ) (p : Trial) : Type 0 where
   pub call_is : p.call ≡ call
   pub clearance_is : p.clearance ≡ clearance
   pub eff_is : p.eff ≡ unwrap_or eff (picture_taken w who).now
@@ -66,7 +66,7 @@ IsUnprobedOf w who call clearance eff (nos.Refused refusal version) =
 IsUnprobedOf w who call clearance eff nos.Memory = ⊤
 
 -- These probes are the clearances that are advised on that snapshot, in order; or advice is refused there.
-pub record IsAdvisedOf (w : World) (who : ℕ) (call : List ℕ) (eff version : ℕ) (probes : List Tried) : Type 0 where
+pub record IsAdvisedOf (w : World) (who : ℕ) (call : List ℕ) (eff version : ℕ) (probes : List Trial) : Type 0 where
   pub eff_is : eff ≡ (picture_taken w who).now
   pub version_is : version ≡ (actor_of w who).taken
   pub clearances : List Clearance

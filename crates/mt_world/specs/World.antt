@@ -102,7 +102,7 @@ pub record IsGiven (given : Reply) (after : World) (reply : Reply) (next : World
   pub next_is : next ≡ after
 
 -- the reply is what is published of the history, and nothing has changed
-pub record IsListed (w : World) (reply : Reply) (next : World) : Type 0 where
+pub record IsListAnswered (w : World) (reply : Reply) (next : World) : Type 0 where
   pub conflicts : List Conflict
   pub published : IsPublished (setup_of w) (picture_of w) conflicts
   pub reply_is : reply ≡ replies.List conflicts (length w.history)
@@ -141,47 +141,47 @@ pub record AreAreasTold (w : World) (reply : Reply) (next : World) : Type 0 wher
   pub same : next ≡ w
 
 -- what is told of the flight of a callsign, where there is one
-abbrev pub IsTold : World → List ℕ → Option ℕ → Option Record → Reply → World → Type 0
-IsTold w call sec (Some flight) reply next = IsGiven (replies.Flight (view_of (setup_of w) (picture_of w) sec flight)) w reply next
-IsTold w call sec None reply next = IsRefused w (replies.Refused (UnknownCall call) (length w.history)) reply next
+abbrev pub IsFlightTold : World → List ℕ → Option ℕ → Option Record → Reply → World → Type 0
+IsFlightTold w call sec (Some flight) reply next = IsGiven (replies.Flight (view_of (setup_of w) (picture_of w) sec flight)) w reply next
+IsFlightTold w call sec None reply next = IsRefused w (replies.Refused (UnknownCall call) (length w.history)) reply next
 
--- what a decision answers: an entry is put behind the history, a refusal changes nothing
+-- what a decision answers: an entry is put after the history, a refusal changes nothing
 abbrev pub IsOutcome : World → Result Entry Refusal → Reply → World → Type 0
 IsOutcome w (Ok entry) reply next =
     IsGiven (replies.Entered (entered_by (setup_of w) (picture_of w) entry)) (record w { history = w.history ++ entry ∷ [] }) reply next
 IsOutcome w (Err refusal) reply next = IsRefused w (replies.Refused refusal (length w.history)) reply next
 
 -- what an actor's command is answered: what is decided of it on the state of the history
-pub record IsChanged (w : World) (who : ℕ) (command : Command) (reply : Reply) (next : World) : Type 0 where
+pub record IsCommandAnswered (w : World) (who : ℕ) (command : Command) (reply : Reply) (next : World) : Type 0 where
   pub decision : Result Entry Refusal
   pub decided : IsDecided (setup_of w) (picture_of w) who command decision
   pub outcome : IsOutcome w decision reply next
 
 -- the reply carries what would follow from a clearance, or its refusal; a probe that isn't refused is put in the actor's book
-abbrev pub IsTried : World → ℕ → List ℕ → Clearance → ℕ → Result (List Hit) Refusal → Reply → World → Type 0
-IsTried w who call clearance eff (Ok hits) reply next =
+abbrev pub IsTrialAnswered : World → ℕ → List ℕ → Clearance → ℕ → Result (List Hit) Refusal → Reply → World → Type 0
+IsTrialAnswered w who call clearance eff (Ok hits) reply next =
     IsGiven (replies.Probe hits eff (raised (actor_of w who).book.count) (actor_of w who).taken)
     (with_book w who (with_probe (actor_of w who).book
     (record { call = call; clearance = clearance; eff = eff; version = (actor_of w who).taken; hits = hits }))) reply next
-IsTried w who call clearance eff (Err refusal) reply next = IsRefused w (replies.Refused refusal (actor_of w who).taken) reply next
+IsTrialAnswered w who call clearance eff (Err refusal) reply next = IsRefused w (replies.Refused refusal (actor_of w who).taken) reply next
 
 -- what a probe is answered: what would follow on the state that its actor has taken
-pub record IsProbed (w : World) (who : ℕ) (call : List ℕ) (clearance : Clearance) (eff : Option ℕ) (reply : Reply) (next : World) : Type 0 where
+pub record IsProbeAnswered (w : World) (who : ℕ) (call : List ℕ) (clearance : Clearance) (eff : Option ℕ) (reply : Reply) (next : World) : Type 0 where
   pub result : Result (List Hit) Refusal
   pub follows : IsWhatIf (setup_of w) (picture_taken w who) call clearance eff result
-  pub tried : IsTried w who call clearance (unwrap_or eff (picture_taken w who).now) result reply next
+  pub tried : IsTrialAnswered w who call clearance (unwrap_or eff (picture_taken w who).now) result reply next
 
 -- what the acceptance of a probe is answered: that the book has none of that number, that it had hits, or what is decided of it now
 abbrev pub IsAcceptedOf : World → ℕ → Option Probe → Reply → World → Type 0
 IsAcceptedOf w who None reply next = IsRefused w (replies.Refused NoProbe (length w.history)) reply next
 IsAcceptedOf w who (Some probe) reply next = MatchBool (is_empty probe.hits)
-    (IsChanged w who (acceptance probe) reply next)
+    (IsCommandAnswered w who (acceptance probe) reply next)
     (IsRefused w (replies.Refused NotFree (length w.history)) reply next)
 
 abbrev pub IsAccepted : World → ℕ → ℕ → Reply → World → Type 0
 IsAccepted w who number reply next = IsAcceptedOf w who (probe_at (actor_of w who).book number) reply next
 
--- advised clearances, each with the number that its probe gets behind so many
+-- advised clearances, each with the number that its probe gets after so many
 abbrev pub items_from : ℕ → List Clearance → List AdviceItem
 items_from count [] = []
 items_from count (c ∷ cs) = record { clearance = c; probe = raised count } ∷ items_from (raised count) cs
@@ -194,12 +194,12 @@ IsAdvisedAs w who call eff (Ok advised) reply next =
 IsAdvisedAs w who call eff (Err refusal) reply next = IsRefused w (replies.Refused refusal (actor_of w who).taken) reply next
 
 -- what is answered where advice is asked for: the advice on the state that its actor has taken
-pub record IsAdvised (w : World) (who : ℕ) (call : List ℕ) (reply : Reply) (next : World) : Type 0 where
+pub record IsAdviceAnswered (w : World) (who : ℕ) (call : List ℕ) (reply : Reply) (next : World) : Type 0 where
   pub result : Result (List Clearance) Refusal
   pub advice : IsAdvice (setup_of w) (picture_taken w who) call result
   pub told : IsAdvisedAs w who call (picture_taken w who).now result reply next
 
--- what settling is answered: the flights that are due behind the renewals of those that were due at first
+-- what settling is answered: the flights that are due after the renewals of those that were due at first
 pub record IsSettling (w : World) (who : ℕ) (reply : Reply) (next : World) : Type 0 where
   pub history : List Entry
   pub settled : IsSettled (setup_of w) who w.history history
@@ -221,22 +221,22 @@ IsServed w who requests.Begin reply next = MatchBool w.begun
     (IsRefused w replies.Begun reply next) (IsGiven (replies.Done done.Begin) (record w { begun = true; history = []; actors = replicate 16 new_actor }) reply next)
 IsServed w who (requests.Hello role) reply next = IsGiven (replies.Hello role) w reply next
 IsServed w who requests.Bye reply next = IsGiven (replies.Done done.Bye) w reply next
-IsServed w who requests.List reply next = MatchBool w.begun (IsListed w reply next) (IsRefused w replies.Unbegun reply next)
-IsServed w who requests.Check reply next = MatchBool w.begun (IsListed w reply next) (IsRefused w replies.Unbegun reply next)
+IsServed w who requests.List reply next = MatchBool w.begun (IsListAnswered w reply next) (IsRefused w replies.Unbegun reply next)
+IsServed w who requests.Check reply next = MatchBool w.begun (IsListAnswered w reply next) (IsRefused w replies.Unbegun reply next)
 IsServed w who (requests.Flight call sec) reply next = MatchBool w.begun
-    (IsTold w call sec (flight_of (picture_of w).records call) reply next) (IsRefused w replies.Unbegun reply next)
+    (IsFlightTold w call sec (flight_of (picture_of w).records call) reply next) (IsRefused w replies.Unbegun reply next)
 IsServed w who (requests.History from to) reply next = MatchBool w.begun
     (IsGiven (replies.History (take (to - from) (drop from w.history)) (length w.history)) w reply next) (IsRefused w replies.Unbegun reply next)
 IsServed w who (requests.Change command) reply next = MatchBool w.begun
-    (IsChanged w who command reply next) (IsRefused w replies.Unbegun reply next)
+    (IsCommandAnswered w who command reply next) (IsRefused w replies.Unbegun reply next)
 IsServed w who requests.Take reply next = MatchBool w.begun
     (IsGiven (replies.Taken (length w.history)) (with_all_taken w who) reply next) (IsRefused w replies.Unbegun reply next)
 IsServed w who (requests.Probe call clearance eff) reply next = MatchBool w.begun
-    (IsProbed w who call clearance eff reply next) (IsRefused w replies.Unbegun reply next)
+    (IsProbeAnswered w who call clearance eff reply next) (IsRefused w replies.Unbegun reply next)
 IsServed w who (requests.Accept number) reply next = MatchBool w.begun
     (IsAccepted w who number reply next) (IsRefused w replies.Unbegun reply next)
 IsServed w who (requests.Advise call) reply next = MatchBool w.begun
-    (IsAdvised w who call reply next) (IsRefused w replies.Unbegun reply next)
+    (IsAdviceAnswered w who call reply next) (IsRefused w replies.Unbegun reply next)
 IsServed w who requests.Due reply next = MatchBool w.begun
     (IsGiven (replies.Due (due_calls (picture_of w).records) (length w.history)) w reply next) (IsRefused w replies.Unbegun reply next)
 IsServed w who requests.Settle reply next = MatchBool w.begun
@@ -255,10 +255,10 @@ pub record IsSettledSoFar (w : World) (who : ℕ) (next : World) : Type 0 where
   pub part : IsSettledInPart (setup_of w) who w.history history
   pub next_is : next ≡ record w { history = history }
 
-abbrev pub IsLeft : World → ℕ → Request → World → Type 0
-IsLeft w who requests.Settle next = (next ≡ w) ⊎ IsSettledSoFar w who next
-IsLeft w who request next = next ≡ w
+abbrev pub IsWorldLeft : World → ℕ → Request → World → Type 0
+IsWorldLeft w who requests.Settle next = (next ≡ w) ⊎ IsSettledSoFar w who next
+IsWorldLeft w who request next = next ≡ w
 
 pub record IsStarved (w : World) (who : ℕ) (request : Request) (reply : Reply) (next : World) : Type 0 where
   pub reply_is : reply ≡ replies.Memory
-  pub left : IsLeft w who request next
+  pub left : IsWorldLeft w who request next

@@ -6,7 +6,7 @@ ghost use Rattle.mt_write.specs.declared.reply.Reply.TheVariants as replies;
 ghost use Rattle.mt_lines.specs.Fit.{IsFit};
 ghost use Rattle.mt_machine.specs.Book.{with_all};
 ghost use Rattle.mt_world.specs.Sound.{IsAdvisedOf, IsKeptOf, IsUnadvisedOf, clearances_of};
-ghost use Rattle.mt_world.specs.World.{IsAdvised, IsRefused, actor_of, items_from, setup_of, with_book};
+ghost use Rattle.mt_world.specs.World.{IsAdviceAnswered, IsRefused, actor_of, items_from, setup_of, with_book};
 
 use crate::telling::refused;
 use crate::world::World;
@@ -18,7 +18,7 @@ use mt_write::{AdviceItem, AdviceList, Reply};
 use std::alloc::Global;
 use std::thread::Threads;
 
-// The clearances of some probes, each with the number that its probe gets behind so many.
+// The clearances of some probes, each with the number that its probe gets after so many.
 fn items_from(alloc: Global, count: u64, probes: &[Probe]) -> Result<AdviceList, Memory>
     ensures exact { IfOk result (λ items. items ≡ items_from count (clearances_of probes.now)) }
     ensures short { IfOk result (All IsShortAdvised) }
@@ -36,7 +36,7 @@ impl World {
     // The advice for a flight on the snapshot that an actor has taken; each advised clearance is put in the actor's book.
     pub(crate) fn advise<R: Threads + Sync>(&mut self, rt: &R, who: u32, call: Callsign) -> Reply
         requires { who ≤ 15 }
-        ensures answered { MatchBool self.old.begun (IsAdvised self.old who call result self.new)
+        ensures answered { MatchBool self.old.begun (IsAdviceAnswered self.old who call result self.new)
             (IsRefused self.old replies.Unbegun result self.new) ⊎ IsRefused self.old replies.Memory result self.new }
         ensures fit { IsFit result }
     {

@@ -3,9 +3,9 @@ ghost use Rattle.std.specs.Prelude.{◌≡◌, ◌⊎◌, ◌≤◌, length, IfE
 ghost use Rattle.mt_base.specs.Bounds.{IsAskedFor, IsBoundedCommand};
 ghost use Rattle.mt_write.specs.declared.reply.Reply.TheVariants as replies;
 ghost use Rattle.mt_lines.specs.Fit.{IsFit};
-ghost use Rattle.mt_picture.specs.Story.{IsEntered, IsGivenFor, IsRefused as IsDenied};
+ghost use Rattle.mt_picture.specs.Story.{IsEntered, IsPrepGivenFor, IsCommandRefused as IsDenied};
 ghost use Rattle.mt_world.specs.Sound.{story_of};
-ghost use Rattle.mt_world.specs.World.{IsAccepted, IsChanged, IsRefused};
+ghost use Rattle.mt_world.specs.World.{IsAccepted, IsCommandAnswered, IsRefused};
 
 use crate::telling::changed;
 use crate::world::World;
@@ -19,7 +19,7 @@ impl World {
     pub(crate) fn change(&mut self, who: u32, command: &Command) -> Reply
         requires bounded { IsBoundedCommand command.now }
         requires asked { IsAskedFor command.now }
-        ensures answered { MatchBool self.old.begun (IsChanged self.old who command.now result self.new) (IsRefused self.old replies.Unbegun result self.new)
+        ensures answered { MatchBool self.old.begun (IsCommandAnswered self.old who command.now result self.new) (IsRefused self.old replies.Unbegun result self.new)
             ⊎ IsRefused self.old replies.Memory result self.new }
         ensures fit { IsFit result }
     {
@@ -44,7 +44,7 @@ impl World {
     fn prepared(&mut self, who: u32, command: &Command) -> Result<Option<Prep>, No>
         requires bounded { IsBoundedCommand command.now }
         requires asked { IsAskedFor command.now }
-        ensures given { IfOk result (IsGivenFor (story_of self.old) who command.now) }
+        ensures given { IfOk result (IsPrepGivenFor (story_of self.old) who command.now) }
         ensures refused { IfErr result (IsDenied (story_of self.old) who command.now) }
         ensures same { self.new ≡ self.old }
     {
@@ -71,7 +71,7 @@ impl World {
     fn publish(&mut self, who: u32, command: &Command, prep: &Option<Prep>) -> Result<Entered, No>
         requires bounded { IsBoundedCommand command.now }
         requires asked { IsAskedFor command.now }
-        requires prepared { IsGivenFor (story_of self.old) who command.now prep.now }
+        requires prepared { IsPrepGivenFor (story_of self.old) who command.now prep.now }
         ensures entered { IfOk result (IsEntered (story_of self.old) (story_of self.new) who command.now) }
         ensures refused { IfErr result (IsDenied (story_of self.old) who command.now) }
         ensures unchanged { OnErr result (self.new ≡ self.old) }

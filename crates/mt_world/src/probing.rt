@@ -3,11 +3,11 @@ ghost use Rattle.std.specs.Prelude.{◌≡◌, ◌⊎◌, ◌≤◌, length, IfE
 ghost use Rattle.mt_base.specs.Bounds.{IsBoundedClearance};
 ghost use Rattle.mt_base.specs.Tally.{raised};
 ghost use Rattle.mt_machine.specs.Book.{with_probe};
-ghost use Rattle.mt_probe.specs.Hits.{IsTried, told_of};
+ghost use Rattle.mt_probe.specs.Hits.{told_of};
 ghost use Rattle.mt_write.specs.declared.reply.Reply.TheVariants as replies;
 ghost use Rattle.mt_lines.specs.Fit.{IsFit};
 ghost use Rattle.mt_world.specs.Sound.{IsKeptOf, IsProbeOf, IsUnprobedOf};
-ghost use Rattle.mt_world.specs.World.{IsGiven, IsProbed, IsRefused, actor_of, setup_of, with_all_taken, with_book};
+ghost use Rattle.mt_world.specs.World.{IsGiven, IsProbeAnswered, IsRefused, actor_of, setup_of, with_all_taken, with_book};
 
 use crate::telling::refused;
 use crate::world::World;
@@ -44,7 +44,7 @@ impl World {
         requires who { who ≤ 15 }
         requires clearance { IsBoundedClearance clearance }
         requires early { IfSome eff (λ second. second ≤ 10000000) }
-        ensures answered { MatchBool self.old.begun (IsProbed self.old who call clearance eff result self.new)
+        ensures answered { MatchBool self.old.begun (IsProbeAnswered self.old who call clearance eff result self.new)
             (IsRefused self.old replies.Unbegun result self.new) ⊎ IsRefused self.old replies.Memory result self.new }
         ensures fit { IsFit result }
     {

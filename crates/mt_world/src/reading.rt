@@ -3,10 +3,10 @@ ghost use Rattle.std.specs.Prelude.{◌≡◌, ◌⊎◌, ◌-◌, take, drop, l
 ghost use Rattle.mt_base.specs.Picture.{IsPublished, flight_of};
 ghost use Rattle.mt_base.specs.Settled.{due_calls};
 ghost use Rattle.mt_base.specs.View.{view_of};
-ghost use Rattle.mt_board.specs.Short.{AreShortCalls};
+ghost use Rattle.mt_board.specs.Short.{AreFewCalls};
 ghost use Rattle.mt_write.specs.declared.reply.Reply.TheVariants as replies;
 ghost use Rattle.mt_lines.specs.Fit.{IsFit};
-ghost use Rattle.mt_world.specs.World.{IsGiven, IsListed, IsRefused, IsTold, picture_of, setup_of};
+ghost use Rattle.mt_world.specs.World.{IsGiven, IsListAnswered, IsRefused, IsFlightTold, picture_of, setup_of};
 
 use crate::world::World;
 use mt_base::{
@@ -21,7 +21,7 @@ use std::thread::Threads;
 impl World {
     // What is published of the history, as it is kept.
     pub(crate) fn list(&self) -> Reply
-        ensures answered { MatchBool self.now.begun (IsListed self.now result self.now) (IsRefused self.now replies.Unbegun result self.now)
+        ensures answered { MatchBool self.now.begun (IsListAnswered self.now result self.now) (IsRefused self.now replies.Unbegun result self.now)
             ⊎ IsRefused self.now replies.Memory result self.now }
         ensures fit { IsFit result }
     {
@@ -36,7 +36,7 @@ impl World {
 
     // What is published of the history, each pair of trajectories tested anew.
     pub(crate) fn check<R: Threads + Sync>(&self, rt: &R) -> Reply
-        ensures answered { MatchBool self.now.begun (IsListed self.now result self.now) (IsRefused self.now replies.Unbegun result self.now)
+        ensures answered { MatchBool self.now.begun (IsListAnswered self.now result self.now) (IsRefused self.now replies.Unbegun result self.now)
             ⊎ IsRefused self.now replies.Memory result self.now }
         ensures fit { IsFit result }
     {
@@ -59,7 +59,7 @@ impl World {
 
     // What is told of a flight.
     pub(crate) fn flight(&self, call: Callsign, sec: Option<Second>) -> Reply
-        ensures answered { MatchBool self.now.begun (IsTold self.now call sec (flight_of (picture_of self.now).records call) result self.now)
+        ensures answered { MatchBool self.now.begun (IsFlightTold self.now call sec (flight_of (picture_of self.now).records call) result self.now)
             (IsRefused self.now replies.Unbegun result self.now) ⊎ IsRefused self.now replies.Memory result self.now }
         ensures fit { IsFit result }
     {
@@ -112,7 +112,7 @@ impl World {
     // The callsigns of the flights that are due now.
     pub(crate) fn due_now(&self) -> Result<Calls, Memory>
         ensures exact { IfOk result (λ calls. calls ≡ due_calls (picture_of self.now).records) }
-        ensures short { IfOk result AreShortCalls }
+        ensures short { IfOk result AreFewCalls }
     {
         due(self.alloc, &self.picture.snapshot()?)
     }

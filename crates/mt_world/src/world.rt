@@ -2,7 +2,6 @@
 ghost use Rattle.std.specs.Prelude.{◌≡◌, ◌⊎◌, ◌≤◌, [], length, replicate, true, All, IfOk};
 ghost use Rattle.mt_base.specs.History.{IsLegal};
 ghost use Rattle.mt_machine.specs.Book.{empty_book};
-ghost use Rattle.mt_probe.specs.Shot.{Shot};
 ghost use Rattle.mt_read.specs.Bounded.{IsBoundedRequest};
 ghost use Rattle.mt_write.specs.declared.reply.Reply.TheVariants as replies;
 ghost use Rattle.mt_lines.specs.Fit.{IsFit};
@@ -32,7 +31,7 @@ pub struct World {
 
 impl Model for World {
     ghost use Rattle.std.specs.Prelude.{[], map, true};
-    ghost use Rattle.mt_world.specs.Sound.{IsSoundWorld, shown};
+    ghost use Rattle.mt_world.specs.Sound.{IsSoundWorld, actor_shown};
     ghost use Rattle.mt_world.specs.World.{World};
 
     ghost Value = { World };
@@ -43,7 +42,7 @@ impl Model for World {
       areas = [];
       begun = true;
       history = w.picture.history;
-      actors = map shown w.actors.items;
+      actors = map actor_shown w.actors.items;
     } };
 
     ghost invariant = { λ w. IsSoundWorld w.picture w.actors.items };

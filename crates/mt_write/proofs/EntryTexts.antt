@@ -165,7 +165,7 @@ pub fix_text : (name letters : List ℕ) → letters ≡ escape name → codes "
 unfolding json_on_literals
 fix_text name letters p = rw p refl
 
--- a clearance to a level and one direct to a fix, with what stands behind, in parts
+-- a clearance to a level and one direct to a fix, with what stands after, in parts
 level_parts : (a b c d e f : List ℕ) → ((a ++ b) ++ ((c ++ d) ++ e)) ++ f ≡ a ++ (b ++ (c ++ (d ++ (e ++ f))))
 level_parts a b c d e f = simp append_assoc
 
@@ -194,7 +194,7 @@ direct_is : (word call fix : List ℕ) (eff : ℕ) (others : Members)
 unfolding json_on_literals
 direct_is word call fix eff others = simp append_assoc
 
--- a clearance with its word, and what stands behind it
+-- a clearance with its word, and what stands after it
 clearance_is : (word call : List ℕ) (clearance : Clearance) (eff : ℕ) (others : Members)
     → clearance_text (front_of word) call clearance eff ++ members_text true others ≡ compact_text (object (clearance_members word call clearance eff others))
 clearance_is word call (Level level) eff others =

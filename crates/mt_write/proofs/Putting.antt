@@ -8,7 +8,7 @@ use Rattle.mt_write.specs.Puts.{Puts}
 pub puts_is : (r : Result ⊤ Memory) (old new : Vec ℕ) (t u : List ℕ) → t ≡ u → Puts r old new t → Puts r old new u
 puts_is r old new t u e h = subst (Puts r old new) e h
 
--- two texts, one put behind the other
+-- two texts, one put after the other
 pub puts_then : (r : Result ⊤ Memory) (old mid new : Vec ℕ) (a b : List ℕ) → Puts (Ok tt) old mid a → Puts r mid new b → Puts r old new (a ++ b)
 puts_then (Ok u) old mid new a b first then =
     (then.0 ∙ ap (λ s. s ++ b) first.0 ∙ append_assoc old.items a b, omega (arith, then.1, first.1, length-append a b), omega (arith, then.2, first.2))

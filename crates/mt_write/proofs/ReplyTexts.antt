@@ -66,7 +66,7 @@ pub stale_text : (hit : Hit) (version : ℕ)
 unfolding json_on_literals
 stale_text hit version = simp append_assoc
 
--- the members of a probe behind its conflicts
+-- the members of a probe after its conflicts
 abbrev tried : ℕ → ℕ → ℕ → Members
 tried eff probe version =
     member (codes "eff") (whole (pos eff)) (
@@ -111,7 +111,7 @@ advice_text advice call eff version =
 
 -- ---- verdicts
 
--- the name of a flag, and the others behind it
+-- the name of a flag, and the others after it
 one_flag : (later holds : Bool) (name : List ℕ) (others : List (List ℕ × Bool)) (rest : List ℕ) → escape name ≡ name
     → rest ≡ items_text (later || holds) (values string (holding others))
     → flag_text later name holds ++ rest ≡ items_text later (values string (holding ((name, holds) ∷ others)))

@@ -18,7 +18,7 @@ abbrev pub values : {A : Type 0} → (A → Data) → List A → Items
 values value [] = no_items
 values value (x ∷ xs) = item (value x) (values value xs)
 
--- The fields of a clearance of a flight, before others, with the command's word: a fix to fly direct to stands before it, a level behind it.
+-- The fields of a clearance of a flight, before others, with the command's word: a fix to fly direct to stands before it, a level after it.
 abbrev pub clearance_members : List ℕ → List ℕ → Clearance → ℕ → Members → Members
 clearance_members word call (Level level) eff others =
     member (codes "call") (string call) (

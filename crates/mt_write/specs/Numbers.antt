@@ -18,7 +18,7 @@ use Rattle.mt_write.specs.Flight.{or_null, row_value, tent_value}
 abbrev pub number_text : List ℕ → ℤ → List ℕ
 number_text key z = 44 ∷ 34 ∷ (key ++ (34 ∷ 58 ∷ signed_decimal z))
 
--- one such behind the other, and the closing bracket
+-- one such after the other, and the closing bracket
 abbrev pub numbers_text : List (Bor (List ℕ) × ℤ) → List ℕ
 numbers_text [] = 125 ∷ []
 numbers_text (n ∷ ns) = number_text n.0.now n.1 ++ numbers_text ns
@@ -27,7 +27,7 @@ numbers_text (n ∷ ns) = number_text n.0.now n.1 ++ numbers_text ns
 abbrev pub approval_text : Bool → List ℕ
 approval_text rvsm = codes ",\"rvsm\":" ++ compact_text (boolean rvsm)
 
--- The members of an external flight behind its first second, in the byte order of their keys: the gains of its margins, its horizontal
+-- The members of an external flight after its first second, in the byte order of their keys: the gains of its margins, its horizontal
 -- margin and its approval; then its other numbers, and the closing bracket.
 abbrev pub external_gains : Straight → List ℕ
 external_gains straight = number_text (codes "gr") straight.first.gr ++ number_text (codes "gw") straight.first.gw
@@ -70,7 +70,7 @@ flight_marked view = (codes ",\"start\":" ++ compact_text (whole (pos view.start
 abbrev pub flight_text : FlightView → List ℕ
 flight_text view = flight_front view ++ (flight_flown view ++ (flight_marked view ++ (codes ",\"version\":" ++ (decimal view.version ++ codes "}\n"))))
 
--- a plan up to its first level, then its level and route, then, behind its approval, the rest
+-- a plan up to its first level, then its level and route, then, after its approval, the rest
 abbrev pub plan_front : List ℕ → ℕ → ℕ → List ℕ
 plan_front call at from = codes "{\"at\":" ++ (decimal at ++ (codes ",\"call\":\"" ++ (escape call ++ (codes "\",\"do\":\"plan\",\"from\":" ++ decimal from))))
 
@@ -80,7 +80,7 @@ plan_route level route = number_text (codes "level") (pos level) ++ (codes ",\"r
 abbrev pub plan_back : ℕ → List ℕ → List ℕ
 plan_back who kind = codes ",\"type\":\"" ++ (escape kind ++ (codes "\",\"who\":" ++ (decimal who ++ codes "}")))
 
--- a clearance in parts: the callsign, the fix to fly direct to, the second from which it holds, behind the command's
+-- a clearance in parts: the callsign, the fix to fly direct to, the second from which it holds, after the command's
 -- word, and the level
 abbrev pub call_text : List ℕ → List ℕ
 call_text call = codes "{\"call\":\"" ++ escape call
@@ -114,7 +114,7 @@ who_text who = codes ",\"who\":" ++ (decimal who ++ codes "}")
 abbrev pub probed_text : ℕ → ℕ → List ℕ
 probed_text probed who = codes ",\"v\":" ++ (decimal probed ++ (codes ",\"who\":" ++ (decimal who ++ codes "}")))
 
--- the numbers of a probe behind its conflicts
+-- the numbers of a probe after its conflicts
 abbrev pub tried_text : ℕ → ℕ → ℕ → List ℕ
 tried_text eff probe version =
     codes ",\"eff\":" ++ (decimal eff ++ (codes ",\"probe\":" ++ (decimal probe ++ (codes ",\"version\":" ++ (decimal version ++ codes "}\n")))))
@@ -136,11 +136,11 @@ report_numbers report =
 abbrev pub report_text : ℕ → List ℕ → Report → List ℕ
 report_text who call report = report_front who call report.at ++ report_numbers report
 
--- the name of a flag that holds, behind a comma where one stands before it
+-- the name of a flag that holds, after a comma where one stands before it
 abbrev pub flag_text : Bool → List ℕ → Bool → List ℕ
 flag_text later name holds = if holds then comma_if later ++ (34 ∷ (name ++ 34 ∷ [])) else []
 
--- one such behind the other, and the closing bracket
+-- one such after the other, and the closing bracket
 abbrev pub flags_text : Bool → List (Bor (List ℕ) × Bool) → List ℕ
 flags_text later [] = 93 ∷ []
 flags_text later (f ∷ fs) = flag_text later f.0.now f.1 ++ flags_text (later || f.1) fs
@@ -154,7 +154,7 @@ verdict_text v =
     flag_text ((v.lateral || v.along) || v.vertical) (codes "aged") v.aged ++ (
     flag_text (((v.lateral || v.along) || v.vertical) || v.aged) (codes "outside") v.outside ++ 93 ∷ []))))
 
--- a withdrawal in parts: whether another than the owner may, behind the command's word
+-- a withdrawal in parts: whether another than the owner may, after the command's word
 abbrev pub force_text : Bool → List ℕ
 force_text force = codes "\",\"do\":\"withdraw\",\"force\":" ++ compact_text (boolean force)
 

@@ -105,8 +105,8 @@ abbrev pub at_version : List ℕ → ℕ → Members
 at_version word version = member (codes "no") (string word) (member (codes "version") (whole (pos version)) no_members)
 
 -- a refusal of a name that stands nowhere
-abbrev pub unknown : List ℕ → List ℕ → ℕ → Members
-unknown word name version = member (codes "name") (string name) (at_version word version)
+abbrev pub unknown_name : List ℕ → List ℕ → ℕ → Members
+unknown_name word name version = member (codes "name") (string name) (at_version word version)
 
 -- a refusal of a route, and why
 abbrev pub bad_route : List ℕ → ℕ → Members
@@ -122,9 +122,9 @@ held_by owner version =
 
 abbrev pub refusal_members : ℕ → Refusal → Members
 refusal_members version refusal.HeldCall = at_version (codes "held-call") version
-refusal_members version (refusal.UnknownCall call) = unknown (codes "unknown-call") call version
-refusal_members version (refusal.UnknownType name) = unknown (codes "unknown-type") name version
-refusal_members version (refusal.UnknownFix name) = unknown (codes "unknown-fix") name version
+refusal_members version (refusal.UnknownCall call) = unknown_name (codes "unknown-call") call version
+refusal_members version (refusal.UnknownType name) = unknown_name (codes "unknown-type") name version
+refusal_members version (refusal.UnknownFix name) = unknown_name (codes "unknown-fix") name version
 refusal_members version refusal.RouteShort = bad_route (codes "short") version
 refusal_members version refusal.RouteLong = bad_route (codes "long") version
 refusal_members version refusal.RouteTwice = bad_route (codes "twice") version

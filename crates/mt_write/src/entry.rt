@@ -109,7 +109,7 @@ fn put_report_front(out: &mut Vec<u8>, who: u32, call: &Callsign, at: u32) -> Re
     )
 }
 
-// Puts the position of a report behind these.
+// Puts the position of a report after these.
 fn put_report_numbers(out: &mut Vec<u8>, report: &Report) -> Result<(), Memory>
     ensures { Puts result out.old out.new (report_numbers report.now) }
 {

@@ -39,7 +39,7 @@ pub(crate) fn put_external(
     put_external_numbers(out, who, straight)
 }
 
-// Puts the gains of an external flight's margins behind its first second.
+// Puts the gains of an external flight's margins after its first second.
 fn put_external_gains(out: &mut Vec<u8>, straight: &Straight) -> Result<(), Memory>
     ensures { Puts result out.old out.new (external_gains straight.now) }
 {
@@ -56,7 +56,7 @@ fn put_external_middle(out: &mut Vec<u8>, straight: &Straight) -> Result<(), Mem
     put_approval(out, straight.rvsm)
 }
 
-// Puts the numbers of an external flight behind these.
+// Puts the numbers of an external flight after these.
 fn put_external_numbers(out: &mut Vec<u8>, who: u32, straight: &Straight) -> Result<(), Memory>
     ensures { Puts result out.old out.new (external_numbers who straight.now) }
 {

@@ -27,7 +27,7 @@ impl Written for u32 {
     }
 }
 
-/// Puts a whole number, with its key, behind another member.
+/// Puts a whole number, with its key, after another member.
 pub(crate) fn put_number(out: &mut Vec<u8>, key: &str, number: i64) -> Result<(), Memory>
     ensures { Puts result out.old out.new (number_text key.now number) }
 {
@@ -43,7 +43,7 @@ pub(crate) fn put_number(out: &mut Vec<u8>, key: &str, number: i64) -> Result<()
     )
 }
 
-/// Puts whole numbers, each with its key, behind another member, and closes the object.
+/// Puts whole numbers, each with its key, after another member, and closes the object.
 pub(crate) fn put_numbers(out: &mut Vec<u8>, numbers: &[(&str, i64)]) -> Result<(), Memory>
     ensures { Puts result out.old out.new (numbers_text numbers.now) }
 {

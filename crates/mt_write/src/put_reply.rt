@@ -57,7 +57,7 @@ fn put_named(out: &mut Vec<u8>, front: &[u8], name: &[u8], back: &[u8]) -> Resul
     put(out, back)
 }
 
-// Puts the refusal of a line that names a field, the back being what stands behind the name.
+// Puts the refusal of a line that names a field, the back being what stands after the name.
 fn put_field(out: &mut Vec<u8>, name: &[u8], back: &[u8]) -> Result<(), Memory>
     ensures { Puts result out.old out.new (codes "{\"field\":\"" ++ (escape name.now ++ back.now)) }
 {
@@ -86,7 +86,7 @@ fn put_list<T: Written>(
     put_versioned(out, b",\"version\":", version)
 }
 
-// Puts the numbers of a probe behind its conflicts.
+// Puts the numbers of a probe after its conflicts.
 fn put_tried(out: &mut Vec<u8>, eff: u32, probe: u64, version: u64) -> Result<(), Memory>
     ensures { Puts result out.old out.new
         (tried_text eff probe version) }
@@ -124,7 +124,7 @@ fn put_probe<T: Written>(
     put_tried(out, eff, probe, version)
 }
 
-/// Puts the text of a reply behind what stands in the room.
+/// Puts the text of a reply after what stands in the room.
 #[tactic(auto, unfolding(json::proofs::OnLiterals::json_on_literals))]
 pub(crate) fn put_reply(out: &mut Vec<u8>, reply: &Reply) -> Result<(), Memory>
     ensures { Puts result out.old out.new (reply_text reply.now) }

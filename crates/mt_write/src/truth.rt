@@ -14,7 +14,7 @@ pub(crate) fn truth_text(truth: bool) -> &'static [u8]
     if truth { b"true" } else { b"false" }
 }
 
-/// Puts whether an aircraft is approved for RVSM behind another member.
+/// Puts whether an aircraft is approved for RVSM after another member.
 pub(crate) fn put_approval(out: &mut Vec<u8>, rvsm: bool) -> Result<(), Memory>
     ensures { Puts result out.old out.new (approval_text rvsm) }
 {

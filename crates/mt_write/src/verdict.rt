@@ -10,7 +10,7 @@ use itoa::Buffer;
 use mt_base::{Entered, Verdict};
 use mt_memory::Memory;
 
-// Puts the name of a flag that holds, behind a comma where one stands before it; whether one stands then.
+// Puts the name of a flag that holds, after a comma where one stands before it; whether one stands then.
 fn put_flag(out: &mut Vec<u8>, later: bool, name: &str, holds: bool) -> Result<bool, Memory>
     ensures { MatchResult result
         (λ then. Puts (Ok (tt {0})) out.old out.new (flag_text later name.now holds) × (then ≡ (later || holds)))

@@ -1,12 +1,12 @@
-//! Texts put behind one another into a room.
+//! Texts put one after another into a room.
 ghost use Rattle.std.specs.Prelude.{◌++◌, codes, decimal};
 ghost use Rattle.mt_write.specs.Puts.{Puts};
-ghost use Rattle.mt_write.specs.Joined.{joined};
+ghost use Rattle.mt_write.specs.Joined.{texts_joined};
 
 use itoa::Buffer;
 use mt_memory::Memory;
 
-/// Puts bytes behind what stands in the room.
+/// Puts bytes after what stands in the room.
 pub(crate) fn put(out: &mut Vec<u8>, bytes: &[u8]) -> Result<(), Memory>
     ensures { Puts result out.old out.new bytes.now }
 {
@@ -14,9 +14,9 @@ pub(crate) fn put(out: &mut Vec<u8>, bytes: &[u8]) -> Result<(), Memory>
     Ok(())
 }
 
-/// Puts pieces behind what stands in the room, in order.
+/// Puts pieces after what stands in the room, in order.
 pub(crate) fn put_all(out: &mut Vec<u8>, pieces: &[&[u8]]) -> Result<(), Memory>
-    ensures { Puts result out.old out.new (joined pieces.now) }
+    ensures { Puts result out.old out.new (texts_joined pieces.now) }
 {
     for piece in pieces {
         put(out, piece)?;

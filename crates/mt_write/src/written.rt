@@ -12,7 +12,7 @@ use mt_memory::Memory;
 pub(crate) trait Written {
     ghost value: { Self → Data };
 
-    /// Puts its compact text behind what stands in the room.
+    /// Puts its compact text after what stands in the room.
     fn put(&self, out: &mut Vec<u8>) -> Result<(), Memory>
         ensures { Puts result out.old out.new (compact_text (value self.now)) };
 }

@@ -6,7 +6,7 @@ use Rattle.tungstenite.specs.declared.message.Message.TheVariants as Kind
 use Rattle.tungstenite.specs.declared.message.Message.{Message}
 use Rattle.tungstenite.specs.declared.error.Error.{Error}
 use Rattle.mt_ws.specs.Messages.{is_beat, IsData}
-use Rattle.mt_ws.specs.Pulling.{Beats, Answers}
+use Rattle.mt_ws.specs.Pulling.{Beats, AnswersAfterPings}
 
 -- one more
 pub beats_on : {S : Type 0} (remaining contents : S → Option (List ℕ)) (n : ℕ) (old middle new : Socket S) (m : Message)
@@ -16,7 +16,7 @@ beats_on remaining contents n old middle new m passed read beat =
     rw e (middle, passed, (m, read, beat))
 
 pub answers_by : {S : Type 0} (remaining contents : S → Option (List ℕ)) (n : ℕ) (old middle new : Socket S) (result : Result Message Error)
-    → n ≤ 4096 → Beats remaining contents n old middle → Reads remaining middle new result → Answers remaining contents old new result
+    → n ≤ 4096 → Beats remaining contents n old middle → Reads remaining middle new result → AnswersAfterPings remaining contents old new result
 answers_by remaining contents n old middle new result few passed read = record { beats = n; few = few; middle = middle; passed = passed; read = read }
 
 -- neither a close nor a ping nor a pong

@@ -12,7 +12,7 @@ use Rattle.mt_ws.specs.declared.cause.WsCause.{WsCause}
 use Rattle.mt_ws.specs.declared.cause.WsCause.TheVariants as Cause
 use Rattle.mt_ws.specs.declared.ws_link.WsLink.{WsLink}
 use Rattle.mt_ws.specs.Messages.{IsData, payload_of, with_ending, line_content, is_memory}
-use Rattle.mt_ws.specs.Pulling.{Answers, Closes, FailsBy}
+use Rattle.mt_ws.specs.Pulling.{AnswersAfterPings, ClosesSocket, FailsBy}
 
 -- a piece up to its first 0x0A, which is left out, or, where there is none, all of it
 pub record Cuts (piece part : List ℕ) (whole : Bool) : Type 0 where
@@ -35,7 +35,7 @@ module _ {S : Type 0} (remaining contents : S → Option (List ℕ)) where
     pub going : (old.ended ≡ false) × (new.ended ≡ false)
     pub message : Message
     pub is_data : IsData message
-    pub answers : Answers remaining contents old.socket new.socket (Ok message)
+    pub answers : AnswersAfterPings remaining contents old.socket new.socket (Ok message)
     pub some : 0 < length bytes
     pub bytes_are : with_ending (payload_of message) ≡ bytes ++ new.unread
 
@@ -46,7 +46,7 @@ module _ {S : Type 0} (remaining contents : S → Option (List ℕ)) where
     pub ended : new.ended ≡ true
     pub met :
         ((old.ended ≡ true) × (new.socket ≡ old.socket))
-        ⊎ ((old.ended ≡ false) × ((failure : Option Error) × Closes remaining contents failure old.socket new.socket))
+        ⊎ ((old.ended ≡ false) × ((failure : Option Error) × ClosesSocket remaining contents failure old.socket new.socket))
 
   pub record GivesFault (old new : WsLink S) : Type 0 where
     pub none : (old.unread ≡ []) × (new.unread ≡ [])

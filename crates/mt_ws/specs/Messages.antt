@@ -34,12 +34,12 @@ is_beat (Kind.Pong bytes) = true
 is_beat m = false
 
 -- no 0x0A stands at the end
-abbrev pub is_open : List ℕ → Bool
-is_open bytes = (length bytes == 0) || not (slice_index bytes (length bytes - 1) == 10)
+abbrev pub is_unended : List ℕ → Bool
+is_unended bytes = (length bytes == 0) || not (slice_index bytes (length bytes - 1) == 10)
 
 -- a message's bytes with their ending: 0x0A is added unless they end with one
 abbrev pub with_ending : List ℕ → List ℕ
-with_ending bytes = bytes ++ ending_of (is_open bytes)
+with_ending bytes = bytes ++ ending_of (is_unended bytes)
 
 -- the message of a line: text where it is UTF-8, and else binary
 abbrev pub line_content : List ℕ → Content
@@ -51,6 +51,6 @@ is_memory OutOfMemory = true
 is_memory e = false
 
 -- what comes after a close
-abbrev pub is_closed : Error → Bool
-is_closed ConnectionClosed = true
-is_closed e = false
+abbrev pub is_after_close : Error → Bool
+is_after_close ConnectionClosed = true
+is_after_close e = false

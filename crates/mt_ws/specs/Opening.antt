@@ -9,30 +9,30 @@ use Rattle.mt_ws.specs.declared.opening.Opening.{Opening}
 use Rattle.mt_ws.specs.declared.ws_link.WsLink.{WsLink}
 use Rattle.mt_ws.specs.Fronts.{put_back}
 use Rattle.mt_ws.specs.Linking.{ReadsLink, WritesLink}
-use Rattle.mt_ws.specs.Accepted.{IsAccepted}
+use Rattle.mt_ws.specs.Accepted.{IsFromHandshake}
 
 -- a stream of which nothing was read
-abbrev pub IsFresh : {S : Type 0} → S → Opening S → Type 0
-IsFresh stream opening = (opening.fresh ≡ Some stream) × (opening.kind ≡ Broken)
+abbrev pub IsStreamUnread : {S : Type 0} → S → Opening S → Type 0
+IsStreamUnread stream opening = (opening.fresh ≡ Some stream) × (opening.kind ≡ Broken)
 
 -- what a first byte says: 71 is `G`
 abbrev pub IsKindBy : {S : Type 0} → ℕ → S → Kind S → Type 0
 IsKindBy first stream (Lines front) = (first ≢ 71) × (front ≡ record { first = Some first; stream = stream })
-IsKindBy first stream (Web link) = (first ≡ 71) × IsAccepted link
+IsKindBy first stream (Web link) = (first ≡ 71) × IsFromHandshake link
 IsKindBy first stream Over = ⊥
 IsKindBy first stream Broken = first ≡ 71
 
 module _ {S : Type 0} (remaining contents : S → Option (List ℕ)) where
   -- A stream was opened. A line session still has the byte that was read; of a WebSocket's handshake nothing is told.
-  abbrev pub Begins : S → Kind S → Type 0
-  Begins stream (Lines front) = (first : ℕ) × (first ≢ 71) × (front.first ≡ Some first) × Consumes (remaining stream) (remaining front.stream) (first ∷ [])
-  Begins stream (Web link) = ((rest : Option (List ℕ)) × Consumes (remaining stream) rest (71 ∷ [])) × IsAccepted link
-  Begins stream Over = IsAtEnd (remaining stream)
-  Begins stream Broken = ⊤
+  abbrev pub BeginsLink : S → Kind S → Type 0
+  BeginsLink stream (Lines front) = (first : ℕ) × (first ≢ 71) × (front.first ≡ Some first) × Consumes (remaining stream) (remaining front.stream) (first ∷ [])
+  BeginsLink stream (Web link) = ((rest : Option (List ℕ)) × Consumes (remaining stream) rest (71 ∷ [])) × IsFromHandshake link
+  BeginsLink stream Over = IsAtEnd (remaining stream)
+  BeginsLink stream Broken = ⊤
 
   -- where nothing was read yet, the stream is opened
   abbrev pub Opens : Opening S → Opening S → Type 0
-  Opens old new = MatchOption old.fresh (new ≡ old) (λ stream. (new.fresh ≡ None) × Begins stream new.kind)
+  Opens old new = MatchOption old.fresh (new ≡ old) (λ stream. (new.fresh ≡ None) × BeginsLink stream new.kind)
 
   -- what a read does
   abbrev pub ReadsKind : Kind S → Kind S → List ℕ → Result ℕ Failed → Type 0

@@ -10,7 +10,7 @@ use Rattle.mt_ws.specs.declared.cause.WsCause.{WsCause}
 use Rattle.mt_ws.specs.declared.cause.WsCause.TheVariants as Cause
 use Rattle.mt_ws.specs.declared.pull.Pulled.{Pulled}
 use Rattle.mt_ws.specs.declared.pull.Pulled.TheVariants.{Data, End, Fault}
-use Rattle.mt_ws.specs.Messages.{IsData, is_beat, is_memory, is_closed}
+use Rattle.mt_ws.specs.Messages.{IsData, is_beat, is_memory, is_after_close}
 
 module _ {S : Type 0} (remaining contents : S → Option (List ℕ)) where
   -- so many reads, and each answered a ping or a pong
@@ -19,7 +19,7 @@ module _ {S : Type 0} (remaining contents : S → Option (List ℕ)) where
   Beats (suc n) old new = (middle : Socket S) × Beats n old middle × ((m : Message) × Reads remaining middle new (Ok m) × (is_beat m ≡ true))
 
   -- at most 4,096 pings and pongs were passed over, and the read after them answered this
-  pub record Answers (old new : Socket S) (result : Result Message Error) : Type 0 where
+  pub record AnswersAfterPings (old new : Socket S) (result : Result Message Error) : Type 0 where
     pub beats : ℕ
     pub few : beats ≤ 4096
     pub middle : Socket S
@@ -32,20 +32,20 @@ module _ {S : Type 0} (remaining contents : S → Option (List ℕ)) where
   IsSent (Some e) new = IsIo e
 
   -- a close was read, and then what waited was sent, the reply to the close with it, unless the stream failed; or all was closed before
-  abbrev pub Closes : Option Error → Socket S → Socket S → Type 0
-  Closes failure old new =
-      ((after : Socket S) × ((frame : Option CloseFrame) × Answers old after (Ok (Close frame))) × Flushed contents after new × IsSent failure new)
-      ⊎ ((e : Error) × (is_closed e ≡ true) × (failure ≡ None) × Answers old new (Err e))
+  abbrev pub ClosesSocket : Option Error → Socket S → Socket S → Type 0
+  ClosesSocket failure old new =
+      ((after : Socket S) × ((frame : Option CloseFrame) × AnswersAfterPings old after (Ok (Close frame))) × Flushed contents after new × IsSent failure new)
+      ⊎ ((e : Error) × (is_after_close e ≡ true) × (failure ≡ None) × AnswersAfterPings old new (Err e))
 
   -- a read that gave no message and no end, by its cause
   abbrev pub FailsBy : Socket S → Socket S → WsCause → Type 0
-  FailsBy old new (Cause.Read e) = Answers old new (Err e) × (is_memory e ≡ false) × (is_closed e ≡ false)
+  FailsBy old new (Cause.Read e) = AnswersAfterPings old new (Err e) × (is_memory e ≡ false) × (is_after_close e ≡ false)
   FailsBy old new (Cause.Send e) = ⊥
   FailsBy old new Cause.Pings = (n : ℕ) × (n ≡ 4097) × Beats n old new
   FailsBy old new Cause.Long = ⊥
-  FailsBy old new Cause.Memory = (e : Error) × (is_memory e ≡ true) × Answers old new (Err e)
+  FailsBy old new Cause.Memory = (e : Error) × (is_memory e ≡ true) × AnswersAfterPings old new (Err e)
 
   abbrev pub Pulls : Socket S → Socket S → Pulled → Type 0
-  Pulls old new (Data m) = IsData m × Answers old new (Ok m)
-  Pulls old new (End failure) = Closes failure old new
+  Pulls old new (Data m) = IsData m × AnswersAfterPings old new (Ok m)
+  Pulls old new (End failure) = ClosesSocket failure old new
   Pulls old new (Fault cause) = FailsBy old new cause

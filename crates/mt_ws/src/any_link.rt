@@ -4,7 +4,7 @@ ghost use Rattle.std.specs.Io.{ReadsAtMost};
 ghost use Rattle.std.specs.Io.KnownBytes.{ReadConsumes, WriteAppends};
 ghost use Rattle.std.proofs.Common.{◌∙◌, arith};
 ghost use Rattle.mt_io.specs.Causes.{HasCause};
-ghost use Rattle.mt_ws.specs.Opening.{IsFresh, ReadsOpening, WritesOpening};
+ghost use Rattle.mt_ws.specs.Opening.{IsStreamUnread, ReadsOpening, WritesOpening};
 
 use crate::opening::Opening;
 use mt_io::{Duplex, Failed, Sink, Source};
@@ -28,7 +28,7 @@ pub struct AnyLink<S> {
 impl<S: Read + Write + Drop> AnyLink<S> {
     /// A link over a stream of which nothing was read, with no fault counted. It takes no memory.
     pub fn of(alloc: Global, stream: S) -> AnyLink<S>
-        ensures fresh { IsFresh stream result.stream }
+        ensures fresh { IsStreamUnread stream result.stream }
         ensures sound { (result.read_faults ≡ 0) × (result.write_faults ≡ 0) }
     {
         AnyLink {

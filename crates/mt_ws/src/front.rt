@@ -6,7 +6,7 @@ ghost use Rattle.std.specs.Io.KnownBytes.{ReadConsumes, WriteAppends};
 use std::io;
 use std::io::{ErrorKind, Read, Write};
 
-/// A stream whose first byte was read, and is given again before the bytes behind it. Contracts see as what it has left that byte and then
+/// A stream whose first byte was read, and is given again before the bytes after it. Contracts see as what it has left that byte and then
 /// what the stream has left, where the stream tells that.
 #[derive(Drop)]
 pub struct Front<S> {

@@ -1,7 +1,7 @@
 //! A stream that is opened by its first read: by its first byte it is a line session or a WebSocket.
 ghost use Rattle.std.specs.Prelude.{◌<◌, ◌≤◌, length, IfOk};
 ghost use Rattle.std.specs.Io.{ReadsAtMost};
-ghost use Rattle.mt_ws.specs.Opening.{Begins, IsFresh, IsKindBy, Opens, ReadsKind, ReadsOpening, WritesKind, WritesOpening};
+ghost use Rattle.mt_ws.specs.Opening.{BeginsLink, IsStreamUnread, IsKindBy, Opens, ReadsKind, ReadsOpening, WritesKind, WritesOpening};
 
 use crate::front::{Front, read_on};
 use crate::ws_link::WsLink;
@@ -35,7 +35,7 @@ pub struct Opening<S> {
 impl<S: Read + Write + Drop> Opening<S> {
     /// A stream of which nothing was read.
     pub fn of(alloc: Global, stream: S) -> Opening<S>
-        ensures { IsFresh stream result }
+        ensures { IsStreamUnread stream result }
     {
         Opening {
             alloc,
@@ -86,7 +86,7 @@ impl Opening<TcpStream> {
 
 // Reads the first byte, and makes the handshake where that says so.
 fn begin<S: Read + Write + Drop>(alloc: Global, mut stream: S) -> Kind<S>
-    ensures { Begins S.remaining S.contents stream result }
+    ensures { BeginsLink S.remaining S.contents stream result }
 {
     let mut first = [0; 1];
     match read_on(&mut stream, &mut first) {

@@ -65,7 +65,7 @@ pub fn is_local(origin: &[u8]) -> bool
     }
 }
 
-// What stands behind the scheme of a page.
+// What stands after the scheme of a page.
 fn behind_scheme(origin: &[u8]) -> Option<&[u8]>
     ensures { MatchOption result (BeginsNot IsScheme origin.now) (λ rest. BeginsWith IsScheme origin.now rest.now) }
 {
@@ -75,7 +75,7 @@ fn behind_scheme(origin: &[u8]) -> Option<&[u8]>
     }
 }
 
-// What stands behind a name or an address of this machine.
+// What stands after a name or an address of this machine.
 fn behind_host(text: &[u8]) -> Option<&[u8]>
     ensures { MatchOption result (BeginsNot IsHost text.now) (λ rest. BeginsWith IsHost text.now rest.now) }
 {
@@ -85,7 +85,7 @@ fn behind_host(text: &[u8]) -> Option<&[u8]>
     }
 }
 
-// What stands behind its name or its older address.
+// What stands after its name or its older address.
 fn behind_name(text: &[u8]) -> Option<&[u8]>
     ensures { MatchOption result (BeginsNot IsName text.now) (λ rest. BeginsWith IsName text.now rest.now) }
 {
@@ -95,7 +95,7 @@ fn behind_name(text: &[u8]) -> Option<&[u8]>
     }
 }
 
-// What stands behind these bytes, where the text begins with them.
+// What stands after these bytes, where the text begins with them.
 fn behind<'a>(text: &'a [u8], front: &[u8]) -> Option<&'a [u8]>
     ensures { MatchOption result ((rest : List ℕ) → text.now ≢ front.now ++ rest) (λ rest. text.now ≡ front.now ++ rest.now) }
 {

@@ -1,11 +1,11 @@
 //! What is left of a message.
 ghost use Rattle.std.specs.Prelude.{◌≡◌, ◌<◌, ◌≤◌, ◌↔◌, ◌++◌, [], length, take, IsTrue};
-ghost use Rattle.mt_ws.specs.Messages.{bytes_in, payload_of, is_open as is_open_text, with_ending};
+ghost use Rattle.mt_ws.specs.Messages.{bytes_in, payload_of, is_unended as is_open_text, with_ending};
 
 use std::marker::Model;
 use tungstenite::Message;
 
-/// The bytes of a message that weren't given yet, and the 0x0A behind them, if that is to be added and wasn't given either. Contracts see it
+/// The bytes of a message that weren't given yet, and the 0x0A after them, if that is to be added and wasn't given either. Contracts see it
 /// as the list of these bytes. It copies nothing.
 #[derive(Drop)]
 pub struct Unread {

@@ -5,7 +5,7 @@ ghost use Rattle.std.specs.Io.KnownBytes.{ReadConsumes, WriteAppends};
 ghost use Rattle.std.proofs.Common.{◌∙◌, arith};
 ghost use Rattle.mt_io.specs.Causes.{HasCause, Rose};
 ghost use Rattle.mt_ws.specs.Linking.{IsNew, ReadsLink, WritesLink};
-ghost use Rattle.mt_ws.specs.Accepted.{IsAccepted};
+ghost use Rattle.mt_ws.specs.Accepted.{IsFromHandshake};
 
 use crate::cause::{WsCause, WsNo};
 use crate::origin::LocalPages;
@@ -26,7 +26,7 @@ const LONGEST_MESSAGE: usize = 131_072;
 
 /// A server's WebSocket as a link of lines. It counts its failed reads and its failed writes, and keeps why the last call that failed did so.
 ///
-/// A text or binary message is read as its bytes, behind which a 0x0A is added unless they end with one; so a message may hold several
+/// A text or binary message is read as its bytes, after which a 0x0A is added unless they end with one; so a message may hold several
 /// lines, and an empty one is an empty line. Pings and pongs are passed over. A close is the end.
 ///
 /// Bytes that are written are kept up to a 0x0A and then sent without it, as one message: text where they are UTF-8, and else binary.
@@ -65,7 +65,7 @@ impl<S: Read + Write + Drop> WsLink<S> {
     /// longer one fails at its header, before the link keeps its bytes. The link takes its memory here, and that of a message when it is
     /// read.
     pub fn accept(alloc: Global, stream: S) -> Result<WsLink<S>, WsNo>
-        ensures { IfOk result IsAccepted }
+        ensures { IfOk result IsFromHandshake }
     {
         let config = WebSocketConfig::default()
             .max_message_size(Some(LONGEST_MESSAGE))

@@ -9,7 +9,7 @@ use std::env;
 use std::io::ErrorKind;
 use std::process::ExitCode;
 
-/// The words behind the program's name. Where one isn't text they are no words, which are no command either.
+/// The words after the program's name. Where one isn't text they are no words, which are no command either.
 fn words_of(rt: &HostRuntime) -> Result<Words, Memory> {
     let mut words = Words::make(rt.alloc())?;
     match env::args(rt) {

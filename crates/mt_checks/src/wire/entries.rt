@@ -4,7 +4,7 @@ use crate::cases::{Check, assert_case, check_each};
 use mt_wire::{Scratch, read_entry};
 use std::process::Abort;
 
-// Behind each text stands what comes of it: `read`, or the refusal with the field that it names.
+// After each text stands what comes of it: `read`, or the refusal with the field that it names.
 const ENTRIES: &str = r#"
 {"at":0,"call":"DDD1","do":"plan","from":350,"level":360,"route":["Q0","Q1"],"rvsm":true,"type":"JA1","who":0} => read
 {"call":"AAA1","do":"external","from":0,"gr":15,"gw":1,"r":2,"rvsm":false,"to":1200,"vx":-480,"vy":3,"vz":-4,"w":5,"who":1,"x":-3110400,"y":3682800,"z":2100000} => read

@@ -72,7 +72,7 @@ fn is_refusal(no: &LineNo, why: &str, field: &str) -> bool {
     }
 }
 
-/// Whether a line is refused so: a word, and behind `form` and `range` a blank and the field that is named.
+/// Whether a line is refused so: a word, and after `form` and `range` a blank and the field that is named.
 pub(super) fn is_refused(no: LineNo, wanted: &str) -> bool {
     let (why, field) = wanted.split_once(' ').unwrap_or((wanted, ""));
     is_refusal(&no, why, field)

@@ -1,8 +1,8 @@
 //! Two seats on threads of their own, each of which files twenty flights and reads what is published after each.
 ghost use Rattle.std.specs.Prelude.{◌≡◌, ◌<◌, [], ◌∷◌};
 ghost use Rattle.std.specs.Thread.{IsSync};
-ghost use Rattle.mt_desk.specs.Desk.{IsReady};
-ghost use Rattle.mt_top_checks.specs.Same.{IsSameHand, IsSameSeat};
+ghost use Rattle.mt_desk.specs.Desk.{IsSeatOfDesk};
+ghost use Rattle.mt_top_checks.specs.Same.{IsSameHand, IsSamePlace};
 
 use super::opening::{entered, opened, outer};
 use mt_base::{Callsign, Command, Conflicts, Tally};
@@ -56,9 +56,9 @@ fn file_one<R: Threads + Wait + Sync + Abort>(rt: &R, hand: &mut Hand<'_>, numbe
 /// Files all flights of a seat.
 fn file<R: Threads + Wait + Sync + Abort>(rt: &R, desk: &Desk, seat: Seat) -> Seat
     requires sync { IsSync R.row }
-    requires ready { IsReady desk.now seat }
-    ensures ready { IsReady desk.now result }
-    ensures same { IsSameSeat seat result }
+    requires ready { IsSeatOfDesk desk.now seat }
+    ensures ready { IsSeatOfDesk desk.now result }
+    ensures same { IsSamePlace seat result }
 {
     let mut hand = desk.hand(seat);
     for number in 0..FLIGHTS {
@@ -75,24 +75,24 @@ fn file_both<R: Threads + Wait + Sync + Abort>(
     second: Seat,
 ) -> (Seat, Seat)
     requires sync { IsSync R.row }
-    requires ready { IsReady desk.now first × IsReady desk.now second }
-    ensures ready { IsReady desk.now result.0 × IsReady desk.now result.1 }
-    ensures same { IsSameSeat first result.0 × IsSameSeat second result.1 }
+    requires ready { IsSeatOfDesk desk.now first × IsSeatOfDesk desk.now second }
+    ensures ready { IsSeatOfDesk desk.now result.0 × IsSeatOfDesk desk.now result.1 }
+    ensures same { IsSamePlace first result.0 × IsSamePlace second result.1 }
 {
     join(
         rt,
         move ||
-            requires { IsSync R.row × IsReady desk.now first }
+            requires { IsSync R.row × IsSeatOfDesk desk.now first }
         { file(rt, desk, first) },
         move ||
-            requires { IsSync R.row × IsReady desk.now second }
+            requires { IsSync R.row × IsSeatOfDesk desk.now second }
         { file(rt, desk, second) },
     )
 }
 
 /// Joins the second seat, and closes the desk.
 fn close_both(desk: Desk, mut first: Seat, second: Seat) -> Picture
-    requires ready { IsReady desk first × IsReady desk second }
+    requires ready { IsSeatOfDesk desk first × IsSeatOfDesk desk second }
     requires first { (first.view.number ≡ 0) × (first.view.gave ≡ 1 ∷ []) × (first.view.joined ≡ []) }
     requires second { second.view.number ≡ 1 }
 {

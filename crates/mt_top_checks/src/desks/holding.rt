@@ -2,7 +2,7 @@
 //! A desk that held the turn meanwhile would never end these tests.
 ghost use Rattle.std.specs.Prelude.{◌≡◌};
 ghost use Rattle.std.specs.Thread.{IsSync};
-ghost use Rattle.mt_desk.specs.Desk.{IsReady};
+ghost use Rattle.mt_desk.specs.Desk.{IsSeatOfDesk};
 
 use super::opening::{entered, opened, outer};
 use crate::commands::{clear, plan};
@@ -41,8 +41,8 @@ enum Work {
 /// Files the one planned flight.
 fn file<R: Threads + Wait + Sync + Abort>(rt: &R, alloc: Global, desk: &Desk, seat: Seat) -> Seat
     requires sync { IsSync R.row }
-    requires ready { IsReady desk.now seat }
-    ensures { IsReady desk.now result }
+    requires ready { IsSeatOfDesk desk.now seat }
+    ensures { IsSeatOfDesk desk.now result }
 {
     let mut hand = desk.hand(seat);
     let filing = plan(rt, alloc, b"DDD1", b"Q0", b"Q1", 350);
@@ -81,7 +81,7 @@ fn held_version<R: Threads + Wait + Sync + Abort>(
     work: Work,
 ) -> u64
     requires sync { IsSync R.row }
-    requires ready { IsReady desk.now seat }
+    requires ready { IsSeatOfDesk desk.now seat }
 {
     let mut hand = desk.hand(seat);
     work_through(rt, &mut hand, work, &Hold { rt, meeting })
@@ -111,7 +111,7 @@ fn enter<R: Threads + Wait + Sync + Abort>(
     meeting: &Barrier,
 ) -> u64
     requires sync { IsSync R.row }
-    requires ready { IsReady desk.now seat }
+    requires ready { IsSeatOfDesk desk.now seat }
 {
     let mut hand = desk.hand(seat);
     meeting.wait(rt);
@@ -130,15 +130,15 @@ fn versions<R: Threads + Wait + Sync + Abort>(
     held: Work,
 ) -> (u64, u64)
     requires sync { IsSync R.row }
-    requires ready { IsReady desk.now first × IsReady desk.now second }
+    requires ready { IsSeatOfDesk desk.now first × IsSeatOfDesk desk.now second }
 {
     join(
         rt,
         move ||
-            requires { IsSync R.row × IsReady desk.now first }
+            requires { IsSync R.row × IsSeatOfDesk desk.now first }
         { held_version(rt, desk, first, meeting, held) },
         move ||
-            requires { IsSync R.row × IsReady desk.now second }
+            requires { IsSync R.row × IsSeatOfDesk desk.now second }
         { enter(rt, desk, second, meeting) },
     )
 }

@@ -2,7 +2,7 @@
 ghost use Rattle.std.specs.Prelude.{◌≡◌, ◌≤◌, [], ◌∷◌};
 ghost use Rattle.std.specs.Thread.{IsSync};
 ghost use Rattle.mt_base.specs.Bounds.{IsAskedFor, IsBoundedCommand};
-ghost use Rattle.mt_desk.specs.Desk.{IsReady};
+ghost use Rattle.mt_desk.specs.Desk.{IsSeatOfDesk};
 ghost use Rattle.mt_top_checks.specs.Same.{IsSameHand};
 
 use crate::commands::{STILL, shared_tables};
@@ -18,7 +18,7 @@ use std::thread::Threads;
 
 /// A desk over the opening picture, its first seat, and one that was split off it.
 pub fn opened(rt: &impl Abort, alloc: Global) -> (Desk, Seat, Seat)
-    ensures ready { IsReady result.0 result.1 × IsReady result.0 result.2 }
+    ensures ready { IsSeatOfDesk result.0 result.1 × IsSeatOfDesk result.0 result.2 }
     ensures first { (result.1.view.number ≡ 0) × (result.1.view.gave ≡ 1 ∷ []) × (result.1.view.joined ≡ []) }
     ensures second { result.2.view.number ≡ 1 }
 {

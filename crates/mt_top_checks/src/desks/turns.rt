@@ -1,7 +1,7 @@
 //! Three seats on threads of their own, each of which takes 400 turns of one value.
 ghost use Rattle.std.specs.Prelude.{◌≡◌, ◌+◌, ◌^◌, ◌≤◌, [], ◌∷◌, ◌++◌, length, MatchBool, Some};
 ghost use Rattle.mt_turn.specs.declared.view.Phase.TheVariants.{Idle};
-ghost use Rattle.mt_turn.specs.Lending.{IsSameSeat};
+ghost use Rattle.mt_turn.specs.Lending.{AreViewsOfOneSeat};
 
 use mt_turn::{Kept, Seat, Turn};
 use std::process::Abort;
@@ -64,7 +64,7 @@ fn take_turn<R: Wait>(rt: &R, turn: &Turn<Register>, seat: &mut Seat<Register>, 
     requires idle { seat.old.view.phase ≡ Idle }
     ensures own { seat.new.home ≡ turn.now }
     ensures idle { seat.new.view.phase ≡ Idle }
-    ensures same { IsSameSeat seat.old.view seat.new.view }
+    ensures same { AreViewsOfOneSeat seat.old.view seat.new.view }
 {
     let mut held = turn.enter(rt, seat);
     if let Some(item) = item {
@@ -80,7 +80,7 @@ fn take_turns<R: Wait>(rt: &R, turn: &Turn<Register>, mut seat: Seat<Register>) 
     requires idle { seat.view.phase ≡ Idle }
     ensures own { result.home ≡ turn.now }
     ensures idle { result.view.phase ≡ Idle }
-    ensures same { IsSameSeat seat.view result.view }
+    ensures same { AreViewsOfOneSeat seat.view result.view }
 {
     for i in 0..400u32 {
         let item = if i % 2 == 0 { Some(i / 2) } else { None };
@@ -121,7 +121,7 @@ fn take_two<R: Threads + Wait + Sync>(
     requires idle { (first.view.phase ≡ Idle) × (second.view.phase ≡ Idle) }
     ensures own { (result.0.home ≡ turn.now) × (result.1.home ≡ turn.now) }
     ensures idle { (result.0.view.phase ≡ Idle) × (result.1.view.phase ≡ Idle) }
-    ensures same { IsSameSeat first.view result.0.view × IsSameSeat second.view result.1.view }
+    ensures same { AreViewsOfOneSeat first.view result.0.view × AreViewsOfOneSeat second.view result.1.view }
 {
     join(
         rt,
@@ -142,7 +142,7 @@ fn take_three<R: Threads + Wait + Sync>(
     requires idle { (first.view.phase ≡ Idle) × (second.view.phase ≡ Idle) × (third.view.phase ≡ Idle) }
     ensures own { (result.0.home ≡ turn.now) × (result.1.0.home ≡ turn.now) × (result.1.1.home ≡ turn.now) }
     ensures idle { (result.0.view.phase ≡ Idle) × (result.1.0.view.phase ≡ Idle) × (result.1.1.view.phase ≡ Idle) }
-    ensures same { IsSameSeat first.view result.0.view × IsSameSeat second.view result.1.0.view × IsSameSeat third.view result.1.1.view }
+    ensures same { AreViewsOfOneSeat first.view result.0.view × AreViewsOfOneSeat second.view result.1.0.view × AreViewsOfOneSeat third.view result.1.1.view }
 {
     join(
         rt,

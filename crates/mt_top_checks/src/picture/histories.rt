@@ -1,7 +1,7 @@
 //! A small history as text: read, rebuilt, printed, and read and rebuilt once more; and texts that say none.
 ghost use Rattle.std.specs.Prelude.{All};
 ghost use Rattle.mt_base.specs.Bounds.{AreWithinBounds};
-ghost use Rattle.mt_history.specs.Rebuilt.{IsReady};
+ghost use Rattle.mt_history.specs.Rebuilt.{IsReadyToDecide};
 
 use crate::commands::shared_tables;
 use crate::conflicts::{conflict, hit};
@@ -28,7 +28,7 @@ const WITHDRAWN: &str = r#"{"call":"III1","do":"clear","eff":0,"level":370,"who"
 
 // The entries that a text says.
 fn entries_of(rt: &impl Abort, alloc: Global, text: &[u8]) -> Entries
-    ensures { All IsReady result }
+    ensures { All IsReadyToDecide result }
 {
     match read_all(alloc, text) {
         Ok(entries) => entries,
@@ -67,7 +67,7 @@ fn conflict_ahead(rt: &impl Abort) -> Conflict {
     }
 }
 
-// One text behind another.
+// One text after another.
 fn joined(rt: &impl Abort, alloc: Global, first: &str, last: &str) -> Vec<u8> {
     let mut text = Vec::new(alloc);
     text.extend_from_slice(first.as_bytes())
@@ -115,13 +115,13 @@ fn a_printed_history_rebuilds_the_picture(rt: HostRuntime) {
     printed(&rt, alloc, &again, 6, &[]);
 }
 
-// What is wrong where this text is behind the marks.
+// What is wrong where this text is after the marks.
 fn check_wrong(rt: &(impl Abort + Threads + Sync), alloc: Global, last: &str, wanted: Wrong) {
     let text = joined(rt, alloc, MARKED, last);
     assert!(rt; rebuilt(rt, alloc, &text).err() == Some(wanted));
 }
 
-// What is bad where an empty line is behind the marks.
+// What is bad where an empty line is after the marks.
 fn check_gap(rt: &impl Abort, alloc: Global) {
     let gap = joined(rt, alloc, MARKED, "\n");
     assert!(rt; read_all(alloc, &gap).err() == Some(Bad::Line(4)));

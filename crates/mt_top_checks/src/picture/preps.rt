@@ -4,7 +4,7 @@ ghost use Rattle.mt_base.specs.Bounds.{IsBoundedClearance, IsBoundedCommand, IsB
 ghost use Rattle.mt_base.specs.History.{IsInTime};
 ghost use Rattle.mt_picture.specs.Story.{IsPrepFor};
 ghost use Rattle.mt_probe.specs.Prepared.{MakesStrand};
-ghost use Rattle.mt_top_checks.specs.Growing.{IsLater, IsOfPast};
+ghost use Rattle.mt_top_checks.specs.Growing.{IsLaterStory, IsOfPast};
 
 use super::scene::{Scene, check_entered, check_probe, check_refused, enter_made, enter_plain};
 use crate::commands::{AHEAD, FARTHER, FARTHEST, NORTH, clear, drop_flight, outer, plan, tick};
@@ -18,7 +18,7 @@ use std::process::Abort;
 fn come(rt: &impl Abort, scene: &mut Scene, call: &[u8], from: Second, first: &Row, version: u64)
     requires early { from ≤ 10 }
     requires bounded { IsBoundedStretch (record { from = from; to = from + 1200; first = first.now; rvsm = true }) }
-    ensures { IsLater scene.old.picture scene.new.picture }
+    ensures { IsLaterStory scene.old.picture scene.new.picture }
 {
     let coming = outer(rt, call, from, from + 1200, *first);
     enter_made(rt, scene, coming, version);
@@ -58,7 +58,7 @@ fn prepared(rt: &impl Abort, scene: &mut Scene, command: &Command) -> Prep
 fn check_stale(rt: &impl Abort, scene: &mut Scene, probe: &Probe)
     requires bounded { IsBoundedClearance probe.now.clearance }
     requires past { IsOfPast scene.old.picture probe.now.prep }
-    ensures { IsLater scene.old.picture scene.new.picture }
+    ensures { IsLaterStory scene.old.picture scene.new.picture }
 {
     let first = hit_ahead(rt);
     check_refused(rt, scene.accept(rt, probe), Refusal::Stale { first }, 7);

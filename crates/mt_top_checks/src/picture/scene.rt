@@ -4,7 +4,7 @@ ghost use Rattle.mt_base.specs.Bounds.{IsBoundedClearance, IsBoundedCommand};
 ghost use Rattle.mt_base.specs.History.{IsInTime};
 ghost use Rattle.mt_picture.specs.Story.{IsPrepFor};
 ghost use Rattle.mt_probe.specs.Prepared.{MakesStrand};
-ghost use Rattle.mt_top_checks.specs.Growing.{IsLater, IsOfPast};
+ghost use Rattle.mt_top_checks.specs.Growing.{IsLaterStory, IsOfPast};
 
 use crate::commands::shared_tables;
 use crate::names::callsign;
@@ -75,7 +75,7 @@ impl Scene {
         requires bounded { IsBoundedCommand command.now }
         requires in_time { (place : ℕ) → IsInTime place command.now }
         requires prep { IsPrepFor self.old.picture who command.now prep.now }
-        ensures { IsLater self.old.picture self.new.picture }
+        ensures { IsLaterStory self.old.picture self.new.picture }
     {
         self.picture
             .publish(self.alloc, who, command, Some(prep), &mut self.tests)
@@ -86,7 +86,7 @@ impl Scene {
         requires makes { MakesStrand command.now }
         requires bounded { IsBoundedCommand command.now }
         requires in_time { (place : ℕ) → IsInTime place command.now }
-        ensures { IsLater self.old.picture self.new.picture }
+        ensures { IsLaterStory self.old.picture self.new.picture }
     {
         let prep = self.prepare(who, command)?;
         let answer = self.enter_with(who, command, &prep);
@@ -98,7 +98,7 @@ impl Scene {
     pub fn enter_plain(&mut self, who: u32, command: &Command) -> Result<Entered, No>
         requires makes_none { MakesStrand command.now → ⊥ }
         requires bounded { IsBoundedCommand command.now }
-        ensures { IsLater self.old.picture self.new.picture }
+        ensures { IsLaterStory self.old.picture self.new.picture }
     {
         self.picture
             .publish(self.alloc, who, command, None, &mut self.tests)
@@ -140,7 +140,7 @@ impl Scene {
     pub fn accept(&mut self, rt: &impl Abort, probe: &Probe) -> Result<Entered, No>
         requires bounded { IsBoundedClearance probe.now.clearance }
         requires past { IsOfPast self.old.picture probe.now.prep }
-        ensures { IsLater self.old.picture self.new.picture }
+        ensures { IsLaterStory self.old.picture self.new.picture }
     {
         let probed = probe.version();
         let eff = probe.eff();
@@ -166,7 +166,7 @@ pub fn enter_made(rt: &impl Abort, scene: &mut Scene, command: Command, version:
     requires makes { MakesStrand command }
     requires bounded { IsBoundedCommand command }
     requires in_time { (place : ℕ) → IsInTime place command }
-    ensures { IsLater scene.old.picture scene.new.picture }
+    ensures { IsLaterStory scene.old.picture scene.new.picture }
 {
     check_entered(rt, scene.enter_made(0, &command), version);
     drop(command);
@@ -176,7 +176,7 @@ pub fn enter_made(rt: &impl Abort, scene: &mut Scene, command: Command, version:
 pub fn enter_plain(rt: &impl Abort, scene: &mut Scene, command: Command, version: u64)
     requires makes_none { MakesStrand command → ⊥ }
     requires bounded { IsBoundedCommand command }
-    ensures { IsLater scene.old.picture scene.new.picture }
+    ensures { IsLaterStory scene.old.picture scene.new.picture }
 {
     check_entered(rt, scene.enter_plain(0, &command), version);
     drop(command);

@@ -68,7 +68,7 @@ fn ended<R: Abort + Threads + Wait + Sync, S: Source>(
     run_over(rt, alloc, words, input, room, &mut door, &OpenGate)
 }
 
-// The input, of which each read gives a byte, and the one behind so many bytes fails.
+// The input, of which each read gives a byte, and the one after so many bytes fails.
 fn torn_behind(rt: &impl Abort, alloc: Global, given: usize) -> MemSource {
     let bytes = INPUT.as_bytes().to_vec(alloc).expect(rt, "memory");
     let mut calls = Vec::new(alloc);
@@ -78,7 +78,7 @@ fn torn_behind(rt: &impl Abort, alloc: Global, given: usize) -> MemSource {
     MemSource::of(bytes).failing(calls, 1)
 }
 
-// Whether an input that fails behind so many bytes is answered up to its last whole line.
+// Whether an input that fails after so many bytes is answered up to its last whole line.
 fn is_answered<R: Abort + Threads + Wait + Sync>(rt: &R, alloc: Global, given: usize) -> bool
     requires sync { IsSync R.row }
 {

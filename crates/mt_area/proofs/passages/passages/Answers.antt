@@ -2,7 +2,7 @@ use Rattle.std.proofs.Common.{List, ◌+◌, [], subst, sym, take}
 use Rattle.std.proofs.lemmas.List.{take_all}
 use Rattle.mt_base.specs.declared.area.Area.{Area}
 use Rattle.mt_track.specs.Named.{named}
-use Rattle.mt_area.specs.Telling.{Adds, IsPiercedByOne}
+use Rattle.mt_area.specs.Telling.{AddsPierced, IsPiercedByOne}
 use Rattle.mt_base.specs.Area.{IsBoundedArea}
 use Rattle.mt_area.proofs.Reaching.{none_pierced}
 use Rattle.mt_area.proofs.Tellings.{Adds-more, Adds-none, from_nothing, none_told, one_area_more}
@@ -29,5 +29,5 @@ loop-area-preserved c =
 pub returns : goal.returns
 returns c =
     from_nothing (IsPiercedByOne c.args.now c.args.areas.now (named c.args.item.now)) c.loop-area.found
-    (subst (λ (areas : List Area). Adds (IsPiercedByOne c.args.now areas (named c.args.item.now)) [] c.loop-area.found)
+    (subst (λ (areas : List Area). AddsPierced (IsPiercedByOne c.args.now areas (named c.args.item.now)) [] c.loop-area.found)
     (take_all _ c.args.areas.now c.loop-area-test.false) c.loop-area.invariant)

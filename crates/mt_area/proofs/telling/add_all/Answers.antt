@@ -1,7 +1,7 @@
 use Rattle.std.proofs.Common.{List, Contains, subst, take}
 use Rattle.std.proofs.lemmas.List.{take_all}
 use Rattle.mt_base.specs.declared.area.Pierced.{Pierced}
-use Rattle.mt_area.specs.Telling.{Adds}
+use Rattle.mt_area.specs.Telling.{AddsPierced}
 use Rattle.mt_area.proofs.Tellings.{Adds-more, Adds-pushed, one_held_more}
 use Rattle.mt_base.proofs.Members.{take_push}
 use Rattle.mt_area.proofs.telling.add_all.Goals as goal
@@ -15,4 +15,4 @@ loop-told-preserved c =
 
 pub returns : goal.returns
 returns c =
-    subst (λ (ps : List Pierced). Adds (Contains ps) c.args.found.now c.loop-told.found) (take_all _ c.args.part.now (rw c.items-told-items.ensures at c.loop-told-test.false)) c.loop-told.invariant
+    subst (λ (ps : List Pierced). AddsPierced (Contains ps) c.args.found.now c.loop-told.found) (take_all _ c.args.part.now (rw c.items-told-items.ensures at c.loop-told-test.false)) c.loop-told.invariant

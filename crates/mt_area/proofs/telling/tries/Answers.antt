@@ -2,7 +2,7 @@ use Rattle.std.proofs.Common.{◌≡◌, drop, length, arith}
 use Rattle.std.proofs.lemmas.List.{take_at}
 use Rattle.mt_area.proofs.telling.tries.Goals as goal
 
--- the places are as many as the trajectories, so what is behind them is nothing
+-- the places are as many as the trajectories, so what is after them is nothing
 pub returns-clause-each : goal.returns-clause-each
 returns-clause-each g c =
     let many : length c.tell_each.new.tries ≡ c.loop.tries.len =

@@ -4,7 +4,7 @@ use Rattle.mt_base.specs.declared.row.Row.{Row}
 use Rattle.mt_track.specs.Laid.{all_rows}
 use Rattle.mt_cover.specs.Box.{area_over}
 use Rattle.mt_cover.specs.InPlane.{IsAreaInPlane}
-use Rattle.mt_cover.specs.Walk.{Stands, part}
+use Rattle.mt_cover.specs.Walk.{StandsAtSecond, part}
 use Rattle.mt_cover.proofs.walk.gather.Given as goal
 
 abbrev pub invariant-loop-at : goal.invariant-loop-at
@@ -14,7 +14,7 @@ invariant-loop-at l = record {
   kept : IsAreaInPlane l.area;
   begun : l.from ≤ l.at;
   within : l.at ≤ l.to;
-  stands : Stands l.start l.segments l.index l.at;
+  stands : StandsAtSecond l.start l.segments l.index l.at;
 }
 
 abbrev pub decreases-loop-at : goal.decreases-loop-at

@@ -3,12 +3,12 @@ use Rattle.std.specs.List.{range_with_len}
 use Rattle.mt_track.specs.Layer.{IsLayerKept}
 use Rattle.mt_cover.specs.declared.sliced.Slice.{Slice}
 use Rattle.mt_cover.specs.Sliced.{layer_over, slice_in}
-use Rattle.mt_cover.specs.Walk.{Stands}
+use Rattle.mt_cover.specs.Walk.{StandsAtSecond}
 use Rattle.mt_cover.proofs.walk.slices.Given as goal
 
 abbrev pub invariant-loop-slice : goal.invariant-loop-slice
 invariant-loop-slice l = record {
-  stands : Stands l.start l.segments l.index (min l.end (l.start + 256 * l.slice));
+  stands : StandsAtSecond l.start l.segments l.index (min l.end (l.start + 256 * l.slice));
   is : l.list.items ≡ map (slice_in l.rules l.strand) (range_with_len 0 l.slice);
   each : All (λ (slice : Slice). IsLayerKept slice.layer) l.list.items;
   layer : l.layer ≡ layer_over l.list.items;

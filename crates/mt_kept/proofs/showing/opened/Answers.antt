@@ -4,7 +4,7 @@ use Rattle.std.proofs.lemmas.List.Elements.{All-push}
 use Rattle.mt_edges.specs.declared.edge.Edge.{Edge}
 use Rattle.mt_kept.specs.declared.open_pair.OpenPair.{OpenPair}
 use Rattle.mt_kept.specs.Places.{seen}
-use Rattle.mt_kept.specs.Window.{IsShown, edge_of}
+use Rattle.mt_kept.specs.Window.{ShowsInWindow, edge_of}
 use Rattle.mt_kept.proofs.Moving.{tested_more}
 use Rattle.mt_kept.proofs.showing.opened.Goals as goal
 
@@ -21,7 +21,7 @@ loop-edge-preserved c =
     record {
       same = rw pushed (map-append edge_of c.loop-edge.pairs.items _ ∙ ap (λ (es : List Edge). es ++ slice_index_or c.args.edges.now c.loop-edge.edge-index (record { a = 0; b = 0; first = 0; last = 0 }) ∷ []) c.loop-edge.invariant.same
           ∙ sym (take_more c.args.edges.now c.loop-edge.edge-index _ c.loop-edge-test.true));
-      shown = rw pushed (All-push (λ (o : OpenPair). IsShown c.args.rules.now (map seen c.args.places.now) c.args.now o.edge o.conflict) c.loop-edge.pairs.items _
+      shown = rw pushed (All-push (λ (o : OpenPair). ShowsInWindow c.args.rules.now (map seen c.args.places.now) c.args.now o.edge o.conflict) c.loop-edge.pairs.items _
           c.loop-edge.invariant.shown c.shown-conflict.ensures.shown);
       counted = tested_more c.args.now c.args.edges.now c.loop-edge.edge-index c.args.tests.now c.loop-edge.tests c.shown-conflict.new.tests _ c.loop-edge-test.true
           c.loop-edge.invariant.counted c.shown-conflict.ensures.counted;

@@ -3,7 +3,7 @@ use Rattle.std.specs.Prelude.{All}
 use Rattle.mt_make.specs.Input.{inputs}
 use Rattle.mt_read.specs.Bounded.{IsBoundedRequest}
 use Rattle.mt_world.specs.World.{opening_world}
-use Rattle.mt_load.specs.Load.{AreAsked}
+use Rattle.mt_load.specs.Load.{AreRequestsAnswered}
 use Rattle.mt_load.proofs.Numbers.{input_made_none}
 use Rattle.mt_load.proofs.driving.drive.Goals as goal
 
@@ -13,5 +13,5 @@ ask_all-requires-clause-bounded g c κs within = λ rules.
 
 pub advise_all-requires-clause-none : goal.advise_all-requires-clause-none
 advise_all-requires-clause-none g c κs within =
-    let asked : AreAsked opening_world 0 (inputs c.args.flights c.args.number) c.ask_all.new.script = search rules in
+    let asked : AreRequestsAnswered opening_world 0 (inputs c.args.flights c.args.number) c.ask_all.new.script = search rules in
     input_made_none c.args.flights c.args.number c.ask_all.new.script asked

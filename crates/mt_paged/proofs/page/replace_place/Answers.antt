@@ -5,7 +5,7 @@ use Rattle.std.specs.Arc.{arc_value}
 use Rattle.std.specs.Option.{option_map}
 use Rattle.std.specs.Vec.{with_item}
 use Rattle.std.proofs.lemmas.List.{map-set}
-use Rattle.mt_paged.specs.Pages.{places}
+use Rattle.mt_paged.specs.Pages.{page_places}
 use Rattle.mt_paged.proofs.Sharing.{copied, on_err}
 use Rattle.mt_paged.proofs.page.replace_place.Goals as goal
 
@@ -15,6 +15,6 @@ returns-in_err-own-clause-err g c = on_err _ (copied _ (option_map arc_value) (�
 pub returns-clause-ok : goal.returns-clause-ok
 returns-clause-ok g c =
     let written = c.make_mut.follows.holds (with_item c.in_ok-own.own.now c.args.place c.args.item) (rw c.in_ok-own.was refl) in
-    ap (λ (v : Vec (Option (Arc _ _)) _). places v.items) written
+    ap (λ (v : Vec (Option (Arc _ _)) _). page_places v.items) written
     ∙ map-set (option_map arc_value) c.in_ok-own.own.now.items c.args.place c.args.item
     ∙ ap (λ row. set row c.args.place (option_map arc_value c.args.item)) (copied _ (option_map arc_value) (λ x y r. search rules) _ _ c.in_ok-own.ensures.value)

@@ -1,14 +1,14 @@
 use Rattle.std.proofs.Common.{◌-◌, ◌≤◌}
 use Rattle.mt_base.specs.Conflict.{IsConflict}
-use Rattle.mt_pair.specs.Held.{HasBegun}
+use Rattle.mt_pair.specs.Held.{BeginsBy}
 use Rattle.mt_pair.proofs.span.walk.Given as goal
 
 abbrev pub invariant-loop-k : goal.invariant-loop-k
 invariant-loop-k l = record {
   ordered : l.from ≤ l.k;
   within : l.k ≤ l.to;
-  a_begun : HasBegun l.a l.i l.k;
-  b_begun : HasBegun l.b l.j l.k;
+  a_begun : BeginsBy l.a l.i l.k;
+  b_begun : BeginsBy l.b l.j l.k;
   conflict : IsConflict l.rules l.a l.b l.from l.k l.span;
 }
 

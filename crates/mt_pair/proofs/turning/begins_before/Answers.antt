@@ -1,6 +1,6 @@
 use Rattle.std.proofs.Common.{sym, true≢false, refl}
 use Rattle.std.proofs.lemmas.Bool.Decides.{not_from_Decides}
-use Rattle.mt_pair.specs.Turning.{IsLater}
+use Rattle.mt_pair.specs.Turning.{IsFalling}
 use Rattle.mt_pair.proofs.Turns.{AreNone, none_before_gap, none_before_over, none_before_under, some_before}
 use Rattle.mt_pair.proofs.turning.begins_before.Goals as goal
 
@@ -18,7 +18,7 @@ returns-then-line_is_later-2 c = λ low high less some.
 
 pub returns : goal.returns
 returns c = λ low high less some.
-    let none : AreNone IsLater c.args.gap c.args.over c.args.under c.args.k = record {
+    let none : AreNone IsFalling c.args.gap c.args.over c.args.under c.args.k = record {
       gap_is = not_from_Decides _ c.gap_is_later.ensures c.if-gap_is_later.false;
       over_is = not_from_Decides _ c.line_is_later.ensures c.if-line_is_later.false;
       under_is = not_from_Decides _ c.line_is_later-2.ensures c.if-line_is_later-2.false;

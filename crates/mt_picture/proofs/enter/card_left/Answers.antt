@@ -1,8 +1,8 @@
 use Rattle.std.proofs.Common.{◌∙◌, subst, sym}
 use Rattle.std.proofs.lemmas.Result.{IfOk-weaker}
 use Rattle.mt_change.proofs.Filling.{bounded_besides}
-use Rattle.mt_probe.specs.Prepared.{IsLeft}
-use Rattle.mt_probe.specs.Shot.{state_of as state_in}
+use Rattle.mt_probe.specs.Prepared.{IsLeftByEntry}
+use Rattle.mt_probe.specs.Shot.{state_in_shot as state_in}
 use Rattle.mt_picture.proofs.Leaving.{left_now}
 use Rattle.mt_picture.proofs.Passing.{aside_passes}
 use Rattle.mt_picture.proofs.enter.card_left.Goals as goal
@@ -31,4 +31,4 @@ returns-then-version c =
     let passes = aside_passes shot.setup (state_in shot) c.args.who c.keeps.ensures.sound.rules c.args.command.now c.requires.passed in
     let left = left_now shot c.args.held.now.history c.args.who c.args.command.now c.args.prep.now c.keeps.ensures.picture.stands c.requires.prepared c.version.ensures.kept
     same passes in
-    IfOk-weaker c.copy.result _ _ (λ card is. subst (IsLeft shot.setup (state_in shot) c.args.who c.args.command.now) (sym (is ∙ c.card.ensures)) left) c.copy.ensures
+    IfOk-weaker c.copy.result _ _ (λ card is. subst (IsLeftByEntry shot.setup (state_in shot) c.args.who c.args.command.now) (sym (is ∙ c.card.ensures)) left) c.copy.ensures

@@ -1,4 +1,4 @@
-use Rattle.mt_probe.specs.Shot.{state_of as state_in}
+use Rattle.mt_probe.specs.Shot.{state_in_shot as state_in}
 use Rattle.mt_picture.proofs.Passing.{plain_free}
 use Rattle.mt_picture.proofs.enter.enter.Goals as goal
 

@@ -1,4 +1,4 @@
-use Rattle.mt_probe.specs.Shot.{state_of as state_in}
+use Rattle.mt_probe.specs.Shot.{state_in_shot as state_in}
 use Rattle.mt_change.proofs.Filling.{bounded_besides}
 use Rattle.mt_picture.proofs.Passing.{aside_passes, few_entries, withdraws}
 use Rattle.mt_picture.proofs.Remade.{report_alters}

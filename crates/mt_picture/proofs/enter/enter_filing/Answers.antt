@@ -1,5 +1,5 @@
 use Rattle.std.proofs.Common.{length}
-use Rattle.mt_probe.specs.Shot.{state_of as state_in}
+use Rattle.mt_probe.specs.Shot.{state_in_shot as state_in}
 use Rattle.mt_picture.proofs.Passing.{few_entries, full_not, seat_passed}
 use Rattle.mt_picture.proofs.enter.enter_filing.Goals as goal
 

@@ -1,6 +1,6 @@
 use Rattle.std.proofs.Common.{None, ap, is_some, sym, ◌∙◌, refl, arith}
 use Rattle.mt_probe.specs.Shot.{flight_at, records_in}
-use Rattle.mt_probe.specs.Shot.{state_of as state_in}
+use Rattle.mt_probe.specs.Shot.{state_in_shot as state_in}
 use Rattle.mt_picture.proofs.Bounding.{none_within}
 use Rattle.mt_picture.proofs.Passing.{drop_there, few_entries, found_place, plain_other, tick_later}
 use Rattle.mt_picture.proofs.Ticking.{ticked}

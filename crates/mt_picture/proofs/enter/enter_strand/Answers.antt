@@ -5,7 +5,7 @@ use Rattle.mt_picture.proofs.Passing.{few_entries}
 use Rattle.mt_picture.proofs.Preparing.{asked_within, prepared_now}
 use Rattle.mt_picture.proofs.Remade.{remaking_alters}
 use Rattle.mt_picture.proofs.Stale.{remakes}
-use Rattle.mt_probe.specs.Shot.{state_of as state_in}
+use Rattle.mt_probe.specs.Shot.{state_in_shot as state_in}
 use Rattle.mt_picture.proofs.enter.enter_strand.Goals as goal
 
 pub enter_filing-requires-clause-prepared : goal.enter_filing-requires-clause-prepared

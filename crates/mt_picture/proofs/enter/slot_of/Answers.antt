@@ -1,5 +1,5 @@
 use Rattle.mt_probe.specs.Shot.{flight_at, records_in}
-use Rattle.mt_probe.specs.Shot.{state_of as state_in}
+use Rattle.mt_probe.specs.Shot.{state_in_shot as state_in}
 use Rattle.mt_probe.proofs.Left.{not_there, planned_flight}
 use Rattle.mt_picture.proofs.Passing.{found_place, planned_some}
 use Rattle.mt_picture.proofs.enter.slot_of.Goals as goal

@@ -4,11 +4,11 @@ use Rattle.mt_base.specs.declared.conflict.Kind.{Kind}
 use Rattle.mt_base.specs.declared.conflict.Kind.TheVariants.{Actual}
 use Rattle.mt_base.specs.Picture.{NamedTrajectory}
 use Rattle.mt_probe.specs.declared.flight.Flight.{Flight}
-use Rattle.mt_probe.specs.Shot.{state_of as state_in}
+use Rattle.mt_probe.specs.Shot.{state_in_shot as state_in}
 use Rattle.mt_picture.specs.Places.{made_of_kind}
 use Rattle.mt_picture.proofs.Entered.{put_filed}
 use Rattle.std.specs.Arc.{arc_value}
-use Rattle.mt_probe.specs.Prepared.{named, path_made}
+use Rattle.mt_probe.specs.Prepared.{named_trajectory, path_made}
 use Rattle.mt_picture.proofs.Bounding.{made_known}
 use Rattle.mt_picture.proofs.FirstHit.{enters_or_stops, filing_unprobed, no_first}
 use Rattle.mt_picture.proofs.Making.{filing_kind}
@@ -68,4 +68,4 @@ returns-clause-counted c = λ mine made.
     let t = arc_value c.in_ok-strand.strand in
     let one = made_known shot.setup (state_in shot) c.args.who c.args.command.now c.args.card t mine c.requires.prepared.left
     (subst (λ (k : Kind). path_made shot.setup c.args.card k ≡ Some t) (sym kind) c.in_ok-strand.ensures.made) made in
-    c.put_made.ensures.counted mine (ap (λ (k : Kind). Some (named c.args.card k t)) (sym kind) ∙ ap Some one)
+    c.put_made.ensures.counted mine (ap (λ (k : Kind). Some (named_trajectory c.args.card k t)) (sym kind) ∙ ap Some one)

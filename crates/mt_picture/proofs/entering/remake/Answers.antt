@@ -3,8 +3,8 @@ use Rattle.std.specs.Arc.{arc_value}
 use Rattle.mt_base.specs.declared.conflict.Kind.{Kind}
 use Rattle.mt_base.specs.declared.flight.Record.{Record}
 use Rattle.mt_probe.specs.Shot.{flight_at}
-use Rattle.mt_probe.specs.Shot.{state_of as state_in}
-use Rattle.mt_probe.specs.Prepared.{IsLeft, named}
+use Rattle.mt_probe.specs.Shot.{state_in_shot as state_in}
+use Rattle.mt_probe.specs.Prepared.{IsLeftByEntry, named_trajectory}
 use Rattle.mt_picture.proofs.Bounding.{made_known}
 use Rattle.mt_picture.proofs.Entered.{there}
 use Rattle.mt_picture.proofs.FirstHit.{both_ok, enters_or_stops, first_of_put}
@@ -43,7 +43,7 @@ returns-clause-entered c =
     let card_is = c.in_ok-flight.ensures.card_is in
     let put = put_remade shot c.args.slot f c.args.who c.args.command.now c.args.card (arc_value c.in_ok-strand.strand) c.keeps.ensures.sound
     c.requires.there c.requires.remaking c.requires.prepared.left c.keeps.ensures.picture.filed (rw c.kind_made-kind.ensures at c.in_ok-strand.ensures.made) c.in_ok-flight.ensures in
-    let left = subst (IsLeft shot.setup (state_in shot) c.args.who c.args.command.now) (sym card_is) c.requires.prepared.left in
+    let left = subst (IsLeftByEntry shot.setup (state_in shot) c.args.who c.args.command.now) (sym card_is) c.requires.prepared.left in
     enters_or_stops c.args.held.now c.put_made.new.held c.args.who c.args.command.now c.in_ok-entry.entry c.put_made.result c.in_ok-entry.ensures.entry
     c.put_made.ensures.entered (both_ok c.put_made.result _ _ _ (λ first here none.
     first_of_put shot c.args.slot c.args.who it.flight f c.args.command.now first c.keeps.ensures.sound it.at_is
@@ -69,4 +69,4 @@ returns-clause-counted c = λ mine made.
     (rw kind at c.in_ok-strand.ensures.made) made in
     c.put_made.ensures.counted mine
     (new_stands (flight_at shot c.args.slot) (shot.version + 1) c.args.command.now c.args.card t c.in_ok-flight.flight c.kind_made-kind.result kind c.in_ok-flight.ensures
-    ∙ ap (λ (k : Kind). Some (named c.args.card k t)) kind ∙ ap Some one)
+    ∙ ap (λ (k : Kind). Some (named_trajectory c.args.card k t)) kind ∙ ap Some one)

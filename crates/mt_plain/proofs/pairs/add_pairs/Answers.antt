@@ -2,7 +2,7 @@ use Rattle.std.proofs.Common.{List, le_refl, map, subst, take}
 use Rattle.std.proofs.lemmas.List.{take_all}
 use Rattle.mt_track.specs.declared.roster.Item.{Item}
 use Rattle.mt_track.specs.Named.{named}
-use Rattle.mt_plain.specs.Added.{Adds, IsOfRight}
+use Rattle.mt_plain.specs.Added.{AddsConflicts, IsOfRight}
 use Rattle.mt_plain.specs.Tests.{tests_of_pair}
 use Rattle.mt_plain.proofs.Found.{Adds-more, IsOfRight-push, map_take_push}
 use Rattle.mt_plain.proofs.Tallies.{RoseUpTo-part, on_err, raised_by-push}
@@ -21,7 +21,7 @@ loop-right-preserved c =
 
 pub returns-clause-found : goal.returns-clause-found
 returns-clause-found c =
-    subst (λ (items : List Item). Adds (IsOfRight c.args.rules.now c.args.now (named c.args.left.now) (map named items)) c.args.found.now c.loop-right.found)
+    subst (λ (items : List Item). AddsConflicts (IsOfRight c.args.rules.now c.args.now (named c.args.left.now) (map named items)) c.args.found.now c.loop-right.found)
     (take_all _ c.args.items.now c.loop-right-test.false) c.loop-right.invariant.found
 
 pub returns-in_err-add_pair-clause-limited : goal.returns-in_err-add_pair-clause-limited

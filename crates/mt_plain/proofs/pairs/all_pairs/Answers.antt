@@ -2,7 +2,7 @@ use Rattle.std.proofs.Common.{List, [], map, subst, take}
 use Rattle.std.proofs.lemmas.List.{take_all}
 use Rattle.mt_track.specs.declared.roster.Item.{Item}
 use Rattle.mt_track.specs.Named.{named}
-use Rattle.mt_plain.specs.Added.{Adds}
+use Rattle.mt_plain.specs.Added.{AddsConflicts}
 use Rattle.mt_base.specs.Tally.{RoseUpTo}
 use Rattle.mt_plain.specs.Tests.{pairs_of_different_flights, tests_of_left}
 use Rattle.mt_plain.proofs.Found.{Adds-more, IsOfTwo, IsOfTwo-push, IsPublishedOf-all, map_take_push}
@@ -24,7 +24,7 @@ loop-left-preserved c =
 pub returns-clause-published : goal.returns-clause-published
 returns-clause-published c =
     let all = map named c.items-items.result.now in
-    let found = subst (λ (items : List Item). Adds (IsOfTwo c.args.rules.now c.args.now (map named items) all) [] c.loop-left.found)
+    let found = subst (λ (items : List Item). AddsConflicts (IsOfTwo c.args.rules.now c.args.now (map named items) all) [] c.loop-left.found)
     (take_all _ c.items-items.result.now c.loop-left-test.false) c.loop-left.invariant.found in
     rw (← c.items-items.ensures.items)
     (IsPublishedOf-all c.args.rules.now c.args.now all c.loop-left.found _ found c.order.ensures.same c.order.ensures.sorted)

@@ -16,7 +16,7 @@ returns-then-last-from-clause-exact c = λ rules a b begin end later sooner is.
       | then-last-from-via-else-last-from+then-to-first w ↦ inr w.if-to-first.true
     ]) (rw c.in-Some.is at is)
 
--- an edge that is not straddled, and not behind the last second, is not behind the first
+-- an edge that is not straddled, and not after the last second, is not after the first
 apart_from : (first last edge : ℕ) → (Straddles (first, last) edge → IsTrue false) → edge ≤ last → edge ≤ first
 apart_from first last edge none lasting =
     let not : first < edge → ⊥ = λ begun. (let no : IsTrue false = none (record { begun = begun; lasting = lasting }) in search rules) in omega (arith, not)

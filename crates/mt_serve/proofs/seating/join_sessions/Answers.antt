@@ -1,7 +1,7 @@
 use Rattle.std.proofs.Common.{◌≡◌, ◌<◌, ◌≤◌, ◌+◌, ◌-◌, List, [], ◌∷◌, ◌++◌, length, Option, refl, sym, ap, ◌∙◌, subst, append-nil, length-append, rules, arith}
 use Rattle.mt_base.specs.Tables.{Setup}
 use Rattle.mt_base.specs.declared.command.Entry.{Entry}
-use Rattle.mt_desk.specs.Desk.{Desk, IsReady}
+use Rattle.mt_desk.specs.Desk.{Desk, IsSeatOfDesk}
 use Rattle.mt_io.specs.Door.{Count, Gains}
 use Rattle.mt_io.specs.declared.source.Source as Source
 use Rattle.mt_io.specs.declared.sink.Sink as Sink
@@ -75,9 +75,9 @@ join_session-requires-clause-first g c κs within = c.loop-done.invariant.0.join
 pub join_session-requires-clause-other : goal.join_session-requires-clause-other
 join_session-requires-clause-other g c κs within =
     let y : Met g.row.D-Link.Denot = record { from = record { link = c.done.inside.given.link.value; seat = c.done.inside.given.seat.value; has_channel = c.done.inside.given.has_channel }; link = c.done.inside.back.link; seat = c.done.inside.back.seat; outcome = c.done.inside.back.outcome } in
-    let from = all_front (λ (m : Met g.row.D-Link.Denot). IsReady c.args.desk.now m.from.seat) c.in-Some.done _ _ c.loop-done.invariant.0.ready c.in-Some.ensures.items in
+    let from = all_front (λ (m : Met g.row.D-Link.Denot). IsSeatOfDesk c.args.desk.now m.from.seat) c.in-Some.done _ _ c.loop-done.invariant.0.ready c.in-Some.ensures.items in
     done_ready g.D.Link.Source g.D.Link.Sink c.args.desk.now y.from.link y.from.seat y.from.has_channel y.link y.seat y.outcome c.done.invariant
-    (subst (λ (m : Met g.row.D-Link.Denot). IsReady c.args.desk.now m.from.seat) (sym c.done.view_is) from)
+    (subst (λ (m : Met g.row.D-Link.Denot). IsSeatOfDesk c.args.desk.now m.from.seat) (sym c.done.view_is) from)
 
 pub join_session-requires-clause-given : goal.join_session-requires-clause-given
 join_session-requires-clause-given g c κs within =

@@ -4,20 +4,20 @@ use Rattle.mt_base.specs.Picture.{flight_of}
 use Rattle.mt_advise.specs.Trying.{FliesOn}
 use Rattle.mt_advise.proofs.Passing.{candidates_is, none_there, one_advised, one_ended, one_outer}
 use Rattle.mt_probe.specs.declared.flight.Made.{Made}
-use Rattle.mt_probe.specs.Shot.{state_of}
+use Rattle.mt_probe.specs.Shot.{state_in_shot}
 use Rattle.mt_snapshot_advice.proofs.Planned.{planned_there}
 use Rattle.mt_snapshot_advice.proofs.asking.asked.Goals as goal
 
 pub returns-in_default-clause-refused : goal.returns-in_default-clause-refused
 returns-in_default-clause-refused c =
     let shot = c.args.snapshot.now in
-    let s = state_of shot in
+    let s = state_in_shot shot in
     rw c.refused.ensures (none_there shot.setup s.now (flight_of s.records c.args.call) c.args.call c.in_default.ensures.flight, refl)
 
 pub returns-in_default-path-clause-refused : goal.returns-in_default-path-clause-refused
 returns-in_default-path-clause-refused c =
     let shot = c.args.snapshot.now in
-    let s = state_of shot in
+    let s = state_in_shot shot in
     let flight = c.in-Some-flight.flight.now in
     let there : flight_of s.records c.args.call ≡ Some flight = c.in-Some.ensures.flight ∙ sym c.in-Some-flight.ensures in
     rw c.refused-in_default-path.ensures (
@@ -28,7 +28,7 @@ returns-in_default-path-clause-refused c =
 pub returns-in_default-base_from-clause-refused : goal.returns-in_default-base_from-clause-refused
 returns-in_default-base_from-clause-refused c =
     let shot = c.args.snapshot.now in
-    let s = state_of shot in
+    let s = state_in_shot shot in
     let flight = c.in-Some-flight.flight.now in
     let course = c.in-Planned.course in
     let made : Made = record { strand = c.in-Some-strand.strand.now; stamp = 0 } in
@@ -51,7 +51,7 @@ candidates-requires c =
 pub returns-clause-asked : goal.returns-clause-asked
 returns-clause-asked c =
     let shot = c.args.snapshot.now in
-    let s = state_of shot in
+    let s = state_in_shot shot in
     let flight = c.in-Some-flight.flight.now in
     let course = c.in-Planned.course in
     let base = c.in-Some-base_from.base in

@@ -2,7 +2,7 @@ use Rattle.std.proofs.Common.{◌≡◌, drop, length, arith}
 use Rattle.std.proofs.lemmas.List.{take_at}
 use Rattle.mt_snapshot_advice.proofs.trying.tries.Goals as goal
 
--- the places are as many as the candidates, so what is behind them is nothing
+-- the places are as many as the candidates, so what is after them is nothing
 pub returns-clause-each : goal.returns-clause-each
 returns-clause-each g c =
     let many : length c.try_each.new.tries ≡ c.loop.tries.len =

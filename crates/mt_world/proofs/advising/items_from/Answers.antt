@@ -2,7 +2,7 @@ use Rattle.std.proofs.Common.{◌≡◌, ◌∙◌, ◌+◌, ◌++◌, ◌∷◌
 use Rattle.std.proofs.lemmas.List.{map-append, take_more}
 use Rattle.std.proofs.lemmas.List.Elements.{All-push}
 use Rattle.mt_write.specs.Short.{IsShortAdvised}
-use Rattle.mt_probe.specs.Hits.{Tried}
+use Rattle.mt_probe.specs.Hits.{Trial}
 use Rattle.mt_world.specs.Sound.{clearances_of}
 use Rattle.mt_world.proofs.Advice.{item_more, number_more}
 use Rattle.mt_world.proofs.advising.items_from.Goals as goal
@@ -13,8 +13,8 @@ loop-probe-preserved c =
     let i = c.loop-probe.probe-index in
     let x = c.probe-item.result in
     let more : clearances_of (take (i + 1) ps) ≡ clearances_of (take i ps) ++ x.clearance ∷ [] =
-    ap clearances_of (take_more ps i x c.loop-probe-test.true ∙ ap (λ (y : Tried). take i ps ++ y ∷ []) (sym c.probe-item.is))
-    ∙ map-append (λ (p : Tried). p.clearance) (take i ps) (x ∷ []) in
+    ap clearances_of (take_more ps i x c.loop-probe-test.true ∙ ap (λ (y : Trial). take i ps ++ y ∷ []) (sym c.probe-item.is))
+    ∙ map-append (λ (p : Trial). p.clearance) (take i ps) (x ∷ []) in
     let short : All IsShortAdvised (c.loop-probe.items ++ c.of.result ∷ []) =
     All-push IsShortAdvised c.loop-probe.items c.of.result c.loop-probe.invariant.2 c.of.ensures.short in (
       rw (

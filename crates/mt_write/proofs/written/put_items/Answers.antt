@@ -10,7 +10,7 @@ use Rattle.mt_write.specs.Entry.{values}
 use Rattle.mt_write.specs.Puts.{Puts}
 use Rattle.mt_write.proofs.written.put_items.Goals as goal
 
--- the items from a place on are the one there and those behind it
+-- the items from a place on are the one there and those after it
 one_more : {A : Type 0} (value : A → Data) (later : Bool) (xs : List A) (i : ℕ) (x : A) → i < length xs → x ≡ get_or xs i x
     → items_text later (values value (drop i xs)) ≡ (comma_if later ++ compact_text (value x)) ++ items_text true (values value (drop (i + 1) xs))
 one_more value later xs i x lt is = rw (add-one, drop-cons xs i x, ← is, append_assoc)

@@ -1,10 +1,10 @@
 use Rattle.std.proofs.Common.{◌≡◌, ◌++◌, suc, length}
-use Rattle.mt_edges.specs.Kept.{Reads, gathered, left_at}
+use Rattle.mt_edges.specs.Kept.{ReadsWalk, gathered, left_at}
 use Rattle.mt_edges.proofs.table.Table.gather.Given as goal
 
 abbrev pub invariant-loop-place : goal.invariant-loop-place
 invariant-loop-place l = record {
-  reads : Reads l.self.ends l.self.base l.self.nodes.items l.self.free.items l.self.spare l.self.links.next.items l.self.links.prev.items l.head l.place;
+  reads : ReadsWalk l.self.ends l.self.base l.self.nodes.items l.self.free.items l.self.spare l.self.links.next.items l.self.links.prev.items l.head l.place;
   out : l.out.items ≡ l.initial.out.items ++ gathered l.self.nodes.items l.self.base l.from l.to reads.done;
 }
 

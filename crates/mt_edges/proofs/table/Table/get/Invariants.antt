@@ -1,11 +1,11 @@
 use Rattle.std.proofs.Common.{◌+◌, suc, length}
-use Rattle.mt_edges.specs.Kept.{Reads, left_at}
+use Rattle.mt_edges.specs.Kept.{ReadsWalk, left_at}
 use Rattle.mt_edges.proofs.Reading.{NoneYet}
 use Rattle.mt_edges.proofs.table.Table.get.Given as goal
 
 abbrev pub invariant-loop-place : goal.invariant-loop-place
 invariant-loop-place l = record {
-  reads : Reads l.self.ends l.self.base l.self.nodes.items l.self.free.items l.self.spare l.self.links.next.items l.self.links.prev.items (1 + l.a) l.place;
+  reads : ReadsWalk l.self.ends l.self.base l.self.nodes.items l.self.free.items l.self.spare l.self.links.next.items l.self.links.prev.items (1 + l.a) l.place;
   so_far : NoneYet l.self.nodes.items l.self.base l.a l.b reads.done;
 }
 

@@ -1,6 +1,5 @@
-use Rattle.std.proofs.Common.{arith, pos, ◌<ℤ◌, ◌≤ℤ◌}
+use Rattle.std.proofs.Common.{arith, ◌<ℤ◌, ◌≤ℤ◌}
 use Rattle.std.proofs.lemmas.Int.{ints}
-use Rattle.mt_frac.specs.Polynomials.{line_value}
 use Rattle.mt_frac.proofs.Cuts.{cut_falling, cut_nothing, cut_rising}
 use Rattle.mt_frac.proofs.Parts.{both_above, falls, rises}
 use Rattle.mt_frac.proofs.linear.Line.cut.Goals as goal

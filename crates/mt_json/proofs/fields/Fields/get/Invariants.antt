@@ -1,4 +1,4 @@
--- No member behind those that are left has the key.
+-- No member after those that are left has the key.
 use Rattle.std.proofs.Common.{◌≡◌, ◌≤◌, length, take}
 use Rattle.serde_json.specs.Find.{get_member}
 use Rattle.mt_json.specs.View.{members_view}

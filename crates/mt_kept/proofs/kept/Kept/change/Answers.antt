@@ -2,7 +2,7 @@ use Rattle.std.proofs.Common.{◌≡◌, ◌↔◌, ◌++◌, Contains, true, ar
 use Rattle.std.specs.List.{filter}
 use Rattle.std.specs.Result.{is_ok}
 use Rattle.mt_base.specs.declared.conflict.Conflict.{Conflict}
-use Rattle.mt_kept.specs.Finds.{AreFinds}
+use Rattle.mt_kept.specs.Finds.{AreFindsOfSlot}
 use Rattle.mt_kept.specs.Made.{AreReplaced, WereDropped, avoids, meets, opens}
 use Rattle.mt_kept.specs.Places.{HaveOwnSlots, seen, with_slot}
 use Rattle.mt_kept.specs.Window.{Shows}
@@ -17,7 +17,7 @@ replace_pairs-requires-clause-sound c =
     let now = c.self.inside.moment in
     let first = seen c.args.first in
     let second = seen c.args.second in
-    let finds : AreFinds c.self.inside.rules (with_slot places c.args.slot first second) now c.args.slot c.args.finds.now = rw (← c.self.view_is) at c.requires.finds in
+    let finds : AreFindsOfSlot c.self.inside.rules (with_slot places c.args.slot first second) now c.args.slot c.args.finds.now = rw (← c.self.view_is) at c.requires.finds in
     rw c.in_ok-reserve.ensures.ends (finds_sound c.self.inside.rules places now c.args.slot c.self.inside.pairs.ends first second c.args.finds.now c.self.invariant.all finds)
 
 pub invariant_of-self-2 : goal.invariant_of-self-2
@@ -30,7 +30,7 @@ invariant_of-self-2 c =
     let first = seen c.args.first in
     let second = seen c.args.second in
     let own : HaveOwnSlots (with_slot places c.args.slot first second) = rw (← c.self.view_is) at c.requires.own in
-    let finds : AreFinds c.self.inside.rules (with_slot places c.args.slot first second) now c.args.slot c.args.finds.now = rw (← c.self.view_is) at c.requires.finds in
+    let finds : AreFindsOfSlot c.self.inside.rules (with_slot places c.args.slot first second) now c.args.slot c.args.finds.now = rw (← c.self.view_is) at c.requires.finds in
     let replaced : AreReplaced c.args.slot c.args.finds.now c.self.inside.pairs.edges c.replace_pairs.new.pairs.edges =
     rw c.in_ok-reserve.ensures.edges at c.replace_pairs.ensures.replaced in
     let hidden : (d : Conflict) → Contains c.hide_slot.new.list.conflicts d ↔ (Contains list d × (¬ Shows (filter (meets c.args.slot) pairs) d)) =

@@ -1,7 +1,7 @@
 use Rattle.std.proofs.Common.{map, ◌∙◌, ◌≤◌}
 use Rattle.std.specs.List.{All}
 use Rattle.mt_kept.specs.Places.{seen}
-use Rattle.mt_kept.specs.Window.{IsShown}
+use Rattle.mt_kept.specs.Window.{ShowsInWindow}
 use Rattle.mt_kept.proofs.Moving.{listed, open_moved, reaching_pairs, tested_once}
 use Rattle.mt_kept.proofs.kept.Kept.move_to.Goals as goal
 
@@ -62,7 +62,7 @@ invariant_of-self c =
     let all = c.deref-4.ensures.value ∙ listed c.args.now pairs c.deref.result.now due c.deref-2.result.now c.in_ok-edges.edges.items c.add_lasting.new.edges.items
     c.deref.ensures.value c.deref-2.ensures.value c.in_ok-edges.ensures c.in_ok-add_lasting.ensures in
     let later : c.self.inside.moment ≤ c.args.now = rw (← c.self.view_is) at c.requires.later in
-    let shown : All (λ o. IsShown c.self.inside.rules places c.args.now o.edge o.conflict) c.in_ok-opened_pairs.opened_pairs.items =
+    let shown : All (λ o. ShowsInWindow c.self.inside.rules places c.args.now o.edge o.conflict) c.in_ok-opened_pairs.opened_pairs.items =
     rw c.deref-3.ensures.value at c.in_ok-opened_pairs.ensures.shown in
     record {
       bounds = k.bounds;

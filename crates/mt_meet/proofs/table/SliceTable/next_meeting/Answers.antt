@@ -1,6 +1,6 @@
 use Rattle.std.proofs.Common.{◌+◌, ◌*◌, List, Option, subst, sym, arith}
 use Rattle.mt_cover.specs.Sliced.{Sliced}
-use Rattle.mt_meet.specs.Reaching.{IsKept}
+use Rattle.mt_meet.specs.Reaching.{AreReachesKept}
 use Rattle.mt_meet.proofs.Listing.{first_after, none_until}
 use Rattle.mt_meet.proofs.Meetings.{none_on_page, reaches_on}
 use Rattle.mt_meet.proofs.table.SliceTable.next_meeting.Goals as goal
@@ -11,14 +11,14 @@ loop-number-preserved-in_default c = λ item late below.
     let mine = c.args.mine.now in
     let table = c.args.self.now in
     let n = c.loop-number.number in
-    let kept = subst (λ (t : List (Option Sliced)). IsKept c.self.inside.count t c.self.inside.pages) c.self.view_is c.self.invariant in
+    let kept = subst (λ (t : List (Option Sliced)). AreReachesKept c.self.inside.count t c.self.inside.pages) c.self.view_is c.self.invariant in
     none_until rules mine table c.args.from (64 * n) (64 * n) (64 * n + 64) (omega arith) c.loop-number.invariant
     (none_on_page c.self.inside.count table c.self.inside.pages kept rules mine n c.reach_of-own.ensures.slices (sym c.in_default.ensures))
     item late (omega (arith, below))
 
 pub next_on-requires-clause-page : goal.next_on-requires-clause-page
 next_on-requires-clause-page c =
-    let kept = subst (λ (t : List (Option Sliced)). IsKept c.self.inside.count t c.self.inside.pages) c.self.view_is c.self.invariant in
+    let kept = subst (λ (t : List (Option Sliced)). AreReachesKept c.self.inside.count t c.self.inside.pages) c.self.view_is c.self.invariant in
     reaches_on c.self.inside.count c.args.self.now c.self.inside.pages kept c.loop-number.number c.in-Some.page.now (sym c.in-Some.ensures)
 
 pub returns-in-Some-next_on : goal.returns-in-Some-next_on

@@ -3,7 +3,7 @@ use Rattle.std.specs.Arc.{arc_value}
 use Rattle.std.specs.Option.{option_map}
 use Rattle.std.specs.Vec.{with_item}
 use Rattle.std.proofs.lemmas.Result.{on_err_weaker, on_ok_weaker}
-use Rattle.mt_paged.specs.Pages.{AreRows, joined, row}
+use Rattle.mt_paged.specs.Pages.{AreRows, rows_joined, row}
 use Rattle.mt_paged.proofs.Rows.{within_count}
 use Rattle.mt_paged.proofs.Sharing.{copied, kept, on_either, on_err, page_is_full, same_row, written}
 use Rattle.mt_paged.proofs.paged.Paged.replace.Goals as goal
@@ -16,7 +16,7 @@ invariant_of-self g c =
 pub returns-in_err-pages-clause-err : goal.returns-in_err-pages-clause-err
 returns-in_err-pages-clause-err g c =
     let same = copied _ row same_row _ _ (rw c.in_err-pages.was at c.make_mut.follows.holds-at-none) in
-    on_err c.from_residual.result (ap (λ rows. take c.self.inside.count (joined rows)) same ∙ c.self.view_is)
+    on_err c.from_residual.result (ap (λ rows. take c.self.inside.count (rows_joined rows)) same ∙ c.self.view_is)
 
 pub replace_place-requires : goal.replace_place-requires
 replace_place-requires g c =
@@ -45,4 +45,4 @@ pub returns-clause-err : goal.returns-clause-err
 returns-clause-err g c =
     let same = copied _ row same_row _ _ c.in_ok-pages.ensures.value in
     let there = c.make_mut.follows.holds (with_item c.in_ok-pages.pages.now (c.args.place / 32) c.replace_place.new.page) (rw c.in_ok-pages.was refl) in
-    on_err_weaker _ (λ is. ap (λ rows. take c.self.inside.count (joined rows)) (kept _ _ _ _ _ _ same c.index_mut-page.ensures.value is there) ∙ c.self.view_is) c.replace_place.ensures.err
+    on_err_weaker _ (λ is. ap (λ rows. take c.self.inside.count (rows_joined rows)) (kept _ _ _ _ _ _ same c.index_mut-page.ensures.value is there) ∙ c.self.view_is) c.replace_place.ensures.err

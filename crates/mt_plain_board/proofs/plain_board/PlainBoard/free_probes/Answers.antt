@@ -2,7 +2,7 @@ use Rattle.std.proofs.Common.{refl}
 use Rattle.std.proofs.lemmas.List.{map-append, take_all, take_more}
 use Rattle.std.proofs.lemmas.List.Elements.{All-push}
 use Rattle.mt_board.specs.Probing.{IsPast}
-use Rattle.mt_plain_board.specs.Kept.{Tried}
+use Rattle.mt_plain_board.specs.Kept.{PlainTrial}
 use Rattle.mt_plain_board.proofs.plain_board.PlainBoard.free_probes.Goals as goal
 
 pub free_probe-requires : goal.free_probe-requires
@@ -18,7 +18,7 @@ loop-clearance-preserved c = rw c.in_ok-push.ensures.items (
     ← c.clearance-item.is,
     map-append,
   ) refl,
-  All-push (λ (p : Tried). IsPast c.args.self.now p.fixed p.state p.told.version) c.loop-clearance.probes.items _ c.loop-clearance.invariant.1
+  All-push (λ (p : PlainTrial). IsPast c.args.self.now p.fixed p.state p.told.version) c.loop-clearance.probes.items _ c.loop-clearance.invariant.1
       c.free_probe.ensures.past,
 )
 

@@ -2,7 +2,7 @@ use Rattle.std.proofs.Common.{◌≡◌, ◌∙◌, ◌+◌, ◌-◌, ℕ, ap, g
 use Rattle.std.specs.Arc.{arc_value}
 use Rattle.mt_names.specs.Naming.{IsRenaming}
 use Rattle.mt_probe.specs.declared.flight.Flight.{Flight}
-use Rattle.mt_probe.specs.Indexed.{Indexed, call_in}
+use Rattle.mt_probe.specs.Indexed.{Indexed, call_at_place}
 use Rattle.mt_probe.proofs.Indexing.{at_most_one, called_some, few_there, inside_calls, number_of, put_index, some_there}
 use Rattle.mt_probe.proofs.index.Index.put.Goals as goal
 
@@ -19,7 +19,7 @@ overflow_sub-result c =
     let slots = c.args.slots.now in
     let held = ap (λ (s : Indexed). s.held) c.self.view_is in
     let before = c.requires.indexed.held in
-    let was : c.call_of-was.result ≡ call_in (get_or slots c.args.slot None) = c.call_of-was.ensures ∙ ap call_in c.get.ensures in
+    let was : c.call_of-was.result ≡ call_at_place (get_or slots c.args.slot None) = c.call_of-was.ensures ∙ ap call_at_place c.get.ensures in
     let some = some_there slots c.args.slot (inside_calls slots c.args.slot c.requires.can.inside) in
     let left = c.from-2.ensures ∙ number_of c.is_some-left.result (get_or slots c.args.slot None) (c.is_some-left.ensures ∙ ap is_some was) in
     omega (arith, held, before, some, left)
@@ -35,15 +35,15 @@ returns c =
       filled = c.filled_after.result;
     } in
     let inside = inside_calls slots c.args.slot c.requires.can.inside in
-    let was : c.call_of-was.result ≡ call_in (get_or slots c.args.slot None) = c.call_of-was.ensures ∙ ap call_in c.get.ensures in
-    let call : c.call_of-call.result ≡ call_in new = c.call_of-call.ensures in
-    let comes : c.is_some-comes.result ≡ is_some (call_in new) = c.is_some-comes.ensures ∙ ap is_some call in
+    let was : c.call_of-was.result ≡ call_at_place (get_or slots c.args.slot None) = c.call_of-was.ensures ∙ ap call_at_place c.get.ensures in
+    let call : c.call_of-call.result ≡ call_at_place new = c.call_of-call.ensures in
+    let comes : c.is_some-comes.result ≡ is_some (call_at_place new) = c.is_some-comes.ensures ∙ ap is_some call in
     let left = c.from-2.ensures ∙ number_of c.is_some-left.result (get_or slots c.args.slot None) (c.is_some-left.ensures ∙ ap is_some was) in
     let more = c.from.ensures ∙ number_of c.is_some-comes.result new comes in
     let some = some_there slots c.args.slot inside in
     let held = ap (λ (s : Indexed). s.held) c.self.view_is in
     let before = c.requires.indexed.held in
-    let renamed = subst (λ (x : Option (List ℕ)). IsRenaming index.names c.args.slot (call_in (get_or slots c.args.slot None)) x after.names) call
+    let renamed = subst (λ (x : Option (List ℕ)). IsRenaming index.names c.args.slot (call_at_place (get_or slots c.args.slot None)) x after.names) call
     (subst (λ (x : Option (List ℕ)). IsRenaming index.names c.args.slot x c.call_of-call.result after.names) was
     (subst (λ (s : Indexed). IsRenaming s.names c.args.slot c.call_of-was.result c.call_of-call.result after.names) c.self.view_is c.in_ok-renamed.ensures)) in
     put_index slots index after c.args.slot new inside c.requires.indexed c.requires.can renamed (omega (arith, held, before, left, more, some))

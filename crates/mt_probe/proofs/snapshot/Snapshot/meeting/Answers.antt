@@ -2,7 +2,7 @@ use Rattle.std.proofs.Common.{subst}
 use Rattle.std.proofs.lemmas.Result.{IfOk-weaker}
 use Rattle.std.specs.Arc.{arc_value}
 use Rattle.mt_cover.specs.Sliced.{slices_of}
-use Rattle.mt_probe.specs.Boxed.{Holds}
+use Rattle.mt_probe.specs.Boxed.{HoldsSlices}
 use Rattle.mt_probe.specs.Shot.{Shot}
 use Rattle.mt_probe.proofs.Boxes.{met_items}
 use Rattle.mt_probe.proofs.snapshot.Snapshot.meeting.Goals as goal
@@ -11,7 +11,7 @@ pub returns : goal.returns
 returns c =
     let shot = c.args.self.now in
     let table = (arc_value c.self.inside.body).table in
-    let holds = subst (λ (s : Shot). Holds s.setup.rules s.slots table) c.self.view_is c.self.invariant.holds in
+    let holds = subst (λ (s : Shot). HoldsSlices s.setup.rules s.slots table) c.self.view_is c.self.invariant.holds in
     IfOk-weaker c.meeting.result _ _ (λ list met.
     met_items shot (slices_of shot.setup.rules c.args.strand.now) table list.items holds
     (rw (c.in_ok-mine.ensures, c.rules.ensures.rules, c.deref.ensures) at met)) c.meeting.ensures

@@ -4,12 +4,12 @@ use Rattle.std.specs.Prelude.{nat_lt}
 use Rattle.mt_base.specs.Rules.{usual_rules}
 use Rattle.mt_read.specs.Line.{line as read_as}
 use Rattle.mt_read.specs.declared.request.Request.{Request}
-use Rattle.mt_session.specs.Session.{Session, asked, place_of}
+use Rattle.mt_session.specs.Session.{Session, asked_in_role, role_place}
 use Rattle.mt_session.proofs.Replying.{unread_replied}
 use Rattle.mt_session.proofs.serving.Serving.answer.Goals as goal
 
 -- what a line that isn't too long was read as
-asked_as : (s : Session) (line : List ℕ) (x : ℕ × Request) → length line ≤ 65536 → Ok x ≡ read_as (place_of s.role) usual_rules line → asked s.role line ≡ Ok x
+asked_as : (s : Session) (line : List ℕ) (x : ℕ × Request) → length line ≤ 65536 → Ok x ≡ read_as (role_place s.role) usual_rules line → asked_in_role s.role line ≡ Ok x
 asked_as s line x short is =
     let fits : nat_lt 65536 (length line) ≡ false = grind (arith, nat_tests) in
     rw (fits, ← is) refl

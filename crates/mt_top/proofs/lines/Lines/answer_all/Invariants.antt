@@ -1,13 +1,13 @@
 use Rattle.std.proofs.Common.{◌≡◌, ◌≤◌, ◌^◌, ◌-◌, ◌++◌, ℕ, List, None, true, false, vec_capacity}
 use Rattle.std.specs.Io.KnownBytes.{Appends}
 use Rattle.mt_lines.specs.Waits.{waits}
-use Rattle.mt_top.specs.Lines.{SoFar}
+use Rattle.mt_top.specs.Lines.{LinesSoFar}
 use Rattle.mt_top.proofs.lines.Lines.answer_all.Given as goal
 
 abbrev pub invariant-loop-status : goal.invariant-loop-status
 invariant-loop-status g l = record {
   so_far : (sent : List ℕ) × Appends (g.K.Sink.held l.fn.output) (g.K.Sink.held l.output) sent
-      × SoFar g.A.Answers.replied l.fn.until_begun (g.S.Source.left l.fn.input) (g.S.Source.left l.input) (sent ++ waits l.self.waiting) l.self.reader (g.A.Answers.world l.self.script);
+      × LinesSoFar g.A.Answers.replied l.fn.until_begun (g.S.Source.left l.fn.input) (g.S.Source.left l.input) (sent ++ waits l.self.waiting) l.self.reader (g.A.Answers.world l.self.script);
   sound : l.self.reader.fault ≡ None;
   bound : l.self.reader.given ≤ 2 ^ 32;
   room : 65536 ≤ vec_capacity l.self.room;

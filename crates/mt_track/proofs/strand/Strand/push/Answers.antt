@@ -2,7 +2,7 @@ use Rattle.std.proofs.Common.{◌-◌, ◌<◌, ap, length, arith, List, [], ◌
 use Rattle.std.proofs.lemmas.Bool.Decides.{not_from_Decides}
 use Rattle.mt_base.specs.declared.row.Row.{Row}
 use Rattle.mt_base.specs.Trajectory.{Trajectory}
-use Rattle.mt_track.specs.Laid.{AreApart, all_rows, rows_of}
+use Rattle.mt_track.specs.Laid.{AreSeparateSegments, all_rows, rows_of}
 use Rattle.mt_track.specs.Layer.{AreInLayer}
 use Rattle.mt_track.proofs.Layers.{AreInLayer-append, AreInLayer-wider}
 use Rattle.mt_track.proofs.Apart.{AreApart-first, AreApart-push}
@@ -40,7 +40,7 @@ invariant_of-self-2 c =
             c.with_segment-layer.ensures.kept,
           )
       | else-count-gt0+in_ok-push w ↦
-          let apart : AreApart (c.self.inside.segments.items ++ c.args.segment ∷ []) = elim w.else-count-gt0.branch [
+          let apart : AreSeparateSegments (c.self.inside.segments.items ++ c.args.segment ∷ []) = elim w.else-count-gt0.branch [
             | else-count-gt0-via-then-count-gt0+else-goes_on x ↦
                 AreApart-push c.self.inside.segments.items (c.len-count.result - 1) x.index.result.now c.args.segment c.self.invariant.0.apart
                 (omega (arith, c.len-count.ensures)) x.index.ensures (not_from_Decides _ x.goes_on.ensures x.if-goes_on.false)

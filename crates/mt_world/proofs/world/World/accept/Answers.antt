@@ -2,10 +2,10 @@ use Rattle.std.proofs.Common.{◌≡◌, ◌<◌, ◌∙◌, ◌⊎◌, ap, inl,
 use Rattle.mt_base.specs.declared.command.Command.{Command}
 use Rattle.mt_base.specs.declared.command.Command.TheVariants.{Accept}
 use Rattle.mt_base.specs.History.{WasFree}
-use Rattle.mt_probe.specs.Hits.{Tried}
+use Rattle.mt_probe.specs.Hits.{Trial}
 use Rattle.mt_write.specs.declared.reply.Reply.TheVariants as replies
 use Rattle.mt_world.specs.Told.{entered_reply}
-use Rattle.mt_world.specs.World.{IsChanged, IsRefused}
+use Rattle.mt_world.specs.World.{IsCommandAnswered, IsRefused}
 use Rattle.mt_picture.specs.Story.{Story}
 use Rattle.mt_base.proofs.Cases.{empty_list}
 use Rattle.mt_world.proofs.Accepting.{accept_bounded, accept_free, accept_given, accept_in_time, accepted, accepting, not_free, published_is}
@@ -53,7 +53,7 @@ pub invariant_of-self : goal.invariant_of-self
 invariant_of-self c =
     let story : Story = c.self.inside.picture in
     let below : c.args.who < 16 = omega (arith, c.requires) in
-    let p : Tried = c.in-Some.probe.now in
+    let p : Trial = c.in-Some.probe.now in
     let found = sym c.get.ensures.value ∙ ap option_copied c.in-Some.is in
     let none = empty_list p.hits (rw c.hits.ensures.told at (sym c.if-not-is_empty.ensures)) in
     let command : Command = Accept c.call.result c.clearance.result c.eff.result c.version.result in
@@ -68,7 +68,7 @@ pub returns-clause-answered : goal.returns-clause-answered
 returns-clause-answered c =
     let story : Story = c.self.inside.picture in
     let below : c.args.who < 16 = omega (arith, c.requires) in
-    let p : Tried = c.in-Some.probe.now in
+    let p : Trial = c.in-Some.probe.now in
     let found = sym c.get.ensures.value ∙ ap option_copied c.in-Some.is in
     let none = empty_list p.hits (rw c.hits.ensures.told at (sym c.if-not-is_empty.ensures)) in
     let command : Command = Accept c.call.result c.clearance.result c.eff.result c.version.result in
@@ -79,5 +79,5 @@ returns-clause-answered c =
     let changed = published_is story after actors c.args.who command c.publish.result c.publish.ensures.entered c.publish.ensures.refused c.publish.ensures.unchanged in
     rw (← c.self.view_is, c.changed.ensures.reply) (accepted story actors c.args.who c.index.result.now c.self.invariant below c.index.ensures c.args.number p found
     (seen after actors) (entered_reply c.publish.result) none
-    (subst (λ (k : Command). IsChanged (seen story actors) c.args.who k (entered_reply c.publish.result) (seen after actors)
+    (subst (λ (k : Command). IsCommandAnswered (seen story actors) c.args.who k (entered_reply c.publish.result) (seen after actors)
     ⊎ IsRefused (seen story actors) replies.Memory (entered_reply c.publish.result) (seen after actors)) same changed))

@@ -4,7 +4,7 @@ use Rattle.mt_machine.specs.Book.{Book, with_all}
 use Rattle.mt_machine.proofs.Books.{all_more, told_all}
 use Rattle.mt_picture.specs.Story.{Story}
 use Rattle.mt_probe.specs.Hits.{told_of}
-use Rattle.mt_world.specs.Sound.{IsKeptOf, shown}
+use Rattle.mt_world.specs.Sound.{IsKeptOf, actor_shown}
 use Rattle.mt_world.specs.World.{new_actor}
 use Rattle.mt_world.specs.World as world
 use Rattle.mt_world.proofs.WorldLemmas.{actor_is, actor_sound, book_view, sound_set}
@@ -34,5 +34,5 @@ returns c =
       begun = true;
       history = c.self.inside.picture.history;
       actors = (book_view items c.args.who a (with_all a.book c.args.probes.items) within c.index_mut.ensures.value
-          ∙ ap (λ (b : Book Probe). slice_set (map shown items) c.args.who (record (get_or (map shown items) c.args.who new_actor) { book = b })) book) i;
+          ∙ ap (λ (b : Book Probe). slice_set (map actor_shown items) c.args.who (record (get_or (map actor_shown items) c.args.who new_actor) { book = b })) book) i;
     })

@@ -3,7 +3,7 @@ use Rattle.mt_base.specs.Picture.{State}
 use Rattle.mt_base.proofs.HistoryLemmas.{version_is}
 use Rattle.mt_picture.specs.Story.{Story}
 use Rattle.mt_write.specs.declared.reply.Reply.TheVariants.{Taken}
-use Rattle.mt_world.specs.Sound.{shown}
+use Rattle.mt_world.specs.Sound.{actor_shown}
 use Rattle.mt_world.specs.World.{new_actor}
 use Rattle.mt_world.proofs.WorldLemmas.{actor_sound, now_taken, on_true, sound_set, taken_view}
 use Rattle.mt_world.proofs.world.World.take.Goals as goal
@@ -34,6 +34,6 @@ returns-clause-answered c =
         begun = true;
         history = story.history;
         actors = (taken_view items c.args.who c.index_mut.result.now c.in-Ok.taken within c.index_mut.ensures.value
-            ∙ ap (λ (n : ℕ). slice_set (map shown items) c.args.who (record (get_or (map shown items) c.args.who new_actor) { taken = n })) counted) i;
+            ∙ ap (λ (n : ℕ). slice_set (map actor_shown items) c.args.who (record (get_or (map actor_shown items) c.args.who new_actor) { taken = n })) counted) i;
       });
     }))
