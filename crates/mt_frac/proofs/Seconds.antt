@@ -15,12 +15,12 @@ use Rattle.mt_frac.specs.Polynomials.{line_value}
 use Rattle.mt_frac.proofs.Openness.{HoldsFrom, HoldsInside, IsOpen, both_open, half_open, line_is_open, same_open}
 
 -- an instant of a second is not before that second's start, and before its end
-after_start : (l k n d : ℤ) → l ≤ℤ k → pos 0 ≤ℤ n → pos 0 ≤ℤ d → (l *ℤ d) ≤ℤ ((n +ℤ k *ℤ d) *ℤ pos 1)
+pub after_start : (l k n d : ℤ) → l ≤ℤ k → pos 0 ≤ℤ n → pos 0 ≤ℤ d → (l *ℤ d) ≤ℤ ((n +ℤ k *ℤ d) *ℤ pos 1)
 after_start l k n d later begun d+ =
     let p = mul_nonneg (k -ℤ l) d (omega (arith, lin)) d+ in
     simp spread (omega (arith, lin, simp spread at p))
 
-before_end : (h k n d : ℤ) → (k +ℤ pos 1) ≤ℤ h → n <ℤ d → pos 0 ≤ℤ d → ((n +ℤ k *ℤ d) *ℤ pos 1) <ℤ (h *ℤ d)
+pub before_end : (h k n d : ℤ) → (k +ℤ pos 1) ≤ℤ h → n <ℤ d → pos 0 ≤ℤ d → ((n +ℤ k *ℤ d) *ℤ pos 1) <ℤ (h *ℤ d)
 before_end h k n d sooner within d+ =
     let p = mul_nonneg (h -ℤ k -ℤ pos 1) d (omega (arith, lin)) d+ in
     simp spread (omega (arith, lin, simp spread at p))

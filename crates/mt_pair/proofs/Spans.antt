@@ -1,4 +1,4 @@
--- The span of the loss seconds of a range, one part of it after another.
+-- The span of the loss seconds of a range.
 use Rattle.std.proofs.Common.{◌≡◌, Bool, ℕ, ◌+◌, ◌-◌, ◌<◌, ◌≤◌, Option, Some, None, length, sym, ap, subst, ◌∙◌, ◌↔◌, arith, refl, ⊎_elim}
 use Rattle.std.proofs.lemmas.Bool.{cases_lt, le-ltb, lt-ltb}
 use Rattle.std.proofs.lemmas.Option.{slice_get_within}
@@ -12,7 +12,8 @@ use Rattle.mt_track.proofs.Straight.{row_after-add}
 use Rattle.mt_pair.specs.declared.approach.Approach.{Approach}
 use Rattle.mt_frac.specs.Instants.{HoldsIn}
 use Rattle.mt_pair.specs.Cases.{IsLoss}
-use Rattle.mt_base.specs.Span.{IsSpan, joined}
+use Rattle.mt_base.specs.Span.{IsSpan}
+use Rattle.mt_base.proofs.Spans.{IsSpan-later, IsSpan-same, shifted}
 
 -- a second where both rows are known
 pub loss_second : (rules : Rules) (a b : Trajectory) (k : ℕ) (x y : Row) → row_at a k ≡ Some x → row_at b k ≡ Some y → IsLossSecond rules a b k ↔ LosesIn rules a.rvsm b.rvsm x y
@@ -29,61 +30,6 @@ pub IsConflict-is : (rules : Rules) (a b : Trajectory) (from to : ℕ) (span : O
 IsConflict-is rules a b from to None none = none
 IsConflict-is rules a b from to (Some span) is =
     record { inside = is.inside; first_is = is.first_is; last_is = is.last_is; none_outside = is.none_outside }
-
--- the same seconds, said otherwise
-pub IsSpan-same : (P Q : ℕ → Type 0) (from to : ℕ) (span : Option (ℕ × ℕ)) → ((k : ℕ) → from ≤ k → k < to → P k ↔ Q k) → IsSpan P from to span → IsSpan Q from to span
-IsSpan-same P Q from to None same none = λ k begun ahead q. none k begun ahead ((same k begun ahead).1 q)
-IsSpan-same P Q from to (Some span) same is = record {
-  inside = is.inside;
-  first_is = (same span.0 is.inside.0 (omega (arith, is.inside.1, is.inside.2))).0 is.first_is;
-  last_is = (same span.1 (omega (arith, is.inside.0, is.inside.1)) is.inside.2).0 is.last_is;
-  none_outside = λ k begun ahead q. is.none_outside k begun ahead ((same k begun ahead).1 q);
-}
-
--- seconds counted from another one, and a span of them
-abbrev shifted : ℕ → Option (ℕ × ℕ) → Option (ℕ × ℕ)
-shifted n None = None
-shifted n (Some span) = Some (n + span.0, n + span.1)
-
-pub IsSpan-later : (P Q : ℕ → Type 0) (from n to : ℕ) (span : Option (ℕ × ℕ)) → from + n ≡ to → ((k : ℕ) → from ≤ k → Q k ↔ P (k - from)) → IsSpan P 0 n span
-    → IsSpan Q from to (shifted from span)
-IsSpan-later P Q from n to None long same none = λ k begun ahead q. none (k - from) (omega arith) (omega arith) ((same k begun).0 q)
-IsSpan-later P Q from n to (Some span) long same is = record {
-  inside = (omega arith, omega (arith, is.inside.1), omega (arith, is.inside.2));
-  first_is = (same (from + span.0) (omega arith)).1 (subst P (omega arith) is.first_is);
-  last_is = (same (from + span.1) (omega arith)).1 (subst P (omega arith) is.last_is);
-  none_outside = λ k begun ahead q.
-      let h = is.none_outside (k - from) (omega arith) (omega arith) ((same k begun).0 q) in
-      (omega (arith, h.0), omega (arith, h.1));
-}
-
--- one part after another
-split_at : (middle k : ℕ) {X : Type 0} → (k < middle → X) → (middle ≤ k → X) → X
-split_at middle k early late = ⊎_elim early late (cases_lt k middle)
-
-pub IsSpan-joined : (P : ℕ → Type 0) (from middle to : ℕ) (span more : Option (ℕ × ℕ)) → from ≤ middle → middle ≤ to → IsSpan P from middle span → IsSpan P middle to more
-    → IsSpan P from to (joined span more)
-IsSpan-joined P from middle to None None ordered longer is next = λ k begun ahead. split_at middle k (λ early. is k begun early) (λ late. next k late ahead)
-IsSpan-joined P from middle to None (Some later) ordered longer is next = record {
-  inside = (omega (arith, next.inside.0), next.inside.1, next.inside.2);
-  first_is = next.first_is;
-  last_is = next.last_is;
-  none_outside = λ k begun ahead p. split_at middle k (λ early. absurd (is k begun early p)) (λ late. next.none_outside k late ahead p);
-}
-IsSpan-joined P from middle to (Some span) None ordered longer is next = record {
-  inside = (is.inside.0, is.inside.1, omega (arith, is.inside.2));
-  first_is = is.first_is;
-  last_is = is.last_is;
-  none_outside = λ k begun ahead p. split_at middle k (λ early. is.none_outside k begun early p) (λ late. absurd (next k late ahead p));
-}
-IsSpan-joined P from middle to (Some span) (Some later) ordered longer is next = record {
-  inside = (is.inside.0, omega (arith, is.inside.1, is.inside.2, next.inside.0, next.inside.1), next.inside.2);
-  first_is = is.first_is;
-  last_is = next.last_is;
-  none_outside = λ k begun ahead p. split_at middle k
-      (λ early. let h = is.none_outside k begun early p in (h.0, omega (arith, h.1, is.inside.2, next.inside.0, next.inside.1)))
-      (λ late. let h = next.none_outside k late ahead p in (omega (arith, h.0, is.inside.1, is.inside.2, next.inside.0), h.1));
-}
 
 -- a conflict is such a span, too
 pub IsSpan-conflict : (rules : Rules) (a b : Trajectory) (from to : ℕ) (span : Option (ℕ × ℕ)) → IsConflict rules a b from to span → IsSpan (IsLossSecond rules a b) from to span

@@ -13,7 +13,7 @@ use Rattle.mt_frac.specs.Instants.{HoldsIn, HoldsOver}
 use Rattle.mt_pair.specs.Below.{AreBelowAt}
 use Rattle.mt_pair.specs.Turning.{IsFalling, IsSooner}
 use Rattle.mt_pair.proofs.Instants.{are_open}
-use Rattle.mt_pair.proofs.Seconds.{after_start, before_end}
+use Rattle.mt_frac.proofs.Seconds.{after_start, before_end}
 
 -- a value at n/d, from that at m: with the slope there, and what is convex
 gap_from : (a b c m n d : ℤ) → value a b c n d

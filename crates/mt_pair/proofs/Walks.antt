@@ -15,7 +15,8 @@ use Rattle.mt_track.proofs.Segments.{edge_from, lies_at}
 use Rattle.mt_track.proofs.Strands.{found}
 use Rattle.mt_pair.specs.Held.{BeginsBy}
 use Rattle.mt_base.specs.Span.{IsSpan, joined}
-use Rattle.mt_pair.proofs.Spans.{IsConflict-is, IsSpan-conflict, IsSpan-joined, IsSpan-same, loss_second}
+use Rattle.mt_base.proofs.Spans.{IsSpan-joined, IsSpan-same}
+use Rattle.mt_pair.proofs.Spans.{IsConflict-is, IsSpan-conflict, loss_second}
 
 -- what the code reads where a list has no such place
 abbrev pub blank : Segment

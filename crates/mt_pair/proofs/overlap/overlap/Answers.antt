@@ -1,7 +1,8 @@
 use Rattle.std.proofs.Common.{◌-◌}
 use Rattle.mt_base.specs.Loss.{LosesIn}
 use Rattle.mt_track.specs.Rows.{row_after}
-use Rattle.mt_pair.proofs.Spans.{IsSpan-same, loses_after}
+use Rattle.mt_base.proofs.Spans.{IsSpan-same}
+use Rattle.mt_pair.proofs.Spans.{loses_after}
 use Rattle.mt_pair.proofs.overlap.overlap.Goals as goal
 
 pub returns-clause-span : goal.returns-clause-span
