@@ -3,11 +3,8 @@ ghost use Rattle.std.specs.Prelude.{◌≡◌, ◌++◌, ◌∷◌, [], ◌≤�
 ghost use Rattle.mt_kept.specs.Made.{is_open_pair};
 ghost use Rattle.mt_kept.specs.Window.{straddles};
 
-use mt_base::{Conflict, Memory, Second};
+use mt_base::{Conflict, Memory, Second, WINDOW};
 use mt_edges::Edge;
-
-/// The seconds of the window.
-pub(crate) const WINDOW: Second = 1200;
 
 /// A pair of places, the lesser first, with the conflict that their trajectories have in the window.
 #[derive(Clone, Copy)]

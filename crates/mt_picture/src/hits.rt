@@ -3,12 +3,9 @@ ghost use Rattle.std.specs.Prelude.{◌≡◌, ◌≤◌, IfOk, None, false, tru
 ghost use Rattle.mt_kept.specs.Made.{is_open_pair};
 ghost use Rattle.mt_picture.specs.Hits.{AreHitsAmong, IsFirstAmong, conflict_hit, pair_hit, is_flown};
 
-use mt_base::{Callsign, Conflict, Hit, Hits, Memory, Second};
+use mt_base::{Callsign, Conflict, Hit, Hits, Memory, Second, WINDOW};
 use mt_kept::{Edge, OpenPair};
 use std::alloc::Global;
-
-/// The seconds of the window.
-const WINDOW: Second = 1200;
 
 // Whether both trajectories of a pair are flown.
 fn is_flown(pair: &OpenPair) -> bool
