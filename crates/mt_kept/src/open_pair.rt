@@ -16,7 +16,7 @@ pub struct OpenPair {
 }
 
 /// Whether the pair's span meets the window from `now`.
-pub(crate) fn is_open(edge: &Edge, now: Second) -> bool
+pub fn is_open(edge: &Edge, now: Second) -> bool
     requires { now ≤ 10000000 }
     ensures { result ≡ is_open_pair now edge.now }
 {
