@@ -19,7 +19,7 @@ use crate::held::Held;
 use crate::hits::first_hit;
 use crate::keeping::is_prepared;
 use mt_base::{Callsign, Command, Entry, Hit, Kind, Memory, Record, Tally};
-use mt_probe::{Flight, Made, Prep, strand_of};
+use mt_probe::{Flight, Made, Prep, kind_made, strand_of};
 use mt_track::Strand;
 use std::alloc::Global;
 use std::sync::Arc;
@@ -221,16 +221,6 @@ fn remade(
             flight.actual = made;
             Ok(flight)
         }
-    }
-}
-
-// The kind of the trajectory that a command makes.
-fn kind_made(command: &Command) -> Kind
-    ensures { result ≡ kind_made command.now }
-{
-    match command {
-        Command::Tentative { .. } => Kind::Tentative,
-        _ => Kind::Actual,
     }
 }
 
