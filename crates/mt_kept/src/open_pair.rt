@@ -15,7 +15,7 @@ pub struct OpenPair {
     pub conflict: Option<Conflict>,
 }
 
-/// Whether the pair's span meets the window from `now`.
+/// Whether the pair's span meets the window from `now`. It asks that `now` is at most 10,000,000.
 pub fn is_open(edge: &Edge, now: Second) -> bool
     requires { now ≤ 10000000 }
     ensures { result ≡ is_open_pair now edge.now }
