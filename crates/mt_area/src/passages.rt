@@ -7,12 +7,9 @@ ghost use Rattle.mt_area.specs.Telling.{AddsPierced, IsPiercedByOne};
 
 use crate::piercing::pierce;
 use crate::reach::{lie_apart, reach_over};
-use mt_base::{Area, Memory, Pierced, Pierces, Second};
+use mt_base::{Area, Memory, Pierced, Pierces, Second, WINDOW};
 use mt_track::Item;
 use std::alloc::Global;
-
-/// The seconds of the window.
-const WINDOW: Second = 1200;
 
 /// Tells of one trajectory and one area, where it passes through it in the window.
 fn add_passage(item: &Item, area: &Area, now: Second, found: &mut Pierces) -> Result<(), Memory>

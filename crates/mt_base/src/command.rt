@@ -239,6 +239,24 @@ impl Entry {
 /// Entries, seen as their list.
 pub type Entries = Listed<Entry>;
 
+impl Listed<Entry> {
+    ghost use Rattle.std.specs.Prelude.{◌-◌, drop, take};
+
+    /// A copy of these entries from number `from` up to number `to`, without it.
+    pub fn part(alloc: Global, entries: &[Entry], from: u64, to: u64) -> Result<Entries, Memory>
+        ensures { IfOk result (λ part. part ≡ take (to - from) (drop from entries.now)) }
+    {
+        let count = entries.len() as u64;
+        let first = from.min(count);
+        let end = to.min(count).max(first);
+        let mut part = Entries::make(alloc)?;
+        for entry in &entries[first as usize..end as usize] {
+            part.push(entry.copy(alloc)?)?;
+        }
+        Ok(part)
+    }
+}
+
 /// What an entered command answers.
 #[derive(Clone, Copy, PartialEq, Eq)]
 pub struct Entered {

@@ -133,6 +133,18 @@ pub struct Record {
 }
 
 impl Record {
+    ghost use Rattle.mt_base.specs.Settled.{is_due};
+
+    /// Whether a new trajectory of the flight is due.
+    pub fn is_due(&self) -> bool
+        ensures { result ≡ is_due self.now }
+    {
+        match &self.path {
+            Path::Planned(course) => course.due,
+            Path::Outer(_) => false,
+        }
+    }
+
     /// The same flight once more.
     pub fn copy(&self, alloc: Global) -> Result<Record, Memory>
         ensures { IfOk result (λ flight. flight ≡ self.now) }

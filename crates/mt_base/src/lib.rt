@@ -47,7 +47,7 @@ pub use name::Name;
 pub use place::{Leg, Place, Point};
 pub use role::Role;
 pub use route::{Route, RouteNo};
-pub use row::{Row, Second};
+pub use row::{HORIZON, Row, Second, WINDOW};
 pub use rules::{RuleName, Rules};
 pub use steps::Steps;
 pub use tally::Tally;

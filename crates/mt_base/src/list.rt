@@ -69,12 +69,19 @@ impl<T: Drop> Listed<T> {
 }
 
 impl<T: Copy + Drop> Listed<T> {
+    /// The list of the same values as these.
+    pub fn of_items(alloc: Global, items: &[T]) -> Result<Listed<T>, Memory>
+        ensures { IfOk result (λ list. list ≡ items.now) }
+    {
+        let mut values = Vec::new(alloc);
+        values.extend_from_slice(items)?;
+        Ok(Listed { values })
+    }
+
     /// The same list once more.
     pub fn copy(&self, alloc: Global) -> Result<Listed<T>, Memory>
         ensures { IfOk result (λ list. list ≡ self.now) }
     {
-        let mut values = Vec::new(alloc);
-        values.extend_from_slice(&self.values)?;
-        Ok(Listed { values })
+        Listed::of_items(alloc, self.items())
     }
 }

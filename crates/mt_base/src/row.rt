@@ -1,6 +1,12 @@
 /// A second of the picture's time, counted from 0.
 pub type Second = u32;
 
+/// How many seconds the window lasts. It begins with the moment.
+pub const WINDOW: Second = 1200;
+
+/// The second before which every trajectory ends, and by which the hours of every area do.
+pub const HORIZON: Second = 10_014_400;
+
 /// A trajectory during one second: five values at its start, and what each gains until its end.
 ///
 /// Inside the second all five values are linear in time.

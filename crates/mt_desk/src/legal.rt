@@ -7,7 +7,6 @@ ghost use Rattle.mt_picture.specs.Story.{IsEntered, IsPrepGivenFor, IsCommandRef
 ghost use Rattle.mt_probe.specs.Shot.{state_in_shot as state_in};
 ghost use Rattle.mt_desk.specs.Taken.{IsLegalStory};
 
-use crate::copying::{copied, part};
 use crate::home::Fixed;
 use mt_base::{Command, Conflicts, Entered, Entries, Entry, Memory, Tally};
 use mt_board::No;
@@ -90,14 +89,14 @@ impl Legal {
     pub(crate) fn published(&self, alloc: Global) -> Result<Conflicts, Memory>
         ensures { IfOk result (IsPublished self.now.setup (state_of self.now.setup self.now.history)) }
     {
-        copied(alloc, self.picture.published())
+        Conflicts::of_items(alloc, self.picture.published())
     }
 
     // The entries from number `from` up to number `to`, without it.
     pub(crate) fn part(&self, alloc: Global, from: u64, to: u64) -> Result<Entries, Memory>
         ensures { IfOk result (λ part. part ≡ take (to - from) (drop from self.now.history)) }
     {
-        part(alloc, self.picture.entries(), from, to)
+        Entries::part(alloc, self.picture.entries(), from, to)
     }
 
     // Decides a command of a seat, and enters it unless it is refused. An acceptance is to name a version that is none of the future, where it

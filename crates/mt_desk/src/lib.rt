@@ -6,7 +6,6 @@
 #![tactic(auto)]
 
 mod board;
-mod copying;
 mod desk;
 mod hand;
 mod home;

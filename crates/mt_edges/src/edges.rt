@@ -3,13 +3,10 @@ ghost use Rattle.mt_edges.specs.Pairs.{AreDistinctPairs, HaveSameEnds, IsEach, I
 
 use crate::edge::Edge;
 use crate::table::{BUCKET, Table};
-use mt_base::{Second, Steps};
+use mt_base::{HORIZON, Second, Steps};
 use mt_memory::Memory;
 use std::alloc::Global;
 use std::marker::Model;
-
-/// The second before which every conflict ends.
-const SECONDS: Second = 10_014_400;
 
 /// Pairs of ends, seen as the list of them in no order that is told, with how many may be added before the next `reserve`, and how many
 /// ends there are. No two pairs have the same two ends, and the lesser end stands first.
@@ -135,7 +132,7 @@ impl Edges {
         ensures { IfOk result (λ found. IsEach (λ e. (from ≤ e.first) × (e.first < to)) self.now.edges found.items) }
     {
         let mut found = Vec::new(*self.table.nodes.allocator());
-        let end = to.min(SECONDS);
+        let end = to.min(HORIZON);
         if from >= end {
             return Ok(found);
         }

@@ -13,14 +13,11 @@ ghost use Rattle.mt_kept.specs.Window.{IsFoundOf, IsOpen, straddles};
 
 use crate::open_pair::{OpenPair, is_open, push_pair};
 use crate::showing::shown_pair;
-use mt_base::{Conflict, Memory, Rules, Second, Tally};
+use mt_base::{Conflict, HORIZON, Memory, Rules, Second, Tally};
 use mt_edges::Edge;
 use mt_pair::lose;
 use mt_track::Item;
 use std::alloc::Global;
-
-/// The second before which all trajectories end.
-const HORIZON: Second = 10_014_400;
 
 /// What is known of two trajectories: nothing, or their conflict over all seconds.
 #[derive(Clone, Copy)]

@@ -16,4 +16,4 @@ pub use kept::Kept;
 pub use laws::finds_laws;
 pub use mt_edges::Edge;
 pub use mt_memory::Memory;
-pub use open_pair::OpenPair;
+pub use open_pair::{OpenPair, is_open};

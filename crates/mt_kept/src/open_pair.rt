@@ -3,11 +3,8 @@ ghost use Rattle.std.specs.Prelude.{◌≡◌, ◌++◌, ◌∷◌, [], ◌≤�
 ghost use Rattle.mt_kept.specs.Made.{is_open_pair};
 ghost use Rattle.mt_kept.specs.Window.{straddles};
 
-use mt_base::{Conflict, Memory, Second};
+use mt_base::{Conflict, Memory, Second, WINDOW};
 use mt_edges::Edge;
-
-/// The seconds of the window.
-pub(crate) const WINDOW: Second = 1200;
 
 /// A pair of places, the lesser first, with the conflict that their trajectories have in the window.
 #[derive(Clone, Copy)]
@@ -18,8 +15,8 @@ pub struct OpenPair {
     pub conflict: Option<Conflict>,
 }
 
-/// Whether the pair's span meets the window from `now`.
-pub(crate) fn is_open(edge: &Edge, now: Second) -> bool
+/// Whether the pair's span meets the window from `now`. It asks that `now` is at most 10,000,000.
+pub fn is_open(edge: &Edge, now: Second) -> bool
     requires { now ≤ 10000000 }
     ensures { result ≡ is_open_pair now edge.now }
 {

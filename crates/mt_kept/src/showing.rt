@@ -12,8 +12,8 @@ ghost use Rattle.mt_kept.specs.Window.{IsFoundOf, IsOpen, ShowsInWindow, Shows, 
 
 use crate::conflict_list::ConflictList;
 use crate::lists::is_elsewhere;
-use crate::open_pair::{OpenPair, WINDOW, is_open, is_straddling};
-use mt_base::{Conflict, Memory, Rules, Second, Tally};
+use crate::open_pair::{OpenPair, is_open, is_straddling};
+use mt_base::{Conflict, Memory, Rules, Second, Tally, WINDOW};
 use mt_edges::Edge;
 use mt_pair::lose;
 use mt_track::Item;

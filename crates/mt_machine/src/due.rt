@@ -1,21 +1,11 @@
 //! The flights for which a new trajectory is due.
 ghost use Rattle.std.specs.Prelude.{◌≡◌, ◌≤◌, All, true, length, IfOk};
 ghost use Rattle.mt_base.specs.Name.{is_name};
-ghost use Rattle.mt_base.specs.Settled.{due_calls, is_due};
+ghost use Rattle.mt_base.specs.Settled.{due_calls};
 
 use crate::plain::Plain;
-use mt_base::{Calls, Memory, Path, Record};
+use mt_base::{Calls, Memory, Record};
 use std::alloc::Global;
-
-// Whether a new trajectory of the flight is due.
-fn is_due(flight: &Record) -> bool
-    ensures { result ≡ is_due flight.now }
-{
-    match &flight.path {
-        Path::Planned(course) => course.due,
-        Path::Outer(_) => false,
-    }
-}
 
 // The callsigns of those of the flights that are due, in order.
 fn calls_of(alloc: Global, flights: &[Record]) -> Result<Calls, Memory>
@@ -26,7 +16,7 @@ fn calls_of(alloc: Global, flights: &[Record]) -> Result<Calls, Memory>
     let mut calls = Calls::make(alloc)?;
     for flight in flights {
         let _letters = flight.call.bytes();
-        if is_due(flight) {
+        if flight.is_due() {
             calls.push(flight.call)?;
         }
     }

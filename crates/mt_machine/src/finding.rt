@@ -11,15 +11,12 @@ ghost use Rattle.mt_change.specs.Sound.{IsSoundState};
 ghost use Rattle.mt_base.specs.Tables.{setup_with};
 
 use crate::plain::Plain;
-use mt_base::{Callsign, Hit, Hits, Memory, Record, Rules, Second, Tally};
+use mt_base::{Callsign, Hit, Hits, Memory, Record, Rules, Second, Tally, WINDOW};
 use mt_change::strand_of;
 use mt_pair::lose;
 use mt_tables::Tables;
 use mt_track::Strand;
 use std::alloc::Global;
-
-/// The seconds of the window.
-const WINDOW: Second = 1200;
 
 // The conflict of a trajectory in the window with the one that another flight flies.
 fn hit_with(

@@ -1,8 +1,6 @@
--- Trajectories in layers that lie apart by the vertical minimum of these never lose separation.
-use Rattle.std.proofs.Common.{◌≡◌, Bool, ℕ, ◌-◌, ◌⊎◌, inl, inr, ⊎_elim, Some, None, refl, ℤ, pos, ◌+ℤ◌, ◌-ℤ◌, ◌*ℤ◌, ◌≤ℤ◌, ◌<ℤ◌, ◌↔◌, IsTrue, to_z, of_z, w64, lit<, arith}
-use Rattle.std.proofs.lemmas.Bool.{cases_lt, le-ltb, lt-ltb}
-use Rattle.std.proofs.lemmas.Option.{get_or_from_slice_get, slice_get_within}
-use Rattle.std.specs.Prelude.{◌&&◌, slice_get}
+-- Rows in layers that lie apart by the vertical minimum of these never lose separation.
+use Rattle.std.proofs.Common.{◌≡◌, Bool, ◌⊎◌, inl, inr, ⊎_elim, refl, ℤ, pos, ◌+ℤ◌, ◌-ℤ◌, ◌*ℤ◌, ◌≤ℤ◌, ◌<ℤ◌, ◌↔◌, IsTrue, to_z, of_z, w64, lit<, arith}
+use Rattle.std.specs.Prelude.{◌&&◌}
 use Rattle.std.proofs.lemmas.Int.{ints, to_z-of_z}
 use Rattle.std.specs.Int.Signed.{le_z}
 use Rattle.mt_ring.proofs.Sizes.{Abs, fits_64}
@@ -11,12 +9,10 @@ use Rattle.mt_ring.proofs.Signs.{mul_nonneg}
 use Rattle.mt_base.specs.declared.row.Row.{Row}
 use Rattle.mt_base.specs.declared.rules.Rules.{Rules}
 use Rattle.mt_base.specs.Instant.{value_at}
-use Rattle.mt_base.specs.Conflict.{IsLossSecond}
 use Rattle.mt_base.specs.Bounds.{IsWithin}
 use Rattle.mt_base.specs.Loss.{IsNearAt, LosesIn, height}
-use Rattle.mt_base.specs.Trajectory.{Trajectory, row_at}
 use Rattle.mt_track.specs.declared.layer.Layer.{Layer}
-use Rattle.mt_track.specs.Layer.{AreInLayer, IsInLayer, IsLayerKept}
+use Rattle.mt_track.specs.Layer.{IsInLayer, IsLayerKept}
 use Rattle.mt_pair.specs.Heights.{AreApartBy, EndBelow, IsMinimumIn, LieApart}
 use Rattle.mt_pair.specs.High.{LosesAbove, level_of}
 use Rattle.mt_pair.proofs.Instants.{loses_above}
@@ -122,20 +118,6 @@ apart_for rules level one other least greater minimum lesser apart = ⊎_elim
     (λ most. apart_more least rules.sv2 one other (⊎_elim (λ e. omega (arith, lin, e)) (λ e. omega (arith, lin, e.0, greater)) minimum) most)
     (λ some. apart_more least rules.sv one other (omega (arith, lin, lesser some.0)) some.1)
     apart
-
--- the row of a second is in the layer of all rows
-in_layer : (layer : Layer) (t : Trajectory) (k : ℕ) (row : Row) → AreInLayer layer t.rows → row_at t k ≡ Some row → IsInLayer layer row
-in_layer layer t k row all at = ⊎_elim
-    (λ early. let none : row_at t k ≡ None = rw (lt-ltb k t.start early) refl in cc)
-    (λ begun. let found : slice_get t.rows (k - t.start) ≡ Some row = rw (le-ltb k t.start begun) at at in
-    rw (get_or_from_slice_get t.rows (k - t.start) row row found) at (all (k - t.start) row (slice_get_within t.rows (k - t.start) row found)))
-    (cases_lt k t.start)
-
--- trajectories in layers that lie apart have no loss second
-pub never_lose : (rules : Rules) (one other : Layer) (a b : Trajectory) (k : ℕ) → rules.sv ≤ℤ rules.sv2 → LieApart rules (level_of (a.rvsm && b.rvsm)) one other
-    → AreInLayer one a.rows → AreInLayer other b.rows → ¬ IsLossSecond rules a b k
-never_lose rules one other a b k greater apart in_one in_other loss = lying_apart rules a.rvsm b.rvsm one other loss.left loss.right greater apart
-    (in_layer one a k loss.left in_one loss.left_is) (in_layer other b k loss.right in_other loss.right_is) loss.loss
 
 -- the comparison of two layers, as the code has it
 pub at_least : (least : ℤ) (low high : Layer) → IsWithin (pos 1) (pos 600000) least → IsLayerKept low → IsLayerKept high

@@ -1,14 +1,13 @@
 //! Trajectories whose heights keep them apart.
-ghost use Rattle.std.specs.Prelude.{◌≡◌, ◌↔◌, ◌&&◌, ℕ, pos, true, None, ◌≤ℤ◌, ◌-ℤ◌, IsTrue};
+ghost use Rattle.std.specs.Prelude.{◌≡◌, ◌↔◌, pos, ◌≤ℤ◌, ◌-ℤ◌, IsTrue};
 ghost use Rattle.mt_base.specs.Bounds.{AreWithinBounds, IsWithin};
-ghost use Rattle.mt_base.specs.Conflict.{IsConflict};
 ghost use Rattle.mt_track.specs.Layer.{IsLayerKept};
 ghost use Rattle.mt_pair.specs.Heights.{EndBelow, IsMinimumIn, LieApart};
 ghost use Rattle.mt_pair.specs.High.{level_of};
 
-use crate::vertical::{both, level};
+use crate::vertical::level;
 use mt_base::Rules;
-use mt_track::{Layer, Strand};
+use mt_track::Layer;
 
 /// Whether neither of two layers reaches above the level from which on the greater minimum holds.
 fn end_below(approved: bool, a: &Layer, b: &Layer) -> bool
@@ -52,13 +51,4 @@ pub fn lie_apart(rules: &Rules, approved: bool, a: &Layer, b: &Layer) -> bool
 {
     let least = minimum(rules, approved, a, b);
     is_above(least, a, b) || is_above(least, b, a)
-}
-
-/// Whether two strands keep so far apart in height that they never lose separation. Where it says no, nothing is said. It is no test of the
-/// pair: it looks at the layer of each.
-pub fn keep_apart(a: &Strand, b: &Strand, rules: &Rules) -> bool
-    requires { AreWithinBounds rules.now }
-    ensures { result ≡ true → (from to : ℕ) → IsConflict rules.now a.now b.now from to None }
-{
-    lie_apart(rules, both(a.rvsm(), b.rvsm()), &a.layer(), &b.layer())
 }

@@ -18,6 +18,6 @@ mod span;
 mod turning;
 mod vertical;
 
-pub use heights::{keep_apart, lie_apart};
+pub use heights::lie_apart;
 pub use overlap::stretch;
 pub use span::lose;

@@ -19,12 +19,12 @@ use Rattle.mt_kept.specs.Places.{at, horizon}
 use Rattle.mt_kept.proofs.Gathering.{rising_once}
 use Rattle.mt_probe.specs.declared.flight.Flight.{Flight}
 use Rattle.mt_probe.specs.declared.flight.Made.{Made}
-use Rattle.mt_probe.specs.Finds.{IsFound, IsFoundOrQuiet, IsOfAnother}
+use Rattle.mt_probe.specs.Finds.{IsFound, IsOfAnother}
 use Rattle.mt_probe.specs.Items.{IsNearItem, kind_at}
 use Rattle.mt_probe.specs.Prepared.{IsPrepared, Prepared}
 use Rattle.mt_probe.specs.Shot.{Shot, kept_of, made_of}
 use Rattle.mt_probe.specs.Standing.{IsSoundShot}
-use Rattle.mt_probe.proofs.Gathered.{found_or_quiet}
+use Rattle.mt_probe.proofs.Gathered.{found_is}
 use Rattle.mt_probe.proofs.Nearby.{near_by_loss}
 use Rattle.mt_track.specs.Laid.{IsStrand}
 use Rattle.mt_picture.specs.Candidates.{AreAllNear, AreLater, AreNearOnes, AreStill, IsStillOne, StandsInPlace, unknown_at}
@@ -78,9 +78,8 @@ module _ (shot : Shot) (h : List Entry) (t : Trajectory) (p : Prepared) (known :
 
   -- what a prep says of what stands, made by its version
   says : (x : Candidate) → (s : IsStillOne shot.slots p.state.version p.finds x) → (other : NamedTrajectory) → IsOfAnother p.setup p.state p.card.call other
-      → other.call ≡ s.found.call → other.kind ≡ s.found.kind → IsFoundOrQuiet p.setup.rules p.state.now p.strand other (Some s.found)
-  says x s = found_or_quiet p.setup p.state p.card.call p.strand p.finds s.found.call s.found.kind (Some s.found) kept.early kept.finds_are kept.one_each
-      (s.held, record { call_is = refl; kind_is = refl })
+      → other.call ≡ s.found.call → other.kind ≡ s.found.kind → IsFound p.setup.rules p.state.now p.strand other s.found
+  says x s = found_is p.setup p.state p.card.call p.strand p.finds s.found kept.finds_are kept.one_each s.held
 
   stamp_is : (x : Candidate) → (s : IsStillOne shot.slots p.state.version p.finds x)
       → Some s.is.stamp ≡ option_map (λ (m : Made). m.stamp) (option_and_then (λ f. made_of f (kind_at x.place)) (get_or shot.slots (x.place / 2) None))
@@ -94,7 +93,7 @@ module _ (shot : Shot) (h : List Entry) (t : Trajectory) (p : Prepared) (known :
   still_known x s =
       let st = s.is.stands in
       subst (λ (y : Candidate). IsKnown p known shot.slots y) (sym (ap (λ v. record { place = x.place; verdict = v }) s.is.verdict_is)) (record {
-        right = λ f made mine at_is made_is apart uses. found_right shot (x.place / 2) (kind_at x.place) p known s.is.stamp st.flight.card (Some s.found) stood
+        right = λ f made mine at_is made_is apart uses. found_right shot (x.place / 2) (kind_at x.place) p known s.is.stamp st.flight.card s.found stood
             (stamp_is x s) (sym (ap (option_map (λ (g : Flight). g.card)) st.at_is)) s.is.early is_known
             (λ other of call_is kind_is. says x s other of (call_is ∙ st.call_is) (kind_is ∙ st.kind_is)) f made mine at_is made_is apart uses;
         earlier = λ span is. earlier_there p (get_or shot.slots (x.place / 2) None) (kind_at x.place) s.is.stamp (stamp_is x s) s.is.early;

@@ -17,7 +17,7 @@ use Rattle.mt_kept.proofs.Keeping.{halves}
 use Rattle.mt_probe.specs.declared.finding.Found.{Found}
 use Rattle.mt_probe.specs.declared.flight.Flight.{Flight}
 use Rattle.mt_probe.specs.declared.flight.Made.{Made}
-use Rattle.mt_probe.specs.Finds.{IsFoundOrQuiet, IsOfAnother}
+use Rattle.mt_probe.specs.Finds.{IsFound, IsOfAnother}
 use Rattle.mt_probe.specs.Items.{kind_at, stays_at, stays_by, stays_of_item}
 use Rattle.mt_probe.specs.Prepared.{Prepared}
 use Rattle.mt_probe.specs.Shot.{Shot, flight_at, kept_of, made_named, made_of}
@@ -29,22 +29,13 @@ use Rattle.mt_picture.specs.Verdicts.{AreNearCandidates, IsEarlierAt, IsPreps}
 use Rattle.mt_picture.proofs.Slotted.{at_first, at_second}
 
 -- what is found says the conflict over all seconds
-abbrev pub whole_of : Option Found → Option (ℕ × ℕ)
-whole_of None = None
-whole_of (Some found) = found.whole
-
-whole_is : (rules : Rules) (now : ℕ) (t : Trajectory) (other : NamedTrajectory) (found : Option Found) → IsFoundOrQuiet rules now t other found
-    → IsConflict rules t other.path 0 horizon (whole_of found)
-whole_is rules now t other None quiet = quiet.0
-whole_is rules now t other (Some found) is = is.whole
-
-pub found_right : (shot : Shot) (slot : ℕ) (kind : Kind) (p : Prepared) (known : Bool) (stamp : ℕ) (card : Record) (found : Option Found)
+pub found_right : (shot : Shot) (slot : ℕ) (kind : Kind) (p : Prepared) (known : Bool) (stamp : ℕ) (card : Record) (found : Found)
     → HaveStood shot p → Some stamp ≡ option_map (λ (m : Made). m.stamp) (option_and_then (λ f. made_of f kind) (flight_at shot slot))
     → Some card ≡ option_map (λ (f : Flight). f.card) (flight_at shot slot) → stamp ≤ p.state.version → known ≡ true
     → ((other : NamedTrajectory) → IsOfAnother p.setup p.state p.card.call other → other.call ≡ card.call → other.kind ≡ kind
-    → IsFoundOrQuiet p.setup.rules p.state.now p.strand other found)
+    → IsFound p.setup.rules p.state.now p.strand other found)
     → (f : Flight) (made : Made) (mine : NamedTrajectory) → flight_at shot slot ≡ Some f → made_of f kind ≡ Some made → f.card.call ≢ p.card.call
-    → IsPreps p known mine.path → IsConflict p.setup.rules mine.path (arc_value made.strand) 0 horizon (whole_of found)
+    → IsPreps p known mine.path → IsConflict p.setup.rules mine.path (arc_value made.strand) 0 horizon found.whole
 found_right shot slot kind p known stamp card found stood stamp_is card_is early is_known says f made mine at_is made_is apart preps =
     let s : Some stamp ≡ Some made.stamp = rw (at_is, made_is) at stamp_is in
     let e : stamp ≡ made.stamp = cc in
@@ -52,8 +43,7 @@ found_right shot slot kind p known stamp card found stood stamp_is card_is early
     let d : card ≡ f.card = cc in
     let there = stood slot f kind made at_is made_is (omega (arith, e, early)) in
     let is = says (made_of_kind f kind made) (record { there = there; apart = apart }) (ap (λ (r : Record). r.call) (sym d)) refl in
-    subst (λ (t : Trajectory). IsConflict p.setup.rules t (arc_value made.strand) 0 horizon (whole_of found)) (sym (preps is_known))
-    (whole_is p.setup.rules p.state.now p.strand (made_of_kind f kind made) found is)
+    subst (λ (t : Trajectory). IsConflict p.setup.rules t (arc_value made.strand) 0 horizon found.whole) (sym (preps is_known)) is.whole
 
 -- what a prep knows of was made before it
 pub earlier_there : (p : Prepared) (slot : Option Flight) (kind : Kind) (stamp : ℕ)

@@ -299,15 +299,15 @@ not_both (commands.Report call report) reports withdraws = withdraws
 not_both c reports withdraws = reports
 
 -- a report and a withdrawal are put into the slot
-pub put_report : (shot : Shot) (slot : ℕ) (card : Record) (f : Flight) (who reported : ℕ) (c : Command) → IsSoundShot shot
+pub put_report : (shot : Shot) (slot : ℕ) (card : Record) (f : Flight) (who : ℕ) (c : Command) → IsSoundShot shot
     → option_map (λ (g : Flight). g.card.call) (flight_at shot slot) ≡ Some card.call → IsReport c → IsLeftByEntry shot.setup (state_in shot) who c card
     → ((i : ℕ) (g : Flight) → flight_at shot i ≡ Some g → g.filed ≤ shot.version) → IsKeptFlight (flight_at shot slot) card f
-    → IsFlightPut shot slot (record f { reported = reported }) (record { who = who; command = filled shot.now c })
-put_report shot slot card f who reported c sound there_is reports left earlier kept =
+    → IsFlightPut shot slot f (record { who = who; command = filled shot.now c })
+put_report shot slot card f who c sound there_is reports left earlier kept =
     let it = there (flight_at shot slot) card.call there_is in
     let old = it.flight in
     let filed : f.filed ≡ old.filed = let e = kept.filed_is ∙ ap (option_map (λ (g : Flight). g.filed)) it.at_is in cc in
-    put_kept shot slot old (record f { reported = reported }) who c sound it.at_is (it.own ∙ ap (λ (r : Record). r.call) (sym kept.card_is)) (inl reports)
+    put_kept shot slot old f who c sound it.at_is (it.own ∙ ap (λ (r : Record). r.call) (sym kept.card_is)) (inl reports)
     (subst (IsLeftByEntry shot.setup (state_in shot) who c) (sym kept.card_is) left) filed (earlier slot old it.at_is) kept.actual (λ is. kept.mark)
     (λ withdraws. absurd (not_both c reports withdraws))
 

@@ -19,7 +19,7 @@ use crate::held::Held;
 use crate::hits::first_hit;
 use crate::keeping::is_prepared;
 use mt_base::{Callsign, Command, Entry, Hit, Kind, Memory, Record, Tally};
-use mt_probe::{Flight, Made, Prep, strand_of};
+use mt_probe::{Flight, Made, Prep, kind_made, strand_of};
 use mt_track::Strand;
 use std::alloc::Global;
 use std::sync::Arc;
@@ -151,7 +151,6 @@ pub(crate) fn file(
     let flight = Flight {
         card,
         filed: version + 1,
-        reported: 0,
         actual: Made {
             strand,
             stamp: version + 1,
@@ -181,9 +180,6 @@ fn kept_flight(held: &Held, slot: u32, card: Record) -> Result<Flight, Memory>
     let Some(filed) = snapshot.filed(slot) else {
         unreachable!()
     };
-    let Some(reported) = snapshot.reported(slot) else {
-        unreachable!()
-    };
     let Some(actual) = made_again(held, slot, Kind::Actual)? else {
         unreachable!()
     };
@@ -191,7 +187,6 @@ fn kept_flight(held: &Held, slot: u32, card: Record) -> Result<Flight, Memory>
     Ok(Flight {
         card,
         filed,
-        reported,
         actual,
         mark,
     })
@@ -226,16 +221,6 @@ fn remade(
             flight.actual = made;
             Ok(flight)
         }
-    }
-}
-
-// The kind of the trajectory that a command makes.
-fn kind_made(command: &Command) -> Kind
-    ensures { result ≡ kind_made command.now }
-{
-    match command {
-        Command::Tentative { .. } => Kind::Tentative,
-        _ => Kind::Actual,
     }
 }
 
@@ -298,9 +283,7 @@ pub(crate) fn report(
     ensures { AddsEntry held.old held.new (entry_now held.old.snapshot who command.now) result }
 {
     held.keeps();
-    let version = held.snapshot().version();
-    let mut flight = kept_flight(held, slot, card)?;
-    flight.reported = version + 1;
+    let flight = kept_flight(held, slot, card)?;
     let entry = entry_of(alloc, held, who, command)?;
     held.put_card(slot, flight, entry)
 }

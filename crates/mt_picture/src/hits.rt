@@ -1,28 +1,16 @@
 //! The hits of a clearance that was probed, among what is found with the trajectory that it leaves.
 ghost use Rattle.std.specs.Prelude.{◌≡◌, ◌≤◌, IfOk, None, false, true};
-ghost use Rattle.mt_kept.specs.Made.{is_open_pair};
 ghost use Rattle.mt_picture.specs.Hits.{AreHitsAmong, IsFirstAmong, conflict_hit, pair_hit, is_flown};
 
 use mt_base::{Callsign, Conflict, Hit, Hits, Memory, Second};
-use mt_kept::{Edge, OpenPair};
+use mt_kept::{OpenPair, is_open};
 use std::alloc::Global;
-
-/// The seconds of the window.
-const WINDOW: Second = 1200;
 
 // Whether both trajectories of a pair are flown.
 fn is_flown(pair: &OpenPair) -> bool
     ensures { result ≡ is_flown pair.now }
 {
     pair.edge.a % 2 == 0 && pair.edge.b % 2 == 0
-}
-
-// Whether its span meets the window.
-fn is_open(edge: &Edge, now: Second) -> bool
-    requires { now ≤ 10000000 }
-    ensures { result ≡ is_open_pair now edge.now }
-{
-    edge.first < now + WINDOW && now <= edge.last
 }
 
 // A conflict as a hit of the flight of that callsign.

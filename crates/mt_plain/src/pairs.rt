@@ -6,13 +6,10 @@ ghost use Rattle.mt_plain.specs.Added.{AddsConflicts, IsOfRight};
 ghost use Rattle.mt_base.specs.Tally.{RoseUpTo, raised_by};
 ghost use Rattle.mt_plain.specs.Tests.{is_before, tests_of_left, tests_of_pair, pairs_of_different_flights};
 
-use mt_base::{Conflict, Conflicts, Memory, Rules, Second, Tally};
+use mt_base::{Conflict, Conflicts, Memory, Rules, Second, Tally, WINDOW};
 use mt_pair::lose;
 use mt_track::{Item, Roster};
 use std::alloc::Global;
-
-/// The seconds of the window.
-const WINDOW: Second = 1200;
 
 /// Whether two items are a pair to be tested: of different flights, and the lesser callsign on the left.
 fn are_pair(left: &Item, right: &Item) -> bool

@@ -1,15 +1,14 @@
 //! What is told of the history.
-ghost use Rattle.std.specs.Prelude.{◌≡◌, ◌-◌, take, drop, length, IfOk, IfErr};
+ghost use Rattle.std.specs.Prelude.{length, IfOk, IfErr};
 ghost use Rattle.mt_base.specs.Picture.{IsPublished};
 ghost use Rattle.mt_board.specs.declared.ask.Ask.TheVariants as asks;
 ghost use Rattle.mt_board.specs.Seat.{HasSeen, state_seen};
 ghost use Rattle.mt_plain_board.specs.Kept.{IsNotToldOf, IsToldOf};
 
 use crate::plain_board::PlainBoard;
-use mt_base::{Callsign, Conflicts, Entries, Entry, Memory, Refusal, Second, Tally};
+use mt_base::{Callsign, Conflicts, Entries, Memory, Refusal, Second, Tally};
 use mt_board::{Answer, Ask, No};
 use mt_plain::all_pairs;
-use std::alloc::Global;
 use std::thread::Threads;
 
 impl PlainBoard {
@@ -35,7 +34,7 @@ impl PlainBoard {
             },
             Ask::Flight { call, sec } => return self.flight(*call, *sec),
             Ask::History { from, to } => Answer::History {
-                entries: part(self.alloc, self.history.items(), *from, *to)?,
+                entries: Entries::part(self.alloc, self.history.items(), *from, *to)?,
                 version,
             },
         })
@@ -72,18 +71,4 @@ impl PlainBoard {
             }),
         }
     }
-}
-
-// The entries from number `from` up to number `to`, without it.
-fn part(alloc: Global, entries: &[Entry], from: u64, to: u64) -> Result<Entries, Memory>
-    ensures { IfOk result (λ part. part ≡ take (to - from) (drop from entries.now)) }
-{
-    let count = entries.len() as u64;
-    let first = from.min(count);
-    let end = to.min(count).max(first);
-    let mut part = Entries::make(alloc)?;
-    for entry in &entries[first as usize..end as usize] {
-        part.push(entry.copy(alloc)?)?;
-    }
-    Ok(part)
 }

@@ -78,21 +78,6 @@ module _ (shot : Shot) (call : List ℕ) (t : Trajectory) where
   clear_by slot card other None sound card_is other_is conflict none = clear_there slot card other sound card_is other_is conflict
   clear_by slot card other (Some span) sound card_is other_is conflict none = absurd (cc)
 
-  -- an empty place, and one of the flight itself, have none
-  pub clear_of_none : (slot : ℕ) → option_map (λ f. f.card) (flight_at shot slot) ≡ None → IsClearAt shot call t slot
-  clear_of_none slot none f at apart =
-      let some : Some f.card ≡ None = ap (option_map (λ (g : Flight). g.card)) (sym at) ∙ none in absurd (cc)
-
-  pub clear_of_own : (slot : ℕ) (card : Record) → Some card ≡ option_map (λ f. f.card) (flight_at shot slot) → card.call ≡ call → IsClearAt shot call t slot
-  clear_of_own slot card card_is own f at apart =
-      let some : Some card ≡ Some f.card = card_is ∙ ap (option_map (λ (g : Flight). g.card)) at in
-      let same : card ≡ f.card = cc in
-      absurd (apart (ap (λ (r : Record). r.call) (sym same) ∙ own))
-
-  pub clear_of_path : (slot : ℕ) → option_and_then (path_of Actual) (flight_at shot slot) ≡ None → IsClearAt shot call t slot
-  clear_of_path slot none f at apart =
-      let some : Some (arc_value f.actual.strand) ≡ None = ap (option_and_then (path_of Actual)) (sym at) ∙ none in absurd (cc)
-
   -- the flight at a place whose slices its own don't meet is no hit
   clear_of_unmet : (slot : ℕ) → IsSoundShot shot → IsStrand t → IsNotMet shot (slices_of shot.setup.rules t) (2 * slot) → IsClearAt shot call t slot
   clear_of_unmet slot sound laid unmet f at apart =

@@ -1,6 +1,5 @@
 -- What is found with some trajectories, and the trajectories that are kept of the flights of a snapshot.
-use Rattle.std.proofs.Common.{◌≡◌, ◌≢◌, ℕ, suc, ◌+◌, ◌<◌, ◌≤◌, inl, inr, ⊎_elim, List, [], ◌∷◌, ◌++◌, Option, Some, None, Contains, length, get_or, take, nat_eq, option_map, Bool, true, false, refl, sym, ◌∙◌, ap, subst, arith}
-use Rattle.std.proofs.lemmas.List.{take_more}
+use Rattle.std.proofs.Common.{◌≡◌, ◌≢◌, ℕ, suc, ◌<◌, inl, inr, ⊎_elim, List, [], ◌∷◌, ◌++◌, Option, Some, None, Contains, nat_eq, option_map, Bool, true, false, refl, sym, ◌∙◌, ap, subst, arith}
 use Rattle.std.proofs.lemmas.List.Elements.{All-contains, Contains-append_cases, Contains-append_left, Contains-append_right, Contains-push, Contains-push_cases}
 use Rattle.std.proofs.lemmas.List.Kept.{AllPairs-cons}
 use Rattle.std.specs.List.{All, AllPairs}
@@ -17,7 +16,7 @@ use Rattle.mt_base.specs.Tables.{Setup}
 use Rattle.mt_base.specs.Trajectory.{Trajectory}
 use Rattle.mt_probe.specs.declared.finding.Found.{Found}
 use Rattle.mt_probe.specs.declared.flight.Flight.{Flight}
-use Rattle.mt_probe.specs.Finds.{AreFinds, AreDifferentFinds, AreCalledApart, AreOneEach, FindsMore, IsFindNamed, IsFound, IsFoundOrQuiet, IsFindListed, IsNamedAmong, IsOfAnother}
+use Rattle.mt_probe.specs.Finds.{AreFinds, AreDifferentFinds, AreCalledApart, AreOneEach, FindsMore, IsFound, IsFindListed, IsOfAnother}
 use Rattle.mt_probe.specs.Narrow.{all_end}
 use Rattle.mt_probe.specs.Shot.{Shot, flight_at, kept_of, made_named, records_in, state_in_shot}
 use Rattle.mt_probe.specs.Standing.{IsSoundShot}
@@ -183,24 +182,11 @@ one_each shot sound a b a_in b_in calls kinds =
           let differ : at_a.place ≢ at_b.place = grind (arith, nat_tests) in
           absurd ((sound.apart at_a.place at_b.place at_a.flight at_b.flight differ at_a.at at_b.at).calls (sym at_a.call_is ∙ calls ∙ at_b.call_is))
 
--- the find of a name, and what it says
-module _ (finds : List Found) (call : List ℕ) (kind : Kind) where
-  pub named_more : (i : ℕ) (found : Found) → i < length finds → found ≡ get_or finds i found → ¬ IsFindNamed call kind found
-      → ((f : Found) → Contains (take i finds) f → ¬ IsFindNamed call kind f) → (f : Found) → Contains (take (i + 1) finds) f → ¬ IsFindNamed call kind f
-  named_more i found below is not none f held =
-      let more : take (i + 1) finds ≡ take i finds ++ found ∷ [] = take_more finds i found below ∙ ap (λ (g : Found). take i finds ++ g ∷ []) (sym is) in
-      ⊎_elim (λ before. none f before) (λ same. λ named. not (subst (IsFindNamed call kind) (sym same) named))
-      (Contains-push_cases (take i finds) found f (rw more at held))
-
-pub found_or_quiet : (setup : Setup) (s : State) (own : List ℕ) (t : Trajectory) (finds : List Found) (call : List ℕ) (kind : Kind) (r : Option Found)
-    → s.now ≤ 10000000 → AreFinds setup s own t finds → AreOneEach (trajectories setup s) → IsNamedAmong finds call kind r
-    → (other : NamedTrajectory) → IsOfAnother setup s own other → other.call ≡ call → other.kind ≡ kind → IsFoundOrQuiet setup.rules s.now t other r
-found_or_quiet setup s own t finds call kind (Some found) early are each is other of call_is kind_is =
-    let it = are.exact found is.0 in
-    let same = each it.other other it.of.there of.there (sym it.is.call_is ∙ is.1.call_is ∙ sym call_is) (sym it.is.kind_is ∙ is.1.kind_is ∙ sym kind_is) in
+-- a find with the name of another trajectory is what is found with that
+pub found_is : (setup : Setup) (s : State) (own : List ℕ) (t : Trajectory) (finds : List Found) (found : Found) → AreFinds setup s own t finds
+    → AreOneEach (trajectories setup s) → Contains finds found → (other : NamedTrajectory) → IsOfAnother setup s own other → other.call ≡ found.call
+    → other.kind ≡ found.kind → IsFound setup.rules s.now t other found
+found_is setup s own t finds found are each held other of call_is kind_is =
+    let it = are.exact found held in
+    let same = each it.other other it.of.there of.there (sym it.is.call_is ∙ sym call_is) (sym it.is.kind_is ∙ sym kind_is) in
     subst (λ (o : NamedTrajectory). IsFound setup.rules s.now t o found) same it.is
-found_or_quiet setup s own t finds call kind None early are each none other of call_is kind_is =
-    let quiet : (k : ℕ) → k < all_end → ¬ IsLossSecond setup.rules t other.path k = λ k below loss.
-    (let it = are.complete other of k below loss in
-    none it.found it.held (record { call_is = it.is.call_is ∙ call_is; kind_is = it.is.kind_is ∙ kind_is })) in
-    ((λ k low high. quiet k high), (λ k low high. quiet k (omega (arith, early))))

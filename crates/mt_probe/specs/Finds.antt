@@ -1,6 +1,5 @@
 -- What is found with a new trajectory.
-use Rattle.std.specs.Prelude.{◌≡◌, ◌≢◌, ◌<◌, ◌⊎◌, ℕ, true, List, AllPairs, Contains, Option, Some, None, is_some}
-use Rattle.mt_base.specs.declared.conflict.Kind.{Kind}
+use Rattle.std.specs.Prelude.{◌≡◌, ◌≢◌, ◌<◌, ◌⊎◌, ℕ, true, List, AllPairs, Contains, is_some}
 use Rattle.mt_base.specs.declared.rules.Rules.{Rules}
 use Rattle.mt_base.specs.Conflict.{IsConflict, IsLossSecond}
 use Rattle.mt_base.specs.Picture.{NamedTrajectory, State, trajectories, window_end}
@@ -60,21 +59,6 @@ pub record AreFinds (setup : Setup) (s : State) (call : List ℕ) (t : Trajector
 -- no two of these trajectories have one callsign and one kind
 abbrev pub AreOneEach : List NamedTrajectory → Type 0
 AreOneEach all = (a b : NamedTrajectory) → Contains all a → Contains all b → a.call ≡ b.call → a.kind ≡ b.kind → a ≡ b
-
--- a find has that callsign and that kind
-pub record IsFindNamed (call : List ℕ) (kind : Kind) (found : Found) : Type 0 where
-  pub call_is : found.call ≡ call
-  pub kind_is : found.kind ≡ kind
-
--- the find of that name, where there is one
-abbrev pub IsNamedAmong : List Found → List ℕ → Kind → Option Found → Type 0
-IsNamedAmong finds call kind (Some found) = Contains finds found × IsFindNamed call kind found
-IsNamedAmong finds call kind None = (found : Found) → Contains finds found → ¬ IsFindNamed call kind found
-
--- What is found with another trajectory; or it is not listed, and then the two have no loss second.
-abbrev pub IsFoundOrQuiet : Rules → ℕ → Trajectory → NamedTrajectory → Option Found → Type 0
-IsFoundOrQuiet rules now t other (Some found) = IsFound rules now t other found
-IsFoundOrQuiet rules now t other None = IsConflict rules t other.path 0 all_end None × IsConflict rules t other.path now (window_end now) None
 
 -- no find is of the flight and kind of one of these trajectories
 abbrev pub AreOfNone : List NamedTrajectory → List Found → Type 0

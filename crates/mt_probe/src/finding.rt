@@ -12,14 +12,11 @@ ghost use Rattle.mt_probe.specs.Shot.{state_in_shot};
 
 use crate::narrow::narrowed;
 use crate::snapshot::Snapshot;
-use mt_base::{Callsign, Kind, Listed, Memory, Rules, Second, Tally};
+use mt_base::{Callsign, Kind, Listed, Memory, Rules, Second, Tally, WINDOW};
 use mt_meet::Met;
 use mt_pair::lose;
 use mt_track::Strand;
 use std::alloc::Global;
-
-/// The seconds of the window.
-pub(crate) const WINDOW: Second = 1200;
 
 /// What is found with a trajectory of another flight.
 #[derive(Clone, Copy, PartialEq, Eq)]

@@ -12,9 +12,9 @@ ghost use Rattle.mt_probe.specs.Items.{kind_at};
 ghost use Rattle.mt_probe.specs.Narrow.{all_end};
 ghost use Rattle.mt_probe.specs.Shot.{state_in_shot};
 
-use crate::finding::{WINDOW, kind_of};
+use crate::finding::kind_of;
 use crate::snapshot::Snapshot;
-use mt_base::{Callsign, Kind, Memory, Rules, Second, Tally};
+use mt_base::{Callsign, Kind, Memory, Rules, Second, Tally, WINDOW};
 use mt_meet::Met;
 use mt_pair::lose;
 use mt_track::Strand;

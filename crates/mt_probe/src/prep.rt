@@ -1,13 +1,11 @@
 //! What is prepared for a command that makes a trajectory.
-ghost use Rattle.std.specs.Prelude.{◌≡◌, ◌↔◌, IsTrue, option_copied};
+ghost use Rattle.std.specs.Prelude.{◌≡◌};
 ghost use Rattle.std.specs.Arc.{arc_value};
-ghost use Rattle.mt_base.specs.Picture.{NamedTrajectory};
-ghost use Rattle.mt_probe.specs.Finds.{IsFindNamed, IsFoundOrQuiet, IsNamedAmong, IsOfAnother};
 ghost use Rattle.mt_probe.specs.Prepared.{IsPrepared};
 
 use crate::finding::{Finds, Found};
 use crate::snapshot::Snapshot;
-use mt_base::{Callsign, Command, Kind, Record, Second};
+use mt_base::{Command, Record, Second};
 use mt_track::Strand;
 use std::marker::Model;
 use std::sync::Arc;
@@ -72,33 +70,4 @@ impl Prep {
     {
         self.finds.items()
     }
-
-    /// What is found with the trajectory of that callsign and kind of another flight; where nothing is listed, it has no loss second with the
-    /// new one.
-    pub fn found(&self, call: Callsign, kind: Kind) -> Option<&Found>
-        ensures { (other : NamedTrajectory) → IsOfAnother self.now.setup self.now.state self.now.card.call other → other.call ≡ call → other.kind ≡ kind
-            → IsFoundOrQuiet self.now.setup.rules self.now.state.now self.now.strand other (option_copied result) }
-    {
-        let _version = self.version();
-        named_among(self.finds(), call, kind)
-    }
-}
-
-// Whether a find has that name.
-fn is_named(found: &Found, call: Callsign, kind: Kind) -> bool
-    ensures { IsTrue result ↔ IsFindNamed call kind found.now }
-{
-    found.call == call && found.kind == kind
-}
-
-// The find of that name.
-fn named_among(finds: &[Found], call: Callsign, kind: Kind) -> Option<&Found>
-    ensures { IsNamedAmong finds.now call kind (option_copied result) }
-{
-    for found in finds {
-        if is_named(found, call, kind) {
-            return Some(found);
-        }
-    }
-    None
 }

@@ -143,8 +143,8 @@ pub fn left_of(
     }
 }
 
-// The kind of the trajectory that a command makes.
-fn kind_made(command: &Command) -> Kind
+/// The kind of the trajectory that a command makes.
+pub fn kind_made(command: &Command) -> Kind
     ensures { result ≡ kind_made command.now }
 {
     match command {

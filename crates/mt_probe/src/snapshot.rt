@@ -184,13 +184,6 @@ impl Snapshot {
         }
     }
 
-    /// The version of the last report of the flight at a place; 0 where it has none.
-    pub fn reported(&self, slot: u32) -> Option<u64>
-        ensures { result ≡ option_map (λ f. f.reported) (flight_at self.now slot) }
-    {
-        Some(self.at_place(slot)?.reported)
-    }
-
     /// The trajectory of a kind of the flight at a place.
     pub fn strand(&self, slot: u32, kind: Kind) -> Option<&Arc<Strand>>
         ensures { option_copied result ≡ option_map (λ m. m.strand) (option_and_then (λ f. made_of f kind) (flight_at self.now slot)) }

@@ -13,7 +13,7 @@ use crate::key::{Fault, Key};
 use crate::origin::Origin;
 use crate::request::Request;
 use crate::stop::Stop;
-use mt_base::Area;
+use mt_base::{Area, HORIZON};
 use mt_json::Fields;
 use std::alloc::Global;
 
@@ -37,7 +37,7 @@ pub(crate) fn area_line(
     let bottom = count_within(fields, Key::Bottom, 0, 600)?;
     let top = count_within(fields, Key::Top, 0, 600)?;
     let from = count_within(fields, Key::From, 0, 10_000_000)?;
-    let to = count_or_none(fields, Key::To, 10_014_400)?;
+    let to = count_or_none(fields, Key::To, HORIZON)?;
     let who = actor(fields, origin)?;
     let area = Area {
         name,
@@ -45,7 +45,7 @@ pub(crate) fn area_line(
         bottom,
         top,
         from,
-        to: to.unwrap_or(10_014_400),
+        to: to.unwrap_or(HORIZON),
     };
     Ok((who, Request::Area(area)))
 }

@@ -10,6 +10,7 @@ use crate::field::{callsign, count_or_none, count_within, role, whole, whole_or_
 use crate::key::{Fault, Key};
 use crate::origin::Origin;
 use crate::request::Request;
+use mt_base::HORIZON;
 use mt_json::Fields;
 
 /// `list`.
@@ -80,7 +81,7 @@ pub(crate) fn flight_line(fields: &Fields, origin: Origin) -> Result<(u32, Reque
     let call = callsign(fields, Key::Call)?;
     whole_or_none(fields, origin, Key::Sec)?;
     actor_kind(fields, origin)?;
-    let sec = count_or_none(fields, Key::Sec, 10_014_400)?;
+    let sec = count_or_none(fields, Key::Sec, HORIZON)?;
     let who = actor(fields, origin)?;
     Ok((who, Request::Flight { call, sec }))
 }

@@ -1,23 +1,13 @@
 //! The flights for which a new trajectory is due.
 ghost use Rattle.std.specs.Prelude.{◌≡◌, IfOk};
-ghost use Rattle.mt_base.specs.Settled.{due_calls, is_due};
+ghost use Rattle.mt_base.specs.Settled.{due_calls};
 ghost use Rattle.mt_board.specs.Short.{AreFewCalls};
 ghost use Rattle.mt_probe.specs.Shot.{state_in_shot};
 
 use crate::order::in_order;
-use mt_base::{Calls, Memory, Path, Record};
+use mt_base::{Calls, Memory};
 use mt_probe::Snapshot;
 use std::alloc::Global;
-
-// Whether a new trajectory of the flight is due.
-fn is_due(flight: &Record) -> bool
-    ensures { result ≡ is_due flight.now }
-{
-    match &flight.path {
-        Path::Planned(course) => course.due,
-        Path::Outer(_) => false,
-    }
-}
 
 /// The callsigns of the flights for which a new trajectory is due, in the order of filing. There are at most 1,024.
 pub fn due(alloc: Global, snapshot: &Snapshot) -> Result<Calls, Memory>
@@ -32,7 +22,7 @@ pub fn due(alloc: Global, snapshot: &Snapshot) -> Result<Calls, Memory>
             unreachable!()
         };
         let _letters = flight.call.bytes();
-        if is_due(flight) {
+        if flight.is_due() {
             calls.push(flight.call)?;
         }
     }

@@ -1,5 +1,5 @@
 //! What is told of the picture that follows.
-ghost use Rattle.std.specs.Prelude.{◌≡◌, ◌-◌, take, drop, option_map, IfErr, IfOk};
+ghost use Rattle.std.specs.Prelude.{◌≡◌, option_map, IfErr, IfOk};
 ghost use Rattle.mt_base.specs.History.{state_of};
 ghost use Rattle.mt_base.specs.Picture.{flight_of};
 ghost use Rattle.mt_base.specs.View.{view_of};
@@ -7,11 +7,10 @@ ghost use Rattle.mt_board.specs.declared.ask.Ask.TheVariants as asks;
 ghost use Rattle.mt_standby.specs.Reading.{IsToldNow, IsUntold};
 
 use crate::standby::Standby;
-use mt_base::{Callsign, Conflict, Conflicts, Entries, Entry, FlightView, Refusal, Second, Tally};
+use mt_base::{Callsign, Conflicts, Entries, FlightView, Refusal, Second, Tally};
 use mt_board::{Answer, Ask, No};
 use mt_memory::Memory;
 use mt_snapshot_view::{check, due, view};
-use std::alloc::Global;
 use std::thread::Threads;
 
 impl Standby {
@@ -35,7 +34,7 @@ impl Standby {
         ensures untold { IfErr result (IsUntold self.now asks.List) }
     {
         Ok(Answer::List {
-            conflicts: copied(self.alloc, self.picture.published())?,
+            conflicts: Conflicts::of_items(self.alloc, self.picture.published())?,
             version: self.picture.version(),
         })
     }
@@ -94,33 +93,8 @@ impl Standby {
         ensures untold { IfErr result (IsUntold self.now (asks.History from to)) }
     {
         Ok(Answer::History {
-            entries: part(self.alloc, self.picture.entries(), from, to)?,
+            entries: Entries::part(self.alloc, self.picture.entries(), from, to)?,
             version: self.picture.version(),
         })
     }
-}
-
-// Conflicts once more.
-fn copied(alloc: Global, conflicts: &[Conflict]) -> Result<Conflicts, Memory>
-    ensures { IfOk result (λ copy. copy ≡ conflicts.now) }
-{
-    let mut copy = Conflicts::make(alloc)?;
-    for conflict in conflicts {
-        copy.push(*conflict)?;
-    }
-    Ok(copy)
-}
-
-// The entries from number `from` up to number `to`, without it.
-fn part(alloc: Global, entries: &[Entry], from: u64, to: u64) -> Result<Entries, Memory>
-    ensures { IfOk result (λ part. part ≡ take (to - from) (drop from entries.now)) }
-{
-    let count = entries.len() as u64;
-    let first = from.min(count);
-    let end = to.min(count).max(first);
-    let mut part = Entries::make(alloc)?;
-    for entry in &entries[first as usize..end as usize] {
-        part.push(entry.copy(alloc)?)?;
-    }
-    Ok(part)
 }

@@ -9,13 +9,9 @@ ghost use Rattle.mt_lines.specs.Fit.{IsFit};
 ghost use Rattle.mt_world.specs.World.{IsGiven, IsListAnswered, IsRefused, IsFlightTold, picture_of, setup_of};
 
 use crate::world::World;
-use mt_base::{
-    Calls, Callsign, Conflict, Conflicts, Entries, Entry, FlightView, Memory, Refusal, Second,
-    Tally,
-};
+use mt_base::{Calls, Callsign, Conflicts, Entries, FlightView, Memory, Refusal, Second, Tally};
 use mt_snapshot_view::{check, due, view};
 use mt_write::Reply;
-use std::alloc::Global;
 use std::thread::Threads;
 
 impl World {
@@ -25,7 +21,7 @@ impl World {
             ⊎ IsRefused self.now replies.Memory result self.now }
         ensures fit { IsFit result }
     {
-        match copied(self.alloc, self.picture.published()) {
+        match Conflicts::of_items(self.alloc, self.picture.published()) {
             Ok(conflicts) => Reply::List {
                 conflicts,
                 version: self.version(),
@@ -85,7 +81,7 @@ impl World {
             (IsRefused self.now replies.Unbegun result self.now) ⊎ IsRefused self.now replies.Memory result self.now }
         ensures fit { IsFit result }
     {
-        match part(self.alloc, self.picture.entries(), from, to) {
+        match Entries::part(self.alloc, self.picture.entries(), from, to) {
             Ok(entries) => Reply::History {
                 entries,
                 version: self.version(),
@@ -116,29 +112,4 @@ impl World {
     {
         due(self.alloc, &self.picture.snapshot()?)
     }
-}
-
-// Conflicts once more.
-fn copied(alloc: Global, conflicts: &[Conflict]) -> Result<Conflicts, Memory>
-    ensures { IfOk result (λ copy. copy ≡ conflicts.now) }
-{
-    let mut copy = Conflicts::make(alloc)?;
-    for conflict in conflicts {
-        copy.push(*conflict)?;
-    }
-    Ok(copy)
-}
-
-// The entries from number `from` up to number `to`, without it.
-fn part(alloc: Global, entries: &[Entry], from: u64, to: u64) -> Result<Entries, Memory>
-    ensures { IfOk result (λ part. part ≡ take (to - from) (drop from entries.now)) }
-{
-    let count = entries.len() as u64;
-    let first = from.min(count);
-    let end = to.min(count).max(first);
-    let mut part = Entries::make(alloc)?;
-    for entry in &entries[first as usize..end as usize] {
-        part.push(entry.copy(alloc)?)?;
-    }
-    Ok(part)
 }

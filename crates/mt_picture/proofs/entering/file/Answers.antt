@@ -21,7 +21,6 @@ put_made-requires-clause-put c =
     let f : Flight = record {
       card = c.args.card;
       filed = c.version-version.result + 1;
-      reported = 0;
       actual = record { strand = c.in_ok-strand.strand; stamp = c.version-version.result + 1 };
       mark = None;
     } in
@@ -34,7 +33,6 @@ put_made-requires-clause-new c =
     let f : Flight = record {
       card = c.args.card;
       filed = c.version-version.result + 1;
-      reported = 0;
       actual = record { strand = c.in_ok-strand.strand; stamp = c.version-version.result + 1 };
       mark = None;
     } in

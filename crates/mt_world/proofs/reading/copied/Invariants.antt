@@ -1,5 +1,0 @@
-use Rattle.std.proofs.Common.{◌≡◌, take}
-use Rattle.mt_world.proofs.reading.copied.Given as goal
-
-abbrev pub invariant-loop-conflict : goal.invariant-loop-conflict
-invariant-loop-conflict l = l.copy ≡ take l.conflict-index l.conflicts
