@@ -44,6 +44,13 @@ impl Prep {
         self.snapshot.version()
     }
 
+    /// What every prep keeps: it is one of its snapshot's. It does nothing.
+    pub fn keeps(&self)
+        ensures { IsPrepared self.now }
+    {
+        self.version();
+    }
+
     /// The moment of its snapshot.
     pub fn now(&self) -> Second
         ensures { result ≡ self.now.state.now }
@@ -79,7 +86,7 @@ impl Prep {
         ensures { (other : NamedTrajectory) → IsOfAnother self.now.setup self.now.state self.now.card.call other → other.call ≡ call → other.kind ≡ kind
             → IsFoundOrQuiet self.now.setup.rules self.now.state.now self.now.strand other (option_copied result) }
     {
-        let _version = self.version();
+        self.keeps();
         named_among(self.finds(), call, kind)
     }
 }
