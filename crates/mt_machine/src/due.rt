@@ -25,7 +25,7 @@ fn calls_of(alloc: Global, flights: &[Record]) -> Result<Calls, Memory>
 {
     let mut calls = Calls::make(alloc)?;
     for flight in flights {
-        let _letters = flight.call.bytes();
+        flight.call.keeps();
         if is_due(flight) {
             calls.push(flight.call)?;
         }
