@@ -27,7 +27,7 @@ fn clearance_is_named(clearance: &Clearance)
 
 impl Command {
     /// Each name in the command is one (`HasNames`). It does nothing.
-    pub fn is_named(&self)
+    pub fn keeps(&self)
         ensures { HasNames self.now }
     {
         match self {
