@@ -57,7 +57,7 @@ impl Legal {
         requires { picture.history ≡ [] }
         ensures { result ≡ picture }
     {
-        let _rules = picture.rules();
+        picture.keeps();
         Legal { picture }
     }
 
@@ -76,6 +76,13 @@ impl Legal {
         ensures kept { IsLegalStory self.now }
     {
         self.picture.version()
+    }
+
+    // The history is legal. It does nothing.
+    pub(crate) fn keeps(&self)
+        ensures { IsLegalStory self.now }
+    {
+        self.version();
     }
 
     // The snapshot now.
