@@ -38,6 +38,13 @@ impl Callsign {
     {
         self.name.bytes()
     }
+
+    /// Its letters are those of a callsign. It does nothing.
+    pub fn keeps(&self)
+        ensures { IsCallsign self.now }
+    {
+        self.name.bytes();
+    }
 }
 
 /// Callsigns, seen as their list.

@@ -45,6 +45,13 @@ impl FixName {
     {
         self.name.bytes()
     }
+
+    /// Its letters are those of the name of a fix. It does nothing.
+    pub fn keeps(&self)
+        ensures { IsFixName self.now }
+    {
+        self.name.bytes();
+    }
 }
 
 impl PartialEq for FixName {

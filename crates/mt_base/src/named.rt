@@ -13,7 +13,7 @@ fn are_named(names: &[FixName])
     let Some((name, rest)) = names.split_first() else {
         return;
     };
-    let _letters = name.bytes();
+    name.keeps();
     are_named(rest);
 }
 
@@ -21,13 +21,13 @@ fn clearance_is_named(clearance: &Clearance)
     ensures { IsNamedClearance clearance.now }
 {
     if let Clearance::Direct(fix) = clearance {
-        let _letters = fix.bytes();
+        fix.keeps();
     }
 }
 
 impl Command {
     /// Each name in the command is one (`HasNames`). It does nothing.
-    pub fn is_named(&self)
+    pub fn keeps(&self)
         ensures { HasNames self.now }
     {
         match self {
@@ -37,8 +37,8 @@ impl Command {
                 route,
                 ..
             } => {
-                let _call = call.bytes();
-                let _kind = kind.bytes();
+                call.keeps();
+                kind.keeps();
                 are_named(route.items());
             }
             Command::Clear {
@@ -56,7 +56,7 @@ impl Command {
                 clearance,
                 ..
             } => {
-                let _letters = call.bytes();
+                call.keeps();
                 clearance_is_named(clearance);
             }
             Command::External { call, .. }
@@ -65,7 +65,7 @@ impl Command {
             | Command::Renew { call }
             | Command::Withdraw { call, .. }
             | Command::Commit { call } => {
-                let _letters = call.bytes();
+                call.keeps();
             }
             Command::Tick { .. } => {}
         }

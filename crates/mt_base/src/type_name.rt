@@ -45,6 +45,13 @@ impl TypeName {
     {
         self.name.bytes()
     }
+
+    /// Its letters are those of the name of a type. It does nothing.
+    pub fn keeps(&self)
+        ensures { IsTypeName self.now }
+    {
+        self.name.bytes();
+    }
 }
 
 impl PartialEq for TypeName {

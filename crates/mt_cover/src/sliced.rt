@@ -54,6 +54,13 @@ impl Slices {
         self.from
     }
 
+    /// They are slices. It does nothing.
+    pub fn keeps(&self)
+        ensures { AreSlices self.now }
+    {
+        self.from();
+    }
+
     /// The second after the last one.
     pub fn to(&self) -> Second
         ensures { result ≡ self.now.to }

@@ -56,7 +56,7 @@ impl Legal {
         requires { picture.history ≡ [] }
         ensures { result ≡ picture }
     {
-        let _rules = picture.rules();
+        picture.keeps();
         Legal { picture }
     }
 
@@ -75,6 +75,13 @@ impl Legal {
         ensures kept { IsLegalStory self.now }
     {
         self.picture.version()
+    }
+
+    // The history is legal. It does nothing.
+    pub(crate) fn keeps(&self)
+        ensures { IsLegalStory self.now }
+    {
+        self.version();
     }
 
     // The snapshot now.

@@ -29,7 +29,7 @@ impl Desk {
     {
         let held = self.turn.enter(rt, seat);
         let legal = held.value();
-        let _version = legal.version();
+        legal.keeps();
         let taken = legal.snapshot();
         self.turn.leave(seat, held);
         taken
@@ -103,7 +103,7 @@ impl Desk {
         let result = held
             .value_mut()
             .publish(self.alloc, who, command, prep, &mut tests);
-        let _version = held.value().version();
+        held.value().keeps();
         self.turn.leave(seat, held);
         result
     }

@@ -58,6 +58,13 @@ impl Builder {
         Ok(())
     }
 
+    // The keys are in order, which the map's length tells. It does nothing.
+    fn keeps(&self)
+        ensures { AreInByteOrder (pairs self.now) }
+    {
+        self.map.len();
+    }
+
     /// The pairs as one compact line, keys in byte order, with 0x0A at its end.
     ///
     /// Where each value is plain (no float, and less than 127 levels deep) the bytes are those of `line_of`, no other 0x0A stands among them,
@@ -67,8 +74,7 @@ impl Builder {
         ensures any { IfOk result (λ b. IsLine (pairs self) b.items) }
         ensures ordered { AreInByteOrder (pairs self) }
     {
-        // The map's length tells that its keys are in order.
-        let _count = self.map.len();
+        self.keeps();
         let value = Value::Object(self.map);
         let mut bytes = value.to_vec(self.alloc)?;
         bytes.push(b'\n')?;

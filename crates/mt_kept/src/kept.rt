@@ -196,11 +196,11 @@ impl Kept {
         Ok(())
     }
 
-    // Says of the places what is always kept of them.
-    fn has_own_slots(&self)
+    // What stands in places of different slots is of different flights. It does nothing.
+    fn keeps(&self)
         ensures { HaveOwnSlots self.now.places }
     {
-        let _moment = self.moment;
+        self.places.len();
     }
 
     /// Empties a slot, as `change` does. It makes no test.
@@ -212,7 +212,7 @@ impl Kept {
         ensures err { OnErr result (self.new ≡ self.old) }
         ensures steps { WereStepsOf self.old.rules self.old.places slot steps.old steps.new }
     {
-        self.has_own_slots();
+        self.keeps();
         self.change(slot, None, None, &[], steps)
     }
 

@@ -21,7 +21,7 @@ fn sum_up<R: Threads + Sync>(rt: &R, alloc: Global, script: &Script) -> Result<S
     };
     let picture = world.picture();
     // (Each entry is complete, so what is printed is read back.)
-    let _complete = picture.entries();
+    picture.keeps();
     let tables = script.tables()?;
     let again = again(rt, alloc, picture, tables)?;
     let held = sizes_of(picture);

@@ -38,7 +38,7 @@ fn asked(
     let Some(base) = base_from(&course.base, &strand, plain.now()) else {
         return Ok(Err(Refusal::Ended));
     };
-    let _bands = tables.bands(course.kind);
+    tables.keeps();
     Ok(Ok(Clearances::of(candidates(alloc, course, &base, tables)?)))
 }
 

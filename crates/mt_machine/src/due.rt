@@ -15,7 +15,7 @@ fn calls_of(alloc: Global, flights: &[Record]) -> Result<Calls, Memory>
 {
     let mut calls = Calls::make(alloc)?;
     for flight in flights {
-        let _letters = flight.call.bytes();
+        flight.call.keeps();
         if flight.is_due() {
             calls.push(flight.call)?;
         }

@@ -35,7 +35,7 @@ fn hit_with(
         (found ≡ Some hit) ↔ IsHitWith (setup_with rules.now tables.now) now strand.now other.now hit) }
     ensures named { is_name 1 7 other.now.call ≡ true }
 {
-    let _letters = other.call.bytes();
+    other.call.keeps();
     let flown = strand_of(alloc, tables, rules, &other.path)?;
     let Some((first, last)) = lose(strand, &flown, rules, now, now + WINDOW, tests) else {
         return Ok(None);

@@ -107,7 +107,7 @@ impl SliceTable {
         requires own { own.now ≡ reach_of mine.now }
         ensures { IsMetAt rules.now mine.now self.now item result }
     {
-        let _from = mine.from();
+        mine.keeps();
         if !are_close(rules, own, reach) {
             return None;
         }

@@ -8,7 +8,6 @@ ghost use Rattle.mt_predict.specs.Looking.{HasStrand, look_of};
 ghost use Rattle.mt_probe.specs.Shot.{flight_at};
 ghost use Rattle.mt_probe.specs.Shot.{state_in_shot as state_in};
 
-use crate::keeping::is_sound;
 use mt_base::{Command, Kind, Path, Refusal, Verdict};
 use mt_predict::{Looked, judge};
 use mt_probe::Snapshot;
@@ -28,7 +27,6 @@ fn look<'a>(snapshot: &'a Snapshot, command: &Command) -> Looked<'a>
     ensures look { look_of result ≡ look_at (state_in snapshot.now) command.now }
     ensures strand { HasStrand snapshot.now.setup result command.now }
 {
-    is_sound(snapshot);
     let now = snapshot.now();
     let held = snapshot.flights();
     let entries = snapshot.version();
@@ -72,7 +70,7 @@ pub(crate) fn verdict_on(snapshot: &Snapshot, command: &Command) -> Option<Verdi
     requires { IsBoundedCommand command.now }
     ensures { result ≡ verdict_in snapshot.now.setup (state_in snapshot.now) command.now }
 {
-    is_sound(snapshot);
+    snapshot.keeps();
     let Command::Report { call, report } = command else {
         return None;
     };

@@ -14,7 +14,6 @@ ghost use Rattle.mt_picture.specs.Story.{IsPrepGivenFor, IsPrepFor};
 
 use crate::entering::{file, remake, report, withdraw};
 use crate::held::Held;
-use crate::keeping::is_prepared;
 use crate::usable::is_usable;
 use mt_base::{Command, Hit, Memory, Record, Tally};
 use mt_probe::{Prep, altered_flight, left_of};
@@ -109,7 +108,7 @@ fn enter_strand(
     ensures counted { IsWithinPreps (held_story held.old) who command.now (Some prep.now) tests.old tests.new }
 {
     held.keeps();
-    is_prepared(prep);
+    prep.keeps();
     let card = card_left(held, alloc, who, command, prep)?;
     let known = is_usable(held, who, command, prep);
     if is_filing(command) {

@@ -17,7 +17,6 @@ ghost use Rattle.mt_picture.specs.Putting.{IsFirstOf, IsKeptFlight, IsFlightPut,
 use crate::change::{change_bare, change_for};
 use crate::held::Held;
 use crate::hits::first_hit;
-use crate::keeping::is_prepared;
 use mt_base::{Callsign, Command, Entry, Hit, Kind, Memory, Record, Tally};
 use mt_probe::{Flight, Made, Prep, kind_made, strand_of};
 use mt_track::Strand;
@@ -85,7 +84,7 @@ fn strand_for(
     ensures made { IfOk result (λ strand. path_made held.now.snapshot.setup card.now kind ≡ Some (arc_value strand)) }
     ensures known { IfOk result (λ strand. known ≡ true → arc_value strand ≡ prep.now.strand) }
 {
-    is_prepared(prep);
+    prep.keeps();
     if known {
         Ok(Arc::try_clone(prep.strand())?)
     } else {
@@ -118,7 +117,7 @@ fn entry_of(alloc: Global, held: &Held, who: u32, command: &Command) -> Result<E
     ensures complete { IfOk result IsComplete }
 {
     held.keeps();
-    command.is_named();
+    command.keeps();
     let command = command.filled(alloc, held.snapshot().now())?;
     Ok(Entry { who, command })
 }

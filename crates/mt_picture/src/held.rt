@@ -17,7 +17,6 @@ ghost use Rattle.mt_picture.specs.Putting.{IsFlightPut};
 ghost use Rattle.mt_picture.specs.Stamps.{IsPicture};
 
 use crate::change::Change;
-use crate::keeping::is_sound;
 use mt_base::{Callsign, Command, Conflict, Entry, Memory, Rules, Second, Steps, Tally};
 use mt_kept::Kept;
 use mt_probe::{Flight, Snapshot};
@@ -68,7 +67,7 @@ impl Held {
         ensures picture { IsPicture self.now.snapshot self.now.history self.now.kept }
         ensures sound { IsSoundShot self.now.snapshot }
     {
-        is_sound(&self.snapshot)
+        self.snapshot.keeps()
     }
 
     /// The snapshot, which stands for the state of the history.
@@ -97,7 +96,7 @@ impl Held {
     pub(crate) fn published(&self) -> &[Conflict]
         ensures { IsPublished self.now.snapshot.setup (state_of self.now.snapshot.setup self.now.history) result.now }
     {
-        is_sound(&self.snapshot);
+        self.snapshot.keeps();
         self.kept.published()
     }
 
@@ -115,14 +114,14 @@ impl Held {
         requires change { IsChangeFor self.old.kept slot flight change }
         ensures { AddsEntry self.old self.new entry result }
     {
-        is_sound(&self.snapshot);
+        self.snapshot.keeps();
         let Change {
             first,
             second,
             finds,
         } = change;
         let snapshot = self.snapshot.put(slot, Some(flight))?;
-        is_sound(&snapshot);
+        snapshot.keeps();
         self.history.reserve(1)?;
         let mut steps = Steps::new();
         self.kept.change(slot, first, second, &finds, &mut steps)?;
@@ -140,9 +139,9 @@ impl Held {
         requires second { second_of (Some flight) ≡ second_of (flight_at self.old.snapshot slot) }
         ensures { AddsEntry self.old self.new entry result }
     {
-        is_sound(&self.snapshot);
+        self.snapshot.keeps();
         let snapshot = self.snapshot.put_again(slot, flight)?;
-        is_sound(&snapshot);
+        snapshot.keeps();
         self.history.reserve(1)?;
         self.snapshot = snapshot;
         self.history.push_reserved(entry);
@@ -163,9 +162,9 @@ impl Held {
         ensures entered { AddsEntry self.old self.new (record { who = who; command = Tick now }) result }
         ensures counted { WasTestedOnce self.old.snapshot.setup.rules (all_places self.old.snapshot.slots) now tests.old tests.new }
     {
-        is_sound(&self.snapshot);
+        self.snapshot.keeps();
         let snapshot = self.snapshot.at(now)?;
-        is_sound(&snapshot);
+        snapshot.keeps();
         self.history.reserve(1)?;
         self.kept.move_to(alloc, now, tests)?;
         self.snapshot = snapshot;
@@ -183,9 +182,9 @@ impl Held {
         ensures { AddsEntry self.old self.new (record { who = who; command = Drop call }) result }
     {
         let command = Command::Drop { call };
-        command.is_named();
+        command.keeps();
         let snapshot = self.snapshot.put(slot, None)?;
-        is_sound(&snapshot);
+        snapshot.keeps();
         self.history.reserve(1)?;
         let mut steps = Steps::new();
         self.kept.remove(slot, &mut steps)?;

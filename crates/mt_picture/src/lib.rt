@@ -7,7 +7,6 @@ mod enter;
 mod entering;
 mod held;
 mod hits;
-mod keeping;
 mod later;
 mod laws;
 mod near;

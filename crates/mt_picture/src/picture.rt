@@ -99,6 +99,15 @@ impl Picture {
         self.held.history()
     }
 
+    /// The rules are within their bounds, and each entry is complete. It does nothing.
+    pub fn keeps(&self)
+        ensures bounded { AreWithinBounds self.now.setup.rules }
+        ensures complete { All IsComplete self.now.history }
+    {
+        self.rules();
+        self.entries();
+    }
+
     /// The rules.
     pub fn rules(&self) -> Rules
         ensures rules { result ≡ self.now.setup.rules }

@@ -3,7 +3,6 @@ ghost use Rattle.std.specs.Prelude.{◌≡◌, ◌/◌, ◌<◌, ℕ, IfSome, So
 ghost use Rattle.mt_probe.specs.Items.{kind_at};
 ghost use Rattle.mt_picture.specs.Candidates.{StandsInPlace};
 
-use crate::keeping::is_sound;
 use mt_base::{Callsign, Kind};
 use mt_probe::Snapshot;
 
@@ -34,7 +33,7 @@ pub(crate) fn find_trajectory(snapshot: &Snapshot, call: Callsign, kind: Kind) -
     ensures only { (place stamp : ℕ) → StandsInPlace snapshot.now.slots place call kind stamp
         → result ≡ Some (record { place = place; stamp = stamp }) }
 {
-    is_sound(snapshot);
+    snapshot.keeps();
     let slot = snapshot.find(call)?;
     let stamp = snapshot.stamp(slot, kind)?;
     let place = place_of(slot, kind);

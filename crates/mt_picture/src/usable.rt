@@ -5,7 +5,6 @@ ghost use Rattle.mt_picture.specs.Holding.{held_story};
 ghost use Rattle.mt_picture.specs.Story.{IsNamedAfter, IsPrepFor, IsUsable};
 
 use crate::held::Held;
-use crate::keeping::is_prepared;
 use mt_base::{Callsign, Command, Entry};
 use mt_probe::{Prep, Snapshot};
 
@@ -50,7 +49,7 @@ pub(crate) fn is_usable(held: &Held, who: u32, command: &Command, prep: &Prep) -
     ensures usable { result ≡ true → IsUsable (held_story held.now) command.now prep.now }
     ensures unusable { result ≡ false → ¬ IsUsable (held_story held.now) command.now prep.now }
 {
-    is_prepared(prep);
+    prep.keeps();
     let Some(call) = command.call() else {
         return false;
     };

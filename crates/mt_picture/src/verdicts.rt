@@ -5,7 +5,6 @@ ghost use Rattle.mt_picture.specs.Candidates.{AreAllNear, AreStill, IsStill, Sta
 ghost use Rattle.mt_picture.specs.Stamps.{AreStamped, HaveStood};
 ghost use Rattle.mt_picture.specs.Verdicts.{AreNearCandidates, IsPreps};
 
-use crate::keeping::{is_sound, is_trajectory};
 use crate::later::later_places;
 use crate::near::near_ones;
 use crate::places::find_trajectory;
@@ -87,8 +86,8 @@ pub(crate) fn candidates(
     requires stood { HaveStood snapshot.now prep.now }
     ensures { IfOk result (λ list. AreNearCandidates snapshot.now strand.now prep.now known list.items) }
 {
-    is_sound(snapshot);
-    is_trajectory(strand);
+    snapshot.keeps();
+    strand.keeps();
     if !known {
         return all_near(alloc, snapshot, strand);
     }

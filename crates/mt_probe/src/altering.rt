@@ -24,7 +24,7 @@ pub fn altered_flight(
     requires passed { judged_aside snapshot.now.setup (state_in_shot snapshot.now) who command.now ≡ Ok (tt {0}) }
     ensures { IfOk result (IsLeftByEntry snapshot.now.setup (state_in_shot snapshot.now) who command.now) }
 {
-    let _version = snapshot.version();
+    snapshot.keeps();
     let Some(call) = command.call() else {
         unreachable!()
     };

@@ -108,8 +108,8 @@ fn find_met(
     ensures found { OnOk result (FindsMore snapshot.now.setup.rules snapshot.now.now strand.now (other_at call snapshot.now.slots met.item) finds.old finds.new) }
     ensures counted { tests.new ≤ tests.old + 2 * length (other_at call snapshot.now.slots met.item) }
 {
-    let _version = snapshot.version();
-    let _end = strand.end();
+    snapshot.keeps();
+    strand.keeps();
     let slot = met.item / 2;
     let Some(card) = snapshot.flight(slot) else {
         return Ok(());
@@ -144,8 +144,8 @@ pub(crate) fn find_all(
     ensures finds { IfOk result (AreFinds snapshot.now.setup (state_in_shot snapshot.now) call strand.now) }
     ensures counted { WasTestedNear snapshot.now call strand.now tests.old tests.new }
 {
-    let _version = snapshot.version();
-    let _end = strand.end();
+    snapshot.keeps();
+    strand.keeps();
     let mut finds = Finds::make(alloc)?;
     let list = snapshot.meeting(strand)?;
     for met in &list {

@@ -51,8 +51,8 @@ fn is_hit_with(
     ensures hit { IsTrue result → HasHit snapshot.now.setup (state_in_shot snapshot.now) call strand.now }
     ensures clear { result ≡ false → kind_at met.item ≡ Actual → IsClearAt snapshot.now call strand.now (met.item / 2) }
 {
-    let _version = snapshot.version();
-    let _end = strand.end();
+    snapshot.keeps();
+    strand.keeps();
     let kind = kind_of(met.item);
     let Kind::Actual = kind else {
         return false;
@@ -82,8 +82,8 @@ pub(crate) fn has_hit(
 ) -> Result<bool, Memory>
     ensures { IfOk result (λ has. IsTrue has ↔ HasHit snapshot.now.setup (state_in_shot snapshot.now) call strand.now) }
 {
-    let _version = snapshot.version();
-    let _end = strand.end();
+    snapshot.keeps();
+    strand.keeps();
     let mine = snapshot.sliced(strand)?;
     let mut from = 0;
     while let Some(met) = snapshot.next_meeting(from, &mine) {

@@ -18,7 +18,7 @@ fn strand_slices(alloc: Global, rules: &Rules, strand: &Strand) -> Result<Slices
     ensures slices { IfOk result (λ slices. slices ≡ slices_of rules.now strand.now) }
     ensures laid { IsStrand strand.now }
 {
-    let _end = strand.end();
+    strand.keeps();
     slices(alloc, strand, rules)
 }
 

@@ -42,6 +42,13 @@ impl Prep {
         self.snapshot.version()
     }
 
+    /// What every prep keeps: it is one of its snapshot's. It does nothing.
+    pub fn keeps(&self)
+        ensures { IsPrepared self.now }
+    {
+        self.version();
+    }
+
     /// The moment of its snapshot.
     pub fn now(&self) -> Second
         ensures { result ≡ self.now.state.now }

@@ -54,7 +54,7 @@ pub fn strand_of(
     requires makes { is_some (path_made snapshot.now.setup card.now kind) ≡ true }
     ensures { IfOk result (λ strand. path_made snapshot.now.setup card.now kind ≡ Some (arc_value strand)) }
 {
-    let _version = snapshot.version();
+    snapshot.keeps();
     let strand = match &card.path {
         Path::Planned(course) => {
             predict(alloc, snapshot.tables(), snapshot.rules(), course, kind)?
@@ -69,7 +69,7 @@ fn look<'a>(snapshot: &'a Snapshot, command: &Command) -> Looked<'a>
     ensures look { look_of result ≡ roomy (state_in_shot snapshot.now) command.now }
     ensures strand { HasStrand snapshot.now.setup result command.now }
 {
-    let _version = snapshot.version();
+    snapshot.keeps();
     let slot = match command.call() {
         Some(call) => snapshot.find(call),
         None => None,
@@ -104,7 +104,7 @@ pub fn left_of(
     requires bounded { IsBoundedBesides command.now }
     ensures { IfOk result (IsLeftOr snapshot.now.setup (state_in_shot snapshot.now) who command.now) }
 {
-    let _version = snapshot.version();
+    snapshot.keeps();
     let looked = look(snapshot, command);
     if let Err(refusal) = judge(snapshot.tables(), snapshot.rules(), &looked, who, command) {
         return Ok(Err(refusal));
@@ -168,9 +168,8 @@ pub(crate) fn prep_with(
     ensures prep { IfOk result (IsPrepOf snapshot.now who command) }
     ensures counted { WasTestedNear snapshot.now card.call (arc_value strand) tests.old tests.new }
 {
-    let _version = snapshot.version();
-    let _now = snapshot.now();
-    let _end = strand.end();
+    snapshot.keeps();
+    strand.keeps();
     let finds = find_all(alloc, snapshot, card.call, &strand, tests)?;
     Ok(Prep {
         snapshot: snapshot.share()?,
@@ -196,7 +195,7 @@ fn prep_of(
     ensures counted { (t : Trajectory) → path_made snapshot.now.setup card (kind_made command) ≡ Some t
         → WasTestedNear snapshot.now card.call t tests.old tests.new }
 {
-    let _version = snapshot.version();
+    snapshot.keeps();
     let strand = strand_of(alloc, snapshot, &card, kind_made(&command))?;
     prep_with(alloc, snapshot, who, command, card, strand, tests)
 }

@@ -118,6 +118,14 @@ impl Snapshot {
         self.body.version
     }
 
+    /// What every snapshot keeps: it is sound, and so is its state, as long as the version is one that a history can have. It does nothing.
+    pub fn keeps(&self)
+        ensures sound { IsSoundShot self.now }
+        ensures state { self.now.version ≤ 4194304 → IsSoundState self.now.setup (state_in_shot self.now) }
+    {
+        self.version();
+    }
+
     /// The moment.
     pub fn now(&self) -> Second
         ensures now { result ≡ self.now.now }
@@ -210,7 +218,7 @@ impl Snapshot {
         ensures there { IfSome result (λ slot. is_some (flight_at self.now slot) ≡ true) }
         ensures flight { flight_of (state_in_shot self.now).records call ≡ option_map (λ f. f.card) (option_and_then (flight_at self.now) result) }
     {
-        let _version = self.version();
+        self.keeps();
         self.body.index.find(call)
     }
 
@@ -225,7 +233,7 @@ impl Snapshot {
     pub fn free(&self) -> Option<u32>
         ensures { IsFreeIn self.now.slots result }
     {
-        let _version = self.version();
+        self.keeps();
         self.body.index.free(&self.body.slots, self.slots())
     }
 
@@ -245,7 +253,7 @@ impl Snapshot {
     pub fn near(&self, cover: &Cover) -> Result<Vec<u32>, Memory>
         ensures { IfOk result (λ items. AreNearItems self.now cover.now items.items) }
     {
-        let _version = self.version();
+        self.keeps();
         let mut items = Vec::new(self.body.alloc);
         for item in 0..2 * self.slots() {
             if self.is_near(cover, item)? {

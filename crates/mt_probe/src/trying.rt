@@ -54,7 +54,7 @@ fn hits_of(alloc: Global, finds: &[Found]) -> Result<Hits, Memory>
     let mut hits = Hits::make(alloc)?;
     for found in finds {
         if let Some(hit) = hit_of(found) {
-            let _letters = hit.with.bytes();
+            hit.with.keeps();
             hits.push(hit)?;
         }
     }
@@ -88,7 +88,7 @@ fn tried(
     requires early { eff ≤ 10000000 }
     ensures { IfOk result (λ p. (p.prep ≡ prep) × (p.call ≡ call) × (p.clearance ≡ clearance) × (p.eff ≡ eff)) }
 {
-    let _version = prep.version();
+    prep.keeps();
     let found = hits_of(alloc, prep.finds())?;
     Ok(Probe {
         prep,
@@ -190,7 +190,7 @@ fn free_probe(
     requires left { IsLeftByEntry snapshot.now.setup (state_in_shot snapshot.now) 0 (Accept call clearance eff snapshot.now.version) card }
     ensures { IfOk result (IsFreeOrConflicting snapshot.now call clearance (Some eff)) }
 {
-    let _version = snapshot.version();
+    snapshot.keeps();
     let strand = strand_of(alloc, snapshot, &card, Kind::Actual)?;
     let hit = has_hit(snapshot, card.call, &strand, tests)?;
     if hit {
@@ -219,7 +219,7 @@ pub fn probe_if_free(
     ensures found { IfOk result (IsFreeOrConflicting snapshot.now call clearance eff) }
     ensures refused { IfErr result (IsUnprobed snapshot.now call clearance eff) }
 {
-    let _version = snapshot.version();
+    snapshot.keeps();
     let eff = eff.unwrap_or(snapshot.now());
     match accepted(alloc, snapshot, call, clearance, eff) {
         Ok(card) => Ok(free_probe(alloc, snapshot, call, clearance, eff, card, tests)?),

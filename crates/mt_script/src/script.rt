@@ -68,6 +68,13 @@ impl Script {
         }
     }
 
+    /// The history is empty before the picture has begun. It does nothing.
+    pub fn keeps(&self)
+        ensures { self.now.begun ≡ false → self.now.history ≡ [] }
+    {
+        self.rules();
+    }
+
     /// The tables that stand. They are shared and not copied.
     pub fn tables(&self) -> Result<Arc<Tables>, Memory>
         ensures { IfOk result (λ tables. arc_value tables ≡ self.now.tables) }
@@ -79,7 +86,7 @@ impl Script {
     pub fn world(&self) -> Option<&World>
         ensures { MatchOption result (self.now.begun ≡ false) (λ world. with_areas world.now self.now.areas ≡ self.now) }
     {
-        let _rules = self.setting.rules();
+        self.setting.keeps();
         self.begun.as_ref()
     }
 
@@ -87,7 +94,7 @@ impl Script {
     pub fn has_begun(&self) -> bool
         ensures { result ≡ self.now.begun }
     {
-        let _rules = self.setting.rules();
+        self.setting.keeps();
         match &self.begun {
             Some(_world) => true,
             None => false,
@@ -101,7 +108,7 @@ impl Script {
         ensures history { result.history ≡ self.history }
     {
         let Script { setting, begun, .. } = self;
-        let _rules = setting.rules();
+        setting.keeps();
         let Some(world) = begun else { unreachable!() };
         world.into_picture()
     }
@@ -123,7 +130,7 @@ impl Script {
         ensures fit { IsFit result }
         ensures begins { self.old.begun ≡ false → (self.new.begun ≡ is_begin result) × (self.new.history ≡ []) }
     {
-        let _rules = self.rules();
+        self.keeps();
         match request {
             Request::Area(area) => self.add_area(alloc, area),
             Request::Areas => self.tell_areas(rt, alloc),
@@ -159,7 +166,7 @@ impl Script {
         ensures fit { IsFit result }
         ensures stays { is_begin result ≡ false }
     {
-        let _rules = self.setting.rules();
+        self.setting.keeps();
         let Some(world) = &self.begun else {
             return Reply::Unbegun;
         };

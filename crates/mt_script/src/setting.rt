@@ -73,6 +73,14 @@ impl Setting {
         self.rules
     }
 
+    /// The picture hasn't begun, and its history is empty. It does nothing.
+    pub fn keeps(&self)
+        ensures before { self.now.begun ≡ false }
+        ensures empty { self.now.history ≡ [] }
+    {
+        self.rules();
+    }
+
     /// The tables that stand. They are shared and not copied.
     pub fn tables(&self) -> Result<Arc<Tables>, Memory>
         ensures { IfOk result (λ tables. arc_value tables ≡ self.now.tables) }
@@ -91,7 +99,7 @@ impl Setting {
         ensures before { self.new.begun ≡ false }
         ensures empty { self.new.history ≡ [] }
     {
-        let _rules = self.rules();
+        self.keeps();
         match request {
             Request::Fix { name, x, y } => self.add_fix(*name, *x, *y),
             Request::TypeLine { name, bands } => self.add_type(*name, bands),

@@ -82,7 +82,7 @@ impl<B: Board> Serving<B> {
                     probes,
                 },
             ) => {
-                let _letters = call.bytes();
+                call.keeps();
                 let Ok(advice) = items_from(alloc, self.count(), &probes) else {
                     return Reply::Memory;
                 };

@@ -30,7 +30,7 @@ pub(crate) fn asked(
     ensures asked { IfOk result (λ list. AreAdviceCandidates snapshot.now call list.items) }
     ensures refused { IfErr result (IsNotAdvisedOn snapshot.now call) }
 {
-    let _version = snapshot.version();
+    snapshot.keeps();
     let Some(slot) = snapshot.find(call) else {
         return Err(refused(snapshot, Refusal::UnknownCall(call)));
     };
@@ -47,6 +47,6 @@ pub(crate) fn asked(
         return Err(refused(snapshot, Refusal::Ended));
     };
     let tables = snapshot.tables();
-    let _bands = tables.bands(course.kind);
+    tables.keeps();
     Ok(candidates(alloc, course, &base, tables)?)
 }

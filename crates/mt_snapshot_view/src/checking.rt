@@ -48,7 +48,7 @@ fn add_flight(snapshot: &Snapshot, place: u32, roster: &mut Roster) -> Result<()
 pub fn roster_of(alloc: Global, snapshot: &Snapshot) -> Result<Roster, Memory>
     ensures { IfOk result (λ roster. roster ≡ trajectories snapshot.now.setup (state_in_shot snapshot.now)) }
 {
-    let _version = snapshot.version();
+    snapshot.keeps();
     let places = in_order(alloc, snapshot)?;
     let mut roster = Roster::make(alloc)?;
     for filed in &places {

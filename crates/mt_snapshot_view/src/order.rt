@@ -33,7 +33,7 @@ fn filled(alloc: Global, snapshot: &Snapshot) -> Result<Vec<Filed>, Memory>
 pub(crate) fn in_order(alloc: Global, snapshot: &Snapshot) -> Result<Vec<Filed>, Memory>
     ensures { IfOk result (λ all. ArePlaced snapshot.now all.items) }
 {
-    let _version = snapshot.version();
+    snapshot.keeps();
     let mut all = filled(alloc, snapshot)?;
     all.sort_unstable();
     // No place is twice among them. This drops nothing, and shows it.

@@ -14,14 +14,14 @@ pub fn due(alloc: Global, snapshot: &Snapshot) -> Result<Calls, Memory>
     ensures exact { IfOk result (λ calls. calls ≡ due_calls (state_in_shot snapshot.now).records) }
     ensures short { IfOk result AreFewCalls }
 {
-    let _version = snapshot.version();
+    snapshot.keeps();
     let places = in_order(alloc, snapshot)?;
     let mut calls = Calls::make(alloc)?;
     for filed in &places {
         let Some(flight) = snapshot.flight(filed.place) else {
             unreachable!()
         };
-        let _letters = flight.call.bytes();
+        flight.call.keeps();
         if flight.is_due() {
             calls.push(flight.call)?;
         }

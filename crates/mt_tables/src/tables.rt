@@ -114,6 +114,13 @@ impl Tables {
         Some(bands.items())
     }
 
+    /// Each fix lies in the plane, and each type has 1 to 8 bands within their bounds. It does nothing.
+    pub fn keeps(&self)
+        ensures { AreBoundedTables self.now }
+    {
+        self.fixes.len();
+    }
+
     /// The ceiling of a type, a flight level: the top of its last band; `None` exactly where no type has that name.
     pub fn ceiling(&self, name: TypeName) -> Option<u32>
         ensures { result ≡ option_map ceiling_of (bands_of self.now name) }

@@ -140,6 +140,13 @@ impl Strand {
         self.end
     }
 
+    /// Its rows are those of a strand. It does nothing.
+    pub fn keeps(&self)
+        ensures { IsStrand self.now }
+    {
+        self.end();
+    }
+
     /// Its segments, in order, end to end, no two neighbours in one. What every strand keeps is said here too.
     pub fn segments(&self) -> &[Segment]
         ensures are { AreSegmentsOf self.now result.now }

@@ -40,7 +40,7 @@ impl World {
             (IsRefused self.old replies.Unbegun result self.new) ⊎ IsRefused self.old replies.Memory result self.new }
         ensures fit { IsFit result }
     {
-        let _version = self.version();
+        self.keeps();
         match self.try_all(rt, who, call) {
             Ok(
                 Advised {
@@ -49,7 +49,7 @@ impl World {
                     probes,
                 },
             ) => {
-                let _letters = call.bytes();
+                call.keeps();
                 let count = self.actors[who as usize].book.count();
                 let Ok(advice) = items_from(self.alloc, count, &probes) else {
                     return Reply::Memory;

@@ -23,7 +23,7 @@ impl World {
             ⊎ IsRefused self.old replies.Memory result self.new }
         ensures fit { IsFit result }
     {
-        let _version = self.version();
+        self.keeps();
         changed(self.enter(who, command))
     }
 

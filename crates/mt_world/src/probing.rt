@@ -48,7 +48,7 @@ impl World {
             (IsRefused self.old replies.Unbegun result self.new) ⊎ IsRefused self.old replies.Memory result self.new }
         ensures fit { IsFit result }
     {
-        let _version = self.version();
+        self.keeps();
         match self.try_clearance(who, call, clearance, eff) {
             Ok(probe) => {
                 let Ok(conflicts) = probe.found().copy(self.alloc) else {

@@ -59,7 +59,7 @@ impl World {
             (IsRefused self.now replies.Unbegun result self.now) ⊎ IsRefused self.now replies.Memory result self.now }
         ensures fit { IsFit result }
     {
-        let _version = self.version();
+        self.keeps();
         match self.viewed(call, sec) {
             Ok(Some(view)) => Reply::Flight(view),
             Ok(None) => self.refused(Refusal::UnknownCall(call)),

@@ -150,7 +150,7 @@ impl World {
         ensures reply { result ≡ replies.Begun }
         ensures begun { self.now.begun ≡ true }
     {
-        let _version = self.version();
+        self.keeps();
         Reply::Begun
     }
 
@@ -160,5 +160,12 @@ impl World {
         ensures begun { self.now.begun ≡ true }
     {
         self.picture.version()
+    }
+
+    // The picture has begun. It does nothing.
+    pub(crate) fn keeps(&self)
+        ensures { self.now.begun ≡ true }
+    {
+        self.version();
     }
 }

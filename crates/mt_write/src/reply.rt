@@ -45,7 +45,7 @@ impl AdviceItem {
                 AdviceItem { clearance, probe }
             }
             Clearance::Direct(fix) => {
-                let _letters = fix.bytes();
+                fix.keeps();
                 AdviceItem { clearance, probe }
             }
         }

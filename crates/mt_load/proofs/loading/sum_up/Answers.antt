@@ -15,5 +15,5 @@ returns g c =
     summary_is c.args.script.now c.picture-picture.result.now _
     (c.picture-picture.ensures.setup ∙ ap (λ (w : World). setup_of w) c.in-Some.ensures)
     (c.picture-picture.ensures.history ∙ ap (λ (w : World). w.history) c.in-Some.ensures)
-    c.entries-complete.ensures.complete
+    c.keeps.ensures.complete
     c.sizes_of-held.ensures.conflicts c.in_ok-again.ensures c.sizes_of-held.ensures.entries c.sizes_of-held.ensures.flights

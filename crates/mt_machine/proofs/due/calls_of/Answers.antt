@@ -25,7 +25,7 @@ loop-flight-preserved c =
             ap (λ (calls : List (List ℕ)). calls ++ c.flight-item.result.call ∷ []) c.loop-flight.invariant.0 ∙ sym more,
             simp length-append (omega arith),
             All-push (λ (call : List ℕ). is_name 1 7 call ≡ true) c.loop-flight.calls c.flight-item.result.call c.loop-flight.invariant.2
-                c.bytes-letters.ensures.named,
+                c.keeps.ensures,
           )
       | else-is_due w ↦
           let more = due_more c.args.flights.now c.loop-flight.flight-index c.flight-item.result false c.loop-flight-test.true c.flight-item.is (sym c.is_due.ensures ∙ w.if-is_due.false) in

@@ -23,7 +23,7 @@ returns-clause-exact c =
     )
 
 pub returns-in_default-clause-named : goal.returns-in_default-clause-named
-returns-in_default-clause-named c = c.bytes-letters.ensures.named
+returns-in_default-clause-named c = c.keeps.ensures
 
 pub returns-clause-named : goal.returns-clause-named
-returns-clause-named c = c.bytes-letters.ensures.named
+returns-clause-named c = c.keeps.ensures

@@ -13,7 +13,7 @@ enter_filing-requires-clause-prepared c =
     let held = c.args.held.now in
     let picture = c.keeps.ensures.picture in
     prepared_now held.snapshot held.history c.keeps.ensures.sound picture.stands picture.stamped c.args.who c.args.command.now c.args.prep.now
-    c.is_usable-known.result c.in_ok-card.card c.requires.prepared c.is_prepared.ensures c.is_usable-known.ensures.usable c.in_ok-card.ensures
+    c.is_usable-known.result c.in_ok-card.card c.requires.prepared c.keeps-2.ensures c.is_usable-known.ensures.usable c.in_ok-card.ensures
 
 pub slot_of-slot-requires-clause-alters : goal.slot_of-slot-requires-clause-alters
 slot_of-slot-requires-clause-alters c =
@@ -32,7 +32,7 @@ remake-requires-clause-prepared c =
     let held = c.args.held.now in
     let picture = c.keeps.ensures.picture in
     prepared_now held.snapshot held.history c.keeps.ensures.sound picture.stands picture.stamped c.args.who c.args.command.now c.args.prep.now
-    c.is_usable-known.result c.in_ok-card.card c.requires.prepared c.is_prepared.ensures c.is_usable-known.ensures.usable c.in_ok-card.ensures
+    c.is_usable-known.result c.in_ok-card.card c.requires.prepared c.keeps-2.ensures c.is_usable-known.ensures.usable c.in_ok-card.ensures
 
 pub returns-in_err-card-clause-counted : goal.returns-in_err-card-clause-counted
 returns-in_err-card-clause-counted c =
@@ -43,7 +43,7 @@ returns-then-is_filing-clause-counted c =
     let held = c.args.held.now in
     let picture = c.keeps.ensures.picture in
     asked_within held.snapshot held.history c.keeps.ensures.sound picture.stands picture.stamped c.args.who c.args.command.now c.args.prep.now
-    c.is_usable-known.result c.in_ok-card.card c.requires.prepared c.is_prepared.ensures c.is_usable-known.ensures.usable c.in_ok-card.ensures
+    c.is_usable-known.result c.in_ok-card.card c.requires.prepared c.keeps-2.ensures c.is_usable-known.ensures.usable c.in_ok-card.ensures
     _ _ c.is_usable-known.ensures.unusable c.enter_filing.ensures.counted
 
 pub returns-clause-counted : goal.returns-clause-counted
@@ -51,5 +51,5 @@ returns-clause-counted c =
     let held = c.args.held.now in
     let picture = c.keeps.ensures.picture in
     asked_within held.snapshot held.history c.keeps.ensures.sound picture.stands picture.stamped c.args.who c.args.command.now c.args.prep.now
-    c.is_usable-known.result c.in_ok-card.card c.requires.prepared c.is_prepared.ensures c.is_usable-known.ensures.usable c.in_ok-card.ensures
+    c.is_usable-known.result c.in_ok-card.card c.requires.prepared c.keeps-2.ensures c.is_usable-known.ensures.usable c.in_ok-card.ensures
     _ _ c.is_usable-known.ensures.unusable c.remake.ensures.counted

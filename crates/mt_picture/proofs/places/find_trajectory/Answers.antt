@@ -14,8 +14,8 @@ place_of-place-requires c =
     let called = call_found (records_in shot.slots) c.args.call (flight_at shot slot) c.in_ok-slot.ensures.there c.in_ok-slot.ensures.flight in
     let it = there (flight_at shot slot) c.args.call called in
     let inside = filled_inside shot.slots slot it.flight it.at_is in
-    let many = c.is_sound.ensures.places in
-    let few = c.is_sound.ensures.rules.flights in
+    let many = c.keeps.ensures.sound.places in
+    let few = c.keeps.ensures.sound.rules.flights in
     omega (arith, ints)
 
 pub returns-clause-there : goal.returns-clause-there
@@ -33,13 +33,13 @@ returns-clause-only c = λ place stamp stands.
     let called = call_found (records_in shot.slots) c.args.call (flight_at shot slot) c.in_ok-slot.ensures.there c.in_ok-slot.ensures.flight in
     let mine = stands_found shot slot c.place_of-place.result c.args.call c.args.kind c.in_ok-stamp.stamp c.place_of-place.ensures.slot c.place_of-place.ensures.kind
     called c.in_ok-stamp.ensures in
-    let one = one_standing shot c.is_sound.ensures c.args.call c.args.kind c.place_of-place.result place c.in_ok-stamp.stamp stamp mine stands in
+    let one = one_standing shot c.keeps.ensures.sound c.args.call c.args.kind c.place_of-place.result place c.in_ok-stamp.stamp stamp mine stands in
     let made : ℕ → ℕ → Standing = λ p q. record { place = p; stamp = q } in
     ap₂ (λ (p q : ℕ). Some (made p q)) one.0 one.1
 
 pub returns-in_err-slot-clause-only : goal.returns-in_err-slot-clause-only
 returns-in_err-slot-clause-only c = λ place stamp stands.
-    absurd (let found = flight_listed c.args.snapshot.now c.is_sound.ensures c.args.call c.args.kind place stamp stands in
+    absurd (let found = flight_listed c.args.snapshot.now c.keeps.ensures.sound c.args.call c.args.kind place stamp stands in
     let none = c.in_err-slot.ensures.flight in cc)
 
 pub returns-in_err-stamp-clause-only : goal.returns-in_err-stamp-clause-only
@@ -47,5 +47,5 @@ returns-in_err-stamp-clause-only c = λ place stamp stands.
     let shot = c.args.snapshot.now in
     let slot = c.in_ok-slot.slot in
     let called = call_found (records_in shot.slots) c.args.call (flight_at shot slot) c.in_ok-slot.ensures.there c.in_ok-slot.ensures.flight in
-    absurd (let some = stamp_listed shot c.is_sound.ensures c.args.call c.args.kind slot place stamp called stands in
+    absurd (let some = stamp_listed shot c.keeps.ensures.sound c.args.call c.args.kind slot place stamp called stands in
     let none = c.in_err-stamp.ensures in cc)

@@ -34,13 +34,13 @@ unreachable-requires-in_default-path c =
 pub alteration_by-alteration-requires-clause-sound : goal.alteration_by-alteration-requires-clause-sound
 alteration_by-alteration-requires-clause-sound c =
     let it = planned_at c.args.snapshot.now c.in-Some-find.slot c.in-Some-flight.flight.now c.in-Planned.course c.in-Some-path.strand.now
-    c.version-version.ensures.kept c.in-Some-flight.ensures c.in-Some-path.ensures c.in-Planned.is in
+    c.keeps.ensures.sound c.in-Some-flight.ensures c.in-Some-path.ensures c.in-Planned.is in
     rw (c.rules.ensures.rules, c.tables.ensures) it.sound
 
 pub alteration_by-alteration-requires-clause-strand : goal.alteration_by-alteration-requires-clause-strand
 alteration_by-alteration-requires-clause-strand c =
     let it = planned_at c.args.snapshot.now c.in-Some-find.slot c.in-Some-flight.flight.now c.in-Planned.course c.in-Some-path.strand.now
-    c.version-version.ensures.kept c.in-Some-flight.ensures c.in-Some-path.ensures c.in-Planned.is in
+    c.keeps.ensures.sound c.in-Some-flight.ensures c.in-Some-path.ensures c.in-Planned.is in
     rw (c.rules.ensures.rules, c.tables.ensures) it.strand_is
 
 pub alteration_by-alteration-requires-clause-bounded : goal.alteration_by-alteration-requires-clause-bounded

@@ -58,7 +58,7 @@ returns-in_err-find_met-clause-counted c = λ items all.
     let i = c.loop-met.met-index in
     let met = get_or xs i none_met in
     let met_all = subst (AreMetItems shot (slices_of shot.setup.rules c.args.strand.now)) (sym c.deref-met-items.ensures.value) c.in_ok-list.ensures in
-    let few = few_met shot c.args.call c.args.strand.now xs items c.version-version.ensures.kept c.end-end.ensures.kept met_all all in
+    let few = few_met shot c.args.call c.args.strand.now xs items c.keeps.ensures.sound c.keeps-2.ensures met_all all in
     let more = one_met_more c.args.call shot.slots xs i met c.loop-met-test.true (get_or_default xs i none_met met c.loop-met-test.true) in
     let front = fewer (λ (m : Met). other_at c.args.call shot.slots m.item) (i + 1) xs in
     omega (
@@ -77,7 +77,7 @@ returns-clause-finds c =
     let xs = c.deref-met-items.result.now in
     let mine = slices_of shot.setup.rules c.args.strand.now in
     let met_all = subst (AreMetItems shot mine) (sym c.deref-met-items.ensures.value) c.in_ok-list.ensures in
-    found_met shot c.args.call c.args.strand.now xs c.loop-met.finds c.version-version.ensures.kept c.end-end.ensures.kept met_all
+    found_met shot c.args.call c.args.strand.now xs c.loop-met.finds c.keeps.ensures.sound c.keeps-2.ensures met_all
     (subst (λ (ys : List Met). FindsMore shot.setup.rules shot.now c.args.strand.now (others_met c.args.call shot.slots ys) [] c.loop-met.finds)
     (take_all c.loop-met.met-index xs c.loop-met-test.false) c.loop-met.invariant.found)
 
@@ -87,6 +87,6 @@ returns-clause-counted c = λ items all.
     let xs = c.deref-met-items.result.now in
     let mine = slices_of shot.setup.rules c.args.strand.now in
     let met_all = subst (AreMetItems shot mine) (sym c.deref-met-items.ensures.value) c.in_ok-list.ensures in
-    let few = few_met shot c.args.call c.args.strand.now xs items c.version-version.ensures.kept c.end-end.ensures.kept met_all all in
+    let few = few_met shot c.args.call c.args.strand.now xs items c.keeps.ensures.sound c.keeps-2.ensures met_all all in
     let whole = ap (λ (ys : List Met). length (others_met c.args.call shot.slots ys)) (take_all c.loop-met.met-index xs c.loop-met-test.false) in
     omega (arith, c.loop-met.invariant.counted, few, whole)

@@ -11,7 +11,7 @@ use Rattle.mt_probe.proofs.Nearby.{other_one}
 use Rattle.mt_probe.proofs.finding.find_met.Goals as goal
 
 pub find_one-found-requires-clause-ends : goal.find_one-found-requires-clause-ends
-find_one-found-requires-clause-ends c = early c.args.snapshot.now c.args.strand.now c.args.met c.end-end.ensures.kept c.requires
+find_one-found-requires-clause-ends c = early c.args.snapshot.now c.args.strand.now c.args.met c.keeps-2.ensures c.requires
 
 pub find_one-found-requires-clause-within : goal.find_one-found-requires-clause-within
 find_one-found-requires-clause-within c = λ k loss.
@@ -19,7 +19,7 @@ find_one-found-requires-clause-within c = λ k loss.
     let one = other_one shot.slots c.args.call c.args.met.item c.kind_of-kind.result c.in-Some.card.now c.in-Some-path.other.now c.kind_of-kind.ensures
     c.in-Some.ensures (sym c.eq.ensures ∙ c.if-eq.false) c.in-Some-path.ensures in
     let named : NamedTrajectory = record { call = c.in-Some.card.now.call; kind = c.kind_of-kind.result; path = c.in-Some-path.other.now } in
-    lost_within shot c.args.strand.now c.args.met c.args.call named k c.version-version.ensures.kept c.end-end.ensures.kept c.requires
+    lost_within shot c.args.strand.now c.args.met c.args.call named k c.keeps.ensures.sound c.keeps-2.ensures c.requires
     (subst (λ (others : List NamedTrajectory). Contains others named) (sym one) (Contains-head named []))
     (rw c.rules-rules.ensures.rules at loss)
 

@@ -10,7 +10,7 @@ is_hit_with-requires c = rw c.in_ok-mine.ensures at c.in-Some.ensures.is
 pub overflow_add-from : goal.overflow_add-from
 overflow_add-from c =
     let shot = c.args.snapshot.now in
-    let sound = c.version-version.ensures.kept in
+    let sound = c.keeps.ensures.sound in
     let inside = met_inside shot c.in_ok-mine.mine c.in-Some.met c.in-Some.ensures.is in
     omega (arith, ints, inside, sound.places, sound.rules.flights.most)
 
@@ -22,7 +22,7 @@ loop-met-smaller c =
 pub loop-met-preserved : goal.loop-met-preserved
 loop-met-preserved c =
     let first = rw c.in_ok-mine.ensures at c.in-Some.ensures in
-    clear_next c.args.snapshot.now c.args.call c.args.strand.now c.loop-met.from c.in-Some.met c.version-version.ensures.kept c.end-end.ensures.kept first
+    clear_next c.args.snapshot.now c.args.call c.args.strand.now c.loop-met.from c.in-Some.met c.keeps.ensures.sound c.keeps-2.ensures first
     c.loop-met.invariant (c.is_hit_with.ensures.clear c.if-is_hit_with.false)
 
 pub returns : goal.returns
@@ -30,6 +30,6 @@ returns c =
     let none = rw c.in_ok-mine.ensures at c.in_default.ensures in (
       (λ is. absurd (cc)),
       (λ has. absurd (clear_of_all c.args.snapshot.now c.args.call c.args.strand.now
-          (λ j below. clear_behind c.args.snapshot.now c.args.call c.args.strand.now c.loop-met.from c.version-version.ensures.kept c.end-end.ensures.kept none
+          (λ j below. clear_behind c.args.snapshot.now c.args.call c.args.strand.now c.loop-met.from c.keeps.ensures.sound c.keeps-2.ensures none
           c.loop-met.invariant j) has)),
     )

@@ -44,7 +44,7 @@ returns-in_ok-course-in-Plan c =
     let plane = rw c.tables-in-Plan.ensures at c.in_ok-course-in-Plan.ensures.plane in
     rw (c.in-Plan.is, c.in_ok-course-in-Plan.ensures.course, c.rules-in-Plan.ensures.rules, c.tables-in-Plan.ensures)
     (left_plan shot.setup (state_in_shot shot) c.args.who c.in-Plan.call c.in-Plan.kind c.in-Plan.route c.in-Plan.at c.in-Plan.from c.in-Plan.level c.in-Plan.rvsm
-    c.version-version.ensures.kept.rules passed bounded.0 bounded.1 bounded.2 plane)
+    c.keeps.ensures.sound.rules passed bounded.0 bounded.1 bounded.2 plane)
 
 pub returns-in-External : goal.returns-in-External
 returns-in-External c =

@@ -17,7 +17,7 @@ returns-clause-strand c =
             | in-Some-slot-2 v ↦
                 let looked : Looked = record { now = c.now.result; held = 0; entries = 0; flight = w.flight-flight.result; strand = v.path-strand.result } in
                 let same : v.in-Some-slot-2.slot ≡ w.in-Some-slot.slot = one_place v.in-Some-slot-2.slot w.in-Some-slot.slot v.in-Some-slot-2.is w.slot-is in
-                rw (w.flight-is, v.strand-is) (flight_looked shot w.in-Some-slot.slot looked c.args.command.now c.version-version.ensures.kept
+                rw (w.flight-is, v.strand-is) (flight_looked shot w.in-Some-slot.slot looked c.args.command.now c.keeps.ensures.sound
                 w.flight-flight.ensures
                 (subst (λ (k : ℕ). option_copied v.path-strand.result ≡ option_and_then (path_of Actual) (flight_at shot k)) same v.path-strand.ensures))
             | in-None-slot-2 v ↦ absurd (no_place w.in-Some-slot.slot w.slot-is v.in-None-slot-2.is)

@@ -1,4 +1,3 @@
-use Rattle.std.proofs.Common.{sym}
 use Rattle.mt_probe.proofs.Gathered.{one_each}
 use Rattle.mt_probe.proofs.Whole.{few_flights, own_calls}
 use Rattle.mt_probe.proofs.preparing.prep_with.Goals as goal
@@ -10,11 +9,11 @@ invariant_of-result c = rw c.in_ok-share.ensures (record {
   call_is = c.requires.left.call_is;
   sound = c.requires.left.sound;
   strand_is = c.requires.made;
-  laid = let laid = rw c.deref.ensures at c.end-end.ensures.kept in laid;
+  laid = let laid = rw c.deref.ensures at c.keeps-2.ensures in laid;
   finds_are = let finds = rw c.deref-2.ensures at c.in_ok-finds.ensures.finds in finds;
-  rules = c.version-version.ensures.kept.rules;
-  early = rw (sym c.now-now.ensures.now) c.now-now.ensures.early;
-  own_calls = own_calls c.args.snapshot.now c.version-version.ensures.kept;
-  few = few_flights c.args.snapshot.now c.version-version.ensures.kept;
-  one_each = one_each c.args.snapshot.now c.version-version.ensures.kept;
+  rules = c.keeps.ensures.sound.rules;
+  early = c.keeps.ensures.sound.early;
+  own_calls = own_calls c.args.snapshot.now c.keeps.ensures.sound;
+  few = few_flights c.args.snapshot.now c.keeps.ensures.sound;
+  one_each = one_each c.args.snapshot.now c.keeps.ensures.sound;
 })

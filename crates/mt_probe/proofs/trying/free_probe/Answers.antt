@@ -3,7 +3,7 @@ use Rattle.mt_probe.proofs.trying.free_probe.Goals as goal
 
 pub returns-then-hit : goal.returns-then-hit
 returns-then-hit c =
-    conflicting c.args.snapshot.now c.args.call c.args.clearance c.args.eff c.args.card c.deref.result.now c.version-version.ensures.kept.rules c.requires.left
+    conflicting c.args.snapshot.now c.args.call c.args.clearance c.args.eff c.args.card c.deref.result.now c.keeps.ensures.sound.rules c.requires.left
     (rw (← c.deref.ensures) at c.in_ok-strand.ensures) (c.in_ok-hit.ensures.0 c.if-hit.true)
 
 pub returns : goal.returns

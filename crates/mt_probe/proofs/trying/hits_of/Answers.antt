@@ -14,7 +14,7 @@ loop-found-preserved c =
           rw (w.hits-is, w.in_ok-push.ensures.ok) (record {
             members = hit_more c.args.finds.now c.loop-found.found-index c.found-item.result c.loop-found.hits w.in-Some.hit c.loop-found-test.true c.found-item.is
                 (sym c.hit_of.ensures ∙ w.in-Some.is) c.loop-found.invariant.members;
-            named = All-push (λ (hit : Hit). is_name 1 7 hit.with ≡ true) c.loop-found.hits w.in-Some.hit c.loop-found.invariant.named w.bytes-letters.ensures.named;
+            named = All-push (λ (hit : Hit). is_name 1 7 hit.with ≡ true) c.loop-found.hits w.in-Some.hit c.loop-found.invariant.named w.keeps.ensures;
           })
       | in_default w ↦
           rw w.hits-is (record {

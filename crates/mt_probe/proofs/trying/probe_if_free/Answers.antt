@@ -8,4 +8,4 @@ accepted-requires-clause-early c =
 pub returns-in-Err-clause-refused : goal.returns-in-Err-clause-refused
 returns-in-Err-clause-refused c =
     let refused = rw (c.unwrap_or-eff.ensures, c.now.ensures.now) at c.in-Err.ensures.refused in
-    unprobed c.args.snapshot.now c.args.call c.args.clearance c.args.eff c.in-Err.no c.version-version.ensures.kept.rules refused
+    unprobed c.args.snapshot.now c.args.call c.args.clearance c.args.eff c.in-Err.no c.keeps.ensures.sound.rules refused

@@ -6,7 +6,7 @@ use Rattle.mt_probe.proofs.trying.tried.Goals as goal
 pub invariant_of-result : goal.invariant_of-result
 invariant_of-result c =
     let p = c.args.prep in
-    let kept = c.version-version.ensures.kept in
+    let kept = c.keeps.ensures in
     let members = rw c.finds.ensures at c.in_ok-found.ensures.members in
     let are : AreHitsOf p.setup p.state p.card.call p.strand c.in_ok-found.found =
     hits_found p.setup p.state p.card.call p.strand p.finds c.in_ok-found.found kept.early kept.finds_are members c.in_ok-found.ensures.sorted in

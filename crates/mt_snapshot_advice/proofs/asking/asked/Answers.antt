@@ -32,7 +32,7 @@ returns-in_default-base_from-clause-refused c =
     let flight = c.in-Some-flight.flight.now in
     let course = c.in-Planned.course in
     let made : Made = record { strand = c.in-Some-strand.strand.now; stamp = 0 } in
-    let planned = planned_there shot c.in-Some.slot flight course c.deref.result.now made c.version-version.ensures.kept c.in-Some-flight.ensures
+    let planned = planned_there shot c.in-Some.slot flight course c.deref.result.now made c.keeps.ensures.sound c.in-Some-flight.ensures
     c.in-Some-strand.ensures c.deref.ensures c.in-Planned.is in
     let there : flight_of s.records c.args.call ≡ Some flight = c.in-Some.ensures.flight ∙ sym c.in-Some-flight.ensures in
     let ended : base_now shot.setup s.now course ≡ None = sym (rw (planned.strand_is, c.now.ensures.now) at c.in_default-base_from.ensures.exact) in
@@ -45,7 +45,7 @@ pub candidates-requires : goal.candidates-requires
 candidates-requires c =
     let made : Made = record { strand = c.in-Some-strand.strand.now; stamp = 0 } in
     let planned = planned_there c.args.snapshot.now c.in-Some.slot c.in-Some-flight.flight.now c.in-Planned.course c.deref.result.now made
-    c.version-version.ensures.kept c.in-Some-flight.ensures c.in-Some-strand.ensures c.deref.ensures c.in-Planned.is in
+    c.keeps.ensures.sound c.in-Some-flight.ensures c.in-Some-strand.ensures c.deref.ensures c.in-Planned.is in
     planned.sound.level
 
 pub returns-clause-asked : goal.returns-clause-asked
@@ -56,12 +56,12 @@ returns-clause-asked c =
     let course = c.in-Planned.course in
     let base = c.in-Some-base_from.base in
     let made : Made = record { strand = c.in-Some-strand.strand.now; stamp = 0 } in
-    let planned = planned_there shot c.in-Some.slot flight course c.deref.result.now made c.version-version.ensures.kept c.in-Some-flight.ensures
+    let planned = planned_there shot c.in-Some.slot flight course c.deref.result.now made c.keeps.ensures.sound c.in-Some-flight.ensures
     c.in-Some-strand.ensures c.deref.ensures c.in-Planned.is in
     let there : flight_of s.records c.args.call ≡ Some flight = c.in-Some.ensures.flight ∙ sym c.in-Some-flight.ensures in
     let from : base_now shot.setup s.now course ≡ Some base = sym (rw (planned.strand_is, c.now.ensures.now) at c.in-Some-base_from.ensures.exact) in
     let flies : FliesOn shot.setup s c.args.call course base = record {
-      tables = rw c.tables-tables.ensures at c.bands-bands.ensures.kept;
+      tables = rw c.tables-tables.ensures at c.keeps-2.ensures;
       sound = planned.sound;
       flight = flight;
       there = there;

@@ -16,7 +16,7 @@ add_flight-requires c =
     let none : Filed = record { at = 0; place = 0 } in
     let placed : ArePlaced shot xs = rw c.deref-filed-items.ensures.value c.in_ok-places.ensures in
     let at = card_in_turn shot xs c.loop-filed.filed-index none placed c.loop-filed-test.true in
-    rw c.loop-filed.invariant (others_before shot c.loop-filed.filed-index (get_or xs c.loop-filed.filed-index none) c.version-version.ensures.kept at)
+    rw c.loop-filed.invariant (others_before shot c.loop-filed.filed-index (get_or xs c.loop-filed.filed-index none) c.keeps.ensures.sound at)
 
 pub loop-filed-preserved : goal.loop-filed-preserved
 loop-filed-preserved c =
@@ -28,7 +28,7 @@ loop-filed-preserved c =
     let it = get_or xs c.loop-filed.filed-index none in
     c.in_ok-add_flight.ensures
     ∙ ap (λ (ts : List NamedTrajectory). ts ++ kept_at shot it.place) c.loop-filed.invariant
-    ∙ joins shot (records_in shot.slots) c.loop-filed.filed-index it c.version-version.ensures.kept at
+    ∙ joins shot (records_in shot.slots) c.loop-filed.filed-index it c.keeps.ensures.sound at
 
 pub returns : goal.returns
 returns c =

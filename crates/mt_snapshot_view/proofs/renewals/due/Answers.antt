@@ -40,7 +40,7 @@ loop-filed-preserved c =
             exact = rw (c.loop-filed.invariant.exact, ← same) (due_more records i at.card at.is at.below (sym due ∙ w.if-is_due.true));
             few = omega (arith, c.loop-filed.invariant.few, length-append c.loop-filed.calls (c.in-Some.flight.now.call ∷ []));
             named = All-push (λ call. is_name 1 7 call ≡ true) c.loop-filed.calls c.in-Some.flight.now.call c.loop-filed.invariant.named
-                c.bytes-letters.ensures.named;
+                c.keeps-in-loop-filed.ensures;
           })
       | else-is_due w ↦
           rw w.calls-is (record {
@@ -65,7 +65,7 @@ returns-clause-short c =
     let xs = c.deref-filed-items.result.now in
     let placed : ArePlaced shot xs = rw c.deref-filed-items.ensures.value c.in_ok-places.ensures in
     let count : length xs ≡ length (records_in shot.slots) = as_many shot xs (records_in shot.slots) placed in
-    let most = few_flights shot c.version-version.ensures.kept in
+    let most = few_flights shot c.keeps.ensures.sound in
     record {
       few = omega (arith, c.loop-filed.invariant.few, c.loop-filed.auto.filed-index-end, count, most);
       named = c.loop-filed.invariant.named;

@@ -42,5 +42,5 @@ returns-clause-changed g c =
     let left = subst (λ (z : View Entry Setup). Left who_of z c.enter-held.result.lent.history c.publish-result.new.self.history c.leave.new.seat.view) is c.leave.ensures.left in
     changes c.args.self.now.fixed v c.leave.new.seat.view (Holds t c.enter-held.result.lent.history) c.value_mut.result.now c.publish-result.new.self
     c.args.command.now c.publish-result.result (rw c.value_mut.ensures.value fixed) (rw c.value_mut.ensures.value (begins.0, begins.1))
-    (rw who at c.publish-result.ensures.entered) (rw who at c.publish-result.ensures.refused) c.publish-result.ensures.unchanged (rw c.value.ensures at c.version-version.ensures.kept)
+    (rw who at c.publish-result.ensures.entered) (rw who at c.publish-result.ensures.refused) c.publish-result.ensures.unchanged (rw c.value.ensures at c.keeps.ensures)
     c.enter-held.ensures.lent.mine_seen (rw was left)

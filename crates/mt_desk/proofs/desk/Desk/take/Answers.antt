@@ -8,4 +8,4 @@ pub returns-clause-seen : goal.returns-clause-seen
 returns-clause-seen g c =
     sees_turn c.args.self.now.fixed c.args.seat.now.view c.enter-held.new.seat.view c.leave.new.seat.view c.enter-held.result.lent c.enter-held.result.value
     c.enter-held.ensures.holds c.enter-held.ensures.unchanged c.enter-held.ensures.lent.same c.requires.ready.fixed_is
-    (rw c.value-legal.ensures at c.version-version.ensures.kept) c.enter-held.ensures.lent.mine_seen c.leave.ensures.left
+    (rw c.value-legal.ensures at c.keeps.ensures) c.enter-held.ensures.lent.mine_seen c.leave.ensures.left

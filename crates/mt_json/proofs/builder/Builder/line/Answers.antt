@@ -1,11 +1,10 @@
--- The keys of the map ascend, as its length says; where the values are plain the text is determined and is read back.
+-- Where the values are plain the text is determined and is read back.
 use Rattle.std.proofs.Common.{◌≡◌, ◌≤◌, [], ◌∷◌, ◌++◌, Some, ap, sym, subst, ◌∙◌}
 use Rattle.serde_json.specs.Data.{object, depth}
 use Rattle.serde_json.specs.Read.{read, max_depth}
 use Rattle.serde_json.specs.View.{members_view}
 use Rattle.serde_json.specs.Written.{has_float, compact_text}
 use Rattle.serde_json.proofs.Views.{view-Object}
-use Rattle.mt_json.proofs.KeysShown.{ordered_shown}
 use Rattle.mt_json.proofs.OneLine.{one_line}
 use Rattle.mt_json.proofs.Plain.{plain_has_float, plain_depth}
 use Rattle.mt_json.proofs.builder.Builder.line.Goals as goal
@@ -23,10 +22,10 @@ returns-clause-plain c h =
     }
 
 pub returns-in_err-bytes-clause-ordered : goal.returns-in_err-bytes-clause-ordered
-returns-in_err-bytes-clause-ordered c = ordered_shown c.args.self.map.entries c.len-count.ensures.ordered
+returns-in_err-bytes-clause-ordered c = c.keeps.ensures
 
 pub returns-in_err-push-clause-ordered : goal.returns-in_err-push-clause-ordered
-returns-in_err-push-clause-ordered c = ordered_shown c.args.self.map.entries c.len-count.ensures.ordered
+returns-in_err-push-clause-ordered c = c.keeps.ensures
 
 pub returns-clause-ordered : goal.returns-clause-ordered
-returns-clause-ordered c = ordered_shown c.args.self.map.entries c.len-count.ensures.ordered
+returns-clause-ordered c = c.keeps.ensures

@@ -6,4 +6,4 @@ pub change-requires-clause-finds : goal.change-requires-clause-finds
 change-requires-clause-finds c = no_finds c.args.self.now.rules c.args.self.now.places c.args.self.now.moment c.args.slot c.requires.slot
 
 pub change-requires-clause-own : goal.change-requires-clause-own
-change-requires-clause-own c = own_emptied c.args.self.now.places c.args.slot c.requires.slot c.has_own_slots.ensures
+change-requires-clause-own c = own_emptied c.args.self.now.places c.args.slot c.requires.slot c.keeps.ensures

@@ -21,4 +21,4 @@ invariant_of-self-2 c =
     (rw (← c.self.view_is) at c.requires.first) (rw (← c.self.view_is) at c.requires.second)) in
     subst (λ (g : List Entry). IsPicture c.in_ok-snapshot.snapshot g p.kept) (sym entered)
     (picture_put p.snapshot c.in_ok-snapshot.snapshot p.history.items e c.args.slot c.args.flight c.self.invariant.stands (rw (← c.self.view_is) at c.requires.put)
-    c.in_ok-snapshot.ensures.value c.in_ok-snapshot.ensures.records p.kept p.kept c.self.invariant c.requires.complete c.is_sound-2.ensures refl refl places)
+    c.in_ok-snapshot.ensures.value c.in_ok-snapshot.ensures.records p.kept p.kept c.self.invariant c.requires.complete c.keeps-2.ensures.sound refl refl places)

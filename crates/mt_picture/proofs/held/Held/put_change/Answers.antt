@@ -24,7 +24,7 @@ change-requires-clause-own c =
     let put = rw (← c.self.view_is) at c.requires.put in
     let slots = ap (λ (s : Shot). s.slots) c.in_ok-snapshot.ensures.value in
     let own : HaveOwnSlots (all_places (set shot.slots c.args.slot (Some c.args.flight))) =
-    rw slots at (own_slots c.in_ok-snapshot.snapshot c.is_sound-2.ensures) in
+    rw slots at (own_slots c.in_ok-snapshot.snapshot c.keeps-2.ensures.sound) in
     rw (
       c.self.invariant.places_are,
       c.requires.change.first_is,
@@ -46,5 +46,5 @@ invariant_of-self-2 c =
     ) at c.in_ok-change.ensures.ok in
     subst (λ (g : List Entry). IsPicture c.in_ok-snapshot.snapshot g c.change.new.self) (sym entered)
     (picture_put p.snapshot c.in_ok-snapshot.snapshot p.history.items e c.args.slot c.args.flight c.self.invariant.stands put c.in_ok-snapshot.ensures.value
-    c.in_ok-snapshot.ensures.records p.kept c.change.new.self c.self.invariant c.requires.complete c.is_sound-2.ensures
+    c.in_ok-snapshot.ensures.records p.kept c.change.new.self c.self.invariant c.requires.complete c.keeps-2.ensures.sound
     c.in_ok-change.ensures.rules c.in_ok-change.ensures.moment places)

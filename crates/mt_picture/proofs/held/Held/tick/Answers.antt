@@ -12,7 +12,7 @@ invariant_of-self-2 c =
     let entered : c.push_reserved.new.self.items ≡ p.history.items ++ e ∷ [] = cc in
     subst (λ (g : List Entry). IsPicture c.in_ok-snapshot.snapshot g c.move_to.new.self) (sym entered)
     (picture_tick p.snapshot c.in_ok-snapshot.snapshot p.history.items c.args.who c.args.now p.kept c.move_to.new.self c.self.invariant
-    (record { names = tt; timed = tt; bounded = c.requires.early; who = c.ranges.who.fits }) c.is_sound-2.ensures c.in_ok-snapshot.ensures
+    (record { names = tt; timed = tt; bounded = c.requires.early; who = c.ranges.who.fits }) c.keeps-2.ensures.sound c.in_ok-snapshot.ensures
     c.in_ok-move_to.ensures.rules c.in_ok-move_to.ensures.ok c.in_ok-move_to.ensures.places)
 
 pub returns-in_err-snapshot-clause-counted : goal.returns-in_err-snapshot-clause-counted

@@ -6,5 +6,5 @@ pub returns-in-Ok-items_from-clause-fit : goal.returns-in-Ok-items_from-clause-f
 returns-in-Ok-items_from-clause-fit g c = record {
   few = rw (c.in-Ok-items_from.ensures.exact, c.deref.ensures.value, items_length c.count.result (map g.B.Probe.Probed.told c.in-Ok.field-0.probes.items)) c.in-Ok.ensures.advised.few;
   each = c.in-Ok-items_from.ensures.short;
-  call_is = c.bytes-letters.ensures.named;
+  call_is = c.keeps.ensures;
 }

@@ -11,7 +11,7 @@ returns-in-Ok-items_from-clause-answered g c =
     let items = c.self.inside.actors.items in
     let within : c.args.who < length items = rw c.self.invariant.sixteen (omega (arith, c.requires)) in
     let counted = c.count-count.ensures ∙ ap (λ (b : world.Actor). b.book.count) (sym (actor_is items c.args.who c.index.result.now within c.index.ensures)) in
-    inl (on_true c.args.self.now.begun _ _ c.version-version.ensures.begun (advised_is c.args.self.now c.keep_all.new.self c.args.who c.args.call
+    inl (on_true c.args.self.now.begun _ _ c.keeps.ensures (advised_is c.args.self.now c.keep_all.new.self c.args.who c.args.call
     c.in-Ok.field-0.eff c.in-Ok.field-0.version c.count-count.result c.in-Ok.field-0.probes.items c.in-Ok-items_from.advice c.in-Ok.ensures.advised
     (rw (← c.self.view_is) counted) (rw c.deref.ensures.value at c.in-Ok-items_from.ensures.exact) c.keep_all.ensures))
 
@@ -20,9 +20,9 @@ returns-in-Ok-items_from-clause-fit g c = record {
   few = rw (c.in-Ok-items_from.ensures.exact, c.deref.ensures.value, items_length c.count-count.result (clearances_of c.in-Ok.field-0.probes.items), tried_length c.in-Ok.field-0.probes.items)
       c.in-Ok.ensures.advised.few;
   each = c.in-Ok-items_from.ensures.short;
-  call_is = c.bytes-letters.ensures.named;
+  call_is = c.keeps-in-Ok.ensures;
 }
 
 pub returns-in-Err-clause-answered : goal.returns-in-Err-clause-answered
 returns-in-Err-clause-answered g c =
-    rw c.refused.ensures.reply (on_true_or c.args.self.now.begun _ _ _ c.version-version.ensures.begun (unadvised_is c.args.self.now c.args.who c.args.call c.in-Err.no c.in-Err.ensures.refused))
+    rw c.refused.ensures.reply (on_true_or c.args.self.now.begun _ _ _ c.keeps.ensures (unadvised_is c.args.self.now c.args.who c.args.call c.in-Err.no c.in-Err.ensures.refused))

@@ -5,8 +5,8 @@ use Rattle.mt_world.proofs.world.World.probe.Goals as goal
 
 pub returns-in-Ok-copy-clause-answered : goal.returns-in-Ok-copy-clause-answered
 returns-in-Ok-copy-clause-answered c =
-    inl (on_true c.args.self.now.begun _ _ c.version-version.ensures.begun (probed_is c.args.self.now c.keep-number.new.self c.args.who c.args.call c.args.clearance c.args.eff c.in-Ok.probe
-    c.in-Ok-copy.conflicts _ _ _ c.in-Ok.ensures.probe (c.in-Ok-copy.ensures ∙ c.found.ensures.found) c.eff-eff.ensures c.version-version-in-Ok.ensures
+    inl (on_true c.args.self.now.begun _ _ c.keeps.ensures (probed_is c.args.self.now c.keep-number.new.self c.args.who c.args.call c.args.clearance c.args.eff c.in-Ok.probe
+    c.in-Ok-copy.conflicts _ _ _ c.in-Ok.ensures.probe (c.in-Ok-copy.ensures ∙ c.found.ensures.found) c.eff-eff.ensures c.version-version.ensures
     (rw c.try_clearance.ensures.same at c.keep-number.ensures.number) (rw c.try_clearance.ensures.same at c.keep-number.ensures.kept)))
 
 pub returns-in-Ok-copy-clause-fit : goal.returns-in-Ok-copy-clause-fit
@@ -14,4 +14,4 @@ returns-in-Ok-copy-clause-fit c = rw (c.in-Ok-copy.ensures, c.found.ensures.foun
 
 pub returns-in-Err-clause-answered : goal.returns-in-Err-clause-answered
 returns-in-Err-clause-answered c =
-    rw c.refused.ensures.reply (on_true_or c.args.self.now.begun _ _ _ c.version-version.ensures.begun (unprobed_is c.args.self.now c.try_clearance.new.self c.args.who c.args.call c.args.clearance c.args.eff c.in-Err.no c.try_clearance.ensures.same c.in-Err.ensures.refused))
+    rw c.refused.ensures.reply (on_true_or c.args.self.now.begun _ _ _ c.keeps.ensures (unprobed_is c.args.self.now c.try_clearance.new.self c.args.who c.args.call c.args.clearance c.args.eff c.in-Err.no c.try_clearance.ensures.same c.in-Err.ensures.refused))
