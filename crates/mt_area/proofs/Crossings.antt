@@ -11,7 +11,7 @@ use Rattle.mt_base.specs.Area.{IsBoundedArea, IsInsideAt}
 use Rattle.mt_frac.specs.declared.linear.Line.{Line}
 use Rattle.mt_frac.specs.Meeting.{AreBelow, IsBoundedSide}
 use Rattle.mt_frac.specs.Polynomials.{line_value}
-use Rattle.mt_area.specs.Lines.{AreCrossed, IsDuringOrAtEnd, IsLineOf, Says, StaysAboveLine, StaysBelow}
+use Rattle.mt_area.specs.Private.Lines.{AreCrossed, IsDuringOrAtEnd, IsLineOf, Says, StaysAboveLine, StaysBelow}
 
 -- what a line is at both ends of some seconds it is during all of them
 below_during : (b c e n d : ℤ) → pos 0 <ℤ d → pos 0 ≤ℤ n → n ≤ℤ (e *ℤ d) → c <ℤ pos 0 → (b *ℤ e +ℤ c) <ℤ pos 0 → line_value b c n d <ℤ pos 0

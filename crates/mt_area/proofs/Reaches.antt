@@ -11,8 +11,8 @@ use Rattle.mt_base.specs.Instant.{value_at}
 use Rattle.mt_track.specs.Rows.{row_after}
 use Rattle.mt_area.specs.declared.reach.Extent.{Extent}
 use Rattle.mt_area.specs.declared.reach.Reach.{Reach}
-use Rattle.mt_area.specs.Lines.{IsDuringOrAtEnd}
-use Rattle.mt_area.specs.Reach.{AreHeightsApart, AreSouthOrNorth, AreWestOrEast, IsWithinExtent, HoldsAt, HoldsRow, HoldsRowAt, IsPlaced, IsWiderExtent, IsWiderReach, AreBoxesApart}
+use Rattle.mt_area.specs.Private.Lines.{IsDuringOrAtEnd}
+use Rattle.mt_area.specs.Private.Reach.{AreHeightsApart, AreSouthOrNorth, AreWestOrEast, IsWithinExtent, HoldsAt, HoldsRow, HoldsRowAt, IsPlaced, IsWiderExtent, IsWiderReach, AreBoxesApart}
 use Rattle.mt_area.proofs.Instants.{during, moved}
 use Rattle.mt_area.proofs.Rounds.{along, none_beyond}
 use Rattle.mt_area.proofs.Sides.{in_64, plane_size, read_64}

@@ -13,7 +13,7 @@ use Rattle.mt_base.specs.declared.row.Row.{Row}
 use Rattle.mt_frac.specs.declared.linear.Line.{Line}
 use Rattle.mt_frac.specs.Meeting.{IsBoundedSide}
 use Rattle.mt_frac.specs.Polynomials.{line_value}
-use Rattle.mt_area.specs.Lines.{IsLineOf, line_to_ceiling, floor_of, side_of}
+use Rattle.mt_area.specs.Private.Lines.{IsLineOf, line_to_ceiling, floor_of, side_of}
 
 -- what lies from a corner to the position, across the way from that corner to the next
 side_value : (x vx i y vy j e f n d : ℤ) → line_value (vx *ℤ f -ℤ vy *ℤ e) ((x -ℤ i) *ℤ f -ℤ (y -ℤ j) *ℤ e) n d

@@ -14,7 +14,7 @@ use Rattle.mt_base.specs.Span.{IsSpanOf}
 use Rattle.mt_base.proofs.Members.{Contains-map, Contains-map_cases, Contains-none}
 use Rattle.mt_track.specs.declared.roster.Item.{Item}
 use Rattle.mt_track.specs.Named.{named}
-use Rattle.mt_area.specs.Telling.{AddsPierced, AreOfAll, IsInOne, IsPiercedByOne}
+use Rattle.mt_area.specs.Private.Telling.{AddsPierced, AreOfAll, IsInOne, IsPiercedByOne}
 
 -- nothing, one more, and one step after another
 pub Adds-none : (P : Pierced → Type 0) (ps : List Pierced) → ((p : Pierced) → ¬ P p) → AddsPierced P ps ps

@@ -1,8 +1,8 @@
-ghost use Rattle.std.specs.Prelude.{◌≡◌, ◌↔◌, ◌<◌, ◌≤◌, ℤ, ◌-ℤ◌, ◌<ℤ◌, take, IfSome, IsNone, IsTrue};
+ghost use Rattle.std.specs.Prelude.{◌≡◌, ◌↔◌, ◌<◌, ◌≤◌, ℤ, take, IfSome, IsNone, IsTrue};
 ghost use Rattle.mt_base.specs.Area.{IsBoundedArea, IsInsideAt, cross, place_after};
 ghost use Rattle.mt_base.specs.Bounds.{IsBoundedRow, IsInPlane};
 ghost use Rattle.mt_frac.specs.Meeting.{IsBoundedSide};
-ghost use Rattle.mt_area.specs.Lines.{AreCrossed, IsDuringOrAtEnd, IsLineOf, StaysAboveLine, StaysBelow, line_to_ceiling, floor_of, side_of, value_after};
+ghost use Rattle.mt_area.specs.Private.Lines.{AreCrossed, IsDuringOrAtEnd, IsLineOf, StaysAboveLine, StaysBelow, line_to_ceiling, floor_of, side_of, value_after};
 
 use crate::crossing::{apart, cross, place_after};
 use crate::levels::height_of;

@@ -3,7 +3,7 @@ ghost use Rattle.mt_base.specs.Area.{IsBoundedArea};
 ghost use Rattle.mt_base.specs.declared.area.Pierced.{Pierced};
 ghost use Rattle.mt_base.specs.Pierced.{IsPiercedBy};
 ghost use Rattle.mt_track.specs.Named.{named};
-ghost use Rattle.mt_area.specs.Telling.{AddsPierced, IsPiercedByOne};
+ghost use Rattle.mt_area.specs.Private.Telling.{AddsPierced, IsPiercedByOne};
 
 use crate::piercing::pierce;
 use crate::reach::{lie_apart, reach_over};

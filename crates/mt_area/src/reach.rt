@@ -1,7 +1,7 @@
 //! Where a trajectory is in some seconds, as a box, and the areas that lie apart from that.
-ghost use Rattle.std.specs.Prelude.{◌≡◌, ◌↔◌, ◌<◌, ◌≤◌, ◌<ℤ◌, ℕ, ℤ, IsTrue, All};
+ghost use Rattle.std.specs.Prelude.{◌↔◌, ◌<◌, ◌≤◌, ◌<ℤ◌, ℕ, ℤ, IsTrue, All};
 ghost use Rattle.mt_base.specs.Area.{IsBoundedArea};
-ghost use Rattle.mt_area.specs.Reach.{AreHeightsApart, AreSouthOrNorth, AreWestOrEast, IsWithinExtent, HoldsRow, HoldsSecond, IsPlaced, IsWiderExtent, IsWiderReach, AreBoxesApart};
+ghost use Rattle.mt_area.specs.Private.Reach.{AreHeightsApart, AreSouthOrNorth, AreWestOrEast, IsWithinExtent, HoldsRow, HoldsSecond, IsPlaced, IsWiderExtent, IsWiderReach, AreBoxesApart};
 
 use crate::levels::height_of;
 use mt_base::{Area, Row, Second};

@@ -1,9 +1,9 @@
-ghost use Rattle.std.specs.Prelude.{◌≡◌, ◌≤◌, ◌<◌, length, slice_index_or, IfOk, OnOk, All, Contains, ◌↔◌, ◌⊎◌};
+ghost use Rattle.std.specs.Prelude.{◌≡◌, ◌≤◌, ◌<◌, length, slice_index_or, IfOk, OnOk, All, Contains, ◌↔◌};
 ghost use Rattle.mt_base.specs.Area.{IsBoundedArea};
 ghost use Rattle.mt_base.specs.declared.area.Pierced.{Pierced};
 ghost use Rattle.mt_base.specs.Pierced.{ArePiercedOf};
 ghost use Rattle.mt_track.specs.Named.{named};
-ghost use Rattle.mt_area.specs.Telling.{AddsPierced, AreOfAll, IsPiercedByOne};
+ghost use Rattle.mt_area.specs.Private.Telling.{AddsPierced, AreOfAll, IsPiercedByOne};
 
 use crate::areas::Areas;
 use crate::passages::passages;

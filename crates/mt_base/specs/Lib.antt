@@ -9,11 +9,10 @@ pub mod History
 pub mod Instant
 pub mod Loss
 pub mod Name
-pub mod Others
-pub mod Padded
 pub mod Picture
 pub mod Pierced
 pub mod Predictor
+pub mod Private
 pub mod Renewed
 pub mod Rules
 pub mod Settled

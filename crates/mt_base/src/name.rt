@@ -24,7 +24,7 @@ pub struct Name {
 impl Model for Name {
     ghost use Rattle.std.specs.Prelude.{◌≡◌, ℕ, ◌-◌, List, ◌++◌, length, take, drop, replicate, true};
     ghost use Rattle.mt_base.specs.Name.{is_name};
-    ghost use Rattle.mt_base.specs.Padded.{fields_back};
+    ghost use Rattle.mt_base.specs.Private.Padded.{fields_back};
 
     ghost Value = { List ℕ };
 

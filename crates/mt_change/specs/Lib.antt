@@ -1,2 +1,3 @@
 pub mod Altered
+pub mod Private
 pub mod Sound

@@ -1,5 +1,5 @@
 //! The cells of trajectories, and which are near each other.
-ghost use Rattle.std.specs.Prelude.{◌≡◌, ◌<◌, true};
+ghost use Rattle.std.specs.Prelude.{◌<◌, true};
 ghost use Rattle.mt_base.specs.Bounds.{IsBoundedStretch};
 ghost use Rattle.mt_grid.specs.Lists.{AreInGrid};
 

@@ -1,6 +1,6 @@
 //! Trajectories that no plan can say: from places and margins of their own, with their segments counted. Their rows were worked out by a
 //! program with whole numbers.
-ghost use Rattle.std.specs.Prelude.{◌≡◌, pos, IsTrue, All};
+ghost use Rattle.std.specs.Prelude.{pos, IsTrue, All};
 ghost use Rattle.mt_base.specs.Bounds.{AreBoundedBands, IsBoundedBand, IsInPlane, IsWithin};
 ghost use Rattle.mt_predict.specs.Manners.{IsFlownPlace};
 

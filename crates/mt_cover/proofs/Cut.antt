@@ -9,7 +9,7 @@ use Rattle.mt_cover.specs.declared.area.Area.{Area}
 use Rattle.mt_cover.specs.Box.{area_over}
 use Rattle.mt_cover.specs.Cells.{cells_of, slice_rows, stays_in, stays_of, stays_over}
 use Rattle.mt_cover.specs.Sliced.{slice_by, slice_in, slice_over}
-use Rattle.mt_cover.specs.Walk.{part}
+use Rattle.mt_cover.specs.Private.Walk.{part}
 use Rattle.mt_cover.proofs.Members.{slice_get-drop, slice_get-take}
 
 over_is : (rules : Rules) (from to : ℕ) (rows : List Row) (area : Area) → 0 < length rows → from + length rows ≡ to

@@ -4,7 +4,7 @@ use Rattle.std.proofs.lemmas.Int.{clamps, ints, to_z-of_z}
 use Rattle.std.specs.Int.{int_max, int_min}
 use Rattle.mt_base.specs.Bounds.{IsWithin}
 use Rattle.mt_ring.proofs.Sizes.{Abs, fits_64}
-use Rattle.mt_cover.specs.InPlane.{IsExtentInPlane}
+use Rattle.mt_cover.specs.Private.InPlane.{IsExtentInPlane}
 
 abbrev pub in_64 : ℤ → ℤ
 in_64 z = to_z w64 (of_z w64 z)

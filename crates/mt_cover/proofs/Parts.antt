@@ -7,7 +7,7 @@ use Rattle.mt_base.specs.declared.row.Row.{Row}
 use Rattle.mt_base.specs.Trajectory.{next_row, straight_rows}
 use Rattle.mt_track.specs.Rows.{row_after}
 use Rattle.mt_track.proofs.Straight.{row_after-next, row_after-none}
-use Rattle.mt_cover.specs.Walk.{part}
+use Rattle.mt_cover.specs.Private.Walk.{part}
 
 pub part-cons : {X : Type 0} (xs : List X) (j n : ℕ) (x : X) → slice_get xs j ≡ Some x → part xs j (suc n) ≡ x ∷ part xs (j + 1) n
 part-cons [] j n x at = cc

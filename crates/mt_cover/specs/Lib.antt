@@ -1,5 +1,4 @@
 pub mod Box
 pub mod Cells
-pub mod InPlane
+pub mod Private
 pub mod Sliced
-pub mod Walk

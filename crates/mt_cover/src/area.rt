@@ -2,7 +2,7 @@ ghost use Rattle.std.specs.Prelude.{◌≡◌, pos, neg_ℤ, ◌<◌, ◌+ℤ◌
 ghost use Rattle.mt_base.specs.Bounds.{AreWithinBounds, IsBoundedRow, IsWithin};
 ghost use Rattle.mt_cover.specs.Box.{area_of, extent_of, grown, half, hull, wider};
 ghost use Rattle.mt_cover.specs.Cells.{place};
-ghost use Rattle.mt_cover.specs.InPlane.{IsAreaInPlane, IsExtentInPlane, IsExtentNearPlane};
+ghost use Rattle.mt_cover.specs.Private.InPlane.{IsAreaInPlane, IsExtentInPlane, IsExtentNearPlane};
 
 use crate::heights::{both, layer_of};
 use mt_base::{Row, Rules};

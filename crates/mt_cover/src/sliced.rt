@@ -1,7 +1,7 @@
-ghost use Rattle.std.specs.Prelude.{◌≡◌, ◌≤◌, ◌<◌, ◌+◌, ◌-◌, ◌*◌, ◌/◌};
+ghost use Rattle.std.specs.Prelude.{◌≡◌, ◌+◌, ◌-◌, ◌*◌, ◌/◌};
 ghost use Rattle.mt_base.specs.Bounds.{AreWithinBounds};
 ghost use Rattle.mt_track.specs.Layer.{IsLayerKept};
-ghost use Rattle.mt_cover.specs.InPlane.{IsAreaInPlane};
+ghost use Rattle.mt_cover.specs.Private.InPlane.{IsAreaInPlane};
 ghost use Rattle.mt_cover.specs.Sliced.{AreSlices, Have, layer_over, slice_at, slice_by};
 
 use crate::area::{Area, Extent, half, wider};

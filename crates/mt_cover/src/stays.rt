@@ -1,8 +1,8 @@
-ghost use Rattle.std.specs.Prelude.{◌≡◌, ◌≤◌, ◌<◌, ◌++◌, ◌∷◌, [], OnOk};
+ghost use Rattle.std.specs.Prelude.{◌≡◌, ◌<◌, ◌++◌, ◌∷◌, [], OnOk};
 ghost use Rattle.mt_base.specs.Bounds.{AreWithinBounds};
 ghost use Rattle.mt_cover.specs.Box.{half, wider};
 ghost use Rattle.mt_cover.specs.Cells.{cells, cells_in, cells_of, stays_of};
-ghost use Rattle.mt_cover.specs.InPlane.{IsAreaInPlane, IsExtentNearPlane};
+ghost use Rattle.mt_cover.specs.Private.InPlane.{IsAreaInPlane, IsExtentNearPlane};
 
 use crate::area::{Area, Extent, half, place, wider};
 use mt_base::{Memory, Rules, Second};

@@ -2,14 +2,15 @@ ghost use Rattle.std.specs.Prelude.{◌≡◌, ◌+◌, ◌-◌, ◌<◌, ◌≤
 ghost use Rattle.mt_base.specs.declared.row.Row.{Row};
 ghost use Rattle.mt_base.specs.Bounds.{AreWithinBounds, IsBoundedOver};
 ghost use Rattle.mt_base.specs.Trajectory.{straight_rows};
-ghost use Rattle.mt_track.specs.Laid.{IsLaid, all_rows};
+ghost use Rattle.mt_track.specs.Laid.{all_rows};
+ghost use Rattle.mt_track.specs.Private.Laid.{IsLaid};
 ghost use Rattle.mt_track.specs.Rows.{row_after};
 ghost use Rattle.mt_cover.specs.Box.{area_over, grown_by};
 ghost use Rattle.mt_cover.specs.Cells.{cover_of};
-ghost use Rattle.mt_cover.specs.InPlane.{IsAreaInPlane};
+ghost use Rattle.mt_cover.specs.Private.InPlane.{IsAreaInPlane};
 ghost use Rattle.mt_cover.specs.Sliced.{slices_of};
 ghost use Rattle.mt_cover.specs.declared.stays.Stay.{Stay};
-ghost use Rattle.mt_cover.specs.Walk.{StandsAtSecond, part};
+ghost use Rattle.mt_cover.specs.Private.Walk.{StandsAtSecond, part};
 
 use crate::area::{Area, area_of, grown};
 use crate::heights::{both, no_layer};

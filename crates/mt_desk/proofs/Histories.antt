@@ -14,7 +14,7 @@ use Rattle.mt_board.specs.declared.no.No.{No}
 use Rattle.mt_board.specs.Seat.{GoesOn}
 use Rattle.mt_picture.specs.Story.{IsEntered, Story}
 use Rattle.mt_picture.proofs.Counted.{history_counted}
-use Rattle.mt_desk.specs.Taken.{IsLegalStory}
+use Rattle.mt_desk.specs.Private.Taken.{IsLegalStory}
 
 -- ---- a history that has gone on
 

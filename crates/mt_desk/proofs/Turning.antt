@@ -19,7 +19,7 @@ use Rattle.mt_turn.specs.declared.view.View.{View}
 use Rattle.mt_turn.specs.Lending.{Grows, HasTurn, Left}
 use Rattle.mt_turn.specs.Views.{with_phase}
 use Rattle.mt_desk.specs.Desk.{seat_of}
-use Rattle.mt_desk.specs.Taken.{IsLegalStory}
+use Rattle.mt_desk.specs.Private.Taken.{IsLegalStory}
 
 abbrev pub who_of : Entry → ℕ
 who_of e = e.who

@@ -4,7 +4,6 @@ use Rattle.atomic_table.specs.Seated.{TableId}
 use Rattle.mt_base.specs.declared.command.Entry.{Entry}
 use Rattle.mt_base.specs.Tables.{Setup}
 use Rattle.mt_board.specs.Seat.{Seat}
-use Rattle.mt_picture.specs.Story.{Story}
 use Rattle.mt_turn.specs.declared.view.Phase.TheVariants.{Idle}
 use Rattle.mt_turn.specs.declared.view.View.{View}
 use Rattle.mt_turn.specs.Places.{Place}
@@ -32,7 +31,3 @@ pub record Hand : Type 0 where
 -- the seat of a hand
 abbrev pub seat_of_hand : Hand → Place Entry Setup
 seat_of_hand h = record { home = h.desk.home; view = h.view }
-
--- the picture of what a seat has seen
-abbrev pub story_seen : Setup → View Entry Setup → Story
-story_seen fixed v = record { setup = fixed; history = v.seen }

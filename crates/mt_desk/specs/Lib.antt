@@ -1,2 +1,2 @@
 pub mod Desk
-pub mod Taken
+pub mod Private

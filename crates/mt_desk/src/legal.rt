@@ -5,7 +5,7 @@ ghost use Rattle.mt_base.specs.Picture.{IsPublished};
 ghost use Rattle.mt_change.specs.Altered.{IsBoundedBesides};
 ghost use Rattle.mt_picture.specs.Story.{IsEntered, IsPrepGivenFor, IsCommandRefused};
 ghost use Rattle.mt_probe.specs.Shot.{state_in_shot as state_in};
-ghost use Rattle.mt_desk.specs.Taken.{IsLegalStory};
+ghost use Rattle.mt_desk.specs.Private.Taken.{IsLegalStory};
 
 use crate::home::Fixed;
 use mt_base::{Command, Conflicts, Entered, Entries, Entry, Memory, Tally};
@@ -25,7 +25,7 @@ pub struct Legal {
 
 impl Model for Legal {
     ghost use Rattle.mt_picture.specs.Story.{Story};
-    ghost use Rattle.mt_desk.specs.Taken.{IsLegalStory};
+    ghost use Rattle.mt_desk.specs.Private.Taken.{IsLegalStory};
 
     ghost Value = { Story };
 

@@ -1,5 +1,5 @@
 //! What is told of a snapshot, with the turn not held.
-ghost use Rattle.std.specs.Prelude.{◌≡◌, IfOk};
+ghost use Rattle.std.specs.Prelude.{IfOk};
 ghost use Rattle.mt_board.specs.declared.ask.Ask.TheVariants as asks;
 ghost use Rattle.mt_board.specs.Asking.{IsRead, IsShortAnswer};
 ghost use Rattle.mt_turn.specs.Lending.{AreViewsOfOneSeat};

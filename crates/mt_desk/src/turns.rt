@@ -1,5 +1,5 @@
 //! What is done while a seat has the turn.
-ghost use Rattle.std.specs.Prelude.{◌≡◌, length, IfOk, option_copied};
+ghost use Rattle.std.specs.Prelude.{length, IfOk, option_copied};
 ghost use Rattle.mt_base.specs.History.{IsInTime, WasFree};
 ghost use Rattle.mt_board.specs.declared.ask.Ask.TheVariants as asks;
 ghost use Rattle.mt_board.specs.Asking.{IsRead, IsShortAnswer};
@@ -8,8 +8,9 @@ ghost use Rattle.mt_board.specs.Seat.{HasSeen};
 ghost use Rattle.mt_change.specs.Altered.{IsBoundedBesides};
 ghost use Rattle.mt_picture.specs.Story.{IsPrepGivenFor};
 ghost use Rattle.mt_turn.specs.Lending.{AreViewsOfOneSeat};
-ghost use Rattle.mt_desk.specs.Desk.{IsSeatOfDesk, seat_of, story_seen};
-ghost use Rattle.mt_desk.specs.Taken.{StandsFor};
+ghost use Rattle.mt_desk.specs.Desk.{IsSeatOfDesk, seat_of};
+ghost use Rattle.mt_desk.specs.Private.Desk.{story_seen};
+ghost use Rattle.mt_desk.specs.Private.Taken.{StandsFor};
 
 use crate::desk::{Desk, Seat};
 use mt_base::{Command, Entered, Memory, Tally};

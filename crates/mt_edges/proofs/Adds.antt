@@ -2,9 +2,9 @@
 use Rattle.std.proofs.Common.{◌≡◌, ◌≢◌, ℕ, zero, suc, ◌+◌, ◌*◌, ◌/◌, ◌<◌, ◌≤◌, ◌⊎◌, List, ◌∷◌, Option, None, Some, length, get_or, set, refl, sym, ◌∙◌, subst, inl, inr, arith, get_or-set_other, get_or-set_same}
 use Rattle.std.proofs.lemmas.Bool.{cases_eq, eq-eqb, ne_eqb}
 use Rattle.mt_edges.specs.declared.edge.Edge.{Edge}
-use Rattle.mt_edges.specs.Laid.{CanLink, Has, IsHead, IsLinked, Laid}
+use Rattle.mt_edges.specs.Private.Laid.{CanLink, Has, IsHead, IsLinked, Laid}
 use Rattle.mt_edges.specs.Pairs.{IsEdge}
-use Rattle.mt_edges.specs.Kept.{AreEdgesKept, Ties, head_of, node_at, with_place}
+use Rattle.mt_edges.specs.Private.Kept.{AreEdgesKept, Ties, head_of, node_at, with_place}
 use Rattle.mt_edges.proofs.Chains.{behind_in, laid_linked}
 use Rattle.mt_edges.proofs.Nodes.{filled_from}
 use Rattle.mt_edges.proofs.Walks.{head_in}

@@ -1,7 +1,7 @@
 -- What a write of one link leaves of the chains.
 use Rattle.std.proofs.Common.{◌≡◌, ◌≢◌, ℕ, ◌<◌, ◌≤◌, ◌⊎◌, List, [], ◌∷◌, length, get_or, refl, sym, ap, ◌∙◌, subst, inl, inr, arith}
 use Rattle.std.proofs.lemmas.Bool.{cases_eq, eq-eqb, ne_eqb}
-use Rattle.mt_edges.specs.Laid.{AreDistinct, Chain, Has, IsHead, IsLinked, IsUnlinked, Laid, without_place}
+use Rattle.mt_edges.specs.Private.Laid.{AreDistinct, Chain, Has, IsHead, IsLinked, IsUnlinked, Laid, without_place}
 
 -- two places differ where one stands in a list and the other does not
 pub differ : (xs : List ℕ) (p q : ℕ) → Has xs p → (Has xs q → ⊥) → p ≢ q

@@ -3,8 +3,8 @@ use Rattle.std.proofs.Common.{◌≡◌, ◌≢◌, ℕ, zero, suc, ◌+◌, ◌
 use Rattle.std.proofs.lemmas.Bool.{cases_eq, cases_lt}
 use Rattle.std.proofs.lemmas.List.{get_or-replicate, get_or_append_left, get_or-append_right, get_or_past, get_or-set_other, get_or-set_same, length-replicate}
 use Rattle.mt_edges.specs.declared.edge.Edge.{Edge}
-use Rattle.mt_edges.specs.Laid.{IsLonger, Laid}
-use Rattle.mt_edges.specs.Kept.{AreEdgesKept, IsRoomier, Spares, node_at, standing_pairs}
+use Rattle.mt_edges.specs.Private.Laid.{IsLonger, Laid}
+use Rattle.mt_edges.specs.Private.Kept.{AreEdgesKept, IsRoomier, Spares, node_at, standing_pairs}
 use Rattle.mt_edges.proofs.Chains.{chain_kept}
 
 pub laid_longer : (next prev next' prev' : List ℕ) (base : ℕ) (lists : ℕ → List ℕ) → IsLonger next prev next' prev' → Laid next prev base lists → Laid next' prev' base lists

@@ -5,8 +5,8 @@ use Rattle.std.proofs.lemmas.List.{get_or_past, get_or_read}
 use Rattle.std.proofs.lemmas.List.Elements.{Contains-append_right, filter-append}
 use Rattle.mt_edges.specs.declared.edge.Edge.{Edge}
 use Rattle.mt_edges.specs.Pairs.{HaveSameEnds, IsEdge, IsWith, degree, touches, without_end}
-use Rattle.mt_edges.specs.Laid.{Has}
-use Rattle.mt_edges.specs.Kept.{IsDropped, Shape, Sound, Spares, Ties, head_of, node_at, standing_pairs}
+use Rattle.mt_edges.specs.Private.Laid.{Has}
+use Rattle.mt_edges.specs.Private.Kept.{IsDropped, Shape, Sound, Spares, Ties, head_of, node_at, standing_pairs}
 
 -- a node that holds a pair is in range
 pub in_range : (nodes : List (Option Edge)) (i : ℕ) (e : Edge) → node_at nodes i ≡ Some e → i < length nodes

@@ -4,9 +4,9 @@ use Rattle.std.proofs.lemmas.Bool.{eqb-true, or_cases, or_left, or_right, and_pa
 use Rattle.std.proofs.lemmas.List.{append-nil, get_or_append_left, get_or-append_right}
 use Rattle.std.proofs.lemmas.List.Elements.{All-contains_itself, All-weaker, Contains-append_cases, Contains-append_left, Contains-append_right, Contains-get_or}
 use Rattle.mt_edges.specs.declared.edge.Edge.{Edge}
-use Rattle.mt_edges.specs.Laid.{AreDistinct, Chain, Has, IsHead, Laid, without_place}
+use Rattle.mt_edges.specs.Private.Laid.{AreDistinct, Chain, Has, IsHead, Laid, without_place}
 use Rattle.mt_edges.specs.Pairs.{AreDistinctPairs, HaveSameEnds, IsEach, IsEdge, touches}
-use Rattle.mt_edges.specs.Kept.{AreEdgesGathered, AreEdgesKept, Owned, ReadsWalk, Sound, StandsIn, Ties, first_place, gathered, head_of, in_range_of, left_at, node_at, standing_pairs}
+use Rattle.mt_edges.specs.Private.Kept.{AreEdgesGathered, AreEdgesKept, Owned, ReadsWalk, Sound, StandsIn, Ties, first_place, gathered, head_of, in_range_of, left_at, node_at, standing_pairs}
 use Rattle.mt_edges.proofs.Chains.{AreDistinct-without, Has-without, without-absent, zero_apart}
 use Rattle.mt_edges.proofs.Nodes.{found, stands}
 use Rattle.mt_edges.proofs.Walks.{begins, chain_at, first_some, side_cases}

@@ -2,9 +2,9 @@
 use Rattle.std.proofs.Common.{◌≡◌, ◌≢◌, ℕ, zero, suc, ◌+◌, ◌-◌, ◌*◌, ◌/◌, ◌<◌, ◌≤◌, ◌⊎◌, List, [], ◌∷◌, ◌++◌, Option, None, Some, length, get_or, set, refl, sym, ap, ◌∙◌, subst, inl, inr, arith, append_assoc, eq-eqb, length-set}
 use Rattle.std.proofs.lemmas.Bool.{cases_eq}
 use Rattle.mt_edges.specs.declared.edge.Edge.{Edge}
-use Rattle.mt_edges.specs.Laid.{AreDistinct, CanUnlink, Chain, Has, IsHead, IsUnlinked, Laid, without_place}
+use Rattle.mt_edges.specs.Private.Laid.{AreDistinct, CanUnlink, Chain, Has, IsHead, IsUnlinked, Laid, without_place}
 use Rattle.mt_edges.specs.Pairs.{IsEdge, degree, without_end}
-use Rattle.mt_edges.specs.Kept.{AreEdgesKept, Walk, first_place, head_of, node_at, standing_pairs}
+use Rattle.mt_edges.specs.Private.Kept.{AreEdgesKept, Walk, first_place, head_of, node_at, standing_pairs}
 use Rattle.mt_edges.proofs.Chains.{Has-without, before_in, behind_in, laid_cleared, laid_unlinked, without-Has, without-absent}
 use Rattle.mt_edges.proofs.Nodes.{in_range, none_degree, none_touches, sound_dropped, spares_dropped, ties_dropped, untouched}
 

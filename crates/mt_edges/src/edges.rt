@@ -17,7 +17,7 @@ pub struct Edges {
 
 impl Model for Edges {
     ghost use Rattle.mt_edges.specs.Pairs.{Pairs};
-    ghost use Rattle.mt_edges.specs.Kept.{IsTable, standing_pairs};
+    ghost use Rattle.mt_edges.specs.Private.Kept.{IsTable, standing_pairs};
 
     ghost Value = { Pairs };
 

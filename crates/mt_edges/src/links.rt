@@ -1,5 +1,5 @@
 ghost use Rattle.std.specs.Prelude.{◌≡◌, ◌≢◌, ℕ, ◌+◌, ◌<◌, ◌≤◌, ◌^◌, length, replicate, slice_index, IfOk, OnOk};
-ghost use Rattle.mt_edges.specs.Laid.{CanLink, CanUnlink, IsLinked, IsLonger, IsUnlinked};
+ghost use Rattle.mt_edges.specs.Private.Laid.{CanLink, CanUnlink, IsLinked, IsLonger, IsUnlinked};
 
 use mt_base::Steps;
 use mt_memory::Memory;

@@ -1,6 +1,6 @@
 ghost use Rattle.std.specs.Prelude.{◌≡◌, ◌≢◌, ℕ, ◌+◌, ◌-◌, ◌/◌, ◌^◌, ◌<◌, ◌≤◌, ◌++◌, Some, length, [], OnOk, OnErr, IfOk, IfSome, IfNone, Contains, All};
-ghost use Rattle.mt_edges.specs.Kept.{HasRoom, IsDropped, AreEdgesGathered, IsRoomier, IsTable, IsWalk, in_range_of, node_at, standing_pairs};
-ghost use Rattle.mt_edges.specs.Laid.{IsHead};
+ghost use Rattle.mt_edges.specs.Private.Kept.{HasRoom, IsDropped, AreEdgesGathered, IsRoomier, IsTable, IsWalk, in_range_of, node_at, standing_pairs};
+ghost use Rattle.mt_edges.specs.Private.Laid.{IsHead};
 ghost use Rattle.mt_edges.specs.Pairs.{HaveSameEnds, IsEdge, IsWith};
 ghost use Rattle.mt_edges.specs.declared.edge.Edge.{Edge};
 

@@ -1,7 +1,7 @@
 -- What a line cuts off an interval from m/e to x/y, and that something is left of one in order.
-use Rattle.std.proofs.Common.{◌≡◌, ℤ, pos, ◌+ℤ◌, ◌-ℤ◌, ◌*ℤ◌, ◌≤ℤ◌, ◌<ℤ◌, arith}
+use Rattle.std.proofs.Common.{◌≡◌, ℤ, pos, ◌+ℤ◌, ◌*ℤ◌, ◌≤ℤ◌, ◌<ℤ◌, arith}
 use Rattle.mt_ring.proofs.Ring.{lin, spread}
-use Rattle.mt_frac.specs.Meeting.{IsCut, Lies}
+use Rattle.mt_frac.specs.Private.Meeting.{IsCut, Lies}
 use Rattle.mt_frac.specs.Polynomials.{line_value}
 use Rattle.mt_frac.proofs.Fractions.{at_most_trans, trans_at_most}
 use Rattle.mt_frac.proofs.Parts.{both_below, falls, rises, below_after, after_below, below_before, before_below, root_at_least, root_at_most}

@@ -6,7 +6,8 @@ use Rattle.mt_ring.proofs.Ring.{lin}
 use Rattle.std.specs.Prelude.{slice_index_or}
 use Rattle.mt_ring.proofs.Signs.{contrary}
 use Rattle.mt_frac.specs.declared.linear.Line.{Line}
-use Rattle.mt_frac.specs.Meeting.{AreBelow, IsCut, Lies, MeetBelow}
+use Rattle.mt_frac.specs.Meeting.{AreBelow, MeetBelow}
+use Rattle.mt_frac.specs.Private.Meeting.{IsCut, Lies}
 use Rattle.mt_frac.specs.Polynomials.{line_value}
 use Rattle.mt_frac.proofs.Cuts.{between}
 

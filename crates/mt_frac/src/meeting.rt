@@ -1,7 +1,8 @@
 //! Whether several lines are below 0 together.
 
 ghost use Rattle.std.specs.Prelude.{pos, ◌≡◌, ◌≢◌, ◌*ℤ◌, ◌<ℤ◌, ◌≤ℤ◌, ◌↔◌, IsTrue, All};
-ghost use Rattle.mt_frac.specs.Meeting.{CutsTo, IsBoundedSide, MeetBelow};
+ghost use Rattle.mt_frac.specs.Meeting.{IsBoundedSide, MeetBelow};
+ghost use Rattle.mt_frac.specs.Private.Meeting.{CutsTo};
 ghost use Rattle.mt_frac.specs.Polynomials.{line_value};
 
 use crate::end::End;

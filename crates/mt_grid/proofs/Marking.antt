@@ -4,7 +4,7 @@ use Rattle.std.proofs.lemmas.Bool.{cases_lt, false≢true}
 use Rattle.std.proofs.lemmas.List.{get_or_append_left, get_or_push, length-take-le, length_push, take_more}
 use Rattle.std.proofs.lemmas.List.Elements.{Contains-append_left, Contains-get_or, Contains-push, Contains-push_cases}
 use Rattle.std.specs.List.Sorted.{IsStrictlyIncreasing}
-use Rattle.mt_grid.specs.Marks.{AreMarked, IsMarked}
+use Rattle.mt_grid.specs.Private.Marks.{AreMarked, IsMarked}
 
 -- a front with one mark more
 marked_push : (front : List Bool) (b : Bool) (k : ℕ) → IsMarked (front ++ b ∷ []) k ↔ (IsMarked front k ⊎ ((length front ≡ k) × (b ≡ true)))

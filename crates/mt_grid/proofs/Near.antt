@@ -4,8 +4,9 @@ use Rattle.std.proofs.lemmas.List.{get_or-map, map-set, take_more}
 use Rattle.std.proofs.lemmas.List.Elements.{Contains-append_left, Contains-push, Contains-push_cases}
 use Rattle.mt_cover.specs.declared.stays.Stay.{Stay}
 use Rattle.mt_grid.specs.declared.placed.Placed.{Placed}
-use Rattle.mt_grid.specs.Lists.{AreNear, IsItemOf, IsNear, IsNearIn, list_or_empty, list_at}
-use Rattle.mt_grid.specs.Marks.{AreMarked, IsMarked}
+use Rattle.mt_grid.specs.Lists.{AreNear, IsItemOf, IsNear, IsNearIn, list_at}
+use Rattle.mt_grid.specs.Private.Lists.{list_or_empty}
+use Rattle.mt_grid.specs.Private.Marks.{AreMarked, IsMarked}
 
 pub map-empty : (n : ℕ) → map list_or_empty (replicate n None) ≡ replicate n []
 map-empty zero = refl

@@ -1,14 +1,9 @@
 -- A grid: 4,096 lists, one for each cell, of items and the seconds for which they count to it.
-use Rattle.std.specs.Prelude.{◌≡◌, ◌↔◌, ◌⊎◌, ℕ, length, ◌<◌, ◌≤◌, List, [], ◌∷◌, ◌++◌, Option, None, Some, Contains, All, fold, filter, not, nat_eq, slice_index_or, slice_set}
+use Rattle.std.specs.Prelude.{◌≡◌, ◌↔◌, ◌⊎◌, ℕ, length, ◌<◌, ◌≤◌, List, [], ◌∷◌, ◌++◌, Contains, All, fold, filter, not, nat_eq, slice_index_or, slice_set}
 use Rattle.std.specs.List.Sorted.{IsStrictlyIncreasing}
 use Rattle.mt_cover.specs.declared.stays.Stay.{Stay}
 use Rattle.mt_cover.specs.Cells.{ShareAt}
 use Rattle.mt_grid.specs.declared.placed.Placed.{Placed}
-
--- the list that stands at a place; none stands for the empty one
-abbrev pub list_or_empty : Option (List Placed) → List Placed
-list_or_empty None = []
-list_or_empty (Some list) = list
 
 -- the list of a cell
 abbrev pub list_at : List (List Placed) → ℕ → List Placed

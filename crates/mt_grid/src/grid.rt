@@ -1,6 +1,6 @@
-ghost use Rattle.std.specs.Prelude.{◌≡◌, ◌↔◌, ℕ, ◌<◌, ◌++◌, ◌⊎◌, [], replicate, IfOk, OnOk, slice_set};
+ghost use Rattle.std.specs.Prelude.{◌≡◌, ◌↔◌, ℕ, ◌<◌, ◌⊎◌, [], replicate, IfOk, OnOk, slice_set};
 ghost use Rattle.mt_grid.specs.Lists.{AreInGrid, AreNear, IsNearIn, list_at, others, with_stay, with_stays, without_stay, without_stays};
-ghost use Rattle.mt_grid.specs.Marks.{IsMarked};
+ghost use Rattle.mt_grid.specs.Private.Marks.{IsMarked};
 
 use crate::marks::Marks;
 use crate::nearness::mark_near;
@@ -26,7 +26,7 @@ pub struct Grid {
 impl Model for Grid {
     ghost use Rattle.std.specs.Prelude.{◌≡◌, List, length, map};
     ghost use Rattle.mt_grid.specs.declared.placed.Placed.{Placed};
-    ghost use Rattle.mt_grid.specs.Lists.{list_or_empty};
+    ghost use Rattle.mt_grid.specs.Private.Lists.{list_or_empty};
 
     ghost Value = { List (List Placed) };
 

@@ -1,6 +1,6 @@
 //! Numbers that are marked, to be listed in order, each once.
 ghost use Rattle.std.specs.Prelude.{◌≡◌, ◌↔◌, ◌⊎◌, ◌<◌, ℕ, true, [], length, IfOk, OnOk};
-ghost use Rattle.mt_grid.specs.Marks.{AreMarked, IsMarked};
+ghost use Rattle.mt_grid.specs.Private.Marks.{AreMarked, IsMarked};
 
 use mt_base::Memory;
 use std::alloc::Global;

@@ -1,7 +1,7 @@
 //! Which items of one cell are near a stay in it.
 ghost use Rattle.std.specs.Prelude.{◌↔◌, ◌⊎◌, ℕ, IsTrue, OnOk};
 ghost use Rattle.mt_grid.specs.Lists.{IsItemOf, IsNearIn, Overlap};
-ghost use Rattle.mt_grid.specs.Marks.{IsMarked};
+ghost use Rattle.mt_grid.specs.Private.Marks.{IsMarked};
 
 use crate::marks::Marks;
 use crate::placed::Placed;

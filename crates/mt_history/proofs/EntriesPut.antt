@@ -14,7 +14,8 @@ use Rattle.mt_picture.specs.Story.{IsEntered, Story}
 use Rattle.mt_history.specs.declared.rebuilding.Wrong.{Wrong}
 use Rattle.mt_history.specs.declared.rebuilding.Wrong.TheVariants.{Illegal, Late, Memory}
 use Rattle.mt_history.specs.Followed.{HasFollowed}
-use Rattle.mt_history.specs.Rebuilt.{IsWrong, IsWrongNext}
+use Rattle.mt_history.specs.Rebuilt.{IsWrong}
+use Rattle.mt_history.specs.Private.Rebuilt.{IsWrongNext}
 
 abbrev pub story_with : Setup → List Entry → Story
 story_with setup h = record { setup = setup; history = h }

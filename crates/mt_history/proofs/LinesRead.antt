@@ -8,7 +8,8 @@ use Rattle.mt_read.specs.declared.request.LineNo.{LineNo}
 use Rattle.mt_read.specs.Entry.{entry}
 use Rattle.mt_history.specs.declared.reading.Bad.{Bad}
 use Rattle.mt_history.specs.declared.reading.Bad.TheVariants.{Line, Memory}
-use Rattle.mt_history.specs.Printed.{AreReadAsEntries, IsBad, IsBadLine, IsFirstBad}
+use Rattle.mt_history.specs.Printed.{AreReadAsEntries, IsBad, IsFirstBad}
+use Rattle.mt_history.specs.Private.Printed.{IsBadLine}
 
 abbrev Answer : Type 0
 Answer = Result Entry LineNo

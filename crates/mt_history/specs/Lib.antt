@@ -1,3 +1,4 @@
 pub mod Followed
 pub mod Printed
+pub mod Private
 pub mod Rebuilt

@@ -29,8 +29,3 @@ pub record IsFirstBad (bytes : List ℕ) (place : ℕ) : Type 0 where
 abbrev pub IsBad : List ℕ → Bad → Type 0
 IsBad bytes (Line place) = IsFirstBad bytes place
 IsBad bytes Memory = ⊤
-
--- why the line at a place is not read
-abbrev pub IsBadLine : List ℕ → ℕ → Bad → Type 0
-IsBadLine line place (Line named) = (named ≡ place) × ((refusal : LineNo) × (entry line ≡ Err refusal))
-IsBadLine line place Memory = ⊤

@@ -1,11 +1,10 @@
 -- Entries that rebuild a picture, and what is wrong with those that rebuild none.
-use Rattle.std.specs.Prelude.{◌≡◌, ℕ, List, length, take, slice_get, Some, Err, ⊤}
+use Rattle.std.specs.Prelude.{◌≡◌, ℕ, List, take, slice_get, Some, Err, ⊤}
 use Rattle.mt_base.specs.declared.command.Entry.{Entry}
 use Rattle.mt_base.specs.declared.command.Refusal.{Refusal}
 use Rattle.mt_base.specs.Bounds.{IsBoundedCommand}
 use Rattle.mt_base.specs.History.{IsDecided, IsInTime, IsReplayable, filled, state_of}
 use Rattle.mt_base.specs.Tables.{Setup}
-use Rattle.mt_picture.specs.Story.{Story}
 use Rattle.mt_history.specs.declared.following.FollowNo.{FollowNo}
 use Rattle.mt_history.specs.declared.following.FollowNo.TheVariants as no
 use Rattle.mt_history.specs.declared.rebuilding.Wrong.{Wrong}
@@ -43,10 +42,3 @@ abbrev pub wrong_of : FollowNo → Wrong
 wrong_of (no.Illegal version refusal) = Illegal version refusal
 wrong_of (no.Late version) = Late version
 wrong_of no.Memory = Memory
-
--- what is wrong with an entry after the history of a picture
-abbrev pub IsWrongNext : Story → Entry → Wrong → Type 0
-IsWrongNext story e (Illegal at refusal) =
-    (at ≡ length story.history) × IsInTime at e.command × IsDecided story.setup (state_of story.setup story.history) e.who e.command (Err refusal)
-IsWrongNext story e (Late at) = (at ≡ length story.history) × (¬ IsInTime at e.command)
-IsWrongNext story e Memory = ⊤

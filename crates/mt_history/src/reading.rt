@@ -3,7 +3,8 @@ ghost use Rattle.std.specs.Prelude.{◌≡◌, ◌<◌, ◌∷◌, All, IfErr, I
 ghost use Rattle.mt_io.specs.Lines.{lines_of};
 ghost use Rattle.mt_read.specs.Entry.{entry};
 ghost use Rattle.mt_history.specs.declared.reading.Bad.TheVariants as bads;
-ghost use Rattle.mt_history.specs.Printed.{AreReadAsEntries, IsBad, IsBadLine};
+ghost use Rattle.mt_history.specs.Printed.{AreReadAsEntries, IsBad};
+ghost use Rattle.mt_history.specs.Private.Printed.{IsBadLine};
 ghost use Rattle.mt_history.specs.Rebuilt.{IsReadyToDecide};
 
 use mt_base::{Entries, Entry};

@@ -5,7 +5,8 @@ ghost use Rattle.mt_base.specs.Bounds.{AreWithinBounds};
 ghost use Rattle.mt_base.specs.History.{IsReplayable};
 ghost use Rattle.mt_base.specs.Tables.{setup_with};
 ghost use Rattle.mt_history.specs.declared.rebuilding.Wrong.TheVariants as wrongs;
-ghost use Rattle.mt_history.specs.Rebuilt.{IsReadyToDecide, IsWrong, IsWrongNext};
+ghost use Rattle.mt_history.specs.Rebuilt.{IsReadyToDecide, IsWrong};
+ghost use Rattle.mt_history.specs.Private.Rebuilt.{IsWrongNext};
 
 use crate::following::{FollowNo, follow_entry};
 use mt_base::{Entries, Entry, Refusal, Rules, Tally};

@@ -1,8 +1,10 @@
 -- A line that was gathered is given and counted.
 use Rattle.std.proofs.Common.{◌≡◌, ◌<◌, ◌≤◌, ℕ, ◌+◌, ◌^◌, Bool, true, false, List, [], ◌∷◌, ◌++◌, length, None, Ok, refl, sym, ap, inl, inr, subst, arith, length-append}
 use Rattle.std.specs.declared.option.Option.{Option}
-use Rattle.mt_io.specs.Reading.{Store, PassesBytes, Ends, TakesLine, IsReaderSound, IsAllGiven}
-use Rattle.mt_io.specs.Gathering.{Gathers, IsGathered, CountsLine, Advances, reading, ending_of}
+use Rattle.mt_io.specs.Reading.{Store, PassesBytes, Ends, TakesLine, IsAllGiven}
+use Rattle.mt_io.specs.Private.Reading.{IsReaderSound}
+use Rattle.mt_io.specs.Gathering.{ending_of}
+use Rattle.mt_io.specs.Private.Gathering.{Gathers, IsGathered, CountsLine, Advances, reading}
 use Rattle.mt_io.specs.declared.line.Step.{Step}
 use Rattle.mt_io.specs.declared.line.Step.TheVariants.{Short, Skipped, Finished}
 

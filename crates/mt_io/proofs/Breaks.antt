@@ -5,7 +5,7 @@ use Rattle.std.proofs.lemmas.Bool.{cases_lt, lt-ltb, ltb-true}
 use Rattle.std.proofs.lemmas.Grind.{get_or_default_zero}
 use Rattle.std.proofs.lemmas.List.{get_or-drop, get_or-take, length-drop}
 use Rattle.std.proofs.lemmas.List.Elements.{Contains-get_or}
-use Rattle.mt_io.specs.Gathering.{EndsWhole}
+use Rattle.mt_io.specs.Private.Gathering.{EndsWhole}
 
 -- the bytes ahead by their places in the buffer
 ahead_at : (bytes : List ℕ) (at end k d : ℕ) → k < end - at → get_or (slice_range bytes at end) k d ≡ get_or bytes (at + k) d

@@ -8,7 +8,7 @@ use Rattle.std.specs.declared.option.Option.{Option}
 use Rattle.std.specs.Io.KnownBytes.{Consumes}
 use Rattle.mt_io.specs.Lines.{IsPart}
 use Rattle.mt_io.specs.Reading.{Store, PassesBytes}
-use Rattle.mt_io.specs.Gathering.{Fills, StopsFill, Moves, IsGathered, Gathers, StopsLine, IsUnread}
+use Rattle.mt_io.specs.Private.Gathering.{Fills, StopsFill, Moves, IsGathered, Gathers, StopsLine, IsUnread}
 use Rattle.mt_io.specs.declared.line.LineFault.{LineFault}
 use Rattle.mt_io.specs.declared.line.LineFault.TheVariants.{ReadFault, Spent}
 use Rattle.mt_io.proofs.Known.{consumes_none, consumes_kept, consumes_on}

@@ -3,7 +3,7 @@ use Rattle.std.proofs.Common.{◌≡◌, ◌≢◌, ◌<◌, ◌≤◌, ℕ, ◌
 use Rattle.std.proofs.lemmas.List.{drop-take, drop-drop, drop_all}
 use Rattle.mt_io.specs.Lines.{IsPart}
 use Rattle.mt_io.specs.Reading.{Store}
-use Rattle.mt_io.specs.Gathering.{IsGathered, Moves}
+use Rattle.mt_io.specs.Private.Gathering.{IsGathered, Moves}
 
 pub drop-slice_range : (xs : List ℕ) (a b n : ℕ) → a + n ≤ b → drop n (slice_range xs a b) ≡ slice_range xs (a + n) b
 drop-slice_range xs a b n le =

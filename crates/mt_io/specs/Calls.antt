@@ -1,7 +1,6 @@
 -- The calls on an object in memory, counted from 1.
-use Rattle.std.specs.Prelude.{◌≡◌, ◌<◌, ◌≤◌, ℕ, ◌+◌, ◌-◌, ◌^◌, min, List, Contains, MatchResult, refl}
+use Rattle.std.specs.Prelude.{◌≡◌, ◌<◌, ◌≤◌, ℕ, ◌+◌, ◌-◌, ◌^◌, min, List, Contains, MatchResult}
 use Rattle.std.specs.declared.result.Result.{Result}
-use Rattle.std.proofs.Common.{◌∙◌, arith}
 
 -- those that are to fail, how many were made, and how many failed; both counts stay at their type's end
 pub record Calls : Type 0 where
@@ -44,20 +43,3 @@ pub record GoOn (old new : Calls) : Type 0 where
   pub same : new.listed ≡ old.listed
   pub more : old.made ≤ new.made
   pub later : old.failed ≤ new.failed
-
-pub went_none : (calls : Calls) → GoOn calls calls
-went_none calls = record { same = refl; more = omega arith; later = omega arith }
-
-pub went_on : (a b c : Calls) → GoOn a b → GoOn b c → GoOn a c
-went_on a b c ab bc = record {
-  same = bc.same ∙ ab.same;
-  more = omega arith;
-  later = omega arith;
-}
-
--- where none of all is listed, none of the first ones is, and none of the others
-pub unlisted_first : (a b c : Calls) → GoOn b c → AreUnlisted a c → AreUnlisted a b
-unlisted_first a b c bc none n above within = none n above (omega arith)
-
-pub unlisted_others : (a b c : Calls) → GoOn a b → AreUnlisted a c → AreUnlisted b c
-unlisted_others a b c ab none n above within = rw ab.same (none n (omega arith) within)

@@ -1,7 +1,6 @@
 -- A sink in memory of a fixed room.
-use Rattle.std.specs.Prelude.{◌≡◌, ◌<◌, ◌≤◌, ℕ, refl, vec_len}
-use Rattle.std.proofs.Common.{◌∙◌, arith}
-use Rattle.mt_io.specs.Calls.{Calls, GoOn, AreUnlisted, went_none, went_on, unlisted_first, unlisted_others}
+use Rattle.std.specs.Prelude.{◌≡◌, ◌<◌, ◌≤◌, ℕ, vec_len}
+use Rattle.mt_io.specs.Calls.{Calls, GoOn, AreUnlisted}
 use Rattle.mt_io.specs.declared.mem_sink.MemSink.{MemSink}
 
 -- how many bytes it can hold
@@ -27,22 +26,3 @@ pub record HasWritten (old new : MemSink) : Type 0 where
   pub grows : vec_len old.bytes ≤ vec_len new.bytes
   pub calls : GoOn old.calls new.calls
   pub quiet : vec_len new.bytes < new.room → AreUnlisted old.calls new.calls → new.calls.failed ≡ old.calls.failed
-
-pub written_none : (sink : MemSink) → HasWritten sink sink
-written_none sink = record {
-  same_room = refl;
-  same_most = refl;
-  grows = omega arith;
-  calls = went_none sink.calls;
-  quiet = λ lt none. refl;
-}
-
-pub written_on : (a b c : MemSink) → HasWritten a b → HasWritten b c → HasWritten a c
-written_on a b c ab bc = record {
-  same_room = bc.same_room ∙ ab.same_room;
-  same_most = bc.same_most ∙ ab.same_most;
-  grows = omega arith;
-  calls = went_on a.calls b.calls c.calls ab.calls bc.calls;
-  quiet = λ lt none. bc.quiet lt (unlisted_others a.calls b.calls c.calls ab.calls none)
-      ∙ ab.quiet (omega arith) (unlisted_first a.calls b.calls c.calls bc.calls none);
-}

@@ -1,6 +1,6 @@
 -- What a reader of lines is, and what a call of `next` does to it and to its source.
 -- `before` and `after` are the bytes that the source has left, where it tells them.
-use Rattle.std.specs.Prelude.{◌≡◌, ◌<◌, ◌≤◌, ◌⊎◌, ℕ, ◌+◌, ◌^◌, Bool, true, false, List, [], ◌∷◌, ◌++◌, length, Some, None, IfSome, MatchResult}
+use Rattle.std.specs.Prelude.{◌≡◌, ◌<◌, ◌≤◌, ◌⊎◌, ℕ, ◌+◌, ◌^◌, Bool, true, false, List, [], ◌∷◌, ◌++◌, length, Some, None, MatchResult}
 use Rattle.std.specs.Io.KnownBytes.{Consumes, IsAtEnd}
 use Rattle.std.specs.declared.option.Option.{Option}
 use Rattle.std.specs.declared.result.Result.{Result}
@@ -31,13 +31,6 @@ fresh = record { store = record { ahead = []; taken = 0; ended = false }; given 
 abbrev pub IsFaultAt : LineFault → ℕ → Type 0
 IsFaultAt Spent taken = taken ≡ 2 ^ 32
 IsFaultAt ReadFault taken = taken < 2 ^ 32
-
--- true of every reader: each line that was given took a byte at least; at the end, and after a fault, none is ahead
-pub record IsReaderSound (store : Store) (given : ℕ) (stop : Option LineFault) : Type 0 where
-  pub counted : given + length store.ahead ≤ store.taken
-  pub limit : store.taken ≤ 2 ^ 32
-  pub over : store.ended ≡ true → (store.ahead ≡ []) × (store.taken < 2 ^ 32)
-  pub stopped : IfSome stop (λ fault. IsFaultAt fault store.taken × (store.ahead ≡ []) × (store.ended ≡ false))
 
 -- These bytes went, of those that were ahead and then of those that were read now.
 pub record PassesBytes (old new : Store) (before after : Option (List ℕ)) (front : List ℕ) : Type 0 where

@@ -3,7 +3,7 @@ ghost use Rattle.std.specs.Prelude.{◌≡◌, ◌≢◌, ◌<◌, ◌≤◌, �
 ghost use Rattle.std.specs.Io.KnownBytes.{ReadConsumes};
 ghost use Rattle.mt_io.specs.Causes.{HasCause, Rose};
 ghost use Rattle.mt_io.specs.Reading.{Store};
-ghost use Rattle.mt_io.specs.Gathering.{EndsWhole, Fills, Moves, StopsFill};
+ghost use Rattle.mt_io.specs.Private.Gathering.{EndsWhole, Fills, Moves, StopsFill};
 
 use crate::gathered::Gathered;
 use crate::line::LineFault;
@@ -32,7 +32,7 @@ pub struct Ahead {
 
 impl Model for Ahead {
     ghost use Rattle.std.specs.Prelude.{◌<◌, ◌≤◌, slice_range, vec_len};
-    ghost use Rattle.mt_io.specs.Gathering.{EndsWhole};
+    ghost use Rattle.mt_io.specs.Private.Gathering.{EndsWhole};
     ghost use Rattle.mt_io.specs.Reading.{Store};
 
     ghost Value = { Store };

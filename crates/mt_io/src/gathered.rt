@@ -1,6 +1,6 @@
 //! The bytes of one line, in a buffer of fixed size.
 ghost use Rattle.std.specs.Prelude.{◌≡◌, ◌≤◌, ◌↔◌, ℕ, List, [], ◌++◌, false, length, IfOk, IsTrue, vec_len, vec_capacity};
-ghost use Rattle.mt_io.specs.Gathering.{IsGathered};
+ghost use Rattle.mt_io.specs.Private.Gathering.{IsGathered};
 
 use mt_memory::Memory;
 use std::alloc::Global;

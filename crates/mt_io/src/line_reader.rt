@@ -4,7 +4,7 @@ ghost use Rattle.std.specs.Borrow.{sem};
 ghost use Rattle.std.specs.Io.BufRead.{Rests};
 ghost use Rattle.mt_io.specs.Causes.{Rose};
 ghost use Rattle.mt_io.specs.Reading.{IsStopped, Next, fresh};
-ghost use Rattle.mt_io.specs.Gathering.{GivesStep};
+ghost use Rattle.mt_io.specs.Private.Gathering.{GivesStep};
 ghost use Rattle.mt_io.specs.contracts.line_reader.LineReader.{the_row};
 
 use crate::ahead::Ahead;
@@ -26,8 +26,9 @@ pub struct LineReader {
 }
 
 impl Model for LineReader {
-    ghost use Rattle.mt_io.specs.Reading.{Reading, IsReaderSound};
-    ghost use Rattle.mt_io.specs.Gathering.{reading};
+    ghost use Rattle.mt_io.specs.Reading.{Reading};
+    ghost use Rattle.mt_io.specs.Private.Reading.{IsReaderSound};
+    ghost use Rattle.mt_io.specs.Private.Gathering.{reading};
 
     ghost Value = { Reading };
 

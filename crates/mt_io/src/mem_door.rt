@@ -1,5 +1,5 @@
 //! A door in memory.
-ghost use Rattle.std.specs.Prelude.{◌≡◌, ◌<◌, ◌≤◌, ◌↔◌, ◌⊎◌, ◌+◌, ◌-◌, [], ◌∷◌, IfOk, IsErr, MatchResult, Some, vec_len, vec_capacity};
+ghost use Rattle.std.specs.Prelude.{◌≡◌, ◌<◌, ◌≤◌, ◌↔◌, ◌+◌, ◌-◌, [], ◌∷◌, IfOk, IsErr, MatchResult, Some, vec_len, vec_capacity};
 ghost use Rattle.std.specs.VecDeque.{deque_len};
 ghost use Rattle.mt_io.specs.Calls.{CountsCall, IsNextListed, listing};
 ghost use Rattle.mt_io.specs.Causes.{HasCause};

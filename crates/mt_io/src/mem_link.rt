@@ -88,7 +88,8 @@ fn line_ends(bytes: &[u8]) -> u64 {
 
 impl Source for MemLink {
     ghost use Rattle.mt_io.specs.MemLink.{most_read, reads_of};
-    ghost use Rattle.mt_io.specs.MemSource.{HasGiven, given_none, given_on};
+    ghost use Rattle.mt_io.specs.MemSource.{HasGiven};
+    ghost use Rattle.mt_io.specs.Private.MemSource.{given_none, given_on};
     ghost use Rattle.std.specs.Prelude.{refl};
     ghost use Rattle.std.proofs.Common.{◌∙◌};
 
@@ -124,7 +125,8 @@ impl Source for MemLink {
 
 impl Sink for MemLink {
     ghost use Rattle.mt_io.specs.MemLink.{IsFull, most_written, room_of, writes_of};
-    ghost use Rattle.mt_io.specs.MemSink.{HasWritten, written_none, written_on};
+    ghost use Rattle.mt_io.specs.MemSink.{HasWritten};
+    ghost use Rattle.mt_io.specs.Private.MemSink.{written_none, written_on};
     ghost use Rattle.std.specs.Prelude.{refl};
     ghost use Rattle.std.proofs.Common.{◌∙◌};
 

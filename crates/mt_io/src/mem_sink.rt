@@ -68,7 +68,8 @@ impl MemSink {
 }
 
 impl Sink for MemSink {
-    ghost use Rattle.mt_io.specs.MemSink.{HasWritten, IsFull, calls_of, most_of, room_of, written_none, written_on};
+    ghost use Rattle.mt_io.specs.MemSink.{HasWritten, IsFull, calls_of, most_of, room_of};
+    ghost use Rattle.mt_io.specs.Private.MemSink.{written_none, written_on};
 
     ghost held = { λ s. Some s.bytes.items };
 

@@ -54,7 +54,8 @@ impl MemSource {
 }
 
 impl Source for MemSource {
-    ghost use Rattle.mt_io.specs.MemSource.{HasGiven, calls_of, given_none, given_on, most_of};
+    ghost use Rattle.mt_io.specs.MemSource.{HasGiven, calls_of, most_of};
+    ghost use Rattle.mt_io.specs.Private.MemSource.{given_none, given_on};
 
     ghost left = { λ s. Some (drop s.at s.bytes.items) };
 

@@ -1,8 +1,8 @@
 //! One line from a source, by the reader's parts.
-ghost use Rattle.std.specs.Prelude.{◌≡◌, ◌<◌, ◌≤◌, ◌+◌, ◌^◌, List, ℕ, None, false, MatchResult};
+ghost use Rattle.std.specs.Prelude.{◌≡◌, ◌<◌, ◌≤◌, ◌^◌, List, ℕ, None, false, MatchResult};
 ghost use Rattle.mt_io.specs.Causes.{Rose};
-ghost use Rattle.mt_io.specs.Reading.{IsReaderSound};
-ghost use Rattle.mt_io.specs.Gathering.{Advances, CountsLine, Gathers, IsGathered, StopsLine};
+ghost use Rattle.mt_io.specs.Private.Reading.{IsReaderSound};
+ghost use Rattle.mt_io.specs.Private.Gathering.{Advances, CountsLine, Gathers, IsGathered, StopsLine};
 
 use crate::ahead::Ahead;
 use crate::gathered::Gathered;

@@ -1,5 +1,5 @@
 //! The process's standard streams as a source and a sink. They tell no content.
-ghost use Rattle.std.specs.Prelude.{◌≡◌, ◌≤◌, None};
+ghost use Rattle.std.specs.Prelude.{◌≡◌, None};
 
 use crate::sink::Sink;
 use crate::source::{Failed, Source};

@@ -9,7 +9,8 @@ use Rattle.std.specs.List.{position, position_or_len}
 use Rattle.std.specs.List.Sorted.{IsStrictlySortedBy}
 use Rattle.std.specs.Ordering.{is_eq, match_ordering, ordering_reverse}
 use Rattle.serde_json.specs.Data.{Data, Members, no_members, member, put}
-use Rattle.mt_json.specs.Keys.{is_allowed, keys, lesser, other_key, IsLeastOther}
+use Rattle.mt_json.specs.Keys.{is_allowed, keys, other_key, IsLeastOther}
+use Rattle.mt_json.specs.Private.Keys.{lesser}
 use Rattle.mt_json.specs.View.{members_view, view}
 use Rattle.mt_json.proofs.Members.{Entry, IsBelow, ascending, below_all, members_more}
 

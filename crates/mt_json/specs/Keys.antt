@@ -2,7 +2,7 @@
 use Rattle.std.specs.Prelude.{◌≡◌, ◌⊎◌, ℕ, ◌==◌, ◌&&◌, List, [], ◌∷◌, length, All, slice_get, Bool, false, not, Option, Some, None, option_and_then, Result, Ok, Err, ⊤}
 use Rattle.std.specs.List.{list_any, position, slice_split}
 use Rattle.std.specs.List.Sorted.{IsStrictlySortedBy}
-use Rattle.std.specs.Ordering.{nat_cmp, match_ordering}
+use Rattle.std.specs.Ordering.{nat_cmp}
 use Rattle.std.specs.Cmp.Lexicographic.{slice_cmp}
 use Rattle.std.specs.Str.{bytes_eq}
 use Rattle.std.specs.declared.cmp.Ordering.TheVariants.{Less}
@@ -34,11 +34,6 @@ other_key allowed ms = option_and_then (slice_get (keys ms)) (other_key_at allow
 abbrev pub shown_other : Result ⊤ Extra → Option (List ℕ)
 shown_other (Ok _) = None
 shown_other (Err extra) = Some extra.key.now
-
--- the lesser of a key and another, if there is one
-abbrev pub lesser : List ℕ → Option (List ℕ) → List ℕ
-lesser k None = k
-lesser k (Some l) = match_ordering (slice_cmp nat_cmp l k) l k k
 
 -- of the keys that are not allowed, this one is the least, byte by byte
 pub record IsLeastOther (allowed : List ℕ) (ks : List (List ℕ)) (key : List ℕ) : Type 0 where

@@ -1,5 +1,6 @@
-pub mod Keys
 pub mod Field
+pub mod Keys
 pub mod Line
-pub mod View
+pub mod Private
 pub mod Shown
+pub mod View

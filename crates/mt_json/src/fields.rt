@@ -1,6 +1,7 @@
 ghost use Rattle.std.specs.Prelude.{◌≡◌, option_map, OnOk, IfErr, true, All};
 ghost use Rattle.serde_json.specs.Find.{as_object, get_member};
-ghost use Rattle.mt_json.specs.Keys.{keys as keys_of, AreInByteOrder, is_allowed, lesser, other_key, shown_other, IsLeastOther};
+ghost use Rattle.mt_json.specs.Keys.{keys as keys_of, AreInByteOrder, is_allowed, other_key, shown_other, IsLeastOther};
+ghost use Rattle.mt_json.specs.Private.Keys.{lesser};
 ghost use Rattle.mt_json.specs.Field.{result_map, word_at, flag_at, whole_at, list_at_key};
 ghost use Rattle.mt_json.specs.Shown.{members};
 ghost use Rattle.mt_json.specs.View.{items_view, view};

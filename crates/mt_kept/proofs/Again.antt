@@ -13,9 +13,12 @@ use Rattle.mt_edges.specs.Pairs.{HaveSameEnds, IsEach, touches}
 use Rattle.mt_base.proofs.OneConflict.{one_span}
 use Rattle.mt_kept.specs.declared.open_pair.OpenPair.{OpenPair}
 use Rattle.mt_kept.specs.Places.{at, horizon}
-use Rattle.mt_kept.specs.Losing.{AreKept, IsPair, LoseSeparation, Touches}
-use Rattle.mt_kept.specs.Window.{AreOpen, IsOpen, edge_of}
-use Rattle.mt_kept.specs.Made.{is_closed_pair, is_open_pair, quiet, touches_place}
+use Rattle.mt_kept.specs.Losing.{IsPair, LoseSeparation, Touches}
+use Rattle.mt_kept.specs.Private.Losing.{AreKept}
+use Rattle.mt_kept.specs.Window.{IsOpen, edge_of}
+use Rattle.mt_kept.specs.Private.Window.{AreOpen}
+use Rattle.mt_kept.specs.Made.{is_open_pair}
+use Rattle.mt_kept.specs.Private.Made.{is_closed_pair, quiet, touches_place}
 use Rattle.mt_kept.specs.Finds.{Agree, AreFindsAt}
 use Rattle.mt_kept.proofs.Keeping.{is_open_is, touches_is}
 use Rattle.mt_base.proofs.Members.{Contains-filter, Contains-map, Contains-map_cases, distinct_append, distinct_held, distinct_map}

@@ -13,7 +13,7 @@ use Rattle.mt_kept.specs.declared.finds.Verdict.{Verdict}
 use Rattle.mt_kept.specs.declared.finds.Verdict.TheVariants.{Unknown, Known}
 use Rattle.mt_kept.specs.Places.{at}
 use Rattle.mt_kept.specs.Window.{straddles}
-use Rattle.mt_kept.specs.Made.{IsKnownAs, tests_if_unknown}
+use Rattle.mt_kept.specs.Private.Made.{IsKnownAs, tests_if_unknown}
 use Rattle.mt_kept.specs.Finds.{IsOfOtherFlight, asks_one, asks_two, cost, cost_known, cost_of, is_crossing, is_listed, is_other, is_unknown}
 use Rattle.mt_base.specs.Tally.{RoseUpTo, raised_by}
 use Rattle.mt_base.proofs.Members.{take_push}

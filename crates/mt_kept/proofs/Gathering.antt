@@ -14,7 +14,7 @@ use Rattle.mt_edges.specs.Pairs.{HaveSameEnds}
 use Rattle.mt_kept.specs.declared.finds.Candidate.{Candidate}
 use Rattle.mt_kept.specs.declared.open_pair.OpenPair.{OpenPair}
 use Rattle.mt_kept.specs.Places.{at, horizon, seen}
-use Rattle.mt_kept.specs.Made.{IsAddedAt, IsEdgeBetween, IsFind}
+use Rattle.mt_kept.specs.Private.Made.{IsAddedAt, IsEdgeBetween, IsFind}
 use Rattle.mt_kept.specs.Finds.{AreCandidates, IsOfOtherFlight, IsRight, candidate_place}
 use Rattle.std.specs.List.Sorted.{IsStrictlyIncreasing}
 use Rattle.std.proofs.lemmas.List.Kept.{AllPairs-from_increasing}

@@ -16,10 +16,13 @@ use Rattle.mt_edges.specs.declared.edge.Edge.{Edge}
 use Rattle.mt_edges.specs.Pairs.{AreDistinctPairs, touches}
 use Rattle.mt_kept.specs.declared.open_pair.OpenPair.{OpenPair}
 use Rattle.mt_kept.specs.Places.{at, seen, slot_of, with_slot}
-use Rattle.mt_kept.specs.Losing.{AreKept, AvoidsSlot, IsPair, Joins, LoseSeparation, Touches, TouchesSlot}
-use Rattle.mt_kept.specs.Window.{AreOpen, IsOpen, ShowsInWindow, Shows, edge_of}
-use Rattle.mt_kept.specs.Made.{AreReplaced, avoids, is_open_pair, opens}
-use Rattle.mt_kept.specs.Kept.{ArePairsKept}
+use Rattle.mt_kept.specs.Losing.{IsPair, Joins, LoseSeparation, Touches, TouchesSlot}
+use Rattle.mt_kept.specs.Private.Losing.{AreKept, AvoidsSlot}
+use Rattle.mt_kept.specs.Window.{IsOpen, ShowsInWindow, edge_of}
+use Rattle.mt_kept.specs.Private.Window.{AreOpen, Shows}
+use Rattle.mt_kept.specs.Made.{is_open_pair}
+use Rattle.mt_kept.specs.Private.Made.{AreReplaced, avoids, opens}
+use Rattle.mt_kept.specs.Private.Kept.{ArePairsKept}
 use Rattle.mt_kept.specs.Finds.{AreFindsOfSlot}
 use Rattle.mt_base.proofs.Members.{Contains-filter, Contains-map, Contains-map_cases, Contains-none, distinct_append}
 

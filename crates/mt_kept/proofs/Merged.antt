@@ -13,7 +13,7 @@ use Rattle.mt_base.specs.declared.conflict.Conflict.{Conflict}
 use Rattle.mt_base.specs.Picture.{conflict_cmp}
 use Rattle.mt_base.proofs.ConflictOrder.{one_conflict, total}
 use Rattle.mt_base.proofs.Members.{Contains-cases, Contains-none, distinct_append, distinct_take, take_push}
-use Rattle.mt_kept.specs.Merging.{AreMerging, ComesBefore, IsParted, LieBefore, Rise}
+use Rattle.mt_kept.specs.Private.Merging.{AreMerging, ComesBefore, IsParted, LieBefore, Rise}
 use Rattle.mt_kept.proofs.InOrder.{rising}
 
 -- a list in strict order rises, and one that rises is in strict order

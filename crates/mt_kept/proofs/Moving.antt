@@ -14,9 +14,11 @@ use Rattle.mt_edges.specs.declared.edge.Edge.{Edge}
 use Rattle.mt_edges.specs.Pairs.{AreDistinctPairs, IsEach}
 use Rattle.mt_base.proofs.Tallies.{raised_by-add}
 use Rattle.mt_kept.specs.declared.open_pair.OpenPair.{OpenPair}
-use Rattle.mt_kept.specs.Losing.{AreKept, IsPair}
-use Rattle.mt_kept.specs.Window.{AreOpen, IsOpen, ShowsInWindow, WasTestedOnce, edge_of, straddles}
-use Rattle.mt_kept.specs.Made.{WereTested, is_lasting}
+use Rattle.mt_kept.specs.Losing.{IsPair}
+use Rattle.mt_kept.specs.Private.Losing.{AreKept}
+use Rattle.mt_kept.specs.Window.{IsOpen, ShowsInWindow, WasTestedOnce, edge_of, straddles}
+use Rattle.mt_kept.specs.Private.Window.{AreOpen}
+use Rattle.mt_kept.specs.Private.Made.{WereTested, is_lasting}
 use Rattle.mt_base.proofs.Members.{All-from_held, Contains-filter, Contains-map, Contains-map_cases, distinct_append, distinct_map, distinct_of, distinct_take, Contains-take}
 
 -- pairs with different ends are different

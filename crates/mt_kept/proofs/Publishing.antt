@@ -19,9 +19,11 @@ use Rattle.mt_edges.specs.declared.edge.Edge.{Edge}
 use Rattle.mt_base.proofs.OneConflict.{one_conflict}
 use Rattle.mt_kept.specs.declared.open_pair.OpenPair.{OpenPair}
 use Rattle.mt_kept.specs.Places.{at, held, horizon, seen}
-use Rattle.mt_kept.specs.Losing.{AreKept, IsPair, LoseSeparation}
-use Rattle.mt_kept.specs.Window.{AreOpen, IsFoundOf, IsOpen, ShowsInWindow, Shows, edge_of}
-use Rattle.mt_kept.specs.Made.{IsInOrder}
+use Rattle.mt_kept.specs.Losing.{IsPair, LoseSeparation}
+use Rattle.mt_kept.specs.Private.Losing.{AreKept}
+use Rattle.mt_kept.specs.Window.{IsFoundOf, IsOpen, ShowsInWindow, edge_of}
+use Rattle.mt_kept.specs.Private.Window.{AreOpen, Shows}
+use Rattle.mt_kept.specs.Private.Made.{IsInOrder}
 use Rattle.mt_base.proofs.Members.{Contains-cases, Contains-head, Contains-later, Contains-map_cases, Contains-none, IsSeen}
 use Rattle.mt_kept.proofs.Windows.{IsLossSecond-sym, IsSpanOfLoss-sym, is_open_at}
 

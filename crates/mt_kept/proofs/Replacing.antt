@@ -14,8 +14,9 @@ use Rattle.mt_edges.proofs.Members.{Contains-with, Contains-without}
 use Rattle.mt_kept.specs.declared.open_pair.OpenPair.{OpenPair}
 use Rattle.mt_kept.specs.Dropped.{WereStepsOf}
 use Rattle.mt_kept.specs.Finds.{AreFindsOfSlot}
-use Rattle.mt_kept.specs.Losing.{AreKept, AvoidsSlot, IsPair, Joins, TouchesSlot}
-use Rattle.mt_kept.specs.Made.{AreReplaced, WereDropped, touches_slot}
+use Rattle.mt_kept.specs.Losing.{IsPair, Joins, TouchesSlot}
+use Rattle.mt_kept.specs.Private.Losing.{AreKept, AvoidsSlot}
+use Rattle.mt_kept.specs.Private.Made.{AreReplaced, WereDropped, touches_slot}
 use Rattle.mt_kept.specs.Places.{slot_of, with_slot}
 use Rattle.mt_kept.specs.Window.{edge_of}
 use Rattle.mt_kept.proofs.Keeping.{at_inside, length_slot, even_half, halves, odd_half, touches_is}

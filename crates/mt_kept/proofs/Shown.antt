@@ -9,10 +9,12 @@ use Rattle.mt_base.specs.Picture.{NamedTrajectory}
 use Rattle.mt_base.proofs.Members.{Contains-filter}
 use Rattle.mt_edges.specs.declared.edge.Edge.{Edge}
 use Rattle.mt_kept.specs.declared.open_pair.OpenPair.{OpenPair}
-use Rattle.mt_kept.specs.Losing.{AvoidsSlot, TouchesSlot}
-use Rattle.mt_kept.specs.Made.{avoids, meets, opens}
+use Rattle.mt_kept.specs.Losing.{TouchesSlot}
+use Rattle.mt_kept.specs.Private.Losing.{AvoidsSlot}
+use Rattle.mt_kept.specs.Private.Made.{avoids, meets, opens}
 use Rattle.mt_kept.specs.Places.{HaveOwnSlots, at, slot_of, with_slot}
-use Rattle.mt_kept.specs.Window.{AreOpen, ShowsInWindow, Shows}
+use Rattle.mt_kept.specs.Window.{ShowsInWindow}
+use Rattle.mt_kept.specs.Private.Window.{AreOpen, Shows}
 use Rattle.mt_kept.proofs.Keeping.{at_other, at_slot, avoids_is}
 
 -- one pair more

@@ -1,14 +1,8 @@
 -- What is kept of the places.
-use Rattle.std.specs.Prelude.{◌≡◌, ℕ, ◌<◌, ◌≤◌, ◌^◌, ◌↔◌, List, length, Contains, Option}
+use Rattle.std.specs.Prelude.{ℕ, List, Option}
 use Rattle.mt_base.specs.declared.conflict.Conflict.{Conflict}
 use Rattle.mt_base.specs.declared.rules.Rules.{Rules}
-use Rattle.mt_base.specs.Bounds.{AreWithinBounds}
 use Rattle.mt_base.specs.Picture.{NamedTrajectory}
-use Rattle.mt_edges.specs.declared.edge.Edge.{Edge}
-use Rattle.mt_kept.specs.declared.open_pair.OpenPair.{OpenPair}
-use Rattle.mt_kept.specs.Losing.{AreKept}
-use Rattle.mt_kept.specs.Places.{HaveOwnSlots}
-use Rattle.mt_kept.specs.Window.{AreOpen, Shows}
 
 -- What callers see: the rules, the moment, what stands in each place, and the conflicts published of them.
 pub record Watched : Type 0 where
@@ -16,15 +10,3 @@ pub record Watched : Type 0 where
   pub moment : ℕ
   pub places : List (Option NamedTrajectory)
   pub published : List Conflict
-
--- How it is kept: the pairs of the places, those that are open, and published is what these show. Each flight has one slot.
-pub record ArePairsKept (rules : Rules) (now : ℕ) (places : List (Option NamedTrajectory)) (edges : List Edge) (ends : ℕ)
-    (open_pairs : List OpenPair) (published : List Conflict) : Type 0 where
-  pub bounds : AreWithinBounds rules
-  pub early : now ≤ 10000000
-  pub few : length places < 2 ^ 32
-  pub all : ends ≡ length places
-  pub kept : AreKept rules places edges
-  pub opened : AreOpen rules places now edges open_pairs
-  pub exact : (c : Conflict) → Contains published c ↔ Shows open_pairs c
-  pub own : HaveOwnSlots places

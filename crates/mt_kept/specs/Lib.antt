@@ -1,10 +1,9 @@
-pub mod ConflictList
 pub mod Dropped
 pub mod Finds
 pub mod Kept
 pub mod Laws
 pub mod Losing
 pub mod Made
-pub mod Merging
 pub mod Places
+pub mod Private
 pub mod Window

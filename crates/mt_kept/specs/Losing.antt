@@ -4,7 +4,6 @@ use Rattle.mt_base.specs.declared.rules.Rules.{Rules}
 use Rattle.mt_base.specs.Conflict.{IsLossSecond, IsSpanOfLoss}
 use Rattle.mt_base.specs.Picture.{NamedTrajectory}
 use Rattle.mt_edges.specs.declared.edge.Edge.{Edge}
-use Rattle.mt_edges.specs.Pairs.{AreDistinctPairs}
 use Rattle.mt_kept.specs.Places.{at, horizon, slot_of}
 
 -- Two places have trajectories of different flights, and second k is a loss second of them.
@@ -33,12 +32,6 @@ pub record Joins (edges : List Edge) (a b : ℕ) : Type 0 where
   pub held : Contains edges edge
   pub ends : (edge.a ≡ a) × (edge.b ≡ b)
 
--- The pairs of the places: no others, each once, and each two places with a loss second have one.
-pub record AreKept (rules : Rules) (places : List (Option NamedTrajectory)) (edges : List Edge) : Type 0 where
-  pub sound : (e : Edge) → Contains edges e → IsPair rules places e
-  pub complete : (a b k : ℕ) → a < b → LoseSeparation rules places a b k → Joins edges a b
-  pub once : AreDistinctPairs edges
-
 -- one of its ends is that place
 abbrev pub Touches : ℕ → Edge → Type 0
 Touches place e = (e.a ≡ place) ⊎ (e.b ≡ place)
@@ -46,6 +39,3 @@ Touches place e = (e.a ≡ place) ⊎ (e.b ≡ place)
 -- one of its ends is a place of that slot; neither is
 abbrev pub TouchesSlot : ℕ → Edge → Type 0
 TouchesSlot slot e = (slot_of e.a ≡ slot) ⊎ (slot_of e.b ≡ slot)
-
-abbrev pub AvoidsSlot : ℕ → Edge → Type 0
-AvoidsSlot slot e = (slot_of e.a ≢ slot) × (slot_of e.b ≢ slot)

@@ -1,5 +1,5 @@
 -- The pairs that are open in the window from a moment, and what they show in it.
-use Rattle.std.specs.Prelude.{◌≡◌, ◌≢◌, ℕ, ◌<◌, ◌≤◌, ◌⊎◌, List, map, length, Contains, All, AllPairs, Option, Some, None, Bool, true, ◌&&◌, ◌||◌, nat_lt, nat_le}
+use Rattle.std.specs.Prelude.{◌≡◌, ◌≢◌, ℕ, ◌<◌, ◌≤◌, ◌⊎◌, List, length, All, AllPairs, Option, Some, None, Bool, true, ◌&&◌, ◌||◌, nat_lt, nat_le}
 use Rattle.mt_base.specs.declared.conflict.Conflict.{Conflict}
 use Rattle.mt_base.specs.declared.rules.Rules.{Rules}
 use Rattle.mt_base.specs.Conflict.{IsLossSecond}
@@ -40,20 +40,6 @@ pub record ShowsInWindow (rules : Rules) (places : List (Option NamedTrajectory)
 
 abbrev pub edge_of : OpenPair → Edge
 edge_of o = o.edge
-
--- The open pairs: exactly the kept pairs that are open, each once, each with what it shows.
-pub record AreOpen (rules : Rules) (places : List (Option NamedTrajectory)) (now : ℕ) (edges : List Edge)
-    (open_pairs : List OpenPair) : Type 0 where
-  pub sound : (o : OpenPair) → Contains open_pairs o
-      → Contains edges o.edge × IsOpen now o.edge × ShowsInWindow rules places now o.edge o.conflict
-  pub complete : (e : Edge) → Contains edges e → IsOpen now e → Contains (map edge_of open_pairs) e
-  pub distinct : AllPairs (λ o p. o.edge ≢ p.edge) open_pairs
-
--- some open pair shows that conflict
-pub record Shows (open_pairs : List OpenPair) (c : Conflict) : Type 0 where
-  pub pair : OpenPair
-  pub held : Contains open_pairs pair
-  pub shown : pair.conflict ≡ Some c
 
 -- At most one test was made for each pair of the places that straddles an edge of the window, and no other test.
 pub record WasTestedOnce (rules : Rules) (places : List (Option NamedTrajectory)) (now old new : ℕ) : Type 0 where

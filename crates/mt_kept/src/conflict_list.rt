@@ -22,7 +22,7 @@ impl Model for ConflictList {
     ghost use Rattle.std.specs.Prelude.{◌-◌, vec_len, vec_capacity};
     ghost use Rattle.std.specs.List.Sorted.{IsStrictlySortedBy};
     ghost use Rattle.mt_base.specs.Picture.{conflict_cmp};
-    ghost use Rattle.mt_kept.specs.ConflictList.{Ordered};
+    ghost use Rattle.mt_kept.specs.Private.ConflictList.{Ordered};
 
     ghost Value = { Ordered };
 

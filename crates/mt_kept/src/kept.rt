@@ -7,7 +7,7 @@ ghost use Rattle.mt_track.specs.Named.{named};
 ghost use Rattle.mt_kept.specs.Dropped.{WereStepsOf};
 ghost use Rattle.mt_kept.specs.Finds.{Agree, AreCandidates, AreFindsOfSlot, AreFindsAt, cost};
 ghost use Rattle.mt_kept.specs.Losing.{TouchesSlot};
-ghost use Rattle.mt_kept.specs.Made.{AreReplaced, WereDropped};
+ghost use Rattle.mt_kept.specs.Private.Made.{AreReplaced, WereDropped};
 ghost use Rattle.mt_kept.specs.Places.{HaveOwnSlots, held, seen, with_slot};
 ghost use Rattle.mt_base.specs.Tally.{RoseUpTo};
 ghost use Rattle.mt_kept.specs.Window.{WasTestedOnce};
@@ -37,7 +37,8 @@ pub struct Kept {
 
 impl Model for Kept {
     ghost use Rattle.std.specs.Prelude.{map};
-    ghost use Rattle.mt_kept.specs.Kept.{ArePairsKept, Watched};
+    ghost use Rattle.mt_kept.specs.Kept.{Watched};
+    ghost use Rattle.mt_kept.specs.Private.Kept.{ArePairsKept};
     ghost use Rattle.mt_kept.specs.Places.{seen};
 
     ghost Value = { Watched };

@@ -1,6 +1,6 @@
 //! Which pairs a change and a move keep.
-ghost use Rattle.std.specs.Prelude.{◌≡◌, ◌++◌, ◌+◌, ◌≤◌, map, filter, IfOk, OnOk, vec_len, vec_capacity};
-ghost use Rattle.mt_kept.specs.Made.{avoids, is_closed_pair, is_lasting, opens, quiet, touches_place};
+ghost use Rattle.std.specs.Prelude.{◌≡◌, ◌++◌, ◌≤◌, map, filter, IfOk, OnOk, vec_len, vec_capacity};
+ghost use Rattle.mt_kept.specs.Private.Made.{avoids, is_closed_pair, is_lasting, opens, quiet, touches_place};
 ghost use Rattle.mt_kept.specs.Window.{edge_of};
 
 use crate::open_pair::{OpenPair, is_open};

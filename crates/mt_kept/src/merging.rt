@@ -3,7 +3,7 @@ ghost use Rattle.std.specs.Prelude.{◌≤◌, ◌+◌, ◌↔◌, ◌⊎◌, Co
 ghost use Rattle.std.specs.List.Sorted.{IsStrictlySortedBy};
 ghost use Rattle.mt_base.specs.declared.conflict.Conflict.{Conflict};
 ghost use Rattle.mt_base.specs.Picture.{conflict_cmp};
-ghost use Rattle.mt_kept.specs.Merging.{IsParted};
+ghost use Rattle.mt_kept.specs.Private.Merging.{IsParted};
 
 use mt_base::Conflict;
 

@@ -5,10 +5,11 @@ ghost use Rattle.mt_base.specs.Bounds.{AreWithinBounds};
 ghost use Rattle.mt_base.specs.Conflict.{IsSpanOfLoss};
 ghost use Rattle.mt_track.specs.Named.{named};
 ghost use Rattle.mt_kept.specs.Losing.{IsPair};
-ghost use Rattle.mt_kept.specs.Made.{IsInOrder, WereTested, conflict_of, meets};
+ghost use Rattle.mt_kept.specs.Private.Made.{IsInOrder, WereTested, conflict_of, meets};
 ghost use Rattle.mt_kept.specs.Places.{horizon, seen};
 ghost use Rattle.mt_base.specs.Tally.{raised_by};
-ghost use Rattle.mt_kept.specs.Window.{IsFoundOf, IsOpen, ShowsInWindow, Shows, edge_of, straddles};
+ghost use Rattle.mt_kept.specs.Window.{IsFoundOf, IsOpen, ShowsInWindow, edge_of, straddles};
+ghost use Rattle.mt_kept.specs.Private.Window.{Shows};
 
 use crate::conflict_list::ConflictList;
 use crate::lists::is_elsewhere;

@@ -34,13 +34,6 @@ is_farewell reply = false
 abbrev pub IsGivenFor : Reply → Reply → Type 0
 IsGivenFor reply given = (given ≡ reply) ⊎ ((given ≡ replies.Memory) × (is_brief reply ≡ false))
 
--- A text is that of what is given, and it is said whether this is the last one.
-pub record IsGivenAs (reply : Reply) (text : List ℕ) (is_last : Bool) : Type 0 where
-  pub given : Reply
-  pub given_for : IsGivenFor reply given
-  pub text_is : text ≡ reply_text given
-  pub last_is : is_last ≡ is_farewell given
-
 -- What the output holds after a text was sent: it, and whether it was the last one is answered; or a front of it, where the output failed.
 abbrev pub Sends : List ℕ → Bool → Result Bool WriteFault → Option (List ℕ) → Option (List ℕ) → Type 0
 Sends text is_last (Ok ends) before after = Appends before after text × (is_last ≡ ends)

@@ -1,6 +1,6 @@
 pub mod Answering
 pub mod Fit
 pub mod Given
-pub mod Text
+pub mod Private
 pub mod Waiting
 pub mod Waits

@@ -1,8 +1,9 @@
 //! The text of a reply that is given.
 ghost use Rattle.std.specs.Prelude.{◌≡◌, ◌≤◌, true, vec_capacity};
 ghost use Rattle.mt_lines.specs.Fit.{AreBrief, AreBriefCalls, IsBriefAdvice, IsFit};
-ghost use Rattle.mt_lines.specs.Given.{IsGivenAs, is_brief, is_farewell};
-ghost use Rattle.mt_lines.specs.Text.{text_in};
+ghost use Rattle.mt_lines.specs.Given.{is_brief, is_farewell};
+ghost use Rattle.mt_lines.specs.Private.Given.{IsGivenAs};
+ghost use Rattle.mt_lines.specs.Private.Text.{text_in};
 ghost use Rattle.mt_write.specs.Short.{AreShortCalls, IsShort, IsShortAdvice, IsShortProbe};
 
 use mt_base::{Callsign, Hit, Second};

@@ -28,7 +28,8 @@ use Rattle.mt_write.specs.declared.reply.Reply.{Reply}
 use Rattle.mt_write.specs.declared.reply.Reply.TheVariants.{Advice}
 use Rattle.mt_world.proofs.Areas.{added_either}
 use Rattle.mt_world.specs.World.{Actor, IsAcceptedOf, IsAdded, IsAdvisedAs, IsOutcome, IsServed, IsFlightTold, World, actor_of, is_empty, items_from, new_actor, opening_world, picture_of}
-use Rattle.mt_load.specs.Load.{AreRequestsAnswered, HaveProbeNumbers, CanBeNamed, EachDivided, IsAdviceTaken, IsAdvisedFlight, IsAsked, IsFirstAccepted, probes_of}
+use Rattle.mt_load.specs.Load.{AreRequestsAnswered, EachDivided, IsAdviceTaken, IsAdvisedFlight, IsAsked, IsFirstAccepted}
+use Rattle.mt_load.specs.Private.Load.{HaveProbeNumbers, CanBeNamed, probes_of}
 
 -- ---- the probes of actors
 

@@ -1,2 +1,3 @@
 pub mod Load
+pub mod Private
 pub mod Summary

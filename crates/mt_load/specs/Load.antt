@@ -1,5 +1,5 @@
 -- A load run: an input that is made from a number, then advice, acceptances and drops. Each request is answered by the definition of a world.
-use Rattle.std.specs.Prelude.{◌≡◌, ℕ, zero, suc, ◌<◌, ◌≤◌, ◌^◌, ◌%◌, List, [], ◌∷◌, nat_eq, All, MatchBool, ⊤}
+use Rattle.std.specs.Prelude.{◌≡◌, ℕ, zero, suc, ◌%◌, List, [], ◌∷◌, nat_eq, MatchBool, ⊤}
 use Rattle.mt_base.specs.declared.command.Command.TheVariants.{Drop, Tick}
 use Rattle.mt_make.specs.Input.{callsign, inputs}
 use Rattle.mt_read.specs.declared.request.Request.{Request}
@@ -7,20 +7,7 @@ use Rattle.mt_read.specs.declared.request.Request.TheVariants.{Accept, Advise, C
 use Rattle.mt_write.specs.declared.reply.AdviceItem.{AdviceItem}
 use Rattle.mt_write.specs.declared.reply.Reply.{Reply}
 use Rattle.mt_write.specs.declared.reply.Reply.TheVariants.{Advice}
-use Rattle.mt_world.specs.World.{IsServed, World, actor_of, opening_world}
-
--- how many probes an actor of a world ever made
-abbrev pub probes_of : World → ℕ → ℕ
-probes_of w who = (actor_of w who).book.count
-
--- an advised clearance has a number that an acceptance can name
-abbrev pub CanBeNamed : AdviceItem → Type 0
-CanBeNamed item = (1 ≤ item.probe) × (item.probe < 2 ^ 63)
-
--- each clearance that a reply advises has one
-abbrev pub HaveProbeNumbers : Reply → Type 0
-HaveProbeNumbers (Advice advice call eff version) = All CanBeNamed advice
-HaveProbeNumbers reply = ⊤
+use Rattle.mt_world.specs.World.{IsServed, World, opening_world}
 
 -- an actor's request is answered, whatever the reply
 pub record IsAsked (w : World) (who : ℕ) (request : Request) (next : World) : Type 0 where

@@ -4,7 +4,8 @@ ghost use Rattle.mt_base.specs.declared.rules.Rules.{Rules};
 ghost use Rattle.mt_make.specs.Input.{callsign};
 ghost use Rattle.mt_read.specs.Bounded.{IsBoundedRequest};
 ghost use Rattle.mt_world.specs.World.{IsServed, opening_world};
-ghost use Rattle.mt_load.specs.Load.{AreRequestsAnswered, HaveProbeNumbers, CanBeNamed, EachDivided, IsAdviceTaken, IsAdvisedFlight, IsAsked, IsDroppedFlight, IsFirstAccepted, IsLoadRun, probes_of};
+ghost use Rattle.mt_load.specs.Load.{AreRequestsAnswered, EachDivided, IsAdviceTaken, IsAdvisedFlight, IsAsked, IsDroppedFlight, IsFirstAccepted, IsLoadRun};
+ghost use Rattle.mt_load.specs.Private.Load.{HaveProbeNumbers, CanBeNamed, probes_of};
 
 use mt_base::{Callsign, Command};
 use mt_make::{callsign, input};

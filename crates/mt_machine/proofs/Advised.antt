@@ -9,7 +9,8 @@ use Rattle.mt_base.specs.Advice.{IsAdvice, Tried, WasFound, candidates_in, free_
 use Rattle.mt_base.specs.Picture.{State}
 use Rattle.mt_base.specs.Tables.{Setup}
 use Rattle.mt_base.proofs.FewAdvised.{few_filtered, few_in}
-use Rattle.mt_machine.specs.Advising.{AreCandidatesOrRefused, AreFreeAmong, IsClearanceFree}
+use Rattle.mt_machine.specs.Advising.{IsClearanceFree}
+use Rattle.mt_machine.specs.Private.Advising.{AreCandidatesOrRefused, AreFreeAmong}
 
 module _ (setup : Setup) (s : State) (call : List ℕ) where
   abbrev IsFound : Tried → Type 0

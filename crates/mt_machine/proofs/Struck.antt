@@ -14,7 +14,7 @@ use Rattle.mt_base.specs.Picture.{State, flight_of, trajectory_of, window_end}
 use Rattle.mt_base.specs.Tables.{Setup}
 use Rattle.mt_base.specs.Trajectory.{Trajectory}
 use Rattle.mt_base.specs.WhatIf.{AreHitsOf, hit_cmp}
-use Rattle.mt_machine.specs.Hits.{IsHitWith}
+use Rattle.mt_machine.specs.Private.Hits.{IsHitWith}
 use Rattle.mt_board.specs.Short.{AreShortHits}
 
 -- the pair test found nothing, or this hit and no other

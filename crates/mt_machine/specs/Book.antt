@@ -1,6 +1,6 @@
 -- The book of what was probed: the last 64 values, under numbers from 1 up.
-use Rattle.std.specs.Prelude.{ℕ, ◌+◌, ◌-◌, List, [], ◌∷◌, ◌++◌, length, map, Option, None, slice_get, if◌then◌else◌, nat_lt, refl}
-use Rattle.std.specs.Coded.{Coded, code_by, coded×, coded_list, coded_ℕ}
+use Rattle.std.specs.Prelude.{ℕ, ◌+◌, ◌-◌, List, [], ◌∷◌, ◌++◌, length, Option, None, slice_get, if◌then◌else◌, nat_lt}
+use Rattle.std.specs.Coded.{coded×}
 use Rattle.mt_base.specs.Tally.{raised}
 use Rattle.circular_buffer.specs.Buffer.{keep_last}
 
@@ -10,9 +10,6 @@ pub record Book (P : Type 0) : Type 0 where
   pub last : List P
 
 module _ {P : Type 0} where
-  abbrev pub book_code : Coded P → Coded (Book P)
-  book_code c = code_by (ℕ × List P) (coded× coded_ℕ (coded_list c)) (λ b. (b.count, b.last)) (λ p. record { count = p.0; last = p.1 }) (λ _. refl)
-
   abbrev pub empty_book : Book P
   empty_book = record { count = 0; last = [] }
 
@@ -28,7 +25,3 @@ module _ {P : Type 0} where
 abbrev pub with_all : {P : Type 0} → Book P → List P → Book P
 with_all book [] = book
 with_all book (p ∷ ps) = with_all (with_probe book p) ps
-
--- a book of values as the book of what is told of them
-abbrev pub told_book : {P Q : Type 0} → (P → Q) → Book P → Book Q
-told_book told book = record { count = book.count; last = map told book.last }

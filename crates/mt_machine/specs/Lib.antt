@@ -1,4 +1,3 @@
 pub mod Advising
 pub mod Book
-pub mod Deciding
-pub mod Hits
+pub mod Private

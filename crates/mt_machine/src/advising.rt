@@ -1,10 +1,11 @@
 //! Which clearances are advised to a flight.
-ghost use Rattle.std.specs.Prelude.{◌≡◌, ◌≤◌, All, None, Ok, length, IfOk};
+ghost use Rattle.std.specs.Prelude.{◌≤◌, All, None, Ok, length, IfOk};
 ghost use Rattle.mt_advise.specs.Trying.{CanBeTried};
 ghost use Rattle.mt_base.specs.Advice.{IsAdvice, WasFound};
 ghost use Rattle.mt_base.specs.Bounds.{AreWithinBounds};
 ghost use Rattle.mt_base.specs.Tables.{setup_with};
-ghost use Rattle.mt_machine.specs.Advising.{AreCandidatesOrRefused, AreFreeAmong, IsClearanceFree};
+ghost use Rattle.mt_machine.specs.Advising.{IsClearanceFree};
+ghost use Rattle.mt_machine.specs.Private.Advising.{AreCandidatesOrRefused, AreFreeAmong};
 ghost use Rattle.mt_change.specs.Sound.{IsSoundState};
 
 use crate::plain::Plain;

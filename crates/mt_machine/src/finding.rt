@@ -5,7 +5,7 @@ ghost use Rattle.mt_base.specs.Bounds.{AreWithinBounds, IsSoundFlight};
 ghost use Rattle.mt_base.specs.Name.{is_name};
 ghost use Rattle.mt_base.specs.Picture.{flight_of};
 ghost use Rattle.mt_base.specs.WhatIf.{AreHitsOf};
-ghost use Rattle.mt_machine.specs.Hits.{IsHitWith};
+ghost use Rattle.mt_machine.specs.Private.Hits.{IsHitWith};
 ghost use Rattle.mt_board.specs.Short.{AreShortHits};
 ghost use Rattle.mt_change.specs.Sound.{IsSoundState};
 ghost use Rattle.mt_base.specs.Tables.{setup_with};

@@ -4,7 +4,8 @@ use Rattle.std.proofs.lemmas.Bool.{cases_lt}
 use Rattle.mt_base.specs.declared.rules.Rules.{Rules}
 use Rattle.mt_cover.specs.declared.sliced.Slice.{Slice}
 use Rattle.mt_cover.specs.Sliced.{Sliced, no_slice, slice_at}
-use Rattle.mt_meet.specs.Meeting.{IsHull, MeetAt, SlicesMeet, hull_on}
+use Rattle.mt_meet.specs.Meeting.{IsHull, MeetAt, SlicesMeet}
+use Rattle.mt_meet.specs.Private.Meeting.{hull_on}
 
 -- a second of one slice
 pub same_slice : (s : Sliced) (at k : ℕ) → s.from ≤ at → at ≤ k → k < s.from + 256 * ((at - s.from) / 256 + 1) → slice_at s k ≡ slice_at s at

@@ -6,7 +6,7 @@ use Rattle.std.proofs.lemmas.List.{get_or-set_other, get_or-set_same, length-rep
 use Rattle.std.proofs.lemmas.List.Elements.{All-replicate, All-set}
 use Rattle.mt_cover.specs.Sliced.{Sliced}
 use Rattle.mt_meet.specs.declared.reach.Reach.{Reach}
-use Rattle.mt_meet.specs.Reaching.{AreSlicesIn, AreReachesKept, nowhere, page_of, reach_at, reach_in}
+use Rattle.mt_meet.specs.Private.Reaching.{AreSlicesIn, AreReachesKept, nowhere, page_of, reach_at, reach_in}
 
 -- each place has what all have
 pub same : {X : Type 0} (n i : ℕ) (x : X) → get_or (replicate n x) i x ≡ x

@@ -1,2 +1,2 @@
 pub mod Meeting
-pub mod Reaching
+pub mod Private

@@ -1,5 +1,5 @@
 -- Trajectories whose slices meet: only these can lose separation.
-use Rattle.std.specs.Prelude.{◌≡◌, ◌≤◌, ◌<◌, ◌&&◌, Bool, true, false, ℕ, List, AllPairs, Contains, Option, Some, None, get_or, length}
+use Rattle.std.specs.Prelude.{◌≡◌, ◌≤◌, ◌<◌, ◌&&◌, Bool, ℕ, List, AllPairs, Contains, Option, Some, None, get_or, length}
 use Rattle.mt_base.specs.declared.rules.Rules.{Rules}
 use Rattle.mt_base.specs.Bounds.{AreWithinBounds}
 use Rattle.mt_base.specs.Conflict.{IsLossSecond}
@@ -33,12 +33,6 @@ pub record IsHullOf (P : ℕ → Type 0) (first last : ℕ) : Type 0 where
 abbrev pub IsHull : (ℕ → Type 0) → Option (ℕ × ℕ) → Type 0
 IsHull P (Some span) = IsHullOf P span.0 span.1
 IsHull P None = (k : ℕ) → ¬ P k
-
--- the first and the last of some seconds and of some later ones, where these count
-abbrev pub hull_on : Option (ℕ × ℕ) → Bool → ℕ → ℕ → Option (ℕ × ℕ)
-hull_on hull false first last = hull
-hull_on (Some span) true first last = Some (span.0, last)
-hull_on None true first last = Some (first, last)
 
 -- No loss is missed: in a loss second of two trajectories their slices meet.
 abbrev pub LosingMeet : Type 0

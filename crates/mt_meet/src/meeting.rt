@@ -3,7 +3,8 @@ ghost use Rattle.std.specs.Prelude.{◌≡◌, ◌↔◌, ◌&&◌, IsTrue};
 ghost use Rattle.mt_base.specs.Bounds.{AreWithinBounds};
 ghost use Rattle.mt_track.specs.Layer.{IsLayerKept};
 ghost use Rattle.mt_cover.specs.Sliced.{Touch};
-ghost use Rattle.mt_meet.specs.Meeting.{IsHull, MeetAt, SlicesMeet, hull_on};
+ghost use Rattle.mt_meet.specs.Meeting.{IsHull, MeetAt, SlicesMeet};
+ghost use Rattle.mt_meet.specs.Private.Meeting.{hull_on};
 
 use mt_base::{Rules, Second};
 use mt_cover::{Extent, Slice, Slices};

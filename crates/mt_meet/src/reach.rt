@@ -3,7 +3,7 @@ ghost use Rattle.std.specs.Prelude.{◌≡◌, ◌↔◌, IsTrue};
 ghost use Rattle.mt_base.specs.Bounds.{AreWithinBounds};
 ghost use Rattle.mt_track.specs.Layer.{IsLayerKept};
 ghost use Rattle.mt_cover.specs.Sliced.{AreSlices};
-ghost use Rattle.mt_meet.specs.Reaching.{AreClose, reach_of, nowhere};
+ghost use Rattle.mt_meet.specs.Private.Reaching.{AreClose, reach_of, nowhere};
 
 use mt_base::{Rules, Second};
 use mt_cover::Slices;

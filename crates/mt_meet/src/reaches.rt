@@ -1,6 +1,6 @@
 //! The reaches of many items, in pages.
 ghost use Rattle.std.specs.Prelude.{◌≡◌, ◌<◌, length, replicate, slice_set, IfOk, option_copied};
-ghost use Rattle.mt_meet.specs.Reaching.{nowhere, page_of};
+ghost use Rattle.mt_meet.specs.Private.Reaching.{nowhere, page_of};
 
 use crate::reach::{Reach, nowhere};
 use mt_base::Memory;

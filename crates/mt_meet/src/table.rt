@@ -1,9 +1,9 @@
 //! The slices of many trajectories.
-ghost use Rattle.std.specs.Prelude.{◌≡◌, ◌<◌, ◌≤◌, ◌+◌, ◌*◌, None, length, get_or, replicate, slice_set, IfOk, option_copied, option_map};
+ghost use Rattle.std.specs.Prelude.{◌≡◌, ◌<◌, ◌+◌, ◌*◌, None, length, get_or, replicate, slice_set, IfOk, option_copied, option_map};
 ghost use Rattle.std.specs.Arc.{arc_value};
 ghost use Rattle.mt_base.specs.Bounds.{AreWithinBounds};
 ghost use Rattle.mt_meet.specs.Meeting.{AreMet, IsMetAt, IsNextMet};
-ghost use Rattle.mt_meet.specs.Reaching.{AreReachesOn, AreSlicesIn, IsNextOn, IsReachOf, reach_in, reach_of};
+ghost use Rattle.mt_meet.specs.Private.Reaching.{AreReachesOn, AreSlicesIn, IsNextOn, IsReachOf, reach_in, reach_of};
 
 use crate::meeting::meet;
 use crate::reach::{Reach, are_close, nowhere, reach_of};
@@ -39,7 +39,7 @@ pub struct SliceTable {
 impl Model for SliceTable {
     ghost use Rattle.std.specs.Prelude.{List, Option};
     ghost use Rattle.mt_cover.specs.Sliced.{Sliced};
-    ghost use Rattle.mt_meet.specs.Reaching.{AreReachesKept};
+    ghost use Rattle.mt_meet.specs.Private.Reaching.{AreReachesKept};
 
     ghost Value = { List (Option Sliced) };
 

@@ -4,7 +4,8 @@ use Rattle.std.proofs.Math.ListN.{set}
 use Rattle.std.proofs.lemmas.Bool.Decides.{nat_tests}
 use Rattle.std.proofs.lemmas.List.{get_or-set_same, get_or-set_other, length-set, set-get_or, set-set}
 use Rattle.mt_names.specs.declared.names.Named.{Named}
-use Rattle.mt_names.specs.Naming.{AreNamed, CanStand, IsOtherName, IsRenaming}
+use Rattle.mt_names.specs.Naming.{AreNamed, CanStand, IsRenaming}
+use Rattle.mt_names.specs.Private.Naming.{IsOtherName}
 use Rattle.mt_names.proofs.Splitting.{one_named}
 
 decide : (a b : ℕ) → (a ≡ b) ⊎ (a ≢ b)

@@ -15,7 +15,7 @@ use Rattle.std.specs.declared.cmp.Ordering.TheVariants.{Less, Equal, Greater}
 use Rattle.mt_base.proofs.ConflictOrder.{one_text}
 use Rattle.mt_base.proofs.Members.{All-from_held, Contains-cases, Contains-head, Contains-later, Contains-take, distinct_append, distinct_take}
 use Rattle.mt_names.specs.declared.names.Named.{Named}
-use Rattle.mt_names.specs.Naming.{AreRising, IsCallBefore, IsNotBefore, IsOtherName, IsSplit}
+use Rattle.mt_names.specs.Private.Naming.{AreRising, IsCallBefore, IsNotBefore, IsOtherName, IsSplit}
 
 -- the order of texts
 abbrev cmp : List ℕ → List ℕ → Ordering

@@ -2,7 +2,8 @@
 ghost use Rattle.std.specs.Prelude.{◌≡◌, ◌↔◌, ◌⊎◌, ◌≤◌, [], Contains, length, IfOk};
 ghost use Rattle.std.specs.List.{AllWithin};
 ghost use Rattle.mt_names.specs.declared.names.Named.{Named};
-ghost use Rattle.mt_names.specs.Naming.{AreRising, IsCallBefore, IsNotBefore, IsOtherName, IsPlaceOf, IsSplit};
+ghost use Rattle.mt_names.specs.Naming.{IsPlaceOf};
+ghost use Rattle.mt_names.specs.Private.Naming.{AreRising, IsCallBefore, IsNotBefore, IsOtherName, IsSplit};
 
 use mt_base::{Callsign, Memory};
 use std::alloc::Global;
@@ -26,7 +27,7 @@ pub struct Names {
 impl Model for Names {
     ghost use Rattle.std.specs.Prelude.{List};
     ghost use Rattle.mt_names.specs.declared.names.Named.{Named};
-    ghost use Rattle.mt_names.specs.Naming.{AreRising};
+    ghost use Rattle.mt_names.specs.Private.Naming.{AreRising};
 
     ghost Value = { List Named };
 

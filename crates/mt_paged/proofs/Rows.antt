@@ -3,7 +3,7 @@ use Rattle.std.proofs.Common.{◌≡◌, ℕ, zero, suc, ◌+◌, ◌-◌, ◌*�
 use Rattle.std.proofs.Math.Seq.{take-set-lt}
 use Rattle.std.proofs.lemmas.List.{length-replicate, replicate-append-replicate, take-replicate, get_or-append-add, get_or-take, get_or_append_left, set-append_left, set-append_right}
 use Rattle.std.proofs.lemmas.List.Elements.{All-get_or, All-replicate, All-head, All-set, All-tail}
-use Rattle.mt_paged.specs.Pages.{AreRows, rows_joined}
+use Rattle.mt_paged.specs.Private.Pages.{AreRows, rows_joined}
 
 -- the place r of row q
 get_joined : {X : Type 0} (rows : List (List X)) (q r : ℕ) (d : X) → All (λ row. length row ≡ 32) rows → q < length rows → r < 32

@@ -10,7 +10,7 @@ use Rattle.std.specs.declared.sync.Arc.{Arc}
 use Rattle.std.specs.declared.vec.Vec.{Vec}
 use Rattle.std.proofs.Math.Seq.{map-set_same}
 use Rattle.std.proofs.lemmas.List.{length-map, map-set, get_or-map}
-use Rattle.mt_paged.specs.Pages.{AreRows, rows_joined, page_places, row, rows}
+use Rattle.mt_paged.specs.Private.Pages.{AreRows, rows_joined, page_places, row, rows}
 use Rattle.mt_paged.proofs.Rows.{get_listed, row_is_full, row_of, rows_set, set_listed}
 
 -- a list and its copy agree in what f says of their members

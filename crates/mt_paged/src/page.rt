@@ -2,7 +2,7 @@
 ghost use Rattle.std.specs.Prelude.{◌≡◌, ◌<◌, None, length, replicate, slice_set, IfOk, OnOk, OnErr};
 ghost use Rattle.std.specs.Arc.{arc_value};
 ghost use Rattle.std.specs.Option.{option_map};
-ghost use Rattle.mt_paged.specs.Pages.{row, rows};
+ghost use Rattle.mt_paged.specs.Private.Pages.{row, rows};
 
 use mt_memory::Memory;
 use std::alloc::Global;

@@ -22,7 +22,7 @@ pub struct Paged<T: Drop> {
 impl<T: Drop> Model for Paged<T> {
     ghost use Rattle.std.specs.Prelude.{List, Option, take};
     ghost use Rattle.std.specs.Arc.{arc_value};
-    ghost use Rattle.mt_paged.specs.Pages.{AreRows, rows_joined, rows};
+    ghost use Rattle.mt_paged.specs.Private.Pages.{AreRows, rows_joined, rows};
 
     ghost Value = { List (Option T) };
 

@@ -3,8 +3,8 @@ use Rattle.std.proofs.Common.{◌≡◌, ◌↔◌, ◌⊎◌, inl, inr, ⊎_eli
 use Rattle.mt_frac.specs.declared.fraction.Frac.{Frac}
 use Rattle.mt_frac.specs.declared.quadratic.Quad.{Quad}
 use Rattle.mt_pair.specs.declared.approach.High.{High}
-use Rattle.mt_pair.specs.Below.{HoldsBetween}
-use Rattle.mt_pair.specs.Cases.{IsHighAt, IsHighLoss}
+use Rattle.mt_pair.specs.Private.Below.{HoldsBetween}
+use Rattle.mt_pair.specs.Private.Cases.{IsHighAt, IsHighLoss}
 
 first_between : (P Q : ℤ → ℤ → Type 0) (lo hi : Frac) → HoldsBetween P lo hi → HoldsBetween (λ n d. P n d ⊎ Q n d) lo hi
 first_between P Q lo hi some = record { n = some.n; d = some.d; positive = some.positive; between = some.between; holds = inl some.holds }

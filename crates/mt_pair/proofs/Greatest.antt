@@ -6,8 +6,8 @@ use Rattle.mt_ring.proofs.Sizes.{Abs, abs_add, abs_lit, abs_mul, abs_sub, abs_to
 use Rattle.mt_base.specs.Bounds.{AreWithinBounds, IsBoundedRow, IsWithin}
 use Rattle.mt_base.specs.declared.row.Row.{Row}
 use Rattle.mt_base.specs.declared.rules.Rules.{Rules}
-use Rattle.mt_pair.specs.Gap.{gain_of, offset_of, product}
-use Rattle.mt_pair.specs.Greatest.{AreWithinSizes, IsAtMost}
+use Rattle.mt_pair.specs.Private.Gap.{gain_of, offset_of, product}
+use Rattle.mt_pair.specs.Private.Greatest.{AreWithinSizes, IsAtMost}
 use Rattle.mt_pair.proofs.Sizes.{least_size, row_sizes, sh_size, sv2_kept}
 
 -- to and from

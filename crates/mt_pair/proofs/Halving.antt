@@ -1,8 +1,9 @@
 -- Halving: how often, and what is known of the seconds that are left.
 use Rattle.std.proofs.Common.{ℕ, ℤ, zero, suc, ◌+◌, ◌*◌, ◌^◌, ◌<◌, ◌≤◌, subst, arith, le_refl, ⊎_elim}
 use Rattle.std.proofs.lemmas.Bool.{cases_lt}
-use Rattle.mt_frac.specs.Instants.{HoldsIn, HoldsOver}
-use Rattle.mt_base.specs.Span.{IsGreatest, IsLeast, IsSpanOf}
+use Rattle.mt_frac.specs.Private.Instants.{HoldsIn, HoldsOver}
+use Rattle.mt_base.specs.Span.{IsSpanOf}
+use Rattle.mt_base.specs.Private.Span.{IsGreatest, IsLeast}
 
 -- so much is left that the halvings to come end within so many steps in all
 pub record IsHalvedTo (size count most : ℕ) : Type 0 where

@@ -13,8 +13,10 @@ use Rattle.mt_base.specs.Bounds.{IsWithin}
 use Rattle.mt_base.specs.Loss.{IsNearAt, LosesIn, height}
 use Rattle.mt_track.specs.declared.layer.Layer.{Layer}
 use Rattle.mt_track.specs.Layer.{IsInLayer, IsLayerKept}
-use Rattle.mt_pair.specs.Heights.{AreApartBy, EndBelow, IsMinimumIn, LieApart}
-use Rattle.mt_pair.specs.High.{LosesAbove, level_of}
+use Rattle.mt_pair.specs.Heights.{AreApartBy, EndBelow, LieApart}
+use Rattle.mt_pair.specs.Private.Heights.{IsMinimumIn}
+use Rattle.mt_pair.specs.High.{level_of}
+use Rattle.mt_pair.specs.Private.High.{LosesAbove}
 use Rattle.mt_pair.proofs.Instants.{loses_above}
 
 -- a value at an instant is at least what it is at both ends of the second, and at most

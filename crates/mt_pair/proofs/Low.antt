@@ -7,9 +7,9 @@ use Rattle.std.specs.Option.{option_copied}
 use Rattle.mt_frac.specs.declared.quadratic.Quad.{Quad}
 use Rattle.mt_pair.specs.declared.approach.Approach.{Approach}
 use Rattle.mt_pair.specs.declared.approach.High.{High}
-use Rattle.mt_frac.specs.Instants.{HoldsIn, HoldsOver}
-use Rattle.mt_pair.specs.Below.{AreBelowAt}
-use Rattle.mt_pair.specs.Cases.{IsHighLoss, IsLoss}
+use Rattle.mt_frac.specs.Private.Instants.{HoldsIn, HoldsOver}
+use Rattle.mt_pair.specs.Private.Below.{AreBelowAt}
+use Rattle.mt_pair.specs.Private.Cases.{IsHighLoss, IsLoss}
 
 -- what follows at each fraction follows in some seconds
 over_from : (P Q : ℤ → ℤ → Type 0) (low high : ℕ) → ((n d : ℤ) → P n d → Q n d) → HoldsOver P low high → HoldsOver Q low high

@@ -1,12 +1,12 @@
 -- What is open holds at a fraction strictly between two whole numbers exactly where it does at an instant of some second from the one to
 -- the other.
-use Rattle.std.proofs.Common.{◌≡◌, ℕ, ◌*◌, ◌<◌, ℤ, pos, ◌*ℤ◌, ◌<ℤ◌, ◌↔◌}
+use Rattle.std.proofs.Common.{◌≡◌, ℕ, ℤ, pos, ◌*ℤ◌, ◌<ℤ◌, ◌↔◌}
 use Rattle.mt_frac.specs.declared.fraction.Frac.{Frac}
 use Rattle.mt_frac.specs.FractionOrder.{IsBetween}
 use Rattle.mt_frac.proofs.Openness.{HoldsInside, IsOpen}
 use Rattle.mt_frac.proofs.Seconds.{inside_over}
-use Rattle.mt_frac.specs.Instants.{HoldsOver}
-use Rattle.mt_pair.specs.Below.{HoldsBetween}
+use Rattle.mt_frac.specs.Private.Instants.{HoldsOver}
+use Rattle.mt_pair.specs.Private.Below.{HoldsBetween}
 
 between_of : (lo hi : Frac) (low high : ℕ) (n d : ℤ) → lo.num ≡ pos low → lo.den ≡ pos 1 → hi.num ≡ pos high → hi.den ≡ pos 1
     → (pos low *ℤ d) <ℤ (n *ℤ pos 1) → (n *ℤ pos 1) <ℤ (pos high *ℤ d) → IsBetween lo hi n d

@@ -8,10 +8,10 @@ use Rattle.mt_ring.proofs.Signs.{cases_ℤ, mul_nonneg, square_nonneg, weaken}
 use Rattle.mt_frac.specs.declared.linear.Line.{Line}
 use Rattle.mt_frac.specs.declared.quadratic.Quad.{Quad}
 use Rattle.mt_frac.specs.Polynomials.{value, line_value}
-use Rattle.mt_frac.specs.Vertex.{slope}
-use Rattle.mt_frac.specs.Instants.{HoldsIn, HoldsOver}
-use Rattle.mt_pair.specs.Below.{AreBelowAt}
-use Rattle.mt_pair.specs.Turning.{IsFalling, IsSooner}
+use Rattle.mt_frac.specs.Private.Vertex.{slope}
+use Rattle.mt_frac.specs.Private.Instants.{HoldsIn, HoldsOver}
+use Rattle.mt_pair.specs.Private.Below.{AreBelowAt}
+use Rattle.mt_pair.specs.Private.Turning.{IsFalling, IsSooner}
 use Rattle.mt_pair.proofs.Instants.{are_open}
 use Rattle.mt_frac.proofs.Seconds.{after_start, before_end}
 

@@ -7,14 +7,16 @@ use Rattle.mt_base.specs.Conflict.{IsConflict, IsLossSecond}
 use Rattle.mt_base.specs.Loss.{LosesIn}
 use Rattle.mt_base.specs.Trajectory.{Trajectory}
 use Rattle.mt_track.specs.declared.segment.Segment.{Segment}
-use Rattle.mt_track.specs.Laid.{Adjoin, AreSegmentsOf, Covers, CoversSecond, IsLaid, IsStrand, edge}
+use Rattle.mt_track.specs.Laid.{Adjoin, AreSegmentsOf, Covers, IsStrand}
+use Rattle.mt_track.specs.Private.Laid.{CoversSecond, IsLaid, edge}
 use Rattle.mt_track.specs.Rows.{row_after}
 use Rattle.mt_track.proofs.Apart.{few_segments, same_segments}
 use Rattle.mt_track.proofs.Joined.{one_element}
 use Rattle.mt_track.proofs.Segments.{edge_from, lies_at}
 use Rattle.mt_track.proofs.Strands.{found}
-use Rattle.mt_pair.specs.Held.{BeginsBy}
-use Rattle.mt_base.specs.Span.{IsSpan, joined}
+use Rattle.mt_pair.specs.Private.Held.{BeginsBy}
+use Rattle.mt_base.specs.Span.{IsSpan}
+use Rattle.mt_base.specs.Private.Span.{joined}
 use Rattle.mt_base.proofs.Spans.{IsSpan-joined, IsSpan-same}
 use Rattle.mt_pair.proofs.Spans.{IsConflict-is, IsSpan-conflict, loss_second}
 

@@ -8,7 +8,7 @@ use Rattle.mt_frac.specs.declared.linear.Line.{Line}
 use Rattle.mt_frac.specs.declared.quadratic.Quad.{Quad}
 use Rattle.mt_frac.specs.Polynomials.{value, line_value}
 use Rattle.mt_frac.specs.Signs.{IsBoundedLine, IsBoundedQuad}
-use Rattle.mt_frac.specs.Vertex.{slope}
+use Rattle.mt_frac.specs.Private.Vertex.{slope}
 
 pub whole_value : (a b c k : ℤ) → (a *ℤ k +ℤ b) *ℤ k +ℤ c ≡ value a b c k (pos 1)
 whole_value a b c k = simp spread (omega (arith, lin))

@@ -1,42 +1,8 @@
 -- Loss with the conditions of the greater minimum joined: it holds above one level.
-use Rattle.std.specs.Prelude.{Bool, true, false, ℕ, ℤ, pos, ◌+ℤ◌, ◌*ℤ◌, ◌<ℤ◌, ◌≤ℤ◌, ◌⊎◌}
-use Rattle.mt_base.specs.declared.row.Row.{Row}
-use Rattle.mt_base.specs.declared.rules.Rules.{Rules}
-use Rattle.mt_frac.specs.declared.linear.Line.{Line}
-use Rattle.mt_pair.specs.Gap.{excess_of}
-use Rattle.mt_base.specs.Loss.{IsNearAt, IsOneAboveAt, apart_x, apart_y, fl290, fl410, width}
+use Rattle.std.specs.Prelude.{Bool, true, false, ℤ}
+use Rattle.mt_base.specs.Loss.{fl290, fl410}
 
 -- the level above which the greater minimum holds for two aircraft: flight level 410 where both are approved, else 290
 abbrev pub level_of : Bool → ℤ
 level_of true = fl410
 level_of false = fl290
-
--- two rows lose separation at n/d, where the greater minimum holds above that level
-pub record LosesAbove (rules : Rules) (level : ℤ) (a b : Row) (n d : ℤ) : Type 0 where
-  pub horizontal : (apart_x a b n d *ℤ apart_x a b n d +ℤ apart_y a b n d *ℤ apart_y a b n d)
-      <ℤ (width rules a b n d *ℤ width rules a b n d)
-  pub vertical : IsNearAt rules.sv a b n d ⊎ (IsNearAt rules.sv2 a b n d × IsOneAboveAt level a b n d)
-
--- a line is at least 0 at the start, and that many seconds later
-pub record StaysAbove (line : Line) (seconds : ℕ) : Type 0 where
-  pub start : pos 0 ≤ℤ line.c
-  pub end : pos 0 ≤ℤ (line.b *ℤ pos seconds +ℤ line.c)
-
--- a row isn't above a level at the start of its second, nor that many seconds later if it keeps its gain
-pub record IsLow (level : ℤ) (a : Row) (seconds : ℕ) : Type 0 where
-  pub start : a.z ≤ℤ level
-  pub end : (a.z +ℤ a.vz *ℤ pos seconds) ≤ℤ level
-
--- nor is the other of two
-abbrev pub AreLow : ℤ → Row → Row → ℕ → Type 0
-AreLow level a b seconds = IsLow level a seconds × IsLow level b seconds
-
--- one of two rows is above the other by the lesser minimum, at the start and that many seconds later
-abbrev pub AreFar : Rules → Row → Row → ℕ → Type 0
-AreFar rules a b seconds = StaysAbove (excess_of rules.sv a b) seconds ⊎ StaysAbove (excess_of rules.sv b a) seconds
-
--- the fraction n/d is an instant of the first so many seconds
-pub record IsDuring (seconds : ℕ) (n d : ℤ) : Type 0 where
-  pub positive : pos 0 <ℤ d
-  pub begun : pos 0 ≤ℤ n
-  pub ahead : n <ℤ (pos seconds *ℤ d)

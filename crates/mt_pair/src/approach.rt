@@ -25,8 +25,8 @@ impl High {
     ghost use Rattle.std.specs.Prelude.{◌↔◌, ◌<◌, IsTrue};
     ghost use Rattle.mt_base.specs.Bounds.{AreWithinBounds, IsBoundedRow};
     ghost use Rattle.mt_frac.specs.FractionOrder.{IsBefore};
-    ghost use Rattle.mt_pair.specs.Below.{HoldsBetween};
-    ghost use Rattle.mt_pair.specs.Cases.{AreHighOf, IsHighAt};
+    ghost use Rattle.mt_pair.specs.Private.Below.{HoldsBetween};
+    ghost use Rattle.mt_pair.specs.Private.Cases.{AreHighOf, IsHighAt};
     ghost use Rattle.mt_pair.specs.High.{level_of};
 
     /// Those of two rows of one second, by whether both are approved.
@@ -76,13 +76,14 @@ impl<'a> Approach<'a> {
     ghost use Rattle.mt_base.specs.Bounds.{AreWithinBounds, IsBoundedRow};
     ghost use Rattle.mt_base.specs.Tally.{raised};
     ghost use Rattle.mt_frac.specs.FractionOrder.{IsBefore};
-    ghost use Rattle.mt_frac.specs.Instants.{HoldsIn, HoldsOver};
-    ghost use Rattle.mt_pair.specs.Below.{HoldsBetween};
-    ghost use Rattle.mt_pair.specs.Cases.{IsLoss};
-    ghost use Rattle.mt_pair.specs.Gap.{excess_of, gap_of};
-    ghost use Rattle.mt_pair.specs.Greatest.{AreWithinSizes};
-    ghost use Rattle.mt_base.specs.Span.{IsGreatest, IsLeast, IsSpan};
-    ghost use Rattle.mt_pair.specs.Span.{IsFirst};
+    ghost use Rattle.mt_frac.specs.Private.Instants.{HoldsIn, HoldsOver};
+    ghost use Rattle.mt_pair.specs.Private.Below.{HoldsBetween};
+    ghost use Rattle.mt_pair.specs.Private.Cases.{IsLoss};
+    ghost use Rattle.mt_pair.specs.Private.Gap.{excess_of, gap_of};
+    ghost use Rattle.mt_pair.specs.Private.Greatest.{AreWithinSizes};
+    ghost use Rattle.mt_base.specs.Span.{IsSpan};
+    ghost use Rattle.mt_base.specs.Private.Span.{IsGreatest, IsLeast};
+    ghost use Rattle.mt_pair.specs.Private.Span.{IsFirst};
 
     /// That of two rows of one second, with the lines of the greater minimum where one of the two is high in the seconds that are asked for.
     pub(crate) fn of(rules: &Rules, a: &Row, b: &Row, high: Option<&'a High>) -> Approach<'a>

@@ -2,7 +2,8 @@
 ghost use Rattle.std.specs.Prelude.{◌≡◌, ◌↔◌, pos, ◌≤ℤ◌, ◌-ℤ◌, IsTrue};
 ghost use Rattle.mt_base.specs.Bounds.{AreWithinBounds, IsWithin};
 ghost use Rattle.mt_track.specs.Layer.{IsLayerKept};
-ghost use Rattle.mt_pair.specs.Heights.{EndBelow, IsMinimumIn, LieApart};
+ghost use Rattle.mt_pair.specs.Heights.{EndBelow, LieApart};
+ghost use Rattle.mt_pair.specs.Private.Heights.{IsMinimumIn};
 ghost use Rattle.mt_pair.specs.High.{level_of};
 
 use crate::vertical::level;

@@ -4,8 +4,8 @@ ghost use Rattle.mt_base.specs.Conflict.{IsConflict};
 ghost use Rattle.mt_base.specs.Loss.{LosesIn};
 ghost use Rattle.mt_track.specs.Laid.{Covers};
 ghost use Rattle.mt_track.specs.Rows.{row_after};
-ghost use Rattle.mt_frac.specs.Instants.{HoldsIn};
-ghost use Rattle.mt_pair.specs.Cases.{IsLoss};
+ghost use Rattle.mt_frac.specs.Private.Instants.{HoldsIn};
+ghost use Rattle.mt_pair.specs.Private.Cases.{IsLoss};
 ghost use Rattle.mt_base.specs.Span.{IsSpan};
 
 use crate::approach::{Approach, High};

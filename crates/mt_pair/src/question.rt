@@ -1,7 +1,7 @@
 ghost use Rattle.std.specs.Prelude.{◌≡◌, ◌↔◌, pos, IsTrue};
 ghost use Rattle.mt_frac.specs.FractionOrder.{IsBefore};
 ghost use Rattle.mt_frac.specs.Signs.{IsBoundedLine, IsBoundedQuad};
-ghost use Rattle.mt_pair.specs.Below.{AreBelowAt, AreBelowWithAt, HoldsBetween};
+ghost use Rattle.mt_pair.specs.Private.Below.{AreBelowAt, AreBelowWithAt, HoldsBetween};
 
 use mt_base::Second;
 use mt_frac::{Frac, Line, Quad};

@@ -3,8 +3,8 @@ ghost use Rattle.mt_base.specs.Bounds.{AreWithinBounds};
 ghost use Rattle.mt_base.specs.Conflict.{IsConflict};
 ghost use Rattle.mt_base.specs.Tally.{raised};
 ghost use Rattle.mt_track.specs.Laid.{Covers};
-ghost use Rattle.mt_pair.specs.Held.{BeginsBy};
-ghost use Rattle.mt_base.specs.Span.{joined};
+ghost use Rattle.mt_pair.specs.Private.Held.{BeginsBy};
+ghost use Rattle.mt_base.specs.Private.Span.{joined};
 
 use crate::overlap::stretch;
 use mt_base::{Rules, Second, Steps, Tally};

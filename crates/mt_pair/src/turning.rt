@@ -2,10 +2,10 @@
 ghost use Rattle.std.specs.Prelude.{◌≡◌, ◌↔◌, ℕ, true, ◌<◌, ◌≤◌, pos, ◌≤ℤ◌, IsTrue};
 ghost use Rattle.mt_frac.specs.Polynomials.{value, line_value};
 ghost use Rattle.mt_frac.specs.Signs.{IsBoundedLine, IsBoundedQuad};
-ghost use Rattle.mt_frac.specs.Vertex.{slope};
-ghost use Rattle.mt_frac.specs.Instants.{HoldsOver};
-ghost use Rattle.mt_pair.specs.Below.{AreBelowAt};
-ghost use Rattle.mt_pair.specs.Turning.{IsFalling, IsSooner};
+ghost use Rattle.mt_frac.specs.Private.Vertex.{slope};
+ghost use Rattle.mt_frac.specs.Private.Instants.{HoldsOver};
+ghost use Rattle.mt_pair.specs.Private.Below.{AreBelowAt};
+ghost use Rattle.mt_pair.specs.Private.Turning.{IsFalling, IsSooner};
 
 use mt_base::Second;
 use mt_frac::{Line, Quad};

@@ -1,8 +1,9 @@
 ghost use Rattle.std.specs.Prelude.{◌≡◌, ◌↔◌, ◌&&◌, ◌+ℤ◌, ◌*ℤ◌, pos, IsTrue};
 ghost use Rattle.mt_base.specs.Bounds.{AreWithinBounds, IsBoundedRow, IsWithin};
 ghost use Rattle.mt_frac.specs.Signs.{IsBoundedLine};
-ghost use Rattle.mt_pair.specs.Gap.{above_of, excess_of};
-ghost use Rattle.mt_pair.specs.High.{AreFar, AreLow, IsLow, StaysAbove, level_of};
+ghost use Rattle.mt_pair.specs.Private.Gap.{above_of, excess_of};
+ghost use Rattle.mt_pair.specs.High.{level_of};
+ghost use Rattle.mt_pair.specs.Private.High.{AreFar, AreLow, IsLow, StaysAbove};
 
 use mt_base::{Row, Rules, Second};
 use mt_frac::Line;

@@ -7,7 +7,7 @@ use Rattle.mt_base.specs.Picture.{NamedTrajectory}
 use Rattle.mt_probe.specs.declared.flight.Flight.{Flight}
 use Rattle.mt_probe.specs.declared.flight.Made.{Made}
 use Rattle.mt_probe.specs.Shot.{kept_of, made_named}
-use Rattle.mt_picture.specs.Places.{first_of, made_of_kind, second_of}
+use Rattle.mt_picture.specs.Private.Places.{first_of, made_of_kind, second_of}
 
 abbrev marked : Flight → List NamedTrajectory
 marked f = made_named f.card.call Tentative (option_map (λ m. arc_value m.strand) f.mark)

@@ -28,10 +28,11 @@ use Rattle.mt_probe.specs.Shot.{state_in_shot as state_in}
 use Rattle.mt_probe.specs.Standing.{IsSoundShot}
 use Rattle.mt_probe.proofs.Gathered.{at_kept}
 use Rattle.mt_picture.specs.Asked.{AreNearby, IsCrossingNow, IsLaterNow, IsNearNow, WasTestedAgain, WasTestedAnew}
-use Rattle.mt_picture.specs.Places.{all_places, made_of_kind}
-use Rattle.mt_picture.specs.Stamps.{AreStamped, HaveStood, IsMadeAt}
+use Rattle.mt_picture.specs.Private.Places.{all_places, made_of_kind}
+use Rattle.mt_picture.specs.Stamps.{IsMadeAt}
+use Rattle.mt_picture.specs.Private.Stamps.{AreStamped, HaveStood}
 use Rattle.mt_picture.specs.Story.{Story}
-use Rattle.mt_picture.specs.Verdicts.{AreNearCandidates, IsPreps}
+use Rattle.mt_picture.specs.Private.Verdicts.{AreNearCandidates, IsPreps}
 use Rattle.mt_picture.proofs.HitsHere.{both_true}
 use Rattle.mt_picture.proofs.Knowing.{kept_made, stands_at, stays_there}
 use Rattle.mt_picture.proofs.Standings.{same_place}

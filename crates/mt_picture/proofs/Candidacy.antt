@@ -19,7 +19,7 @@ use Rattle.mt_probe.specs.declared.flight.Flight.{Flight}
 use Rattle.mt_probe.specs.Finds.{AreDifferentFinds}
 use Rattle.mt_probe.specs.Items.{IsNearItem}
 use Rattle.mt_probe.specs.Shot.{Shot}
-use Rattle.mt_picture.specs.Candidates.{AreFlightMore, AreLater, AreLaterMore, AreNearOnes, AreStill, IsMadeSince, IsStill, StandsInPlace}
+use Rattle.mt_picture.specs.Private.Candidates.{AreFlightMore, AreLater, AreLaterMore, AreNearOnes, AreStill, IsMadeSince, IsStill, StandsInPlace}
 use Rattle.mt_picture.proofs.Standings.{one_there}
 
 -- the last of different ones differs from each before

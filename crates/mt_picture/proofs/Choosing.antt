@@ -27,10 +27,10 @@ use Rattle.mt_probe.specs.Standing.{IsSoundShot}
 use Rattle.mt_probe.proofs.Gathered.{found_is}
 use Rattle.mt_probe.proofs.Nearby.{near_by_loss}
 use Rattle.mt_track.specs.Laid.{IsStrand}
-use Rattle.mt_picture.specs.Candidates.{AreAllNear, AreLater, AreNearOnes, AreStill, IsStillOne, StandsInPlace, unknown_at}
-use Rattle.mt_picture.specs.Places.{all_places, made_of_kind}
-use Rattle.mt_picture.specs.Stamps.{AreStamped, HaveStood}
-use Rattle.mt_picture.specs.Verdicts.{AreNearCandidates, IsKnown, IsPreps}
+use Rattle.mt_picture.specs.Private.Candidates.{AreAllNear, AreLater, AreNearOnes, AreStill, IsStillOne, StandsInPlace, unknown_at}
+use Rattle.mt_picture.specs.Private.Places.{all_places, made_of_kind}
+use Rattle.mt_picture.specs.Private.Stamps.{AreStamped, HaveStood}
+use Rattle.mt_picture.specs.Private.Verdicts.{AreNearCandidates, IsKnown, IsPreps}
 use Rattle.mt_picture.proofs.Knowing.{StandsAt, earlier_there, found_right, kept_made, stands_at, stays_there}
 use Rattle.mt_picture.proofs.Standings.{as_at, one_there}
 

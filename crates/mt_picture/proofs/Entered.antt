@@ -34,9 +34,9 @@ use Rattle.mt_probe.proofs.Left.{found_changed, passes}
 use Rattle.mt_probe.proofs.Placed.{filled_inside, found_there}
 use Rattle.mt_probe.proofs.Whole.{own_calls, replaced_alike}
 use Rattle.mt_base.proofs.Cases.{is_none}
-use Rattle.mt_picture.specs.Entries.{IsFiling}
-use Rattle.mt_picture.specs.Places.{IsNewOrStays}
-use Rattle.mt_picture.specs.Putting.{IsFlightPut}
+use Rattle.mt_picture.specs.Private.Entries.{IsFiling}
+use Rattle.mt_picture.specs.Private.Places.{IsNewOrStays}
+use Rattle.mt_picture.specs.Private.Putting.{IsFlightPut}
 use Rattle.mt_picture.proofs.Making.{filing_kind, filing_makes, filled_kind, filled_makes}
 
 -- the flight in a slot, by its callsign

@@ -17,7 +17,7 @@ use Rattle.mt_base.specs.WhatIf.{AreHitsOf, course_on, trajectory_cleared}
 use Rattle.mt_change.specs.Altered.{Alters, path_after}
 use Rattle.mt_kept.specs.declared.open_pair.OpenPair.{OpenPair}
 use Rattle.mt_kept.specs.Finds.{AreFindsOfSlot}
-use Rattle.mt_machine.specs.Deciding.{IsFirstHit}
+use Rattle.mt_machine.specs.Private.Deciding.{IsFirstHit}
 use Rattle.mt_machine.proofs.Decisions.{first_of_hits}
 use Rattle.mt_probe.specs.declared.flight.Flight.{Flight}
 use Rattle.mt_probe.specs.Prepared.{IsLeftByEntry}
@@ -25,11 +25,11 @@ use Rattle.mt_probe.specs.Shot.{Shot, flight_at, records_in}
 use Rattle.mt_probe.specs.Shot.{state_in_shot as state_in}
 use Rattle.mt_probe.specs.Standing.{IsSoundEntry, IsSoundShot}
 use Rattle.mt_probe.proofs.Placed.{filled_inside, found_there}
-use Rattle.mt_picture.specs.Entries.{IsFiling, is_probed}
-use Rattle.mt_picture.specs.Hits.{IsFirstAmong}
-use Rattle.mt_picture.specs.Holding.{AddsOrStops, EntersOrStops, Holding, entry_now, held_story, story_after}
-use Rattle.mt_picture.specs.Places.{all_places}
-use Rattle.mt_picture.specs.Putting.{IsFirstOf}
+use Rattle.mt_picture.specs.Private.Entries.{IsFiling, is_probed}
+use Rattle.mt_picture.specs.Private.Hits.{IsFirstAmong}
+use Rattle.mt_picture.specs.Private.Holding.{AddsOrStops, EntersOrStops, Holding, entry_now, held_story, story_after}
+use Rattle.mt_picture.specs.Private.Places.{all_places}
+use Rattle.mt_picture.specs.Private.Putting.{IsFirstOf}
 use Rattle.mt_picture.proofs.Entered.{altered_by, own_actual}
 use Rattle.mt_picture.proofs.HitsHere.{hits_here}
 

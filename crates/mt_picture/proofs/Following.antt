@@ -10,8 +10,8 @@ use Rattle.mt_kept.specs.Places.{at, with_slot}
 use Rattle.mt_kept.proofs.Joining.{finds_empty}
 use Rattle.mt_probe.specs.declared.flight.Flight.{Flight}
 use Rattle.mt_probe.specs.declared.flight.Made.{Made}
-use Rattle.mt_picture.specs.Finding.{AreFindsFor}
-use Rattle.mt_picture.specs.Places.{all_places, first_of, made_of_kind, second_of}
+use Rattle.mt_picture.specs.Private.Finding.{AreFindsFor}
+use Rattle.mt_picture.specs.Private.Places.{all_places, first_of, made_of_kind, second_of}
 use Rattle.mt_picture.proofs.Slotted.{at_first, at_second, joined, length_places}
 
 -- what stands in the places of a flight is of its callsign

@@ -32,8 +32,8 @@ use Rattle.mt_probe.specs.Shot.{state_in_shot as state_in}
 use Rattle.mt_probe.specs.Standing.{IsSoundShot}
 use Rattle.mt_probe.proofs.Placed.{filled_inside, record_placed, record_there}
 use Rattle.mt_base.proofs.OneConflict.{one_span}
-use Rattle.mt_picture.specs.Hits.{AreHitsAmong, IsHitOfOnePair, conflict_hit, pair_hit, is_flown}
-use Rattle.mt_picture.specs.Places.{all_places, first_of, made_of_kind}
+use Rattle.mt_picture.specs.Private.Hits.{AreHitsAmong, IsHitOfOnePair, conflict_hit, pair_hit, is_flown}
+use Rattle.mt_picture.specs.Private.Places.{all_places, first_of, made_of_kind}
 use Rattle.mt_picture.proofs.Entered.{own_actual}
 use Rattle.mt_picture.proofs.Slotted.{at_first}
 

@@ -23,9 +23,9 @@ use Rattle.mt_probe.specs.Prepared.{Prepared}
 use Rattle.mt_probe.specs.Shot.{Shot, flight_at, kept_of, made_named, made_of}
 use Rattle.mt_probe.proofs.Covered.{even_kind, odd_kind}
 use Rattle.mt_base.proofs.Members.{Contains-head}
-use Rattle.mt_picture.specs.Places.{all_places, first_of, made_of_kind, second_of}
-use Rattle.mt_picture.specs.Stamps.{HaveStood}
-use Rattle.mt_picture.specs.Verdicts.{AreNearCandidates, IsEarlierAt, IsPreps}
+use Rattle.mt_picture.specs.Private.Places.{all_places, first_of, made_of_kind, second_of}
+use Rattle.mt_picture.specs.Private.Stamps.{HaveStood}
+use Rattle.mt_picture.specs.Private.Verdicts.{AreNearCandidates, IsEarlierAt, IsPreps}
 use Rattle.mt_picture.proofs.Slotted.{at_first, at_second}
 
 -- what is found says the conflict over all seconds

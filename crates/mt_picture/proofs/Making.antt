@@ -6,7 +6,7 @@ use Rattle.mt_base.specs.declared.command.Command.TheVariants as commands
 use Rattle.mt_base.specs.declared.conflict.Kind.TheVariants.{Actual}
 use Rattle.mt_base.specs.History.{filled}
 use Rattle.mt_probe.specs.Prepared.{MakesStrand, kind_made}
-use Rattle.mt_picture.specs.Entries.{IsFiling, IsRemaking}
+use Rattle.mt_picture.specs.Private.Entries.{IsFiling, IsRemaking}
 
 pub filing_kind : (c : Command) → IsFiling c → kind_made c ≡ Actual
 filing_kind (Plan call kind route at from level rvsm) filing = refl

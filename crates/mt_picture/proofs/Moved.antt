@@ -20,8 +20,8 @@ use Rattle.mt_probe.specs.Putting.{records_put, with_flight, with_moment}
 use Rattle.mt_probe.specs.Shot.{Shot, flight_at, records_in}
 use Rattle.mt_probe.specs.Shot.{state_in_shot as state_in}
 use Rattle.mt_probe.specs.Standing.{IsSoundShot}
-use Rattle.mt_picture.specs.Places.{all_places}
-use Rattle.mt_picture.specs.Stamps.{AreStamped, IsPicture}
+use Rattle.mt_picture.specs.Private.Places.{all_places}
+use Rattle.mt_picture.specs.Private.Stamps.{AreStamped, IsPicture}
 use Rattle.mt_picture.proofs.Standing.{stamped_on}
 
 pub picture_tick : (shot after : Shot) (h : List Entry) (who now : ℕ) (kept new : Watched) → IsPicture shot h kept

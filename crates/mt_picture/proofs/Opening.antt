@@ -6,8 +6,8 @@ use Rattle.mt_kept.specs.Kept.{Watched}
 use Rattle.mt_probe.specs.Shot.{Shot}
 use Rattle.mt_probe.specs.Shot.{state_in_shot as state_in}
 use Rattle.mt_probe.proofs.Placed.{nothing_at}
-use Rattle.mt_picture.specs.Places.{all_places}
-use Rattle.mt_picture.specs.Stamps.{IsPicture}
+use Rattle.mt_picture.specs.Private.Places.{all_places}
+use Rattle.mt_picture.specs.Private.Stamps.{IsPicture}
 
 empty_places : (n : ℕ) → replicate (2 * n) None ≡ all_places (replicate n None)
 empty_places zero = refl

@@ -5,7 +5,7 @@ use Rattle.mt_base.specs.Picture.{NamedTrajectory}
 use Rattle.mt_kept.specs.Places.{HaveOwnSlots}
 use Rattle.mt_probe.specs.Shot.{Shot}
 use Rattle.mt_probe.specs.Standing.{IsSoundShot}
-use Rattle.mt_picture.specs.Places.{all_places}
+use Rattle.mt_picture.specs.Private.Places.{all_places}
 use Rattle.mt_picture.proofs.Knowing.{stands_at}
 
 pub own_slots : (shot : Shot) → IsSoundShot shot → HaveOwnSlots (all_places shot.slots)

@@ -10,9 +10,9 @@ use Rattle.mt_probe.specs.Shot.{Shot}
 use Rattle.mt_probe.specs.Shot.{state_in_shot as state_in}
 use Rattle.mt_probe.specs.Standing.{IsSoundShot}
 use Rattle.mt_picture.specs.Asked.{IsWithinPreps}
-use Rattle.mt_picture.specs.Asking.{WasAskedFor}
-use Rattle.mt_picture.specs.Brought.{IsPreparedNow}
-use Rattle.mt_picture.specs.Stamps.{AreStamped}
+use Rattle.mt_picture.specs.Private.Asking.{WasAskedFor}
+use Rattle.mt_picture.specs.Private.Brought.{IsPreparedNow}
+use Rattle.mt_picture.specs.Private.Stamps.{AreStamped}
 use Rattle.mt_picture.specs.Story.{IsPrepFor, IsUsable, Story}
 use Rattle.mt_picture.proofs.Bounding.{within_both, within_preps}
 use Rattle.mt_picture.proofs.Stale.{prep_call, usable_card}

@@ -21,7 +21,7 @@ use Rattle.mt_board.specs.declared.no.No.TheVariants as nos
 use Rattle.mt_kept.specs.Kept.{Watched}
 use Rattle.mt_kept.specs.Places.{held}
 use Rattle.mt_kept.proofs.Publishing.{held_at, stands}
-use Rattle.mt_machine.specs.Deciding.{IsFirstHit}
+use Rattle.mt_machine.specs.Private.Deciding.{IsFirstHit}
 use Rattle.mt_machine.proofs.Decisions.{entered, refused, stale}
 use Rattle.mt_machine.proofs.Filled.{decided_is, entry_free, entry_in_time}
 use Rattle.mt_probe.specs.declared.flight.Made.{Made}
@@ -31,9 +31,9 @@ use Rattle.mt_probe.specs.Shot.{state_in_shot as state_in}
 use Rattle.mt_probe.specs.Standing.{IsSoundShot}
 use Rattle.mt_probe.proofs.Gathered.{at_kept, kept_at}
 use Rattle.mt_base.proofs.Members.{Contains-cases, Contains-none}
-use Rattle.mt_picture.specs.Holding.{HasEnteredOrStopped, Holding, IsPassed, entry_now, held_story}
-use Rattle.mt_picture.specs.Places.{all_places, first_of, made_of_kind, second_of}
-use Rattle.mt_picture.specs.Stamps.{IsPicture}
+use Rattle.mt_picture.specs.Private.Holding.{HasEnteredOrStopped, Holding, IsPassed, entry_now, held_story}
+use Rattle.mt_picture.specs.Private.Places.{all_places, first_of, made_of_kind, second_of}
+use Rattle.mt_picture.specs.Private.Stamps.{IsPicture}
 use Rattle.mt_picture.specs.Story.{IsEntered, IsCommandRefused, Story}
 use Rattle.mt_picture.proofs.Knowing.{kept_made, stands_at}
 use Rattle.mt_picture.proofs.Slotted.{at_first, at_second}

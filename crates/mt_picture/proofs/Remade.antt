@@ -23,9 +23,9 @@ use Rattle.mt_probe.specs.Prepared.{IsLeftByEntry, MakesStrand, kind_made, marke
 use Rattle.mt_probe.specs.Shot.{Shot, flight_at, made_of}
 use Rattle.mt_probe.specs.Shot.{state_in_shot as state_in}
 use Rattle.mt_probe.specs.Standing.{IsSoundEntry, IsSoundShot}
-use Rattle.mt_picture.specs.Entries.{IsRemaking, IsReport, IsWithdrawal}
-use Rattle.mt_picture.specs.Places.{IsNewOrStays, first_of, made_of_kind, place_kind, place_other, second_of, stamped, stamped_at}
-use Rattle.mt_picture.specs.Putting.{IsKeptFlight, IsFlightPut, IsRemade}
+use Rattle.mt_picture.specs.Private.Entries.{IsRemaking, IsReport, IsWithdrawal}
+use Rattle.mt_picture.specs.Private.Places.{IsNewOrStays, first_of, made_of_kind, place_kind, place_other, second_of, stamped, stamped_at}
+use Rattle.mt_picture.specs.Private.Putting.{IsKeptFlight, IsFlightPut, IsRemade}
 use Rattle.mt_picture.proofs.Entered.{altered_by, own_actual, own_mark, put_altered, there}
 use Rattle.mt_picture.proofs.Making.{filled_kind, filled_makes, remaking_makes}
 

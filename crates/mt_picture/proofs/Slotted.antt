@@ -6,10 +6,10 @@ use Rattle.mt_base.specs.Picture.{NamedTrajectory}
 use Rattle.mt_kept.specs.declared.open_pair.OpenPair.{OpenPair}
 use Rattle.mt_kept.specs.Finds.{Agree, AreFindsOfSlot}
 use Rattle.mt_kept.proofs.Joining.{finds_join}
-use Rattle.mt_picture.specs.Finding.{AreFindsFor}
+use Rattle.mt_picture.specs.Private.Finding.{AreFindsFor}
 use Rattle.mt_kept.specs.Places.{at, with_slot}
 use Rattle.mt_probe.specs.declared.flight.Flight.{Flight}
-use Rattle.mt_picture.specs.Places.{all_places, first_of, second_of}
+use Rattle.mt_picture.specs.Private.Places.{all_places, first_of, second_of}
 
 pub length_places : (slots : List (Option Flight)) → length (all_places slots) ≡ 2 * length slots
 length_places [] = refl

@@ -28,7 +28,7 @@ use Rattle.mt_probe.specs.Standing.{IsSoundShot}
 use Rattle.mt_probe.proofs.Left.{found_call, found_changed, planned_flight}
 use Rattle.mt_probe.proofs.Placed.{filled_inside, found_there, record_placed}
 use Rattle.mt_probe.proofs.Short.{found_in}
-use Rattle.mt_picture.specs.Entries.{IsFiling, IsRemaking}
+use Rattle.mt_picture.specs.Private.Entries.{IsFiling, IsRemaking}
 use Rattle.mt_picture.specs.Story.{IsNamedAfter, IsPrepFor, IsPreparedFor, IsUsable, Story}
 use Rattle.mt_picture.proofs.Entered.{apart_false, filed_unique}
 

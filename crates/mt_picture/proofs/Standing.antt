@@ -19,9 +19,10 @@ use Rattle.mt_probe.specs.Shot.{Shot, flight_at, made_of, records_in}
 use Rattle.mt_probe.specs.Shot.{state_in_shot as state_in}
 use Rattle.mt_probe.specs.Standing.{IsSoundShot}
 use Rattle.mt_probe.proofs.Gathered.{at_kept}
-use Rattle.mt_picture.specs.Places.{all_places, made_of_kind, stamped, stamped_at}
-use Rattle.mt_picture.specs.Putting.{IsFlightPut}
-use Rattle.mt_picture.specs.Stamps.{AreStamped, HaveStood, IsMadeAt, IsPicture, Makes}
+use Rattle.mt_picture.specs.Private.Places.{all_places, made_of_kind, stamped, stamped_at}
+use Rattle.mt_picture.specs.Private.Putting.{IsFlightPut}
+use Rattle.mt_picture.specs.Stamps.{IsMadeAt, Makes}
+use Rattle.mt_picture.specs.Private.Stamps.{AreStamped, HaveStood, IsPicture}
 use Rattle.mt_picture.proofs.Knowing.{kept_made}
 
 at_end : (h : List Entry) (e : Entry) → slice_get (h ++ e ∷ []) (length h) ≡ Some e

@@ -14,8 +14,8 @@ use Rattle.mt_probe.specs.Shot.{Shot, flight_at, made_of, records_in}
 use Rattle.mt_probe.specs.Standing.{IsSoundShot}
 use Rattle.mt_probe.proofs.Covered.{even_kind, odd_kind}
 use Rattle.mt_probe.proofs.Placed.{filled_inside, found_there}
-use Rattle.mt_picture.specs.Candidates.{StandsInPlace}
-use Rattle.mt_picture.specs.Places.{made_of_kind}
+use Rattle.mt_picture.specs.Private.Candidates.{StandsInPlace}
+use Rattle.mt_picture.specs.Private.Places.{made_of_kind}
 use Rattle.mt_picture.proofs.Knowing.{StandsAt}
 use Rattle.mt_picture.proofs.Passing.{found_place}
 

@@ -27,7 +27,7 @@ use Rattle.mt_probe.specs.Standing.{IsSoundShot}
 use Rattle.mt_probe.proofs.Gathered.{at_kept}
 use Rattle.mt_base.proofs.OneConflict.{one_span}
 use Rattle.mt_picture.specs.Asked.{IsCrossingPair, WasTestedForTick}
-use Rattle.mt_picture.specs.Places.{all_places, made_of_kind}
+use Rattle.mt_picture.specs.Private.Places.{all_places, made_of_kind}
 use Rattle.mt_picture.specs.Story.{Story}
 use Rattle.mt_picture.proofs.Asking.{one_place}
 use Rattle.mt_picture.proofs.Knowing.{kept_made, stands_at}

@@ -1,14 +1,5 @@
 pub mod Asked
-pub mod Asking
-pub mod Brought
-pub mod Candidates
-pub mod Entries
-pub mod Finding
-pub mod Hits
-pub mod Holding
 pub mod Laws
-pub mod Places
-pub mod Putting
+pub mod Private
 pub mod Stamps
 pub mod Story
-pub mod Verdicts

@@ -5,12 +5,12 @@ ghost use Rattle.mt_base.specs.Picture.{NamedTrajectory};
 ghost use Rattle.mt_kept.specs.Places.{at, seen};
 ghost use Rattle.mt_probe.specs.declared.flight.Flight.{Flight};
 ghost use Rattle.mt_probe.specs.Shot.{flight_at};
-ghost use Rattle.mt_picture.specs.Asking.{WasAsked, WasAskedOf};
-ghost use Rattle.mt_picture.specs.Brought.{BringsNew, IsChangeFor};
-ghost use Rattle.mt_picture.specs.Finding.{AreFindsFor};
-ghost use Rattle.mt_picture.specs.Places.{first_of, made_of_kind, place_kind, second_of};
-ghost use Rattle.mt_picture.specs.Stamps.{HaveStood};
-ghost use Rattle.mt_picture.specs.Verdicts.{IsPreps};
+ghost use Rattle.mt_picture.specs.Private.Asking.{WasAsked, WasAskedOf};
+ghost use Rattle.mt_picture.specs.Private.Brought.{BringsNew, IsChangeFor};
+ghost use Rattle.mt_picture.specs.Private.Finding.{AreFindsFor};
+ghost use Rattle.mt_picture.specs.Private.Places.{first_of, made_of_kind, place_kind, second_of};
+ghost use Rattle.mt_picture.specs.Private.Stamps.{HaveStood};
+ghost use Rattle.mt_picture.specs.Private.Verdicts.{IsPreps};
 
 use crate::held::Held;
 use crate::verdicts::candidates;

@@ -6,10 +6,10 @@ ghost use Rattle.mt_probe.specs.Prepared.{IsLeftByEntry, MakesStrand};
 ghost use Rattle.mt_probe.specs.Shot.{flight_at};
 ghost use Rattle.mt_probe.specs.Shot.{state_in_shot as state_in};
 ghost use Rattle.mt_picture.specs.Asked.{IsWithinBound, IsWithinPreps};
-ghost use Rattle.mt_picture.specs.Asking.{WasAskedFor};
-ghost use Rattle.mt_picture.specs.Brought.{IsPreparedNow};
-ghost use Rattle.mt_picture.specs.Entries.{IsFiling, IsReport, IsWithdrawal};
-ghost use Rattle.mt_picture.specs.Holding.{AddsEntry, EntersOrStops, IsPassed, entry_now, held_story};
+ghost use Rattle.mt_picture.specs.Private.Asking.{WasAskedFor};
+ghost use Rattle.mt_picture.specs.Private.Brought.{IsPreparedNow};
+ghost use Rattle.mt_picture.specs.Private.Entries.{IsFiling, IsReport, IsWithdrawal};
+ghost use Rattle.mt_picture.specs.Private.Holding.{AddsEntry, EntersOrStops, IsPassed, entry_now, held_story};
 ghost use Rattle.mt_picture.specs.Story.{IsPrepGivenFor, IsPrepFor};
 
 use crate::entering::{file, remake, report, withdraw};

@@ -7,12 +7,12 @@ ghost use Rattle.mt_base.specs.Picture.{NamedTrajectory};
 ghost use Rattle.mt_probe.specs.Prepared.{IsLeftByEntry, kind_made, path_made};
 ghost use Rattle.mt_probe.specs.Shot.{flight_at, made_of};
 ghost use Rattle.mt_probe.specs.Shot.{state_in_shot as state_in};
-ghost use Rattle.mt_picture.specs.Asking.{WasAskedFor, WasAskedOf};
-ghost use Rattle.mt_picture.specs.Brought.{BringsNew, IsPreparedNow};
-ghost use Rattle.mt_picture.specs.Entries.{IsFiling, IsRemaking, IsReport, IsWithdrawal, is_probed};
-ghost use Rattle.mt_picture.specs.Holding.{AddsEntry, AddsOrStops, EntersOrStops, entry_now};
-ghost use Rattle.mt_picture.specs.Places.{place_kind};
-ghost use Rattle.mt_picture.specs.Putting.{IsFirstOf, IsKeptFlight, IsFlightPut, IsRemade};
+ghost use Rattle.mt_picture.specs.Private.Asking.{WasAskedFor, WasAskedOf};
+ghost use Rattle.mt_picture.specs.Private.Brought.{BringsNew, IsPreparedNow};
+ghost use Rattle.mt_picture.specs.Private.Entries.{IsFiling, IsRemaking, IsReport, IsWithdrawal, is_probed};
+ghost use Rattle.mt_picture.specs.Private.Holding.{AddsEntry, AddsOrStops, EntersOrStops, entry_now};
+ghost use Rattle.mt_picture.specs.Private.Places.{place_kind};
+ghost use Rattle.mt_picture.specs.Private.Putting.{IsFirstOf, IsKeptFlight, IsFlightPut, IsRemade};
 
 use crate::change::{change_bare, change_for};
 use crate::held::Held;

@@ -10,11 +10,11 @@ ghost use Rattle.mt_kept.specs.Window.{WasTestedOnce};
 ghost use Rattle.mt_probe.specs.Shot.{flight_at};
 ghost use Rattle.mt_probe.specs.Shot.{state_in_shot as state_in};
 ghost use Rattle.mt_probe.specs.Standing.{IsSoundShot};
-ghost use Rattle.mt_picture.specs.Brought.{IsChangeFor};
-ghost use Rattle.mt_picture.specs.Holding.{AddsEntry, held_story};
-ghost use Rattle.mt_picture.specs.Places.{all_places, first_of, second_of};
-ghost use Rattle.mt_picture.specs.Putting.{IsFlightPut};
-ghost use Rattle.mt_picture.specs.Stamps.{IsPicture};
+ghost use Rattle.mt_picture.specs.Private.Brought.{IsChangeFor};
+ghost use Rattle.mt_picture.specs.Private.Holding.{AddsEntry, held_story};
+ghost use Rattle.mt_picture.specs.Private.Places.{all_places, first_of, second_of};
+ghost use Rattle.mt_picture.specs.Private.Putting.{IsFlightPut};
+ghost use Rattle.mt_picture.specs.Private.Stamps.{IsPicture};
 
 use crate::change::Change;
 use mt_base::{Callsign, Command, Conflict, Entry, Memory, Rules, Second, Steps, Tally};
@@ -37,8 +37,8 @@ pub(crate) struct Held {
 }
 
 impl Model for Held {
-    ghost use Rattle.mt_picture.specs.Holding.{Holding};
-    ghost use Rattle.mt_picture.specs.Stamps.{IsPicture};
+    ghost use Rattle.mt_picture.specs.Private.Holding.{Holding};
+    ghost use Rattle.mt_picture.specs.Private.Stamps.{IsPicture};
 
     ghost Value = { Holding };
 

@@ -1,6 +1,6 @@
 //! The hits of a clearance that was probed, among what is found with the trajectory that it leaves.
 ghost use Rattle.std.specs.Prelude.{◌≡◌, ◌≤◌, IfOk, None, false, true};
-ghost use Rattle.mt_picture.specs.Hits.{AreHitsAmong, IsFirstAmong, conflict_hit, pair_hit, is_flown};
+ghost use Rattle.mt_picture.specs.Private.Hits.{AreHitsAmong, IsFirstAmong, conflict_hit, pair_hit, is_flown};
 
 use mt_base::{Callsign, Conflict, Hit, Hits, Memory, Second};
 use mt_kept::{OpenPair, is_open};

@@ -1,6 +1,6 @@
 //! Which trajectories were made after a version, of the flights that the entries since name.
-ghost use Rattle.std.specs.Prelude.{◌≡◌, IfOk, OnOk, length};
-ghost use Rattle.mt_picture.specs.Candidates.{AreFlightMore, AreLater, AreLaterMore};
+ghost use Rattle.std.specs.Prelude.{IfOk, OnOk, length};
+ghost use Rattle.mt_picture.specs.Private.Candidates.{AreFlightMore, AreLater, AreLaterMore};
 
 use crate::places::find_trajectory;
 use mt_base::{Callsign, Entry, Kind, Memory};

@@ -1,7 +1,7 @@
 //! Which of some trajectories are near a new one.
 ghost use Rattle.std.specs.Prelude.{◌≢◌, AllPairs, IfOk};
 ghost use Rattle.mt_cover.specs.Cells.{cover_of};
-ghost use Rattle.mt_picture.specs.Candidates.{AreNearOnes};
+ghost use Rattle.mt_picture.specs.Private.Candidates.{AreNearOnes};
 
 use mt_base::Memory;
 use mt_cover::cover;

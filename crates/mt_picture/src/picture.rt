@@ -27,7 +27,7 @@ pub struct Picture {
 }
 
 impl Model for Picture {
-    ghost use Rattle.mt_picture.specs.Holding.{held_story};
+    ghost use Rattle.mt_picture.specs.Private.Holding.{held_story};
     ghost use Rattle.mt_picture.specs.Story.{Story};
 
     ghost Value = { Story };

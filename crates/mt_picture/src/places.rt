@@ -1,7 +1,7 @@
 //! Where trajectories stand.
 ghost use Rattle.std.specs.Prelude.{◌≡◌, ◌/◌, ◌<◌, ℕ, IfSome, Some};
 ghost use Rattle.mt_probe.specs.Items.{kind_at};
-ghost use Rattle.mt_picture.specs.Candidates.{StandsInPlace};
+ghost use Rattle.mt_picture.specs.Private.Candidates.{StandsInPlace};
 
 use mt_base::{Callsign, Kind};
 use mt_probe::Snapshot;

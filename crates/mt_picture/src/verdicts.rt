@@ -1,9 +1,9 @@
 //! The candidates of a new trajectory, and what a prep says of them.
 ghost use Rattle.std.specs.Prelude.{◌≡◌, ◌≤◌, ◌++◌, ℕ, IfOk, IfSome, IsSomeAnd, OnOk, map};
 ghost use Rattle.mt_cover.specs.Cells.{cover_of};
-ghost use Rattle.mt_picture.specs.Candidates.{AreAllNear, AreStill, IsStill, StandsInPlace, unknown_at};
-ghost use Rattle.mt_picture.specs.Stamps.{AreStamped, HaveStood};
-ghost use Rattle.mt_picture.specs.Verdicts.{AreNearCandidates, IsPreps};
+ghost use Rattle.mt_picture.specs.Private.Candidates.{AreAllNear, AreStill, IsStill, StandsInPlace, unknown_at};
+ghost use Rattle.mt_picture.specs.Private.Stamps.{AreStamped, HaveStood};
+ghost use Rattle.mt_picture.specs.Private.Verdicts.{AreNearCandidates, IsPreps};
 
 use crate::later::later_places;
 use crate::near::near_ones;

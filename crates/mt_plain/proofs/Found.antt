@@ -11,7 +11,7 @@ use Rattle.mt_base.specs.declared.rules.Rules.{Rules}
 use Rattle.mt_base.specs.Conflict.{IsConflict, IsSpanOfLoss}
 use Rattle.mt_base.specs.Picture.{IsOf, IsOfSome, IsPublishedOf, NamedTrajectory, conflict_cmp, window_end}
 use Rattle.mt_base.proofs.OneConflict.{one_conflict}
-use Rattle.mt_plain.specs.Added.{AddsConflicts, IsOfRight}
+use Rattle.mt_plain.specs.Private.Added.{AddsConflicts, IsOfRight}
 
 -- nothing, one more, and one step after another
 pub Adds-none : (P : Conflict → Type 0) (cs : List Conflict) → ((c : Conflict) → ¬ P c) → AddsConflicts P cs cs

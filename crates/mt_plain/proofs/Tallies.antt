@@ -10,7 +10,7 @@ use Rattle.std.specs.declared.cmp.Ordering.TheVariants.{Less, Equal, Greater}
 use Rattle.mt_base.specs.Tally.{RoseUpTo, raised, raised_by}
 use Rattle.mt_base.specs.Picture.{NamedTrajectory}
 use Rattle.mt_base.proofs.Tallies.{raised_by-add, sum_by-push}
-use Rattle.mt_plain.specs.Tests.{tests_of_pair}
+use Rattle.mt_plain.specs.Private.Tests.{tests_of_pair}
 use Rattle.mt_plain.proofs.Found.{map_take_push}
 
 -- the sum so far, over what a list is seen as, and one term more

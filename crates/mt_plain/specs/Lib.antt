@@ -1,2 +1,2 @@
-pub mod Added
+pub mod Private
 pub mod Tests

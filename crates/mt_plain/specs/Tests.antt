@@ -1,5 +1,5 @@
 -- How many pair tests there are.
-use Rattle.std.specs.Prelude.{ℕ, Bool, List, cond}
+use Rattle.std.specs.Prelude.{ℕ, Bool, List}
 use Rattle.std.specs.List.{count_by, sum_by}
 use Rattle.std.specs.Cmp.Lexicographic.{slice_cmp}
 use Rattle.std.specs.Ordering.{nat_cmp, is_lt}
@@ -8,10 +8,6 @@ use Rattle.mt_base.specs.Picture.{NamedTrajectory}
 -- of two trajectories, the first has the lesser callsign
 abbrev pub is_before : NamedTrajectory → NamedTrajectory → Bool
 is_before left right = is_lt (slice_cmp nat_cmp left.call right.call)
-
--- the tests of an ordered pair, and of a trajectory with each of a list
-abbrev pub tests_of_pair : NamedTrajectory → NamedTrajectory → ℕ
-tests_of_pair left right = cond (is_before left right) 1 0
 
 abbrev pub tests_of_left : List NamedTrajectory → NamedTrajectory → ℕ
 tests_of_left rights left = count_by (is_before left) rights

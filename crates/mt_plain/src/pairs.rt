@@ -2,9 +2,10 @@ ghost use Rattle.std.specs.Prelude.{◌≤◌, map, IfOk, OnOk, OnErr, ◌≡◌
 ghost use Rattle.mt_base.specs.Bounds.{AreWithinBounds};
 ghost use Rattle.mt_base.specs.Picture.{IsOf, IsPublishedOf};
 ghost use Rattle.mt_track.specs.Named.{named};
-ghost use Rattle.mt_plain.specs.Added.{AddsConflicts, IsOfRight};
+ghost use Rattle.mt_plain.specs.Private.Added.{AddsConflicts, IsOfRight};
 ghost use Rattle.mt_base.specs.Tally.{RoseUpTo, raised_by};
-ghost use Rattle.mt_plain.specs.Tests.{is_before, tests_of_left, tests_of_pair, pairs_of_different_flights};
+ghost use Rattle.mt_plain.specs.Tests.{is_before, tests_of_left, pairs_of_different_flights};
+ghost use Rattle.mt_plain.specs.Private.Tests.{tests_of_pair};
 
 use mt_base::{Conflict, Conflicts, Memory, Rules, Second, Tally, WINDOW};
 use mt_pair::lose;

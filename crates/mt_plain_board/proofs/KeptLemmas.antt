@@ -31,7 +31,7 @@ use Rattle.mt_board.specs.Probing.{IsAdvised, IsPast, IsProbed, Probe, free_prob
 use Rattle.mt_board.specs.Seat.{HasSeen, Seat, entries_by, state_seen}
 use Rattle.mt_board.proofs.SeatLemmas.{decided_who, entries_push, goes_on_itself, looked_itself}
 use Rattle.mt_change.specs.Sound.{IsSoundState}
-use Rattle.mt_plain_board.specs.Kept.{IsStateKept, IsNotToldOf, IsToldOf}
+use Rattle.mt_plain_board.specs.Private.Kept.{IsStateKept, IsNotToldOf, IsToldOf}
 
 -- its version is the number of entries
 pub version_kept : (fixed : Setup) (h : List Entry) (s : State) → IsStateKept fixed h s → s.version ≡ length h

@@ -1,48 +1,11 @@
 -- What a board of one thread and its probes keep.
-use Rattle.std.specs.Prelude.{◌≡◌, ◌≤◌, List, length, Some, Ok, ⊤}
-use Rattle.mt_base.specs.declared.command.Entry.{Entry}
-use Rattle.mt_base.specs.Bounds.{AreWithinBounds, IsBoundedClearance}
-use Rattle.mt_base.specs.History.{IsLegal, state_of}
+use Rattle.std.specs.Prelude.{⊤}
 use Rattle.mt_base.specs.Picture.{State}
 use Rattle.mt_base.specs.Tables.{Setup}
-use Rattle.mt_base.specs.WhatIf.{IsWhatIf}
-use Rattle.mt_board.specs.declared.ask.Answer.{Answer}
-use Rattle.mt_board.specs.declared.ask.Ask.{Ask}
-use Rattle.mt_board.specs.declared.no.No.{No}
-use Rattle.mt_board.specs.declared.no.No.TheVariants.{Memory, Refused}
-use Rattle.mt_board.specs.Asking.{IsNotTold, IsShortAnswer, IsTold, version_of}
 use Rattle.mt_board.specs.Probing.{Probe}
-use Rattle.mt_board.specs.Short.{AreShortHits}
-use Rattle.mt_change.specs.Sound.{IsSoundState}
-
--- The state is that of the history, which is legal, and sound for the rules and tables; the rules are within their bounds.
-pub record IsStateKept (fixed : Setup) (history : List Entry) (state : State) : Type 0 where
-  pub rules : AreWithinBounds fixed.rules
-  pub legal : IsLegal fixed history
-  pub state_is : state ≡ state_of fixed history
-  pub sound : IsSoundState fixed state
 
 -- A probe with the rules, the tables and the state that it was tried on.
 pub record PlainTrial : Type 0 where
   pub told : Probe
   pub fixed : Setup
   pub state : State
-
--- its hits are those on that state, whose version it names, and its numbers are within their bounds
-pub record IsKeptProbe (t : PlainTrial) : Type 0 where
-  pub follows : IsWhatIf t.fixed t.state t.told.call t.told.clearance (Some t.told.eff) (Ok t.told.hits)
-  pub version_is : t.told.version ≡ t.state.version
-  pub clearance : IsBoundedClearance t.told.clearance
-  pub early : t.told.eff ≤ 10000000
-  pub counted : t.told.version ≤ 4194304
-  pub short : AreShortHits t.told.hits
-
--- what is told of a history at its version, and why nothing is
-pub record IsToldOf (fixed : Setup) (h : List Entry) (asked : Ask) (answer : Answer) : Type 0 where
-  pub told : IsTold fixed h asked answer
-  pub version_is : version_of answer ≡ length h
-  pub short : IsShortAnswer answer
-
-abbrev pub IsNotToldOf : Setup → List Entry → Ask → No → Type 0
-IsNotToldOf fixed h asked (Refused refusal version) = (version ≡ length h) × IsNotTold fixed h asked refusal
-IsNotToldOf fixed h asked Memory = ⊤

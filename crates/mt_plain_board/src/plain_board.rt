@@ -22,7 +22,7 @@ pub struct PlainBoard {
 
 impl Model for PlainBoard {
     ghost use Rattle.mt_board.specs.Seat.{Seat, entries_by};
-    ghost use Rattle.mt_plain_board.specs.Kept.{IsStateKept};
+    ghost use Rattle.mt_plain_board.specs.Private.Kept.{IsStateKept};
 
     ghost Value = { Seat };
 

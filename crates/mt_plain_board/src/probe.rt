@@ -4,7 +4,7 @@ ghost use Rattle.mt_base.specs.Bounds.{IsBoundedClearance};
 ghost use Rattle.mt_base.specs.WhatIf.{IsWhatIf};
 ghost use Rattle.mt_board.specs.Probing.{acceptance};
 ghost use Rattle.mt_board.specs.Short.{AreShortHits};
-ghost use Rattle.mt_plain_board.specs.Kept.{IsKeptProbe};
+ghost use Rattle.mt_plain_board.specs.Private.Kept.{IsKeptProbe};
 
 use mt_base::{Callsign, Clearance, Command, Hit, Hits, Rules, Second};
 use mt_board::Probed;
@@ -27,7 +27,8 @@ pub struct PlainProbe {
 }
 
 impl Model for PlainProbe {
-    ghost use Rattle.mt_plain_board.specs.Kept.{IsKeptProbe, PlainTrial};
+    ghost use Rattle.mt_plain_board.specs.Kept.{PlainTrial};
+    ghost use Rattle.mt_plain_board.specs.Private.Kept.{IsKeptProbe};
 
     ghost Value = { PlainTrial };
 

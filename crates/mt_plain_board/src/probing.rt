@@ -1,5 +1,5 @@
 //! Trying a clearance.
-ghost use Rattle.std.specs.Prelude.{◌≡◌, ◌≤◌, IfOk, IfErr, IfSome};
+ghost use Rattle.std.specs.Prelude.{◌≤◌, IfOk, IfErr, IfSome};
 ghost use Rattle.mt_base.specs.Bounds.{IsBoundedClearance};
 ghost use Rattle.mt_board.specs.Probing.{IsNotProbed, IsPast, IsProbed};
 

@@ -3,7 +3,7 @@ ghost use Rattle.std.specs.Prelude.{length, IfOk, IfErr};
 ghost use Rattle.mt_base.specs.Picture.{IsPublished};
 ghost use Rattle.mt_board.specs.declared.ask.Ask.TheVariants as asks;
 ghost use Rattle.mt_board.specs.Seat.{HasSeen, state_seen};
-ghost use Rattle.mt_plain_board.specs.Kept.{IsNotToldOf, IsToldOf};
+ghost use Rattle.mt_plain_board.specs.Private.Kept.{IsNotToldOf, IsToldOf};
 
 use crate::plain_board::PlainBoard;
 use mt_base::{Callsign, Conflicts, Entries, Memory, Refusal, Second, Tally};

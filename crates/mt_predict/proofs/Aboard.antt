@@ -9,7 +9,8 @@ use Rattle.mt_base.specs.declared.place.Point.{Point}
 use Rattle.mt_base.specs.declared.rules.Rules.{Rules}
 use Rattle.mt_base.specs.Bounds.{AreWithinBounds, IsBoundedBand, IsBoundedRow, IsHeight, IsInPlane, IsKeptOver, IsWithin}
 use Rattle.mt_base.specs.Predictor.{Manner, band_at, climb_from, end_after, end_of, gain_with, leg_to, margin_at, margin_gain, row_on, rows_on, rows_to}
-use Rattle.mt_predict.specs.Manners.{IsAcross, IsBoundedLeg, IsBoundedManner, IsFlownPlace}
+use Rattle.mt_predict.specs.Manners.{IsBoundedManner, IsFlownPlace}
+use Rattle.mt_predict.specs.Private.Manners.{IsAcross, IsBoundedLeg}
 use Rattle.mt_predict.proofs.Bounds.{band_kept}
 use Rattle.mt_predict.proofs.Remains.{between, east_size, gain_remain, gain_size, north_size, remain, remain_none, remain_whole}
 

@@ -6,7 +6,7 @@ use Rattle.std.proofs.lemmas.Int.{ints}
 use Rattle.std.proofs.Math.Nat.{div-le_self}
 use Rattle.mt_base.specs.Bounds.{IsWithin}
 use Rattle.mt_base.specs.Predictor.{least_below, seconds_of, square_of}
-use Rattle.mt_predict.specs.Manners.{IsAcross}
+use Rattle.mt_predict.specs.Private.Manners.{IsAcross}
 
 least_below_is : (n t : ℕ) (test : ℕ → Bool) → t ≤ n → (t < n → test t ≡ true) → ((s : ℕ) → s < t → test s ≡ false) → least_below n test ≡ t
 least_below_is zero t test within passes fails = omega arith

@@ -5,7 +5,7 @@ use Rattle.std.proofs.Math.Nat.{div-le_self}
 use Rattle.std.proofs.lemmas.Int.{ints, to_z-of_z}
 use Rattle.mt_ring.proofs.Sizes.{abs_lit, fits_64}
 use Rattle.mt_base.specs.Predictor.{gain_with}
-use Rattle.mt_predict.specs.Manners.{IsAcross}
+use Rattle.mt_predict.specs.Private.Manners.{IsAcross}
 use Rattle.mt_predict.proofs.Casts.{as_is}
 
 pub gain_more : (total : ℤ) (seconds n : ℕ) → n < unsigned_abs (int_rem_euclid total (pos seconds)) → gain_with total seconds n ≡ int_div_euclid total (pos seconds) +ℤ pos 1

@@ -10,7 +10,7 @@ use Rattle.mt_base.specs.Predictor.{Manner, end_after, end_of, row_on, rows_on}
 use Rattle.mt_base.specs.Trajectory.{Trajectory, straight_rows}
 use Rattle.mt_track.specs.Laid.{Follows, extended}
 use Rattle.mt_track.proofs.Straight.{length-straight_rows}
-use Rattle.mt_predict.specs.Flying.{EndAt, IsSteady, place_at}
+use Rattle.mt_predict.specs.Private.Flying.{EndAt, IsSteady, place_at}
 use Rattle.mt_predict.proofs.Rows.{All-back, All-front, EndAt-stretch, IsBoundedOver-stretch, continues_at, end_after-append, end_after-straight, first_of_all, length-rows_on, stretch}
 
 -- the row that is next is bounded, and with it its margin

@@ -9,7 +9,7 @@ use Rattle.mt_base.specs.declared.row.Row.{Row}
 use Rattle.mt_base.specs.Bounds.{IsInPlane}
 use Rattle.mt_base.specs.Predictor.{Manner, end_after, leg_to, predicted, rows_along, rows_on, rows_to}
 use Rattle.mt_base.specs.Trajectory.{Trajectory}
-use Rattle.mt_predict.specs.Flying.{EndAt}
+use Rattle.mt_predict.specs.Private.Flying.{EndAt}
 use Rattle.mt_predict.specs.Manners.{IsBoundedManner, IsFlownPlace}
 use Rattle.mt_predict.proofs.Aboard.{end_kept}
 

@@ -15,7 +15,7 @@ use Rattle.mt_track.specs.Rows.{Continues, row_after}
 use Rattle.mt_track.proofs.Joined.{IsBoundedOver-last, straight_rows-add}
 use Rattle.mt_track.proofs.Segments.{slice_get-append_right}
 use Rattle.mt_track.proofs.Straight.{get_or-straight_rows, length-straight_rows, row_after-none, slice_get-straight_rows, once_more}
-use Rattle.mt_predict.specs.Flying.{EndAt, IsSteady, place_at}
+use Rattle.mt_predict.specs.Private.Flying.{EndAt, IsSteady, place_at}
 
 -- where rows end
 more : (z v : ℤ) (k : ℕ) → (z +ℤ v *ℤ pos k) +ℤ v ≡ z +ℤ v *ℤ pos (suc k)

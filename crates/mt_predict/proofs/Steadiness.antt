@@ -9,7 +9,7 @@ use Rattle.mt_base.specs.declared.row.Row.{Row}
 use Rattle.mt_base.specs.Bounds.{IsWithin}
 use Rattle.mt_base.specs.Predictor.{Manner, climb_from, gain_with, margin_at, margin_gain, row_on}
 use Rattle.mt_track.specs.Rows.{row_after}
-use Rattle.mt_predict.specs.Flying.{place_at}
+use Rattle.mt_predict.specs.Private.Flying.{place_at}
 use Rattle.mt_predict.proofs.Reading.{read}
 use Rattle.mt_predict.proofs.Gains.{gain_less, gain_more}
 

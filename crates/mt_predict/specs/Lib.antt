@@ -1,5 +1,5 @@
 pub mod Clearing
-pub mod Flying
 pub mod Looking
 pub mod Manners
 pub mod Paths
+pub mod Private

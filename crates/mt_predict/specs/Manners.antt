@@ -1,6 +1,5 @@
-use Rattle.std.specs.Prelude.{ℕ, ℤ, ◌≤◌, pos, neg_ℤ, List}
+use Rattle.std.specs.Prelude.{ℕ, ◌≤◌, pos, List}
 use Rattle.mt_base.specs.declared.band.Band.{Band}
-use Rattle.mt_base.specs.declared.place.Leg.{Leg}
 use Rattle.mt_base.specs.declared.place.Place.{Place}
 use Rattle.mt_base.specs.declared.rules.Rules.{Rules}
 use Rattle.mt_base.specs.Bounds.{AreBoundedBands, AreWithinBounds, IsHeight, IsInPlane, IsWithin}
@@ -22,12 +21,3 @@ pub record IsFlownPlace (rules : Rules) (a : Place) : Type 0 where
   pub height : IsHeight a.z
   pub r : IsWithin (pos 0) rules.rmax a.r
   pub w : IsWithin (pos 0) rules.wmax a.w
-
--- how far two places of the plane can be apart in one direction
-abbrev pub IsAcross : ℤ → Type 0
-IsAcross d = IsWithin (neg_ℤ (pos 7372800)) (pos 7372800) d
-
--- A leg between two places of the plane.
-pub record IsBoundedLeg (leg : Leg) : Type 0 where
-  pub east : IsAcross leg.dx
-  pub north : IsAcross leg.dy

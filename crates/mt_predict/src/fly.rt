@@ -1,8 +1,9 @@
 ghost use Rattle.std.specs.Prelude.{◌≡◌, ◌<◌, ◌≤◌, ◌++◌, length, take, drop, All, IfOk};
 ghost use Rattle.mt_base.specs.Bounds.{IsBoundedRow, IsInPlane};
 ghost use Rattle.mt_base.specs.Predictor.{end_after, predicted, rows_on};
-ghost use Rattle.mt_predict.specs.Flying.{EndAt};
-ghost use Rattle.mt_predict.specs.Manners.{IsBoundedLeg, IsBoundedManner, IsFlownPlace, manner};
+ghost use Rattle.mt_predict.specs.Private.Flying.{EndAt};
+ghost use Rattle.mt_predict.specs.Manners.{IsBoundedManner, IsFlownPlace, manner};
+ghost use Rattle.mt_predict.specs.Private.Manners.{IsBoundedLeg};
 
 use crate::leg::leg_to;
 use crate::second::{place_at, row_on};

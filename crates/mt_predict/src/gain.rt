@@ -1,6 +1,6 @@
 ghost use Rattle.std.specs.Prelude.{◌≡◌, ◌<◌};
 ghost use Rattle.mt_base.specs.Predictor.{gain_with};
-ghost use Rattle.mt_predict.specs.Manners.{IsAcross};
+ghost use Rattle.mt_predict.specs.Private.Manners.{IsAcross};
 
 /// What a second gains of a distance that so many seconds share, with n of them after it: the last ones gain one more, so that the sum
 /// is the distance.

@@ -1,7 +1,7 @@
 ghost use Rattle.std.specs.Prelude.{◌≡◌, ℕ, ◌*◌, ◌<◌, ◌≤◌, ◌^◌, pos, unsigned_abs};
 ghost use Rattle.mt_base.specs.Bounds.{AreBoundedBands, IsInPlane, IsWithin};
 ghost use Rattle.mt_base.specs.Predictor.{leg_to, seconds_of};
-ghost use Rattle.mt_predict.specs.Manners.{IsAcross};
+ghost use Rattle.mt_predict.specs.Private.Manners.{IsAcross};
 
 use mt_base::{Band, Leg, Place, Point};
 use mt_tables::band_at;

@@ -1,8 +1,9 @@
 ghost use Rattle.std.specs.Prelude.{◌≡◌, ◌<◌};
 ghost use Rattle.mt_base.specs.Bounds.{IsBoundedOver, IsBoundedRow};
 ghost use Rattle.mt_base.specs.Predictor.{row_on};
-ghost use Rattle.mt_predict.specs.Flying.{place_at};
-ghost use Rattle.mt_predict.specs.Manners.{IsBoundedLeg, IsBoundedManner, manner};
+ghost use Rattle.mt_predict.specs.Private.Flying.{place_at};
+ghost use Rattle.mt_predict.specs.Manners.{IsBoundedManner, manner};
+ghost use Rattle.mt_predict.specs.Private.Manners.{IsBoundedLeg};
 
 use crate::climb::{climb_from, margin_at, margin_gain};
 use crate::gain::gain_with;

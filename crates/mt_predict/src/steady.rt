@@ -3,8 +3,8 @@ ghost use Rattle.std.specs.Int.{int_min};
 ghost use Rattle.mt_base.specs.declared.place.Place.{Place};
 ghost use Rattle.mt_base.specs.Bounds.{AreWithinBounds, IsWithin};
 ghost use Rattle.mt_base.specs.Predictor.{Manner, gain_with, row_on};
-ghost use Rattle.mt_predict.specs.Flying.{IsSteady};
-ghost use Rattle.mt_predict.specs.Manners.{IsAcross, IsBoundedLeg};
+ghost use Rattle.mt_predict.specs.Private.Flying.{IsSteady};
+ghost use Rattle.mt_predict.specs.Private.Manners.{IsAcross, IsBoundedLeg};
 
 use mt_base::{Leg, Row, Rules};
 

@@ -15,8 +15,8 @@ use Rattle.mt_meet.specs.declared.table.Met.{Met}
 use Rattle.mt_meet.proofs.Meetings.{losing_meet}
 use Rattle.mt_track.specs.Laid.{IsStrand}
 use Rattle.mt_probe.specs.declared.flight.Flight.{Flight}
-use Rattle.mt_probe.specs.Boxed.{IsFirstMetOf, IsNextMetOf, IsNotMet, slices_by}
-use Rattle.mt_probe.specs.Clear.{IsClearAt}
+use Rattle.mt_probe.specs.Private.Boxed.{IsFirstMetOf, IsNextMetOf, IsNotMet, slices_by}
+use Rattle.mt_probe.specs.Private.Clear.{IsClearAt}
 use Rattle.mt_probe.specs.Items.{kind_at, path_of}
 use Rattle.mt_probe.specs.Shot.{Shot, flight_at, state_in_shot}
 use Rattle.mt_probe.specs.Standing.{IsSoundShot}

@@ -16,7 +16,8 @@ use Rattle.mt_base.specs.Tables.{Setup}
 use Rattle.mt_base.specs.Trajectory.{Trajectory}
 use Rattle.mt_probe.specs.declared.finding.Found.{Found}
 use Rattle.mt_probe.specs.declared.flight.Flight.{Flight}
-use Rattle.mt_probe.specs.Finds.{AreFinds, AreDifferentFinds, AreCalledApart, AreOneEach, FindsMore, IsFound, IsFindListed, IsOfAnother}
+use Rattle.mt_probe.specs.Finds.{AreFinds, AreDifferentFinds, AreOneEach, IsFound, IsFindListed, IsOfAnother}
+use Rattle.mt_probe.specs.Private.Finds.{AreCalledApart, FindsMore}
 use Rattle.mt_probe.specs.Narrow.{all_end}
 use Rattle.mt_probe.specs.Shot.{Shot, flight_at, kept_of, made_named, records_in, state_in_shot}
 use Rattle.mt_probe.specs.Standing.{IsSoundShot}

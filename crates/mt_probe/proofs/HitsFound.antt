@@ -17,7 +17,7 @@ use Rattle.mt_base.specs.Trajectory.{Trajectory}
 use Rattle.mt_base.specs.WhatIf.{AreHitsOf, IsHit, hit_cmp}
 use Rattle.mt_probe.specs.declared.finding.Found.{Found}
 use Rattle.mt_probe.specs.Finds.{AreFinds}
-use Rattle.mt_probe.specs.Hits.{IsHitOfOne, hit_by, hit_of}
+use Rattle.mt_probe.specs.Private.Hits.{IsHitOfOne, hit_by, hit_of}
 use Rattle.mt_probe.specs.Narrow.{all_end}
 use Rattle.mt_base.proofs.Members.{Contains-cases, Contains-flat_map, Contains-flat_map_cases, Contains-none}
 use Rattle.mt_probe.proofs.Spans.{one_conflict}

@@ -10,7 +10,7 @@ use Rattle.mt_base.specs.Picture.{flight_of}
 use Rattle.mt_base.proofs.Members.{Contains-none}
 use Rattle.mt_names.specs.Naming.{AreNamed, IsOnlyAt, IsPlaceOf, IsRenaming}
 use Rattle.mt_probe.specs.declared.flight.Flight.{Flight}
-use Rattle.mt_probe.specs.Indexed.{AreFilled, CanBeAt, Indexed, IsFirstFree, IsIndexOf, call_at_place, calls_in}
+use Rattle.mt_probe.specs.Private.Indexed.{AreFilled, CanBeAt, Indexed, IsFirstFree, IsIndexOf, call_at_place, calls_in}
 use Rattle.mt_probe.specs.Putting.{Fits}
 use Rattle.mt_probe.specs.Shot.{IsFreeIn, Shot, flight_at, flights_in, in_order, records_in}
 use Rattle.mt_probe.specs.Standing.{IsSoundShot}

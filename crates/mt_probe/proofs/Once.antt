@@ -11,7 +11,8 @@ use Rattle.mt_base.specs.Picture.{NamedTrajectory}
 use Rattle.mt_base.specs.Trajectory.{Trajectory}
 use Rattle.mt_base.proofs.Members.{Contains-cases, Contains-flat_map, Contains-flat_map_cases, Contains-none, distinct_append}
 use Rattle.mt_probe.specs.declared.flight.Flight.{Flight}
-use Rattle.mt_probe.specs.Finds.{AreFinds, AreCalledApart, FindsMore}
+use Rattle.mt_probe.specs.Finds.{AreFinds}
+use Rattle.mt_probe.specs.Private.Finds.{AreCalledApart, FindsMore}
 use Rattle.mt_probe.specs.Items.{kind_at, other_at, other_of, path_of}
 use Rattle.mt_probe.specs.Shot.{Shot, made_named, state_in_shot}
 use Rattle.mt_probe.specs.Standing.{IsSoundShot}
@@ -19,7 +20,7 @@ use Rattle.mt_track.specs.Laid.{IsStrand}
 use Rattle.mt_cover.specs.Sliced.{slices_of}
 use Rattle.mt_meet.specs.declared.table.Met.{Met}
 use Rattle.mt_meet.proofs.Meetings.{losing_meet}
-use Rattle.mt_probe.specs.Boxed.{AreMetItems}
+use Rattle.mt_probe.specs.Private.Boxed.{AreMetItems}
 use Rattle.mt_probe.specs.declared.finding.Found.{Found}
 use Rattle.mt_probe.proofs.Gathered.{at_kept, kept_at, kept_call}
 use Rattle.mt_probe.proofs.Candidates.{others_met}

@@ -11,7 +11,7 @@ use Rattle.mt_base.specs.Picture.{flight_of}
 use Rattle.mt_base.specs.Bounds.{AreWithinBounds}
 use Rattle.mt_base.specs.Tables.{Setup}
 use Rattle.mt_probe.specs.declared.flight.Flight.{Flight}
-use Rattle.mt_probe.specs.Boxed.{AreLaid}
+use Rattle.mt_probe.specs.Private.Boxed.{AreLaid}
 use Rattle.mt_probe.specs.Putting.{Fits, IsFiledAt, records_put, replaced_if}
 use Rattle.mt_probe.specs.Shot.{Shot, filed_among, flight_at, flights_in, in_order, records_in}
 use Rattle.mt_probe.specs.Standing.{AreTwoFlights, IsSoundShot}

@@ -1,5 +1,5 @@
 -- What is found with a new trajectory.
-use Rattle.std.specs.Prelude.{◌≡◌, ◌≢◌, ◌<◌, ◌⊎◌, ℕ, true, List, AllPairs, Contains, is_some}
+use Rattle.std.specs.Prelude.{◌≡◌, ◌≢◌, ◌<◌, ℕ, true, List, AllPairs, Contains, is_some}
 use Rattle.mt_base.specs.declared.rules.Rules.{Rules}
 use Rattle.mt_base.specs.Conflict.{IsConflict, IsLossSecond}
 use Rattle.mt_base.specs.Picture.{NamedTrajectory, State, trajectories, window_end}
@@ -31,22 +31,11 @@ pub record IsFoundOfAnother (setup : Setup) (s : State) (call : List ℕ) (t : T
 abbrev pub AreDifferentFinds : Found → Found → Type 0
 AreDifferentFinds f g = ¬ ((f.call ≡ g.call) × (f.kind ≡ g.kind))
 
--- and so are two trajectories
-abbrev pub AreCalledApart : NamedTrajectory → NamedTrajectory → Type 0
-AreCalledApart a b = ¬ ((a.call ≡ b.call) × (a.kind ≡ b.kind))
-
 -- one of some finds is what is found with another trajectory
 pub record IsFindListed (rules : Rules) (now : ℕ) (t : Trajectory) (finds : List Found) (other : NamedTrajectory) : Type 0 where
   pub found : Found
   pub held : Contains finds found
   pub is : IsFound rules now t other found
-
--- it is what is found with one of these trajectories, which has a loss second with the new one
-pub record IsFoundAmong (rules : Rules) (now : ℕ) (t : Trajectory) (others : List NamedTrajectory) (found : Found) : Type 0 where
-  pub other : NamedTrajectory
-  pub among : Contains others other
-  pub is : IsFound rules now t other found
-  pub loss : is_some found.whole ≡ true
 
 -- What is found with a new trajectory of a flight in a state: each trajectory of another flight that has a loss second with the new one is
 -- listed, once, and no other; each find is exact.
@@ -59,16 +48,3 @@ pub record AreFinds (setup : Setup) (s : State) (call : List ℕ) (t : Trajector
 -- no two of these trajectories have one callsign and one kind
 abbrev pub AreOneEach : List NamedTrajectory → Type 0
 AreOneEach all = (a b : NamedTrajectory) → Contains all a → Contains all b → a.call ≡ b.call → a.kind ≡ b.kind → a ≡ b
-
--- no find is of the flight and kind of one of these trajectories
-abbrev pub AreOfNone : List NamedTrajectory → List Found → Type 0
-AreOfNone others finds = (found : Found) (other : NamedTrajectory) → Contains finds found → Contains others other
-    → ¬ ((found.call ≡ other.call) × (found.kind ≡ other.kind))
-
--- Some finds have more than some others: what is found with those of these trajectories that have a loss second, each once.
-pub record FindsMore (rules : Rules) (now : ℕ) (t : Trajectory) (others : List NamedTrajectory) (old new : List Found) : Type 0 where
-  pub kept : (found : Found) → Contains old found → Contains new found
-  pub exact : (found : Found) → Contains new found → Contains old found ⊎ IsFoundAmong rules now t others found
-  pub listed : (other : NamedTrajectory) → Contains others other → (k : ℕ) → k < all_end → IsLossSecond rules t other.path k
-      → IsFindListed rules now t new other
-  pub once : AllPairs AreCalledApart others → AreOfNone others old → AllPairs AreDifferentFinds old → AllPairs AreDifferentFinds new

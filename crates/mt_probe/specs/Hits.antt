@@ -1,9 +1,7 @@
 -- A probe, and its hits among what was found.
-use Rattle.std.specs.Prelude.{◌≡◌, ◌≤◌, ℕ, List, [], Contains, Option, Some, None, Ok, Err, ⊤, unwrap_or}
+use Rattle.std.specs.Prelude.{◌≡◌, ◌≤◌, ℕ, List, [], Option, Some, None, Ok, Err, ⊤, unwrap_or}
 use Rattle.mt_base.specs.declared.clearance.Clearance.{Clearance}
 use Rattle.mt_base.specs.declared.command.Command.TheVariants.{Accept}
-use Rattle.mt_base.specs.declared.conflict.Kind.{Kind}
-use Rattle.mt_base.specs.declared.conflict.Kind.TheVariants.{Actual, Tentative}
 use Rattle.mt_base.specs.declared.hit.Hit.{Hit}
 use Rattle.mt_base.specs.Bounds.{IsBoundedClearance}
 use Rattle.mt_base.specs.WhatIf.{IsConflicting, IsWhatIf}
@@ -11,24 +9,8 @@ use Rattle.mt_board.specs.declared.no.No.{No}
 use Rattle.mt_board.specs.declared.no.No.TheVariants as nos
 use Rattle.mt_board.specs.Probing.{Probe}
 use Rattle.mt_board.specs.Short.{AreShortHits}
-use Rattle.mt_probe.specs.declared.finding.Found.{Found}
 use Rattle.mt_probe.specs.Prepared.{IsPrepOf, IsPrepared, Prepared}
 use Rattle.mt_probe.specs.Shot.{Shot, state_in_shot}
-
--- the hit with a trajectory that is flown, where it has a conflict in the window
-abbrev pub hit_by : List ℕ → Kind → Option (ℕ × ℕ) → Option Hit
-hit_by call Actual (Some span) = Some (record { first = span.0; with = call; last = span.1 })
-hit_by call Actual None = None
-hit_by call Tentative window = None
-
-abbrev pub hit_of : Found → Option Hit
-hit_of found = hit_by found.call found.kind found.window
-
--- a hit of one of some finds
-pub record IsHitOfOne (finds : List Found) (hit : Hit) : Type 0 where
-  pub found : Found
-  pub held : Contains finds found
-  pub is : hit_of found ≡ Some hit
 
 -- A clearance that was tried: what was prepared for its acceptance, and the hits.
 pub record Trial : Type 0 where

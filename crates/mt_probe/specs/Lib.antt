@@ -1,13 +1,10 @@
-pub mod Body
-pub mod Boxed
-pub mod Clear
 pub mod Filing
 pub mod Finds
 pub mod Hits
-pub mod Indexed
 pub mod Items
 pub mod Narrow
 pub mod Prepared
+pub mod Private
 pub mod Putting
 pub mod Shot
 pub mod Standing

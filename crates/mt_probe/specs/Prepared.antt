@@ -127,15 +127,3 @@ WereFew shot (Some mine) old new = WasTestedNear shot mine.call mine.path old ne
 -- At most two tests were made for each trajectory of another flight that is near the one that the command makes on the snapshot.
 abbrev pub WasTestedFor : Shot → ℕ → Command → ℕ → ℕ → Type 0
 WasTestedFor shot who command old new = WereFew shot (left_made shot.setup (state_in_shot shot) who command) old new
-
--- as contracts see it
-abbrev pub prepared_of : Shot → ℕ → Command → Record → Trajectory → List Found → Prepared
-prepared_of shot who command card strand finds = record {
-  setup = shot.setup;
-  state = state_in_shot shot;
-  who = who;
-  command = command;
-  card = card;
-  strand = strand;
-  finds = finds;
-}

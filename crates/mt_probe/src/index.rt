@@ -3,7 +3,7 @@ ghost use Rattle.std.specs.Prelude.{◌≡◌, ◌<◌, ◌≤◌, ℕ, Option, 
 ghost use Rattle.std.specs.Arc.{arc_value};
 ghost use Rattle.mt_names.specs.Naming.{IsPlaceOf};
 ghost use Rattle.mt_probe.specs.declared.flight.Flight.{Flight as Kept};
-ghost use Rattle.mt_probe.specs.Indexed.{AreFilled, CanBeAt, IsFirstFree, IsIndexOf, call_at_place};
+ghost use Rattle.mt_probe.specs.Private.Indexed.{AreFilled, CanBeAt, IsFirstFree, IsIndexOf, call_at_place};
 
 use crate::flight::Flight;
 use mt_base::{Callsign, Memory};
@@ -23,7 +23,7 @@ pub(crate) struct Index {
 
 impl Model for Index {
     ghost use Rattle.std.specs.Arc.{arc_value};
-    ghost use Rattle.mt_probe.specs.Indexed.{Indexed};
+    ghost use Rattle.mt_probe.specs.Private.Indexed.{Indexed};
 
     ghost Value = { Indexed };
 

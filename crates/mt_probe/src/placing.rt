@@ -3,7 +3,7 @@ ghost use Rattle.std.specs.Prelude.{◌≡◌, ◌<◌, ◌+◌, ◌*◌, Some, 
 ghost use Rattle.mt_base.specs.Bounds.{AreWithinBounds};
 ghost use Rattle.mt_cover.specs.Sliced.{slices_of};
 ghost use Rattle.mt_track.specs.Laid.{IsStrand};
-ghost use Rattle.mt_probe.specs.Boxed.{AreLaid, table_with};
+ghost use Rattle.mt_probe.specs.Private.Boxed.{AreLaid, table_with};
 
 use crate::flight::Flight;
 use mt_base::{Memory, Rules};

@@ -23,7 +23,8 @@ pub struct Prep {
 
 impl Model for Prep {
     ghost use Rattle.std.specs.Arc.{arc_value};
-    ghost use Rattle.mt_probe.specs.Prepared.{IsPrepared, Prepared, prepared_of};
+    ghost use Rattle.mt_probe.specs.Prepared.{IsPrepared, Prepared};
+    ghost use Rattle.mt_probe.specs.Private.Prepared.{prepared_of};
 
     ghost Value = { Prepared };
 

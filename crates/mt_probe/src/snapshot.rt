@@ -5,8 +5,8 @@ ghost use Rattle.mt_base.specs.Bounds.{AreWithinBounds};
 ghost use Rattle.mt_base.specs.Picture.{flight_of, opening};
 ghost use Rattle.mt_change.specs.Sound.{IsSoundState};
 ghost use Rattle.mt_cover.specs.Sliced.{slices_of};
-ghost use Rattle.mt_probe.specs.Body.{shot_of};
-ghost use Rattle.mt_probe.specs.Boxed.{AreMetItems, IsSnapshotKept, IsNextMetOf};
+ghost use Rattle.mt_probe.specs.Private.Body.{shot_of};
+ghost use Rattle.mt_probe.specs.Private.Boxed.{AreMetItems, IsSnapshotKept, IsNextMetOf};
 ghost use Rattle.mt_probe.specs.Items.{AreNearItems, IsNearItem, path_of};
 ghost use Rattle.mt_probe.specs.Putting.{Fits, records_put, with_flight, with_moment};
 ghost use Rattle.mt_probe.specs.Shot.{IsFreeIn, flight_at, kept_of, made_of, records_in, state_in_shot};
@@ -49,8 +49,8 @@ pub struct Snapshot {
 impl Model for Snapshot {
     ghost use Rattle.std.specs.Arc.{arc_value};
     ghost use Rattle.mt_probe.specs.Shot.{Shot};
-    ghost use Rattle.mt_probe.specs.Body.{shot_of};
-    ghost use Rattle.mt_probe.specs.Boxed.{IsSnapshotKept};
+    ghost use Rattle.mt_probe.specs.Private.Body.{shot_of};
+    ghost use Rattle.mt_probe.specs.Private.Boxed.{IsSnapshotKept};
 
     ghost Value = { Shot };
 

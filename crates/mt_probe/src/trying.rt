@@ -9,7 +9,8 @@ ghost use Rattle.mt_base.specs.Bounds.{IsBoundedClearance};
 ghost use Rattle.mt_base.specs.Name.{is_name};
 ghost use Rattle.mt_base.specs.Tables.{setup_with};
 ghost use Rattle.mt_base.specs.WhatIf.{hit_cmp};
-ghost use Rattle.mt_probe.specs.Hits.{IsFreeOrConflicting, IsHitOfOne, IsProbe, IsUnprobed, hit_of};
+ghost use Rattle.mt_probe.specs.Hits.{IsFreeOrConflicting, IsProbe, IsUnprobed};
+ghost use Rattle.mt_probe.specs.Private.Hits.{IsHitOfOne, hit_of};
 ghost use Rattle.mt_probe.specs.Prepared.{IsLeftByEntry, IsRefusedOn, WasTestedFor, path_made};
 ghost use Rattle.mt_probe.specs.Shot.{state_in_shot};
 

@@ -14,10 +14,10 @@ use Rattle.mt_read.specs.declared.key.Key.TheVariants as key
 use Rattle.mt_read.specs.declared.origin.Origin.{Origin}
 use Rattle.mt_read.specs.declared.request.Request.{Request}
 use Rattle.mt_read.specs.declared.request.Request.TheVariants as request
-use Rattle.mt_read.specs.Field.{ReadsChecked, count_within, within}
+use Rattle.mt_read.specs.Private.Field.{ReadsChecked, count_within, within}
 use Rattle.mt_read.specs.Line.{◌>>=◌, checked, kinds, who_bounds, who_fields, who_in}
 use Rattle.mt_read.specs.Rules.{rule_bounds}
-use Rattle.mt_read.specs.Steps.{external_steps, row_steps}
+use Rattle.mt_read.specs.Private.Steps.{external_steps, row_steps}
 use Rattle.mt_read.specs.Table.{Layout, as_request, external_bounds, straight_of}
 
 next-bind : {A B : Type 0} (r : Result ⊤ Fault) (s : Result A Fault) (f : A → Result B Fault) → (next r s >>= f) ≡ next r (s >>= f)

@@ -2,10 +2,8 @@
 use Rattle.std.specs.Prelude.{ℤ, pos, List, length, Bool, Option, Some, None, is_some, option_and_then, nat_le, int_le, ◌&&◌, unsigned_abs, if◌then◌else◌}
 use Rattle.serde_json.specs.Data.{Data, Items, no_items, item}
 use Rattle.serde_json.specs.Find.{as_array}
-use Rattle.mt_json.specs.View.{view}
 use Rattle.mt_base.specs.declared.band.Band.{Band}
 use Rattle.mt_json.specs.Field.{as_whole}
-use Rattle.mt_read.specs.declared.bands.FourValues.{FourValues}
 use Rattle.mt_read.specs.Field.{as_list_of}
 
 -- what stands in a band: its top, its speed, and its rates of climb and descent
@@ -54,7 +52,3 @@ are_few bands = nat_le 1 (length bands) && nat_le (length bands) 8
 
 abbrev pub as_bands : Data → Option (List Band)
 as_bands d = option_and_then (λ bands. if are_few bands then Some bands else None) (as_list_of as_band d)
-
--- four values that are lent, as what they are
-abbrev pub four_shown : FourValues → Four
-four_shown f = record { top = view f.top.now; speed = view f.speed.now; climb = view f.climb.now; descent = view f.descent.now }

@@ -2,9 +2,7 @@
 use Rattle.std.specs.Prelude.{ℤ, pos, neg_ℤ, List, length, Bool, Option, Some, None, is_some, option_and_then, nat_le, ◌&&◌, if◌then◌else◌}
 use Rattle.serde_json.specs.Data.{Data, Items, no_items, item}
 use Rattle.serde_json.specs.Find.{as_array}
-use Rattle.mt_json.specs.View.{view}
 use Rattle.mt_json.specs.Field.{as_whole}
-use Rattle.mt_read.specs.declared.corners.PairValues.{PairValues}
 use Rattle.mt_read.specs.Bands.{as_bounded}
 use Rattle.mt_read.specs.Field.{as_list_of}
 
@@ -48,7 +46,3 @@ are_enough corners = nat_le 3 (length corners) && nat_le (length corners) 16
 
 abbrev pub as_corners : Data → Option (List (ℤ × ℤ))
 as_corners d = option_and_then (λ corners. if are_enough corners then Some corners else None) (as_list_of as_corner d)
-
--- two values that are lent, as what they are
-abbrev pub pair_shown : PairValues → Pair
-pair_shown p = record { east = view p.east.now; north = view p.north.now }

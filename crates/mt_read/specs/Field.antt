@@ -1,19 +1,16 @@
 -- The fields of a line: what is read of one, and what is checked of one.
-use Rattle.std.specs.Prelude.{◌≡◌, ℕ, ℤ, pos, ◌&&◌, not, int_le, Bool, true, false, List, [], ◌∷◌, codes, Option, Some, None, is_some, option_and_then, option_map, unwrap_or, Result, Ok, Err, ⊤, unsigned_abs, if◌then◌else◌}
+use Rattle.std.specs.Prelude.{ℕ, ℤ, pos, ◌&&◌, not, int_le, Bool, true, false, List, [], ◌∷◌, codes, Option, Some, None, is_some, option_and_then, option_map, unwrap_or, ⊤, unsigned_abs, if◌then◌else◌}
 use Rattle.std.specs.Option.{option_map_or}
 use Rattle.std.specs.Str.{bytes_eq}
 use Rattle.serde_json.specs.Data.{Data, Items, no_items, item, Members}
 use Rattle.serde_json.specs.Find.{as_array, as_str, get_member}
 use Rattle.mt_base.specs.declared.role.Role.{Role}
 use Rattle.mt_base.specs.declared.role.Role.TheVariants.{Feed, Position}
-use Rattle.mt_base.specs.Checks.{check, next}
 use Rattle.mt_base.specs.Name.{name_of}
 use Rattle.mt_json.specs.Field.{as_whole}
 use Rattle.mt_read.specs.declared.key.Key.{Key}
 use Rattle.mt_read.specs.declared.key.Fault.{Fault}
 use Rattle.mt_read.specs.declared.key.Fault.TheVariants.{Form, Range}
-use Rattle.mt_read.specs.declared.stop.Stop.{Stop}
-use Rattle.mt_read.specs.declared.stop.Stop.TheVariants as stop
 use Rattle.mt_read.specs.declared.origin.Origin.{Origin}
 use Rattle.mt_read.specs.declared.origin.Origin.TheVariants.{Line, Entry}
 use Rattle.mt_read.specs.Key.{key_text}
@@ -87,10 +84,6 @@ second_of_two key kind other = record { key = key; may_lack = λ origin ms. true
 abbrev pub form_check : Key → Bool → Bool → (Data → Bool) → Members → Fault × Bool
 form_check key may_lack may_stand kind ms = (Form key, option_map_or (λ d. may_stand && kind d) (get_member (key_text key) ms) may_lack)
 
--- a key has a value of a kind
-abbrev pub there : {A : Type 0} → Key → (Data → Option A) → Members → Fault × Bool
-there key kind ms = form_check key false true (is_of kind) ms
-
 -- a field is there, where it may be, and of its kind, or absent where it may be
 abbrev pub kind_check : Origin → Members → Field → Fault × Bool
 kind_check origin ms field = form_check field.key (field.may_lack origin ms) (field.may_stand ms) field.kind ms
@@ -114,27 +107,3 @@ count_if_there key ms = option_map unsigned_abs (read_at key as_whole ms)
 -- a number within bounds
 abbrev pub bound : Key → ℤ → ℤ → ℤ → Fault × Bool
 bound key low high z = (Range key, int_le low z && int_le z high)
-
--- the number at a key, within bounds
-unfoldable pub within : Key → ℤ → ℤ → Members → Result ℤ Fault
-within key low high ms = next (check (bound key low high (number key ms))) (Ok (number key ms))
-
-unfoldable pub count_within : Key → ℕ → ℕ → Members → Result ℕ Fault
-count_within key low high ms = next (check (bound key (pos low) (pos high) (number key ms))) (Ok (count key ms))
-
--- a value that was read where a check passed; else its refusal
-abbrev pub ReadsChecked : {A : Type 0} → Result A Fault → Result ⊤ Fault → A → Type 0
-ReadsChecked (Ok y) r x = (r ≡ Ok (tt {0})) × (y ≡ x)
-ReadsChecked (Err e) r x = r ≡ Err e
-
--- the same, or memory is wanting
-abbrev pub ReadsUnlessMemory : {A : Type 0} → Result A Stop → Result ⊤ Fault → A → Type 0
-ReadsUnlessMemory (Ok y) r x = (r ≡ Ok (tt {0})) × (y ≡ x)
-ReadsUnlessMemory (Err (stop.Fault e)) r x = r ≡ Err e
-ReadsUnlessMemory (Err stop.Memory) r x = ⊤
-
--- the answer is this one, or memory is wanting
-abbrev pub IsUnlessMemory : {A : Type 0} → Result A Stop → Result A Fault → Type 0
-IsUnlessMemory (Ok y) r = r ≡ Ok y
-IsUnlessMemory (Err (stop.Fault e)) r = r ≡ Err e
-IsUnlessMemory (Err stop.Memory) r = ⊤

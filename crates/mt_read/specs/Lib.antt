@@ -6,7 +6,7 @@ pub mod Field
 pub mod Following
 pub mod Key
 pub mod Line
+pub mod Private
 pub mod Rules
-pub mod Steps
 pub mod Table
 pub mod Words

@@ -1,7 +1,7 @@
 //! The lines on restricted areas: `area`, before the picture begins, and `areas`.
 ghost use Rattle.std.specs.Prelude.{◌≡◌, []};
 ghost use Rattle.mt_json.specs.Shown.{members};
-ghost use Rattle.mt_read.specs.Field.{IsUnlessMemory};
+ghost use Rattle.mt_read.specs.Private.Field.{IsUnlessMemory};
 ghost use Rattle.mt_read.specs.Line.{checked};
 ghost use Rattle.mt_read.specs.Table.{layout_of};
 ghost use Rattle.mt_read.specs.declared.word.Word.TheVariants as word;

@@ -4,8 +4,10 @@ ghost use Rattle.mt_base.specs.Checks.{check};
 ghost use Rattle.mt_json.specs.Field.{as_whole};
 ghost use Rattle.mt_json.specs.Shown.{members};
 ghost use Rattle.mt_json.specs.View.{items_view, view};
-ghost use Rattle.mt_read.specs.Bands.{are_few, are_whole, as_band, as_bands, as_bounded, as_four, as_numbers, band_of, four_of, four_shown};
-ghost use Rattle.mt_read.specs.Field.{ReadsUnlessMemory, as_list_of, each_of, read_at, there};
+ghost use Rattle.mt_read.specs.Bands.{are_few, are_whole, as_band, as_bands, as_bounded, as_four, as_numbers, band_of, four_of};
+ghost use Rattle.mt_read.specs.Private.Bands.{four_shown};
+ghost use Rattle.mt_read.specs.Field.{as_list_of, each_of, read_at};
+ghost use Rattle.mt_read.specs.Private.Field.{ReadsUnlessMemory, there};
 ghost use Rattle.mt_read.specs.declared.key.Fault.TheVariants.{Range};
 
 use crate::key::{Fault, Key, key_text};

@@ -1,7 +1,7 @@
 //! The changes of the picture, as lines and entries have them.
 ghost use Rattle.std.specs.Prelude.{[]};
 ghost use Rattle.mt_json.specs.Shown.{members};
-ghost use Rattle.mt_read.specs.Field.{IsUnlessMemory};
+ghost use Rattle.mt_read.specs.Private.Field.{IsUnlessMemory};
 ghost use Rattle.mt_read.specs.Line.{checked};
 ghost use Rattle.mt_read.specs.Table.{change_layout};
 

@@ -3,7 +3,8 @@ ghost use Rattle.std.specs.Prelude.{◌≡◌, ◌-◌, ◌^◌, pos, [], true, 
 ghost use Rattle.mt_base.specs.Checks.{check, judged};
 ghost use Rattle.mt_json.specs.Field.{as_whole};
 ghost use Rattle.mt_json.specs.Shown.{members};
-ghost use Rattle.mt_read.specs.Field.{ReadsChecked, as_fix, bound, count, count_if_there, form_check, is_of, number, read_at, is_present};
+ghost use Rattle.mt_read.specs.Field.{as_fix, bound, count, count_if_there, form_check, is_of, number, read_at, is_present};
+ghost use Rattle.mt_read.specs.Private.Field.{ReadsChecked};
 ghost use Rattle.mt_read.specs.Line.{checked, kinds};
 ghost use Rattle.mt_read.specs.Table.{call_in, change_layout, clearance_bounds, clearance_fields, clearance_to, entry_layout, layout_of};
 ghost use Rattle.mt_read.specs.declared.key.Key.TheVariants as key;

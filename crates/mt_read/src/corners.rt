@@ -3,8 +3,10 @@ ghost use Rattle.std.specs.Prelude.{◌≡◌, [], is_some, option_map, unwrap_o
 ghost use Rattle.mt_base.specs.Checks.{check};
 ghost use Rattle.mt_json.specs.Shown.{members};
 ghost use Rattle.mt_json.specs.View.{items_view, view};
-ghost use Rattle.mt_read.specs.Corners.{are_enough, are_whole, as_corner, as_corners, as_numbers, as_pair, corner_of, pair_of, pair_shown};
-ghost use Rattle.mt_read.specs.Field.{ReadsUnlessMemory, as_list_of, each_of, read_at, there};
+ghost use Rattle.mt_read.specs.Corners.{are_enough, are_whole, as_corner, as_corners, as_numbers, as_pair, corner_of, pair_of};
+ghost use Rattle.mt_read.specs.Private.Corners.{pair_shown};
+ghost use Rattle.mt_read.specs.Field.{as_list_of, each_of, read_at};
+ghost use Rattle.mt_read.specs.Private.Field.{ReadsUnlessMemory, there};
 ghost use Rattle.mt_read.specs.declared.key.Fault.TheVariants.{Range};
 
 use crate::bands::{bounded, is_whole};

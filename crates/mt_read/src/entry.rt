@@ -5,7 +5,7 @@ ghost use Rattle.mt_base.specs.declared.command.Entry.{Entry as Kept};
 ghost use Rattle.mt_base.specs.History.{filled};
 ghost use Rattle.mt_json.specs.Shown.{members};
 ghost use Rattle.mt_read.specs.Entry.{entry, held_in};
-ghost use Rattle.mt_read.specs.Field.{IsUnlessMemory};
+ghost use Rattle.mt_read.specs.Private.Field.{IsUnlessMemory};
 ghost use Rattle.mt_read.specs.Line.{GivesReading, checked, decoded, read_value, word_text};
 ghost use Rattle.mt_read.specs.Table.{entry_layout};
 ghost use Rattle.mt_read.specs.Words.{entry_word_of};

@@ -2,9 +2,9 @@
 ghost use Rattle.std.specs.Prelude.{◌≡◌, []};
 ghost use Rattle.mt_base.specs.Checks.{judged};
 ghost use Rattle.mt_json.specs.Shown.{members};
-ghost use Rattle.mt_read.specs.Field.{ReadsChecked};
+ghost use Rattle.mt_read.specs.Private.Field.{ReadsChecked};
 ghost use Rattle.mt_read.specs.Line.{checked, kinds};
-ghost use Rattle.mt_read.specs.Steps.{external_steps, row_steps};
+ghost use Rattle.mt_read.specs.Private.Steps.{external_steps, row_steps};
 ghost use Rattle.mt_read.specs.Table.{call_in, change_layout, ends, external_bounds, external_fields, rvsm_in, straight_of};
 ghost use Rattle.mt_read.specs.declared.word.Change.TheVariants as change;
 

@@ -6,7 +6,8 @@ ghost use Rattle.mt_json.specs.Shown.{members};
 ghost use Rattle.serde_json.specs.Find.{as_bool};
 ghost use Rattle.mt_base.specs.declared.role.Role.TheVariants.{Feed};
 ghost use Rattle.mt_read.specs.declared.key.Key.TheVariants as key;
-ghost use Rattle.mt_read.specs.Field.{ReadsChecked, as_call, as_fix, as_role, as_type, bound, count, count_if_there, count_within, form_check, is_line, is_of, number, read_at, role_of, there, within};
+ghost use Rattle.mt_read.specs.Field.{as_call, as_fix, as_role, as_type, bound, count, count_if_there, form_check, is_line, is_of, number, read_at, role_of};
+ghost use Rattle.mt_read.specs.Private.Field.{ReadsChecked, count_within, there, within};
 ghost use Rattle.mt_read.specs.Table.{rvsm_in};
 
 use crate::key::{Fault, Key, key_text};

@@ -2,7 +2,7 @@
 ghost use Rattle.std.specs.Prelude.{◌≡◌, [], IfOk};
 ghost use Rattle.mt_json.specs.Shown.{members};
 ghost use Rattle.mt_read.specs.Bounded.{IsBounded};
-ghost use Rattle.mt_read.specs.Field.{IsUnlessMemory};
+ghost use Rattle.mt_read.specs.Private.Field.{IsUnlessMemory};
 ghost use Rattle.mt_read.specs.Line.{GivesReading, checked, line, read_members, standing_rules, word_in};
 ghost use Rattle.mt_read.specs.Table.{as_request, change_layout, layout_of};
 ghost use Rattle.mt_read.specs.declared.origin.Origin.TheVariants.{Line};

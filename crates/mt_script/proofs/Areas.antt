@@ -13,7 +13,7 @@ use Rattle.mt_write.specs.declared.reply.Reply.{Reply}
 use Rattle.mt_write.specs.declared.reply.Reply.TheVariants as replies
 use Rattle.mt_world.specs.World.{AreAreasTold, IsAreaAdded, IsRefused, IsServed, IsStarved, World, picture_of, setup_of, with_areas}
 use Rattle.mt_world.proofs.WorldLemmas.{on_true}
-use Rattle.mt_script.specs.Unadded.{area_refusal}
+use Rattle.mt_script.specs.Private.Unadded.{area_refusal}
 use Rattle.mt_script.proofs.Adding.{on_false}
 
 module _ (w next : World) (who : ℕ) (area : Area) where

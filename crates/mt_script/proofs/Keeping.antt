@@ -15,7 +15,7 @@ use Rattle.mt_write.specs.declared.reply.Reply.{Reply}
 use Rattle.mt_world.specs.World.{IsAcceptedOf, IsAdvisedAs, IsWorldLeft, IsOutcome, IsServed, IsStarved, IsFlightTold, IsTrialAnswered, World, actor_of, is_empty, picture_of}
 use Rattle.mt_base.specs.Tables.{Tables}
 use Rattle.mt_base.proofs.Cases.{on_either}
-use Rattle.mt_script.specs.Kept.{IsBegunWith, IsSetupKept}
+use Rattle.mt_script.specs.Private.Kept.{IsBegunWith, IsSetupKept}
 
 pub when_true : (b : Bool) (P Q : Type 0) → b ≡ true → MatchBool b P Q → P
 when_true true P Q e m = m

@@ -3,7 +3,7 @@ ghost use Rattle.std.specs.Prelude.{◌≡◌, IfOk, false};
 ghost use Rattle.mt_base.specs.Pierced.{ArePierced};
 ghost use Rattle.mt_lines.specs.Fit.{IsFit};
 ghost use Rattle.mt_script.specs.Begun.{is_begin};
-ghost use Rattle.mt_script.specs.Unadded.{area_refusal};
+ghost use Rattle.mt_script.specs.Private.Unadded.{area_refusal};
 ghost use Rattle.mt_world.specs.World.{picture_of, setup_of};
 
 use mt_area::{AreaNo, Areas, pierced};

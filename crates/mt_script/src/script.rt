@@ -34,7 +34,7 @@ pub struct Script {
 
 impl Model for Script {
     ghost use Rattle.std.specs.Prelude.{IfSome, unwrap_or};
-    ghost use Rattle.mt_script.specs.Kept.{IsBegunWith};
+    ghost use Rattle.mt_script.specs.Private.Kept.{IsBegunWith};
     ghost use Rattle.mt_world.specs.World.{World, with_areas};
 
     ghost Value = { World };

@@ -9,8 +9,9 @@ use Rattle.mt_desk.specs.Desk.{Desk, IsSeatOfDesk}
 use Rattle.mt_turn.specs.Places.{Place}
 use Rattle.mt_base.specs.declared.command.Entry.{Entry}
 use Rattle.mt_io.specs.Door.{Count, LosesFront, Gains, gave_one}
-use Rattle.mt_serve.specs.Sitting.{HaveNoChannel, Start, HasSeatedLinks, seats_of}
-use Rattle.mt_serve.specs.Accepting.{Accepting}
+use Rattle.mt_serve.specs.Sitting.{HaveNoChannel, Start, seats_of}
+use Rattle.mt_serve.specs.Private.Sitting.{HasSeatedLinks}
+use Rattle.mt_serve.specs.Private.Accepting.{Accepting}
 
 pub loses_none : {A : Type 0} (a : Option (List A)) → LosesFront a a []
 loses_none None = tt

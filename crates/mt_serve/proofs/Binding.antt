@@ -13,10 +13,13 @@ use Rattle.mt_turn.specs.Views.{joined_as, first_view, entries_of}
 use Rattle.mt_turn.specs.Lending.{AllJoined, IsJoined, ClosesHistory}
 use Rattle.mt_base.specs.declared.command.Entry.{Entry}
 use Rattle.mt_serve.specs.Sitting.{Met, Start, starts_of, seats_of}
-use Rattle.mt_serve.specs.Working.{Worked, IsRenewal, IsRested, froms_of, rests_of}
+use Rattle.mt_serve.specs.Working.{IsRenewal}
+use Rattle.mt_serve.specs.Private.Working.{Worked, IsRested, froms_of, rests_of}
 use Rattle.mt_serve.specs.Serving.{HasServed}
-use Rattle.mt_serve.specs.Seating.{IsNewSeat, AllSplit, HasSplit, HasJoined, numbers_of, views_of, joined_of}
-use Rattle.mt_serve.specs.Tied.{AreOver, ends_of, number_of, IsSessions, IsInHistory, IsTied}
+use Rattle.mt_serve.specs.Seating.{numbers_of}
+use Rattle.mt_serve.specs.Private.Seating.{IsNewSeat, AllSplit, HasSplit, HasJoined, views_of, joined_of}
+use Rattle.mt_serve.specs.Tied.{number_of, IsSessions, IsInHistory, IsTied}
+use Rattle.mt_serve.specs.Private.Tied.{AreOver, ends_of}
 use Rattle.mt_serve.proofs.Seats.{length_map}
 use Rattle.mt_base.proofs.Members.{All-from_held, Contains-map, Contains-none}
 use Rattle.mt_serve.proofs.Members.{contains_filter, contains_unmap}

@@ -4,7 +4,8 @@ use Rattle.mt_base.proofs.FewAdvised.{few_filtered}
 use Rattle.mt_serve.specs.Sitting.{Met}
 use Rattle.mt_serve.specs.declared.counts.Counts.{Counts}
 use Rattle.mt_base.specs.StrikeOut.{one_if}
-use Rattle.mt_serve.specs.Summary.{counted, is_faulted, is_starved_session, with_outcome}
+use Rattle.mt_serve.specs.Summary.{counted, is_faulted, is_starved_session}
+use Rattle.mt_serve.specs.Private.Summary.{with_outcome}
 use Rattle.mt_serve.proofs.Accepts.{length_push}
 
 length_cond : {A : Type 0} (b : Bool) (y : A) (xs : List A) → length (cond b (y ∷ xs) xs) ≡ length xs + one_if b

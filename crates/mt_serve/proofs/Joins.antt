@@ -13,14 +13,16 @@ use Rattle.mt_base.specs.declared.command.Entry.{Entry}
 use Rattle.mt_io.specs.Door.{Count, Gains, took_one}
 use Rattle.mt_session.specs.declared.outcome.Outcome.{Outcome}
 use Rattle.mt_serve.specs.Sitting.{Met}
-use Rattle.mt_serve.specs.Working.{Worked, HasWorkedInSeat, IsRested, rests_of}
+use Rattle.mt_serve.specs.Private.Working.{Worked, HasWorkedInSeat, IsRested, rests_of}
 use Rattle.mt_serve.specs.Serving.{HasServed}
-use Rattle.mt_serve.specs.Seating.{HasJoined, views_of}
+use Rattle.mt_serve.specs.Private.Seating.{HasJoined, views_of}
 use Rattle.mt_serve.specs.declared.counts.Counts.{Counts}
-use Rattle.mt_serve.specs.Summary.{counted, no_counts, with_outcome}
+use Rattle.mt_serve.specs.Summary.{counted}
+use Rattle.mt_serve.specs.Private.Summary.{no_counts, with_outcome}
 use Rattle.mt_serve.proofs.Counting.{counted_more}
-use Rattle.mt_serve.specs.Tied.{AreOver, ends_of, backs_of}
-use Rattle.mt_serve.specs.Joining.{JoinsSeats, JoinsWorkers, JoinsSessions}
+use Rattle.mt_serve.specs.Tied.{backs_of}
+use Rattle.mt_serve.specs.Private.Tied.{AreOver, ends_of}
+use Rattle.mt_serve.specs.Private.Joining.{JoinsSeats, JoinsWorkers, JoinsSessions}
 use Rattle.mt_serve.proofs.Accepts.{map_push, length_push, moved_on, all_moved, gains_none, gains_on}
 use Rattle.mt_serve.proofs.Seats.{joined_none, joined_more}
 

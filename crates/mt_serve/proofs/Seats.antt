@@ -10,7 +10,8 @@ use Rattle.mt_turn.specs.declared.view.Joined.{Joined}
 use Rattle.mt_turn.specs.Places.{Place}
 use Rattle.mt_turn.specs.Views.{giver, newcomer, taker, joined_as}
 use Rattle.mt_base.specs.declared.command.Entry.{Entry}
-use Rattle.mt_serve.specs.Seating.{IsNewSeat, HasSplit, HasJoined, numbers_of, joined_of}
+use Rattle.mt_serve.specs.Seating.{numbers_of}
+use Rattle.mt_serve.specs.Private.Seating.{IsNewSeat, HasSplit, HasJoined, joined_of}
 use Rattle.mt_serve.proofs.Accepts.{map_push, length_push}
 
 range_push : (a n : ℕ) → range_with_len a n ++ (a + n) ∷ [] ≡ range_with_len a (suc n)

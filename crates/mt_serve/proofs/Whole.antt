@@ -16,9 +16,11 @@ use Rattle.mt_turn.specs.Places.{Place}
 use Rattle.mt_turn.specs.Views.{first_view}
 use Rattle.mt_base.specs.declared.command.Entry.{Entry}
 use Rattle.mt_io.specs.Door.{Count, LosesFront, Gains, listened}
-use Rattle.mt_serve.specs.Sitting.{HaveNoChannel, Met, Start, HasSeatedLinks, IsDoorOver, starts_of, seats_of, links_of}
-use Rattle.mt_serve.specs.Seating.{IsNewSeat, AllSplit, HasSplit}
-use Rattle.mt_serve.specs.Tied.{IsTied, HasServedAll, gave_back, backs_of}
+use Rattle.mt_serve.specs.Sitting.{HaveNoChannel, Met, Start, starts_of, seats_of, links_of}
+use Rattle.mt_serve.specs.Private.Sitting.{HasSeatedLinks, IsDoorOver}
+use Rattle.mt_serve.specs.Private.Seating.{IsNewSeat, AllSplit, HasSplit}
+use Rattle.mt_serve.specs.Tied.{IsTied, HasServedAll, backs_of}
+use Rattle.mt_serve.specs.Private.Tied.{gave_back}
 use Rattle.mt_serve.proofs.Accepts.{loses_none}
 use Rattle.mt_serve.proofs.Seats.{length_map}
 use Rattle.mt_serve.proofs.Binding.{all_split}

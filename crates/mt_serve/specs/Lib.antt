@@ -1,9 +1,8 @@
+pub mod Closing
+pub mod Private
+pub mod Seating
 pub mod Serving
 pub mod Sitting
-pub mod Accepting
-pub mod Working
-pub mod Seating
-pub mod Joining
-pub mod Tied
 pub mod Summary
-pub mod Closing
+pub mod Tied
+pub mod Working

@@ -1,10 +1,7 @@
 -- Sessions, as contracts see them: what each is given, and what it gives back.
-use Rattle.std.specs.Prelude.{◌≡◌, ◌<◌, ◌≤◌, ℕ, ◌+◌, Bool, false, List, [], ◌++◌, map, length, MatchBool, Option, All}
+use Rattle.std.specs.Prelude.{◌≡◌, Bool, false, List, [], map, All}
 use Rattle.mt_base.specs.declared.command.Entry.{Entry}
 use Rattle.mt_base.specs.Tables.{Setup}
-use Rattle.mt_desk.specs.Desk.{Desk, IsSeatOfDesk}
-use Rattle.mt_io.specs.Causes.{Rose}
-use Rattle.mt_io.specs.Door.{Count, LosesFront}
 use Rattle.mt_session.specs.declared.outcome.Outcome.{Outcome}
 use Rattle.mt_turn.specs.Places.{Place}
 
@@ -33,30 +30,3 @@ starts_of {L} mets = map (λ (m : Met L). m.from) mets
 -- none of them has a channel
 abbrev pub HaveNoChannel : {L : Type 0} → List (Start L) → Type 0
 HaveNoChannel {L} starts = All (λ (s : Start L). s.has_channel ≡ false) starts
-
--- The door gave these links, and each went with the next seat.
-pub record HasSeatedLinks {L : Type 0} (old new : Count) (still left : Option (List L)) (seats rest : List (Place Entry Setup)) (starts : List (Start L)) : Type 0 where
-  pub port : new.port ≡ old.port
-  pub sessions : new.sessions ≡ old.sessions
-  pub given : new.given ≡ old.given + length starts
-  pub back : new.back ≡ old.back
-  pub links : LosesFront still left (links_of starts)
-  pub seats_are : seats ≡ seats_of starts ++ rest
-
--- there is a seat for each link that is still to come
-abbrev pub IsSeated : Count → List (Place Entry Setup) → Type 0
-IsSeated count seats = count.given + length seats ≡ count.sessions
-
--- the door gave as many links as it was asked for, or it failed while some were to come
-abbrev pub IsDoorOver : Bool → Count → ℕ → ℕ → Type 0
-IsDoorOver faulted count before now = MatchBool faulted (Rose before now × (count.given < count.sessions)) (count.given ≡ count.sessions)
-
--- What it takes to serve links: a seat of this desk for each, and room for so many sessions that run and so many that have ended.
-pub record IsReadyToServe {L : Type 0} (desk : Desk) (count : Count) (seats : List (Place Entry Setup)) (many running ended : ℕ)
-    (sittings : List (Start L)) (dones : List (Met L)) : Type 0 where
-  pub ready : All (IsSeatOfDesk desk) seats
-  pub seated : IsSeated count seats
-  pub first : many ≤ running
-  pub second : many ≤ ended
-  pub no_sitting : sittings ≡ []
-  pub no_done : dones ≡ []

@@ -1,5 +1,5 @@
 -- What is told of sessions that are over, and of the history that ties them.
-use Rattle.std.specs.Prelude.{◌≡◌, ℕ, ◌+◌, Bool, true, false, List, length, filter, Option}
+use Rattle.std.specs.Prelude.{◌≡◌, ℕ, Bool, true, false, List, length, filter, Option}
 use Rattle.mt_base.specs.History.{IsLegal}
 use Rattle.mt_base.specs.Tables.{Setup}
 use Rattle.mt_io.specs.Door.{Count}
@@ -11,7 +11,6 @@ use Rattle.mt_session.specs.declared.outcome.Outcome.TheVariants.{Ended, ReadFau
 use Rattle.mt_serve.specs.declared.counts.Counts.{Counts}
 use Rattle.mt_serve.specs.Sitting.{Met}
 use Rattle.mt_serve.specs.Tied.{HasServedAll}
-use Rattle.mt_base.specs.StrikeOut.{one_if}
 
 -- a session that its link ended: a fault, or all bytes that a link may give
 abbrev pub is_faulted : Outcome → Bool
@@ -26,23 +25,12 @@ abbrev pub is_starved_session : Outcome → Bool
 is_starved_session Memory = true
 is_starved_session outcome = false
 
-abbrev pub no_counts : Counts
-no_counts = record { sessions = 0; faulted = 0; starved = 0 }
-
 -- sessions counted by their outcomes
 abbrev pub counted : {L : Type 0} → List (Met L) → Counts
 counted {L} mets = record {
   sessions = length mets;
   faulted = length (filter (λ (m : Met L). is_faulted m.outcome) mets);
   starved = length (filter (λ (m : Met L). is_starved_session m.outcome) mets);
-}
-
--- with one session more, of that outcome
-abbrev pub with_outcome : Outcome → Counts → Counts
-with_outcome outcome counts = record {
-  sessions = counts.sessions + 1;
-  faulted = counts.faulted + one_if (is_faulted outcome);
-  starved = counts.starved + one_if (is_starved_session outcome);
 }
 
 module _ {L : Type 0} (source : Source.Ghosts L) (sink : Sink.Ghosts L) where

@@ -1,5 +1,5 @@
 -- What stands once all sessions are over: one history, and what each link was answered from it.
-use Rattle.std.specs.Prelude.{◌≡◌, ◌<◌, ◌≤◌, ◌+◌, ◌⊎◌, ℕ, Bool, true, MatchBool, List, [], map, length, All, Contains, Option, Some}
+use Rattle.std.specs.Prelude.{◌≡◌, ◌<◌, ◌≤◌, ◌⊎◌, ℕ, Bool, true, MatchBool, List, [], map, length, All, Contains, Option, Some}
 use Rattle.std.specs.List.{range_with_len}
 use Rattle.mt_base.specs.declared.command.Entry.{Entry}
 use Rattle.mt_base.specs.Tables.{Setup}
@@ -7,7 +7,6 @@ use Rattle.mt_io.specs.Causes.{Rose}
 use Rattle.mt_io.specs.Door.{Count, Gains, LosesFront}
 use Rattle.mt_io.specs.declared.source.Source as Source
 use Rattle.mt_io.specs.declared.sink.Sink as Sink
-use Rattle.mt_turn.specs.Places.{Place}
 use Rattle.mt_turn.specs.Views.{Extends, entries_of}
 use Rattle.mt_serve.specs.Seating.{numbers_of}
 use Rattle.mt_serve.specs.Serving.{HasServed}
@@ -17,25 +16,14 @@ use Rattle.mt_serve.specs.Working.{IsRenewal}
 abbrev pub number_of : Entry → ℕ
 number_of e = e.who
 
-abbrev pub ends_of : {L : Type 0} → List (Met L) → List (Place Entry Setup)
-ends_of {L} mets = map (λ (m : Met L). m.seat) mets
-
 abbrev pub backs_of : {L : Type 0} → List (Met L) → List L
 backs_of {L} mets = map (λ (m : Met L). m.link) mets
-
--- with so many links back more
-abbrev pub gave_back : Count → ℕ → Count
-gave_back c n = record c { back = c.back + n }
 
 -- one of the sessions has this number
 abbrev pub IsSessions : {L : Type 0} → List (Met L) → ℕ → Type 0
 IsSessions {L} mets n = (m : Met L) × Contains mets m × (m.seat.view.number ≡ n)
 
 module _ {L : Type 0} (source : Source.Ghosts L) (sink : Sink.Ghosts L) where
-  -- each session served its link
-  abbrev pub AreOver : List (Met L) → Type 0
-  AreOver mets = All (λ (m : Met L). HasServed source sink m.from.link m.from.seat m.from.has_channel m.link m.seat m.outcome) mets
-
   -- What one session is to the history: it began with nothing seen and nothing of its own, what it has seen last is a front of the history, and
   -- the entries of its number in the history are its own.
   pub record IsInHistory (setup : Setup) (h : List Entry) (m : Met L) : Type 0 where

@@ -1,47 +1,8 @@
 -- What a worker does.
-use Rattle.std.specs.Prelude.{◌≡◌, ◌≤◌, ℕ, List, [], ◌++◌, map, All}
+use Rattle.std.specs.Prelude.{◌≡◌, ℕ, List, []}
 use Rattle.mt_base.specs.declared.command.Command.TheVariants.{Renew}
 use Rattle.mt_base.specs.declared.command.Entry.{Entry}
-use Rattle.mt_base.specs.Tables.{Setup}
-use Rattle.mt_board.specs.Seat.{GoesOn}
-use Rattle.mt_desk.specs.Desk.{Desk, IsSeatOfDesk}
-use Rattle.mt_turn.specs.declared.view.Phase.TheVariants.{Idle}
-use Rattle.mt_turn.specs.Lending.{AreViewsOfOneSeat}
-use Rattle.mt_turn.specs.Places.{Place}
 
 -- the entry renews a flight
 abbrev pub IsRenewal : Entry → Type 0
 IsRenewal e = (call : List ℕ) × (e.command ≡ Renew call)
-
--- A worker with the seat `before` gave back `after`, the same seat of the same turn, which doesn't hold it. Each entry that it made is a
--- renewal.
-pub record HasWorkedInSeat (before after : Place Entry Setup) : Type 0 where
-  pub home : after.home ≡ before.home
-  pub idle : after.view.phase ≡ Idle
-  pub same : AreViewsOfOneSeat before.view after.view
-  pub begins : GoesOn before.view.seen after.view.seen
-  pub added : List Entry
-  pub mine : after.view.mine ≡ before.view.mine ++ added
-  pub renewals : All IsRenewal added
-
--- the seat that a worker was given, and the one that it gave back
-pub record Worked : Type 0 where
-  pub from : Place Entry Setup
-  pub seat : Place Entry Setup
-
-abbrev pub froms_of : List Worked → List (Place Entry Setup)
-froms_of works = map (λ (w : Worked). w.from) works
-
-abbrev pub rests_of : List Worked → List (Place Entry Setup)
-rests_of works = map (λ (w : Worked). w.seat) works
-
-abbrev pub IsRested : Worked → Type 0
-IsRested w = HasWorkedInSeat w.from w.seat
-
--- What it takes to start workers: seats of this desk, and room for so many that work and so many that have ended.
-pub record IsStaffed (desk : Desk) (seats : List (Place Entry Setup)) (many working ended : ℕ) (workings : List (Place Entry Setup)) (resteds : List Worked) : Type 0 where
-  pub ready : All (IsSeatOfDesk desk) seats
-  pub first : many ≤ working
-  pub second : many ≤ ended
-  pub no_working : workings ≡ []
-  pub no_rested : resteds ≡ []

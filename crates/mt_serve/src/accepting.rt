@@ -3,7 +3,8 @@ ghost use Rattle.std.specs.Prelude.{◌≡◌, ◌≤◌, [], All};
 ghost use Rattle.std.specs.Thread.{IsSync};
 ghost use Rattle.std.specs.VecDeque.{deque_len, deque_capacity};
 ghost use Rattle.mt_desk.specs.Desk.{IsSeatOfDesk};
-ghost use Rattle.mt_serve.specs.Sitting.{HasSeatedLinks, HaveNoChannel, IsDoorOver, IsReadyToServe, IsSeated, starts_of};
+ghost use Rattle.mt_serve.specs.Sitting.{HaveNoChannel, starts_of};
+ghost use Rattle.mt_serve.specs.Private.Sitting.{HasSeatedLinks, IsDoorOver, IsReadyToServe, IsSeated};
 
 use crate::serving::{begin, finish};
 use crate::sitting::{Done, Sitting};

@@ -1,6 +1,6 @@
 //! Sessions counted by how they ended.
 ghost use Rattle.std.specs.Prelude.{◌≡◌, ◌<◌, ◌≤◌, ◌^◌};
-ghost use Rattle.mt_serve.specs.Summary.{no_counts, with_outcome};
+ghost use Rattle.mt_serve.specs.Private.Summary.{no_counts, with_outcome};
 
 use mt_session::Outcome;
 

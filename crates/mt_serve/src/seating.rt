@@ -3,10 +3,12 @@ ghost use Rattle.std.specs.Prelude.{◌≡◌, ◌<◌, ◌≤◌, ◌+◌, ◌-
 ghost use Rattle.std.specs.VecDeque.{deque_len, deque_capacity};
 ghost use Rattle.mt_desk.specs.Desk.{IsSeatOfDesk};
 ghost use Rattle.mt_io.specs.Door.{Gains, took_one};
-ghost use Rattle.mt_serve.specs.Seating.{HasJoined, HasSplit, views_of};
-ghost use Rattle.mt_serve.specs.Summary.{counted, with_outcome};
-ghost use Rattle.mt_serve.specs.Tied.{AreOver, backs_of, ends_of, gave_back};
-ghost use Rattle.mt_serve.specs.Working.{IsRested, rests_of};
+ghost use Rattle.mt_serve.specs.Private.Seating.{HasJoined, HasSplit, views_of};
+ghost use Rattle.mt_serve.specs.Summary.{counted};
+ghost use Rattle.mt_serve.specs.Private.Summary.{with_outcome};
+ghost use Rattle.mt_serve.specs.Tied.{backs_of};
+ghost use Rattle.mt_serve.specs.Private.Tied.{AreOver, ends_of, gave_back};
+ghost use Rattle.mt_serve.specs.Private.Working.{IsRested, rests_of};
 ghost use Rattle.mt_turn.specs.Views.{taker};
 
 use crate::counts::Counts;

@@ -5,11 +5,13 @@ ghost use Rattle.std.specs.VecDeque.{deque_len, deque_capacity};
 ghost use Rattle.mt_base.specs.History.{IsLegal};
 ghost use Rattle.mt_desk.specs.Desk.{IsSeatOfDesk};
 ghost use Rattle.mt_io.specs.Door.{Gains};
-ghost use Rattle.mt_serve.specs.Seating.{AllSplit};
-ghost use Rattle.mt_serve.specs.Sitting.{HasSeatedLinks, HaveNoChannel, IsDoorOver, IsReadyToServe, seats_of, starts_of};
+ghost use Rattle.mt_serve.specs.Private.Seating.{AllSplit};
+ghost use Rattle.mt_serve.specs.Sitting.{HaveNoChannel, seats_of, starts_of};
+ghost use Rattle.mt_serve.specs.Private.Sitting.{HasSeatedLinks, IsDoorOver, IsReadyToServe};
 ghost use Rattle.mt_serve.specs.Summary.{HasServedWhole, counted};
-ghost use Rattle.mt_serve.specs.Tied.{IsTied, backs_of, gave_back};
-ghost use Rattle.mt_serve.specs.Working.{IsStaffed, froms_of};
+ghost use Rattle.mt_serve.specs.Tied.{IsTied, backs_of};
+ghost use Rattle.mt_serve.specs.Private.Tied.{gave_back};
+ghost use Rattle.mt_serve.specs.Private.Working.{IsStaffed, froms_of};
 
 use crate::accepting::{serve_links, take_back};
 use crate::counts::Counts;

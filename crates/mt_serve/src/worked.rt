@@ -1,5 +1,5 @@
 //! A worker on a thread of its own.
-ghost use Rattle.mt_serve.specs.Working.{HasWorkedInSeat};
+ghost use Rattle.mt_serve.specs.Private.Working.{HasWorkedInSeat};
 
 use mt_desk::Seat;
 use std::marker::Model;
@@ -35,7 +35,7 @@ impl Model for Working {
     ghost use Rattle.mt_base.specs.declared.command.Entry.{Entry};
     ghost use Rattle.mt_base.specs.Tables.{Setup};
     ghost use Rattle.mt_turn.specs.Places.{Place};
-    ghost use Rattle.mt_serve.specs.Working.{HasWorkedInSeat};
+    ghost use Rattle.mt_serve.specs.Private.Working.{HasWorkedInSeat};
 
     ghost Value = { Place Entry Setup };
 
@@ -52,7 +52,7 @@ pub struct Rested {
 }
 
 impl Model for Rested {
-    ghost use Rattle.mt_serve.specs.Working.{HasWorkedInSeat, Worked};
+    ghost use Rattle.mt_serve.specs.Private.Working.{HasWorkedInSeat, Worked};
 
     ghost Value = { Worked };
 

@@ -3,7 +3,7 @@ ghost use Rattle.std.specs.Prelude.{◌≡◌, ◌≤◌, [], ◌++◌, All};
 ghost use Rattle.std.specs.Thread.{IsSync};
 ghost use Rattle.std.specs.VecDeque.{deque_len, deque_capacity};
 ghost use Rattle.mt_desk.specs.Desk.{IsSeatOfDesk};
-ghost use Rattle.mt_serve.specs.Working.{HasWorkedInSeat, froms_of};
+ghost use Rattle.mt_serve.specs.Private.Working.{HasWorkedInSeat, froms_of};
 
 use crate::worked::{Post, Rested, Working};
 use mt_desk::{Desk, Seat};

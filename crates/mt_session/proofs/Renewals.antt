@@ -14,7 +14,7 @@ use Rattle.mt_board.specs.Changing.{IsChanged}
 use Rattle.mt_board.specs.Seat.{Seat}
 use Rattle.mt_board.specs.Settling.{AreMade, AreRenewalsAsked}
 use Rattle.mt_board.proofs.SeatLemmas.{renewals_add}
-use Rattle.mt_session.specs.Settles.{Settles, is_starved, told_due}
+use Rattle.mt_session.specs.Private.Settles.{Settles, is_starved, told_due}
 
 -- these flights have been renewed, or that was refused
 pub record HasRenewed (s : Seat) (calls : List (List ℕ)) (t : Seat) : Type 0 where

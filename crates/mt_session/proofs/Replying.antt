@@ -29,7 +29,8 @@ use Rattle.mt_write.specs.declared.reply.Reply.{Reply}
 use Rattle.mt_write.specs.declared.reply.Reply.TheVariants as replies
 use Rattle.mt_base.proofs.Cases.{on_either}
 use Rattle.mt_session.specs.Following.{IsRenewalDone, Standing, job_if, job_of}
-use Rattle.mt_session.specs.Served.{IsAcceptanceAnswered, IsAskAnswered, IsCommanded, IsReplyGiven, IsSessionLeft, IsRepliedTo, IsServedInSession, IsStarvedOf, IsReadAnswered, IsTrialInSession, ask_of, board_reply, is_none_listed}
+use Rattle.mt_session.specs.Served.{IsAcceptanceAnswered, IsAskAnswered, IsCommanded, IsReplyGiven, IsSessionLeft, IsRepliedTo, IsServedInSession, IsStarvedOf, IsReadAnswered, IsTrialInSession, board_reply, is_none_listed}
+use Rattle.mt_session.specs.Private.Served.{ask_of}
 use Rattle.mt_wire.specs.Refused.{or_reply}
 use Rattle.mt_session.specs.Session.{Session, asked_in_role, role_place, with_seat}
 

@@ -8,7 +8,7 @@ use Rattle.mt_base.specs.Tables.{Setup}
 use Rattle.mt_board.specs.Probing.{IsAdvised, IsNotAdvised, IsNotProbed, IsProbed, Probe}
 use Rattle.mt_board.specs.Seat.{GoesOn, HasLooked, IsSameSeat, Seat}
 use Rattle.mt_board.proofs.SeatLemmas.{denied_goes_on, goes_on, goes_on_itself, past_on, same_itself, same_on}
-use Rattle.mt_session.specs.Keeping.{ArePast, Held, StaysOn}
+use Rattle.mt_session.specs.Private.Keeping.{ArePast, Held, StaysOn}
 
 pub stays_itself : {H : Type 0} (a : Held H) → StaysOn a a
 stays_itself a = record { same = same_itself a.session.seat; begins = goes_on_itself a.session.seat.seen; home = refl }

@@ -17,7 +17,7 @@ use Rattle.mt_session.specs.Following.{IsRenewalDone as IsJobDone, IsFollowed, T
 use Rattle.mt_session.specs.Served.{IsRepliedTo}
 use Rattle.mt_session.specs.Session.{Session, asked_in_role, new_session}
 use Rattle.mt_board.proofs.SeatLemmas.{goes_on_itself, same_itself}
-use Rattle.mt_session.specs.SoFar.{GivesTill, HasRun, IsDoneUnless, SessionTurned, outcome_after}
+use Rattle.mt_session.specs.Private.SoFar.{GivesTill, HasRun, IsDoneUnless, SessionTurned, outcome_after}
 use Rattle.mt_lines.proofs.Answering.{cut_at, ended, ends_at, explained_as, goes_on, nothing, starts, stopped}
 use Rattle.mt_session.proofs.Replying.{given_job, given_replied, long_done}
 use Rattle.mt_write.specs.declared.reply.Reply.TheVariants as replies

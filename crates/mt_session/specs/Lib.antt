@@ -1,8 +1,6 @@
 pub mod Following
-pub mod Keeping
 pub mod Outboxes
+pub mod Private
 pub mod Run
 pub mod Served
 pub mod Session
-pub mod Settles
-pub mod SoFar

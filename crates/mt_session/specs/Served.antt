@@ -45,11 +45,6 @@ read_reply (Ok (answers.Flight view)) = replies.Flight view
 read_reply (Ok (answers.History entries version)) = replies.History entries version
 read_reply (Err denied) = board_no denied
 
--- the version at which entries are told
-abbrev pub told_version : Result Answer No → Option ℕ
-told_version (Ok (answers.History entries version)) = Some version
-told_version result = None
-
 -- The reply tells what was asked for, or its refusal.
 pub record IsReadAnswered (s : Session) (ask : Ask) (reply : Reply) (next : Session) : Type 0 where
   pub result : Result Answer No
@@ -156,20 +151,6 @@ IsServedInSession s requests.Begin reply next = IsNotOfSessions s reply next
 IsServedInSession s requests.Take reply next = IsNotOfSessions s reply next
 IsServedInSession s (requests.Area area) reply next = IsNotOfSessions s reply next
 IsServedInSession s requests.Areas reply next = IsNotOfSessions s reply next
-
--- it asks for no change
-abbrev pub IsNoChange : Request → Type 0
-IsNoChange (requests.Change command) = ⊥
-IsNoChange request = ⊤
-
--- the read that a request asks for
-abbrev pub ask_of : Request → Option Ask
-ask_of requests.List = Some asks.List
-ask_of requests.Check = Some asks.Check
-ask_of requests.Due = Some asks.Due
-ask_of (requests.Flight call sec) = Some (asks.Flight call sec)
-ask_of (requests.History from to) = Some (asks.History from to)
-ask_of request = None
 
 -- what is answered of a line that asks for this, and the session after it
 abbrev pub IsAskAnswered : Session → Result (ℕ × Request) Reply → Reply → Session → Type 0

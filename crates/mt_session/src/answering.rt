@@ -8,8 +8,9 @@ ghost use Rattle.mt_read.specs.Bounded.{IsBoundedRequest};
 ghost use Rattle.mt_read.specs.declared.request.Request.TheVariants.{Change};
 ghost use Rattle.mt_write.specs.declared.reply.Reply.TheVariants as replies;
 ghost use Rattle.mt_session.specs.Following.{job_if, job_of};
-ghost use Rattle.mt_session.specs.Keeping.{StaysOn};
-ghost use Rattle.mt_session.specs.Served.{IsCommanded, IsNotOfSessions, IsLooked, IsNoChange, IsRepliedTo, IsServedInSession, IsStarvedInSession, ask_of};
+ghost use Rattle.mt_session.specs.Private.Keeping.{StaysOn};
+ghost use Rattle.mt_session.specs.Served.{IsCommanded, IsNotOfSessions, IsLooked, IsRepliedTo, IsServedInSession, IsStarvedInSession};
+ghost use Rattle.mt_session.specs.Private.Served.{IsNoChange, ask_of};
 ghost use Rattle.mt_wire.specs.Refused.{or_reply};
 ghost use Rattle.mt_session.specs.Session.{Session, asked_in_role, role_place};
 

@@ -2,7 +2,7 @@
 ghost use Rattle.std.specs.Prelude.{◌≡◌, Option};
 ghost use Rattle.std.specs.Thread.{IsSync};
 ghost use Rattle.mt_session.specs.Following.{IsRenewalDone, due_if, reported};
-ghost use Rattle.mt_session.specs.Keeping.{StaysOn};
+ghost use Rattle.mt_session.specs.Private.Keeping.{StaysOn};
 
 use crate::serving::Serving;
 use mt_base::{Callsign, Command, Verdict};

@@ -8,10 +8,10 @@ ghost use Rattle.mt_lines.specs.Fit.{IsFit};
 ghost use Rattle.mt_machine.specs.Book.{empty_book};
 ghost use Rattle.std.specs.Thread.{IsSync};
 ghost use Rattle.mt_session.specs.Following.{Standing};
-ghost use Rattle.mt_session.specs.Keeping.{StaysOn};
+ghost use Rattle.mt_session.specs.Private.Keeping.{StaysOn};
 ghost use Rattle.mt_session.specs.Outboxes.{outbox_after, outbox_before};
 ghost use Rattle.mt_session.specs.Run.{IsNoLinkFault, IsSession, SessionMeans};
-ghost use Rattle.mt_session.specs.SoFar.{GivesTill, HasRun, IsLineAnswered, SessionTurned, outcome_after};
+ghost use Rattle.mt_session.specs.Private.SoFar.{GivesTill, HasRun, IsLineAnswered, SessionTurned, outcome_after};
 ghost use Rattle.mt_session.specs.declared.outcome.Outcome.TheVariants.{ReadFault, WriteFault};
 
 use crate::outcome::Outcome;

@@ -7,7 +7,7 @@ ghost use Rattle.mt_board.specs.Probing.{IsNotProbed, IsPast, IsProbed};
 ghost use Rattle.mt_board.specs.Short.{AreShortHits};
 ghost use Rattle.mt_lines.specs.Fit.{AreBrief, IsFit};
 ghost use Rattle.mt_write.specs.Short.{IsShortHit};
-ghost use Rattle.mt_session.specs.Keeping.{StaysOn};
+ghost use Rattle.mt_session.specs.Private.Keeping.{StaysOn};
 ghost use Rattle.mt_session.specs.Served.{IsLooked, IsTriedBy};
 ghost use Rattle.mt_session.specs.Session.{with_seat};
 

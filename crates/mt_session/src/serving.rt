@@ -8,7 +8,7 @@ ghost use Rattle.mt_board.specs.Changing.{IsChanged};
 ghost use Rattle.mt_board.specs.Probing.{IsPast};
 ghost use Rattle.mt_board.specs.Seat.{Seat};
 ghost use Rattle.mt_machine.specs.Book.{empty_book, with_probe};
-ghost use Rattle.mt_session.specs.Keeping.{StaysOn};
+ghost use Rattle.mt_session.specs.Private.Keeping.{StaysOn};
 ghost use Rattle.mt_session.specs.Session.{new_session, with_seat};
 
 use mt_base::{Command, Entered, Role};
@@ -28,8 +28,8 @@ pub struct Serving<B: Board> {
 }
 
 impl<B: Board> Model for Serving<B> {
-    ghost use Rattle.mt_machine.specs.Book.{told_book};
-    ghost use Rattle.mt_session.specs.Keeping.{ArePast, Held};
+    ghost use Rattle.mt_machine.specs.Private.Book.{told_book};
+    ghost use Rattle.mt_session.specs.Private.Keeping.{ArePast, Held};
 
     ghost Value = { Held B.Home };
 

@@ -2,8 +2,9 @@
 ghost use Rattle.std.specs.Prelude.{◌≡◌, ◌⊎◌, Option};
 ghost use Rattle.std.specs.Thread.{IsSync};
 ghost use Rattle.mt_lines.specs.Fit.{IsFit};
-ghost use Rattle.mt_session.specs.Keeping.{StaysOn};
-ghost use Rattle.mt_session.specs.Served.{IsLooked, IsNumberRefused, IsReadAnswered, board_reply, board_no, read_reply, told_version};
+ghost use Rattle.mt_session.specs.Private.Keeping.{StaysOn};
+ghost use Rattle.mt_session.specs.Served.{IsLooked, IsNumberRefused, IsReadAnswered, board_reply, board_no, read_reply};
+ghost use Rattle.mt_session.specs.Private.Served.{told_version};
 
 use crate::serving::Serving;
 use mt_base::{Entered, Refusal};

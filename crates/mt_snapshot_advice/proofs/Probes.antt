@@ -15,7 +15,7 @@ use Rattle.mt_board.specs.Probing.{free_probe}
 use Rattle.mt_probe.specs.Hits.{IsFreeOrConflicting, Trial, told_of}
 use Rattle.mt_probe.specs.Shot.{Shot, state_in_shot}
 use Rattle.mt_snapshot_advice.specs.Advised.{IsAdvisedOn, IsFreeFor}
-use Rattle.mt_snapshot_advice.specs.Trying.{AreAdviceCandidates, AreFreeOf, free_among}
+use Rattle.mt_snapshot_advice.specs.Private.Trying.{AreAdviceCandidates, AreFreeOf, free_among}
 
 abbrev tries_of : List (Option Trial) → List (Result (Option Trial) Memory)
 tries_of found = map Ok found

@@ -1,2 +1,2 @@
 pub mod Advised
-pub mod Trying
+pub mod Private

@@ -1,5 +1,5 @@
 //! The advice for a flight of a snapshot.
-ghost use Rattle.std.specs.Prelude.{◌≡◌, IfOk, IfErr};
+ghost use Rattle.std.specs.Prelude.{IfOk, IfErr};
 ghost use Rattle.mt_snapshot_advice.specs.Advised.{IsAdvisedOn, IsNotAdvisedOn};
 
 use crate::asking::asked;

@@ -2,7 +2,7 @@
 ghost use Rattle.std.specs.Prelude.{◌≡◌, IfOk, IfErr};
 ghost use Rattle.mt_board.specs.declared.no.No.TheVariants.{Refused};
 ghost use Rattle.mt_snapshot_advice.specs.Advised.{IsNotAdvisedOn};
-ghost use Rattle.mt_snapshot_advice.specs.Trying.{AreAdviceCandidates};
+ghost use Rattle.mt_snapshot_advice.specs.Private.Trying.{AreAdviceCandidates};
 
 use mt_advise::candidates;
 use mt_base::{Callsign, Clearance, Kind, Path, Refusal};

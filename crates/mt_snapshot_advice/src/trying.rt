@@ -2,7 +2,7 @@
 ghost use Rattle.std.specs.Prelude.{◌≡◌, ◌<◌, None, length, slice_index_or, IfOk};
 ghost use denote.Param.Send.{IsSync};
 ghost use Rattle.mt_probe.specs.Hits.{IsFreeOrConflicting};
-ghost use Rattle.mt_snapshot_advice.specs.Trying.{AreAdviceCandidates, AreFreeOf};
+ghost use Rattle.mt_snapshot_advice.specs.Private.Trying.{AreAdviceCandidates, AreFreeOf};
 
 use mt_base::{Callsign, Clearance, Memory, Tally};
 use mt_board::No;

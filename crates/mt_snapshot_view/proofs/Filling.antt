@@ -8,7 +8,7 @@ use Rattle.mt_probe.specs.Shot.{Shot, flight_at}
 use Rattle.mt_base.proofs.Members.{Contains-head}
 use Rattle.mt_probe.proofs.Placed.{filled_inside}
 use Rattle.mt_snapshot_view.specs.declared.order.Filed.{Filed}
-use Rattle.mt_snapshot_view.specs.Order.{IsFilledPlace}
+use Rattle.mt_snapshot_view.specs.Private.Order.{IsFilledPlace}
 
 -- these are the filled places below one
 abbrev pub AreBelow : Shot → List Filed → ℕ → Type 0

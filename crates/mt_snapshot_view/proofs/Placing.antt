@@ -16,7 +16,7 @@ use Rattle.mt_probe.specs.Standing.{IsSoundShot}
 use Rattle.mt_probe.proofs.Filing.{filing_order}
 use Rattle.mt_base.proofs.Members.{Contains-cases, Contains-head, Contains-none}
 use Rattle.mt_snapshot_view.specs.declared.order.Filed.{Filed}
-use Rattle.mt_snapshot_view.specs.Order.{ArePlaced, IsFilledPlace, card_at}
+use Rattle.mt_snapshot_view.specs.Private.Order.{ArePlaced, IsFilledPlace, card_at}
 use Rattle.mt_snapshot_view.proofs.FiledOrder.{place_cmp}
 
 -- each of some places is filled

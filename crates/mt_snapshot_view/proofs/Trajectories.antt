@@ -5,15 +5,15 @@ use Rattle.std.specs.List.{flat_map}
 use Rattle.std.proofs.lemmas.List.{flat_map_more, take_more}
 use Rattle.mt_base.specs.declared.flight.Record.{Record}
 use Rattle.mt_base.specs.Picture.{NamedTrajectory, trajectories_of}
-use Rattle.mt_base.specs.Others.{AreOfOthers}
+use Rattle.mt_base.specs.Private.Others.{AreOfOthers}
 use Rattle.mt_base.proofs.Others.{others_before as others_among}
 use Rattle.mt_probe.specs.Shot.{Shot, flight_at, records_in}
 use Rattle.mt_probe.specs.Standing.{IsSoundShot}
 use Rattle.mt_probe.proofs.Placed.{placed}
 use Rattle.mt_probe.proofs.Whole.{own_calls}
 use Rattle.mt_snapshot_view.specs.declared.order.Filed.{Filed}
-use Rattle.mt_snapshot_view.specs.Kept.{kept_at}
-use Rattle.mt_snapshot_view.specs.Order.{ArePlaced, card_at}
+use Rattle.mt_snapshot_view.specs.Private.Kept.{kept_at}
+use Rattle.mt_snapshot_view.specs.Private.Order.{ArePlaced, card_at}
 
 -- A place of the order holds the flight that has the same place among these.
 pub record IsCardAt (shot : Shot) (records : List Record) (i : ℕ) (x : Filed) : Type 0 where

@@ -1,6 +1,6 @@
 //! The places of a snapshot in the order in which their flights were filed.
-ghost use Rattle.std.specs.Prelude.{◌≡◌, ◌↔◌, ◌<◌, Contains, IfOk};
-ghost use Rattle.mt_snapshot_view.specs.Order.{ArePlaced, IsFilledPlace};
+ghost use Rattle.std.specs.Prelude.{◌↔◌, Contains, IfOk};
+ghost use Rattle.mt_snapshot_view.specs.Private.Order.{ArePlaced, IsFilledPlace};
 
 use mt_base::Memory;
 use mt_probe::Snapshot;

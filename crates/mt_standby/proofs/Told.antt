@@ -32,7 +32,8 @@ use Rattle.mt_read.specs.declared.request.Request.TheVariants as requests
 use Rattle.mt_read.specs.Following.{IsReading, feed}
 use Rattle.mt_write.specs.declared.reply.Reply.{Reply}
 use Rattle.mt_write.specs.declared.reply.Reply.TheVariants as replies
-use Rattle.mt_standby.specs.Reading.{IsToldNow, IsUntold, read_ask, follow_reply, read_answer_reply}
+use Rattle.mt_standby.specs.Reading.{IsToldNow, IsUntold}
+use Rattle.mt_standby.specs.Private.Reading.{read_ask, follow_reply, read_answer_reply}
 use Rattle.mt_standby.specs.Standby.{IsEntryAnswered, IsStandbyReplied, fed_line, world_of}
 use Rattle.mt_world.specs.World.{IsListAnswered, IsRefused, IsServed, World}
 use Rattle.mt_world.proofs.Viewed.{not_there, there}

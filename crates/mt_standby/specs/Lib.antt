@@ -1,3 +1,4 @@
 pub mod Law
+pub mod Private
 pub mod Reading
 pub mod Standby

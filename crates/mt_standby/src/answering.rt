@@ -1,5 +1,5 @@
 //! A line for a standby, and its reply.
-ghost use Rattle.std.specs.Prelude.{◌≡◌, ◌⊎◌, ◌≤◌, length};
+ghost use Rattle.std.specs.Prelude.{◌⊎◌, ◌≤◌, length};
 ghost use Rattle.mt_history.specs.Rebuilt.{IsReadyToDecide};
 ghost use Rattle.mt_lines.specs.Fit.{IsFit};
 ghost use Rattle.mt_read.specs.Following.{IsReading};

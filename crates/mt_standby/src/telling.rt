@@ -2,7 +2,7 @@
 ghost use Rattle.std.specs.Prelude.{◌≡◌};
 ghost use Rattle.mt_lines.specs.Fit.{IsFit};
 ghost use Rattle.mt_read.specs.Following.{IsReading};
-ghost use Rattle.mt_standby.specs.Reading.{read_ask, follow_reply, read_answer_reply};
+ghost use Rattle.mt_standby.specs.Private.Reading.{read_ask, follow_reply, read_answer_reply};
 
 use mt_base::Entered;
 use mt_board::{Answer, Ask, No};

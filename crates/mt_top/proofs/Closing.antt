@@ -12,7 +12,7 @@ use Rattle.mt_write.specs.declared.reply.Reply.{Reply}
 use Rattle.mt_write.specs.Reply.{reply_text}
 use Rattle.mt_top.specs.declared.status.Status.{Status}
 use Rattle.mt_top.specs.declared.status.Status.TheVariants.{Done, WriteFault}
-use Rattle.mt_top.specs.Lines.{LinesMean, LinesSoFar, Turned, is_last}
+use Rattle.mt_top.specs.Private.Lines.{LinesMean, LinesSoFar, Turned, is_last}
 use Rattle.mt_top.specs.Script.{NothingFollows}
 use Rattle.mt_world.specs.World.{World, opening_world}
 

@@ -5,11 +5,11 @@ use Rattle.mt_lines.specs.Answering.{Explains}
 use Rattle.mt_lines.proofs.Answering as steps
 use Rattle.mt_picture.specs.Story.{Story}
 use Rattle.mt_write.specs.declared.reply.Reply.{Reply}
-use Rattle.mt_top.specs.Lines.{LinesMean}
+use Rattle.mt_top.specs.Private.Lines.{LinesMean}
 use Rattle.mt_top.specs.Opening.{BeginsPicture, OpeningMeans}
 use Rattle.mt_top.specs.Run.{AnswersMean}
 use Rattle.mt_top.specs.Script.{IsReplied}
-use Rattle.mt_top.specs.Status.{is_done}
+use Rattle.mt_top.specs.Private.Status.{is_done}
 use Rattle.mt_top.specs.declared.status.Status.{Status}
 use Rattle.mt_top.specs.declared.status.Status.TheVariants.{Done, Usage, Setup, ReadFault, WriteFault, DoorFault, Spent, Memory}
 use Rattle.mt_world.specs.World.{World, setup_of}

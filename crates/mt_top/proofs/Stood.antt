@@ -14,7 +14,8 @@ use Rattle.mt_standby.specs.Standby as standby
 use Rattle.mt_write.specs.declared.reply.Reply.{Reply}
 use Rattle.mt_write.specs.declared.reply.Reply.TheVariants as replies
 use Rattle.mt_top.specs.Script.{IsReplied}
-use Rattle.mt_top.specs.Standby.{IsOneOf, IsStoodBy, opened, world_shown}
+use Rattle.mt_top.specs.Standby.{IsStoodBy, opened}
+use Rattle.mt_top.specs.Private.Standby.{IsOneOf, world_shown}
 use Rattle.mt_top.proofs.Replying.{given_replied, long_replied, unchanged_by}
 use Rattle.mt_world.specs.World.{World, setup_of}
 

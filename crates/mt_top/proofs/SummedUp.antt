@@ -9,7 +9,8 @@ use Rattle.mt_picture.specs.Story.{Story}
 use Rattle.mt_serve.specs.Summary.{HasServedWhole}
 use Rattle.mt_serve.specs.declared.counts.Counts.{Counts}
 use Rattle.mt_top.specs.Opening.{BeginsPicture}
-use Rattle.mt_top.specs.Serve.{Appended, AreServed, Doorway, IsClosingLine, IsFront, IsSummaryWritten, SaysClosing, ServeMeans}
+use Rattle.mt_top.specs.Serve.{AreServed, Doorway, IsClosingLine, IsFront, IsSummaryWritten, ServeMeans}
+use Rattle.mt_top.specs.Private.Serve.{Appended, SaysClosing}
 use Rattle.mt_top.specs.declared.status.Status.{Status}
 use Rattle.mt_top.specs.declared.status.Status.TheVariants.{Done, Usage, Setup, ReadFault, WriteFault, DoorFault, Spent, Memory}
 

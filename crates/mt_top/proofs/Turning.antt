@@ -22,9 +22,9 @@ use Rattle.mt_write.specs.Reply.{reply_text}
 use Rattle.mt_script.specs.Begun.{is_begin}
 use Rattle.mt_top.specs.declared.status.Status.{Status}
 use Rattle.mt_top.specs.declared.status.Status.TheVariants.{Done, ReadFault, Spent, WriteFault}
-use Rattle.mt_top.specs.Lines.{GoOnOrEnd, LinesMean, LinesSoFar, Turned, is_last}
+use Rattle.mt_top.specs.Private.Lines.{GoOnOrEnd, LinesMean, LinesSoFar, Turned, is_last}
 use Rattle.mt_top.specs.Script.{NothingFollows}
-use Rattle.mt_top.specs.Status.{ending}
+use Rattle.mt_top.specs.Private.Status.{ending}
 use Rattle.mt_top.proofs.Idle.{none_at_end, none_at_fault}
 use Rattle.mt_world.specs.World.{World, opening_world}
 

@@ -12,9 +12,11 @@ use Rattle.mt_lines.specs.Answering.{Explains}
 use Rattle.mt_lines.proofs.Answering.{explained_as, nothing}
 use Rattle.mt_top.specs.declared.status.Status.{Status}
 use Rattle.mt_top.specs.declared.status.Status.TheVariants.{Done, Usage, WriteFault, Memory}
-use Rattle.mt_top.specs.Load.{IsSummaryLine, LoadMeans, SaysSummary}
+use Rattle.mt_top.specs.Load.{IsSummaryLine, LoadMeans}
+use Rattle.mt_top.specs.Private.Load.{SaysSummary}
 use Rattle.mt_top.specs.Serve.{Doorway}
-use Rattle.mt_top.specs.Run.{RunMeans, SaysUsage, TaskMeans, UsageMeans, usage_line}
+use Rattle.mt_top.specs.Run.{RunMeans, TaskMeans, UsageMeans, usage_line}
+use Rattle.mt_top.specs.Private.Run.{SaysUsage}
 
 module _ {L : Type 0} (source : Source.Ghosts L) (sink : Sink.Ghosts L) (old new : Doorway L) (f g : ℕ) where
   -- what holds by what the words ask for

@@ -1,8 +1,9 @@
 pub mod Lines
 pub mod Load
 pub mod Opening
-pub mod Serve
+pub mod Private
 pub mod Run
 pub mod Script
+pub mod Serve
 pub mod Standby
 pub mod Status

@@ -1,6 +1,5 @@
 -- What serving means: the lines that set a picture up, the links that were served over it, and the line that sums it up.
 use Rattle.std.specs.Prelude.{◌≡◌, ◌⊎◌, ℕ, Bool, true, false, List, [], ◌++◌, Option}
-use Rattle.std.specs.Io.KnownBytes.{Appends}
 use Rattle.mt_io.specs.Causes.{Rose}
 use Rattle.mt_io.specs.Door.{Count}
 use Rattle.mt_io.specs.declared.source.Source as Source
@@ -64,17 +63,3 @@ module _ {L : Type 0} (source : Source.Ghosts L) (sink : Sink.Ghosts L) (port se
   ServeMeans before now ReadFault input left written = OpeningMeans ReadFault input left written × (new ≡ old)
   ServeMeans before now Spent input left written = OpeningMeans Spent input left written × (new ≡ old)
   ServeMeans before now Usage input left written = ⊥
-
--- what is told once links were served, and what was appended of what sums it up
-abbrev pub Appended : (List ℕ → Type 0) → Option (List ℕ) → Option (List ℕ) → Type 0
-Appended Sums held after = (shown : List ℕ) × Sums shown × Appends held after shown
-
-abbrev pub SaysClosing : Story → Counts → Bool → ℕ → ℕ → Status → Option (List ℕ) → Option (List ℕ) → Type 0
-SaysClosing closed counts faulted before now Done held after = (faulted ≡ false) × Appended (IsClosingLine closed counts) held after
-SaysClosing closed counts faulted before now DoorFault held after = (faulted ≡ true) × Appended (IsSummaryWritten before now closed counts) held after
-SaysClosing closed counts faulted before now WriteFault held after = (faulted ≡ false) × Appended (IsFront closed counts) held after
-SaysClosing closed counts faulted before now Memory held after = ⊥
-SaysClosing closed counts faulted before now Setup held after = ⊥
-SaysClosing closed counts faulted before now ReadFault held after = ⊥
-SaysClosing closed counts faulted before now Spent held after = ⊥
-SaysClosing closed counts faulted before now Usage held after = ⊥

@@ -1,11 +1,10 @@
 -- The lines of a standby: up to the one that begins the picture those of a script, and from then on those that its standby answers.
-use Rattle.std.specs.Prelude.{◌≡◌, ℕ, false, List, MatchBool, Option, Some, None, unwrap_or, if◌then◌else◌}
-use Rattle.mt_picture.specs.Story.{Story}
+use Rattle.std.specs.Prelude.{◌≡◌, ℕ, List, MatchBool, if◌then◌else◌}
 use Rattle.mt_standby.specs.Standby as standby
 use Rattle.mt_standby.specs.Standby.{world_of}
 use Rattle.mt_write.specs.declared.reply.Reply.{Reply}
 use Rattle.mt_top.specs.Script.{IsReplied}
-use Rattle.mt_world.specs.World.{World, opening_world, setup_of}
+use Rattle.mt_world.specs.World.{World, setup_of}
 
 -- what a line leaves of a script: once its picture has begun, the world of the standby with what was set up
 abbrev pub opened : World → World
@@ -16,14 +15,3 @@ abbrev pub IsStoodBy : World → List ℕ → Reply → World → Type 0
 IsStoodBy w line reply next = MatchBool w.begun
     (standby.IsStandbyReplied w line reply next)
     ((answered : World) × IsReplied w line reply answered × (next ≡ opened answered))
-
--- the world of a script whose picture hasn't begun, or of the standby
-abbrev pub world_shown : Option World → Option Story → World
-world_shown script (Some story) = world_of story
-world_shown script None = unwrap_or script opening_world
-
--- a script whose picture hasn't begun, or a standby
-abbrev pub IsOneOf : Option World → Option Story → Type 0
-IsOneOf script (Some story) = script ≡ None
-IsOneOf None None = ⊥
-IsOneOf (Some w) None = w.begun ≡ false

@@ -2,7 +2,8 @@
 ghost use Rattle.std.specs.Prelude.{◌≡◌, ◌≤◌, [], IfOk, false, length};
 ghost use Rattle.mt_lines.specs.Fit.{IsFit};
 ghost use Rattle.mt_script.specs.Begun.{is_begin};
-ghost use Rattle.mt_top.specs.Standby.{IsOneOf, IsStoodBy, opened, world_shown};
+ghost use Rattle.mt_top.specs.Standby.{IsStoodBy, opened};
+ghost use Rattle.mt_top.specs.Private.Standby.{IsOneOf, world_shown};
 ghost use Rattle.mt_world.specs.World.{opening_world};
 
 use crate::answering::{Answers, answer};
@@ -22,7 +23,7 @@ pub(crate) struct Follower {
 }
 
 impl Model for Follower {
-    ghost use Rattle.mt_top.specs.Standby.{IsOneOf, world_shown};
+    ghost use Rattle.mt_top.specs.Private.Standby.{IsOneOf, world_shown};
     ghost use Rattle.mt_world.specs.World.{World};
 
     ghost Value = { World };

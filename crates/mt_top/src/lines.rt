@@ -8,7 +8,7 @@ ghost use Rattle.mt_io.specs.Writing.{AppendsFront};
 ghost use Rattle.mt_lines.specs.Answering.{Explains};
 ghost use Rattle.mt_lines.specs.Waiting.{LeavesWaiting};
 ghost use Rattle.mt_lines.specs.Waits.{waits};
-ghost use Rattle.mt_top.specs.Lines.{LinesMean, LinesSoFar, Turned};
+ghost use Rattle.mt_top.specs.Private.Lines.{LinesMean, LinesSoFar, Turned};
 ghost use Rattle.mt_top.specs.declared.status.Status.TheVariants.{ReadFault, WriteFault};
 ghost use Rattle.mt_world.specs.World.{opening_world, setup_of};
 

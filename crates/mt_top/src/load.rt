@@ -1,7 +1,8 @@
 //! A large input, made and summed up.
 ghost use Rattle.std.specs.Prelude.{◌≡◌, ◌≤◌, IfOk};
 ghost use Rattle.mt_io.specs.Causes.{Rose};
-ghost use Rattle.mt_top.specs.Load.{IsSummaryLine, SaysSummary};
+ghost use Rattle.mt_top.specs.Load.{IsSummaryLine};
+ghost use Rattle.mt_top.specs.Private.Load.{SaysSummary};
 ghost use Rattle.mt_top.specs.declared.status.Status.TheVariants.{WriteFault};
 
 use crate::status::Status;

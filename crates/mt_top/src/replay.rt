@@ -1,5 +1,5 @@
 //! A script read from the input, each line answered on the output.
-ghost use Rattle.std.specs.Prelude.{◌≡◌, ◌≤◌};
+ghost use Rattle.std.specs.Prelude.{◌≡◌};
 ghost use Rattle.std.specs.Thread.{IsSync};
 ghost use Rattle.mt_io.specs.Causes.{Rose};
 ghost use Rattle.mt_lines.specs.Answering.{Explains};

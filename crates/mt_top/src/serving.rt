@@ -3,7 +3,8 @@ ghost use Rattle.std.specs.Prelude.{◌≡◌, ◌≤◌, ◌+◌, ◌^◌, vec_
 ghost use Rattle.std.specs.Thread.{IsSync};
 ghost use Rattle.mt_io.specs.Causes.{Rose};
 ghost use Rattle.mt_lines.specs.Answering.{Explains};
-ghost use Rattle.mt_top.specs.Serve.{IsClosingLine, SaysClosing, ServeMeans};
+ghost use Rattle.mt_top.specs.Serve.{IsClosingLine, ServeMeans};
+ghost use Rattle.mt_top.specs.Private.Serve.{SaysClosing};
 ghost use Rattle.mt_top.specs.declared.status.Status.TheVariants.{DoorFault, ReadFault, WriteFault};
 
 use crate::opening::open;

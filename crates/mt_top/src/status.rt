@@ -1,5 +1,6 @@
 ghost use Rattle.std.specs.Prelude.{◌≡◌};
-ghost use Rattle.mt_top.specs.Status.{ending, exit_status, is_done};
+ghost use Rattle.mt_top.specs.Status.{exit_status};
+ghost use Rattle.mt_top.specs.Private.Status.{ending, is_done};
 
 use mt_io::WriteFault;
 

@@ -3,7 +3,8 @@ ghost use Rattle.std.specs.Prelude.{◌≡◌};
 ghost use Rattle.std.specs.Thread.{IsSync};
 ghost use Rattle.mt_io.specs.Causes.{Rose};
 ghost use Rattle.mt_lines.specs.Answering.{Explains};
-ghost use Rattle.mt_top.specs.Run.{IsNoFault, RunMeans, SaysUsage};
+ghost use Rattle.mt_top.specs.Run.{IsNoFault, RunMeans};
+ghost use Rattle.mt_top.specs.Private.Run.{SaysUsage};
 ghost use Rattle.mt_top.specs.declared.status.Status.TheVariants.{DoorFault, ReadFault, WriteFault};
 
 use crate::load::load;

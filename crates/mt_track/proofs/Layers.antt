@@ -9,7 +9,8 @@ use Rattle.mt_base.specs.declared.row.Row.{Row}
 use Rattle.mt_base.specs.Bounds.{IsWithin}
 use Rattle.mt_base.specs.Trajectory.{next_row, straight_rows}
 use Rattle.mt_track.specs.declared.layer.Layer.{Layer}
-use Rattle.mt_track.specs.Layer.{AreInLayer, HoldsHeight, IsBoundedHeight, IsInLayer, IsLayerKept, IsWider}
+use Rattle.mt_track.specs.Layer.{AreInLayer, HoldsHeight, IsInLayer, IsLayerKept}
+use Rattle.mt_track.specs.Private.Layer.{IsBoundedHeight, IsWider}
 use Rattle.mt_track.specs.Rows.{row_after}
 use Rattle.mt_track.proofs.Straight.{get_or-straight_rows, length-straight_rows, row_after-add, row_after-next, row_after-none}
 

@@ -1,8 +1,8 @@
-use Rattle.std.specs.Prelude.{◌≡◌, ℕ, zero, suc, Some, ◌+◌, ◌-◌, ◌<◌, ◌≤◌, List, [], ◌∷◌, ◌++◌, length, slice_get, get_or, All, IfSome, ⊤}
+use Rattle.std.specs.Prelude.{◌≡◌, ℕ, ◌+◌, ◌-◌, ◌<◌, ◌≤◌, List, [], ◌∷◌, ◌++◌, length, slice_get, get_or, All, IfSome, ⊤}
 use Rattle.std.specs.List.{flat_map, AllAdjacentBelow}
 use Rattle.mt_base.specs.declared.row.Row.{Row}
 use Rattle.mt_base.specs.Bounds.{IsBoundedOver, IsBoundedRow}
-use Rattle.mt_base.specs.Trajectory.{Trajectory, row_at, straight_rows}
+use Rattle.mt_base.specs.Trajectory.{Trajectory, straight_rows}
 use Rattle.mt_track.specs.declared.segment.Segment.{Segment}
 use Rattle.mt_track.specs.Rows.{Continues, row_after}
 
@@ -18,12 +18,6 @@ all_rows segments = flat_map rows_of segments
 abbrev pub Adjoin : ℕ → List Segment → ℕ → Type 0
 Adjoin from [] to = from ≡ to
 Adjoin from (s ∷ ss) to = (s.from ≡ from) × (s.from < s.to) × Adjoin s.to ss to
-
--- the second at which segment i of these begins, from the one at which the first does; after the last one, that at which it ends
-abbrev pub edge : ℕ → List Segment → ℕ → ℕ
-edge from ss zero = from
-edge from [] (suc i) = from
-edge from (s ∷ ss) (suc i) = edge s.to ss i
 
 -- What the rows of every strand keep that begins there: each row within bounds, and continued by the next; at most 14,400 rows; an end by
 -- second 10,014,400.
@@ -59,12 +53,6 @@ pub record Covers (t : Trajectory) (i from to : ℕ) : Type 0 where
   pub begun : segment.from ≤ from
   pub ahead : to ≤ segment.to
 
--- how a strand is kept: its segments lie from its start to its end, and no two neighbours are in one
-pub record IsLaid (start end : ℕ) (segments : List Segment) : Type 0 where
-  pub adjoin : Adjoin start segments end
-  pub apart : AreSeparateSegments segments
-  pub kept : AreStrandRows start (all_rows segments)
-
 -- A segment can follow a strand: it begins where the strand ends, its first row continues the last one, and it keeps what every strand keeps.
 pub record Follows (t : Trajectory) (s : Segment) : Type 0 where
   pub adjoins : s.from ≡ t.start + length t.rows
@@ -77,10 +65,3 @@ pub record Follows (t : Trajectory) (s : Segment) : Type 0 where
 -- with the rows of a segment after its own
 abbrev pub extended : Trajectory → Segment → Trajectory
 extended t s = record t { rows = t.rows ++ rows_of s }
-
--- A segment holds second k of a trajectory: the row of k is that many seconds after the segment's first row, and within bounds until then.
-pub record CoversSecond (t : Trajectory) (k : ℕ) (s : Segment) : Type 0 where
-  pub begun : s.from ≤ k
-  pub row : row_at t k ≡ Some (row_after s.first (k - s.from))
-  pub kept : IsBoundedOver s.first (k - s.from)
-  pub bounded : IsBoundedRow (row_after s.first (k - s.from))

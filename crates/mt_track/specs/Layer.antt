@@ -19,16 +19,7 @@ pub record IsInLayer (layer : Layer) (row : Row) : Type 0 where
 abbrev pub AreInLayer : Layer → List Row → Type 0
 AreInLayer layer rows = All (IsInLayer layer) rows
 
--- the second of two layers holds what the first one does
-pub record IsWider (layer wider : Layer) : Type 0 where
-  pub low : wider.low ≤ℤ layer.low
-  pub high : layer.high ≤ℤ wider.high
-
 -- numbers of a size that sums of them fit
 pub record IsLayerKept (layer : Layer) : Type 0 where
   pub low : IsWithin (neg_ℤ (pos 600000)) (pos 4200000) layer.low
   pub high : IsWithin (neg_ℤ (pos 600000)) (pos 4200000) layer.high
-
-pub record IsBoundedHeight (row : Row) : Type 0 where
-  pub z : IsWithin (pos 0) (pos 3600000) row.z
-  pub w : IsWithin (pos 0) (pos 600000) row.w

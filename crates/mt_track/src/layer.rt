@@ -1,7 +1,8 @@
 //! The heights that a trajectory takes.
 ghost use Rattle.std.specs.Prelude.{◌-◌, ◌≤◌};
 ghost use Rattle.mt_base.specs.Bounds.{IsBoundedOver};
-ghost use Rattle.mt_track.specs.Layer.{AreInLayer, HoldsHeight, IsLayerKept, IsWider, IsBoundedHeight};
+ghost use Rattle.mt_track.specs.Layer.{AreInLayer, HoldsHeight, IsLayerKept};
+ghost use Rattle.mt_track.specs.Private.Layer.{IsWider, IsBoundedHeight};
 ghost use Rattle.mt_track.specs.Laid.{rows_of};
 
 use crate::segment::{Segment, later};

@@ -1,7 +1,8 @@
 ghost use Rattle.std.specs.Prelude.{◌≡◌, ◌+◌, ◌<◌, ◌≤◌, [], length, IfOk, IfSome, OnOk, OnErr};
 ghost use Rattle.mt_base.specs.Bounds.{IsBoundedRow, IsBoundedStretch};
 ghost use Rattle.mt_base.specs.Trajectory.{row_at, straight};
-ghost use Rattle.mt_track.specs.Laid.{AreSegmentsOf, IsStrand, Follows, CoversSecond, extended};
+ghost use Rattle.mt_track.specs.Laid.{AreSegmentsOf, IsStrand, Follows, extended};
+ghost use Rattle.mt_track.specs.Private.Laid.{CoversSecond};
 ghost use Rattle.mt_track.specs.Layer.{AreInLayer, IsLayerKept};
 
 use crate::layer::{Layer, no_height, with_segment};
@@ -29,7 +30,8 @@ pub struct Strand {
 
 impl Model for Strand {
     ghost use Rattle.mt_base.specs.Trajectory.{Trajectory};
-    ghost use Rattle.mt_track.specs.Laid.{IsLaid, all_rows};
+    ghost use Rattle.mt_track.specs.Laid.{all_rows};
+    ghost use Rattle.mt_track.specs.Private.Laid.{IsLaid};
     ghost use Rattle.mt_track.specs.Layer.{AreInLayer, IsLayerKept};
 
     ghost Value = { Trajectory };

@@ -10,7 +10,7 @@ use Rattle.mt_turn.specs.declared.view.Joined.{Joined}
 use Rattle.mt_turn.specs.declared.view.View.{View}
 use Rattle.mt_turn.specs.Views.{entries_of, up_to, first_view}
 use Rattle.mt_turn.specs.Lending.{HaveOwnNumbers, IsJoined, AllJoined, ClosesHistory}
-use Rattle.mt_turn.specs.Turning.{IsUnspent, HasTicket, HasSlot, Knows, Taken, AtHome, IsOut, Turning}
+use Rattle.mt_turn.specs.Private.Turning.{IsUnspent, HasTicket, HasSlot, Knows, Taken, AtHome, IsOut, Turning}
 use Rattle.mt_turn.proofs.Facts.{goes_self, up_to_has}
 use Rattle.mt_turn.proofs.Lists.{inside, same_at}
 use Rattle.mt_turn.proofs.Serving.{same_some}

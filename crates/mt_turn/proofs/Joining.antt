@@ -8,9 +8,10 @@ use Rattle.atomic_table.proofs.Lists.{at_set, set_here, set_else}
 use Rattle.mt_turn.specs.declared.view.Phase.TheVariants.{Idle}
 use Rattle.mt_turn.specs.declared.view.Joined.{Joined}
 use Rattle.mt_turn.specs.declared.view.View.{View}
-use Rattle.mt_turn.specs.Views.{entries_of, longer, up_to, taker, spent, joined_as}
+use Rattle.mt_turn.specs.Views.{entries_of, longer, up_to, taker, joined_as}
+use Rattle.mt_turn.specs.Private.Views.{spent}
 use Rattle.mt_turn.specs.Lending.{HaveOwnNumbers}
-use Rattle.mt_turn.specs.Turning.{IsUnspent, HasTicket, HasSlot, tickets, numbers_drawn, IsInPhase, Knows, Taken, AtHome, IsOut, Turning}
+use Rattle.mt_turn.specs.Private.Turning.{IsUnspent, HasTicket, HasSlot, tickets, numbers_drawn, IsInPhase, Knows, Taken, AtHome, IsOut, Turning}
 use Rattle.mt_turn.proofs.Facts.{longer_goes, longer_same, only_there}
 use Rattle.mt_turn.proofs.Lists.{contained, inside, at_longer_place, same_at, out_set}
 

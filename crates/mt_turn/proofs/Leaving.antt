@@ -5,8 +5,8 @@ use Rattle.mt_turn.specs.declared.view.Phase.TheVariants.{Idle, Holds}
 use Rattle.mt_turn.specs.declared.view.View.{View}
 use Rattle.mt_turn.specs.Views.{entries_of, Extends, with_phase}
 use Rattle.mt_turn.specs.Lending.{Grows, Left}
-use Rattle.mt_turn.specs.Turning.{Turning}
-use Rattle.mt_turn.specs.Steps.{Seated, counted_view, SeesHistory, HandsOn}
+use Rattle.mt_turn.specs.Private.Turning.{Turning}
+use Rattle.mt_turn.specs.Private.Steps.{Seated, counted_view, SeesHistory, HandsOn}
 use Rattle.mt_turn.proofs.Facts.{own_more}
 use Rattle.mt_turn.proofs.Serving.{passes}
 

@@ -10,7 +10,7 @@ use Rattle.mt_turn.specs.declared.view.Joined.{Joined}
 use Rattle.mt_turn.specs.declared.view.View.{View}
 use Rattle.mt_turn.specs.Views.{entries_of, Extends, up_to}
 use Rattle.mt_turn.specs.Lending.{HaveOwnNumbers}
-use Rattle.mt_turn.specs.Turning.{IsUnspent, HasTicket, HasSlot, numbers_drawn, IsInPhase, out, Knows, Taken, Rooted, AtHome, IsOut, Turning}
+use Rattle.mt_turn.specs.Private.Turning.{IsUnspent, HasTicket, HasSlot, numbers_drawn, IsInPhase, out, Knows, Taken, Rooted, AtHome, IsOut, Turning}
 use Rattle.mt_turn.proofs.Facts.{goes_trans}
 use Rattle.mt_turn.proofs.Lists.{inside, same_at}
 

@@ -6,8 +6,8 @@ use Rattle.atomic_table.specs.Table.{keeps, Allows}
 use Rattle.mt_turn.specs.declared.view.Phase.TheVariants.{Idle, Splits}
 use Rattle.mt_turn.specs.declared.view.View.{View}
 use Rattle.mt_turn.specs.Views.{up_to, with_phase}
-use Rattle.mt_turn.specs.Turning.{IsUnspent, HasSlot, tickets, numbers_drawn, Turning}
-use Rattle.mt_turn.specs.Steps.{Seated, Numbers}
+use Rattle.mt_turn.specs.Private.Turning.{IsUnspent, HasSlot, tickets, numbers_drawn, Turning}
+use Rattle.mt_turn.specs.Private.Steps.{Seated, Numbers}
 use Rattle.mt_turn.proofs.Facts.{goes_self}
 use Rattle.mt_turn.proofs.Lists.{same_at, out_set}
 use Rattle.mt_turn.proofs.Moves.{moved, slot_stays}

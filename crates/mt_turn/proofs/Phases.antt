@@ -2,7 +2,7 @@
 use Rattle.std.proofs.Common.{◌≡◌, ℕ, ◌+◌, ◌<◌, ◌≤◌, List, arith}
 use Rattle.mt_turn.specs.declared.view.Phase.{Phase}
 use Rattle.mt_turn.specs.declared.view.Phase.TheVariants.{Idle, Splits, Waits, Holds, Counted, Spent}
-use Rattle.mt_turn.specs.Turning.{IsUnspent, HasTicket, HasSlot, numbers_drawn, IsInPhase}
+use Rattle.mt_turn.specs.Private.Turning.{IsUnspent, HasTicket, HasSlot, numbers_drawn, IsInPhase}
 
 module _ {E : Type 0} where
   pub ticket_unspent : (p : Phase E) (t : ℕ) → HasTicket p t → IsUnspent p

@@ -10,8 +10,8 @@ use Rattle.mt_turn.specs.declared.view.Phase.TheVariants.{Idle, Holds, Counted}
 use Rattle.mt_turn.specs.declared.view.View.{View}
 use Rattle.mt_turn.specs.Views.{entries_of, Extends, with_phase}
 use Rattle.mt_turn.specs.Lending.{Grows}
-use Rattle.mt_turn.specs.Turning.{IsUnspent, HasTicket, HasSlot, tickets, numbers_drawn, IsInPhase, AtHome, IsOut, Turning}
-use Rattle.mt_turn.specs.Steps.{Seated, counted_view, SeesHistory, HandsOn}
+use Rattle.mt_turn.specs.Private.Turning.{IsUnspent, HasTicket, HasSlot, tickets, numbers_drawn, IsInPhase, AtHome, IsOut, Turning}
+use Rattle.mt_turn.specs.Private.Steps.{Seated, counted_view, SeesHistory, HandsOn}
 use Rattle.mt_turn.proofs.Facts.{goes_self, goes_trans, grows_goes, grows_other, grows_entries}
 use Rattle.mt_turn.proofs.Lists.{inside, out_set}
 use Rattle.mt_turn.proofs.Phases.{served_unspent, served_ticket, after_count, after_pass}

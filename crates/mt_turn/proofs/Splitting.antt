@@ -9,7 +9,7 @@ use Rattle.mt_turn.specs.declared.view.Joined.{Joined}
 use Rattle.mt_turn.specs.declared.view.View.{View}
 use Rattle.mt_turn.specs.Views.{entries_of, up_to, giver, newcomer}
 use Rattle.mt_turn.specs.Lending.{HaveOwnNumbers}
-use Rattle.mt_turn.specs.Turning.{IsUnspent, HasTicket, HasSlot, tickets, numbers_drawn, Knows, Taken, AtHome, IsOut, Turning}
+use Rattle.mt_turn.specs.Private.Turning.{IsUnspent, HasTicket, HasSlot, tickets, numbers_drawn, Knows, Taken, AtHome, IsOut, Turning}
 use Rattle.mt_turn.proofs.Facts.{none_made, nil_first, up_to_next}
 use Rattle.mt_turn.proofs.Lists.{inside, same_at, at_longer_place, out_set, out_more}
 use Rattle.mt_turn.proofs.Phases.{after_split}

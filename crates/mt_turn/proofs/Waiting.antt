@@ -9,8 +9,8 @@ use Rattle.atomic_table.proofs.Lists.{set_here, one_turn}
 use Rattle.mt_turn.specs.declared.view.Phase.TheVariants.{Idle, Waits, Holds}
 use Rattle.mt_turn.specs.declared.view.View.{View}
 use Rattle.mt_turn.specs.Views.{entries_of, with_phase}
-use Rattle.mt_turn.specs.Turning.{IsUnspent, HasTicket, HasSlot, tickets, numbers_drawn, Knows, AtHome, IsOut, Turning}
-use Rattle.mt_turn.specs.Steps.{Seated, Draws, Looks}
+use Rattle.mt_turn.specs.Private.Turning.{IsUnspent, HasTicket, HasSlot, tickets, numbers_drawn, Knows, AtHome, IsOut, Turning}
+use Rattle.mt_turn.specs.Private.Steps.{Seated, Draws, Looks}
 use Rattle.mt_turn.proofs.Facts.{goes_self, none_later}
 use Rattle.mt_turn.proofs.Lists.{inside, same_at, out_set, out_le}
 use Rattle.mt_turn.proofs.Phases.{ticket_unspent, served_unspent, ticket_within, served_ticket, after_draw}

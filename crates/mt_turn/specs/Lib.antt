@@ -1,5 +1,4 @@
-pub mod Places
-pub mod Views
 pub mod Lending
-pub mod Turning
-pub mod Steps
+pub mod Places
+pub mod Private
+pub mod Views

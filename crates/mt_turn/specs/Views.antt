@@ -1,7 +1,7 @@
 -- What seats know of a history, and what a split and a join make of it.
-use Rattle.std.specs.Prelude.{◌≡◌, ℕ, zero, suc, ◌+◌, ◌==◌, List, [], ◌∷◌, ◌++◌, length, filter, cond, nat_lt, Option, Some, None}
+use Rattle.std.specs.Prelude.{◌≡◌, ℕ, zero, suc, ◌+◌, ◌==◌, List, [], ◌∷◌, ◌++◌, length, filter, cond, nat_lt, Some}
 use Rattle.mt_turn.specs.declared.view.Phase.{Phase}
-use Rattle.mt_turn.specs.declared.view.Phase.TheVariants.{Idle, Holds, Spent}
+use Rattle.mt_turn.specs.declared.view.Phase.TheVariants.{Idle}
 use Rattle.mt_turn.specs.declared.view.Joined.{Joined}
 use Rattle.mt_turn.specs.declared.view.View.{View}
 
@@ -21,11 +21,6 @@ longer xs ys = cond (nat_lt (length xs) (length ys)) ys xs
 abbrev pub up_to : ℕ → List ℕ
 up_to zero = []
 up_to (suc n) = up_to n ++ suc n ∷ []
-
--- While it has the turn, a seat has the place of the value, which is empty
-abbrev pub carried_of : {E T : Type 0} → Phase E → List (ℕ × Option T)
-carried_of (Holds t lent) = (0, None) ∷ []
-carried_of _ = []
 
 abbrev pub with_phase : {E F : Type 0} → View E F → Phase E → View E F
 with_phase v p = record { number = v.number; seen = v.seen; mine = v.mine; gave = v.gave; joined = v.joined; fixed = v.fixed; phase = p }
@@ -47,6 +42,3 @@ joined_as w = record { number = w.number; seen = w.seen; mine = w.mine }
 
 abbrev pub taker : {E F : Type 0} → View E F → View E F → View E F
 taker v w = record { number = v.number; seen = longer v.seen w.seen; mine = v.mine; gave = v.gave; joined = v.joined ++ joined_as w ∷ []; fixed = v.fixed; phase = v.phase }
-
-abbrev pub spent : {E F : Type 0} → View E F
-spent = record { number = 0; seen = []; mine = []; gave = []; joined = []; fixed = None; phase = Spent }

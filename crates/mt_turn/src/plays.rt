@@ -1,6 +1,7 @@
 //! The kinds of step: one type each, which says what the step tells or how it changes views.
-ghost use Rattle.mt_turn.specs.Steps.{Draws, Looks, SeesHistory, HandsOn, Numbers};
-ghost use Rattle.mt_turn.specs.Views.{giver, newcomer, taker, spent};
+ghost use Rattle.mt_turn.specs.Private.Steps.{Draws, Looks, SeesHistory, HandsOn, Numbers};
+ghost use Rattle.mt_turn.specs.Views.{giver, newcomer, taker};
+ghost use Rattle.mt_turn.specs.Private.Views.{spent};
 
 use crate::kept::Kept;
 use crate::view::View;

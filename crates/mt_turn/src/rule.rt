@@ -1,6 +1,6 @@
 //! The table behind a turn, and the rule that each step on it keeps.
 ghost use Rattle.mt_turn.specs.Views.{first_view};
-ghost use Rattle.mt_turn.specs.Turning.{Turning};
+ghost use Rattle.mt_turn.specs.Private.Turning.{Turning};
 
 use crate::kept::Kept;
 use crate::view::View;

@@ -1,6 +1,6 @@
 //! A seat of a turn, and the turn itself.
 ghost use Rattle.std.specs.Prelude.{◌≡◌};
-ghost use Rattle.mt_turn.specs.Views.{carried_of};
+ghost use Rattle.mt_turn.specs.Private.Views.{carried_of};
 
 use crate::kept::Kept;
 use crate::turn_table::{Token, TurnTable};
@@ -18,7 +18,7 @@ pub struct Seat<T: Kept> {
 impl<T: Kept> Model for Seat<T> {
     ghost use Rattle.std.specs.Prelude.{◌≡◌};
     ghost use Rattle.mt_turn.specs.Places.{Place};
-    ghost use Rattle.mt_turn.specs.Views.{carried_of};
+    ghost use Rattle.mt_turn.specs.Private.Views.{carried_of};
 
     ghost Value = { Place T.Entry T.Fixed };
 

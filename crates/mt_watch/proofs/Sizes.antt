@@ -6,7 +6,7 @@ use mir.Syntax.{w128}
 use Rattle.mt_ring.proofs.Sizes.{Abs, abs_add, abs_sub, abs_mul, fits_128}
 use Rattle.mt_base.specs.Bounds.{IsWithin}
 use Rattle.mt_watch.specs.declared.vector.Vector.{Vector}
-use Rattle.mt_watch.specs.Plane.{IsProduct, IsSmall, cross_product, dot}
+use Rattle.mt_watch.specs.Private.Plane.{IsProduct, IsSmall, cross_product, dot}
 
 pub size_of : {m : ℕ} {z : ℤ} → IsWithin (neg_ℤ (pos m)) (pos m) z → Abs m z
 size_of {m} {z} h = record { low = h.least; high = h.most }

@@ -1,1 +1,1 @@
-pub mod Plane
+pub mod Private

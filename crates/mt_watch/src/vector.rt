@@ -1,6 +1,6 @@
 ghost use Rattle.std.specs.Prelude.{◌≡◌};
 ghost use Rattle.mt_base.specs.Bounds.{IsBoundedReport, IsBoundedRow};
-ghost use Rattle.mt_watch.specs.Plane.{IsProduct, IsSmall, cross_product, dot, is_zero, offset_to_report, velocity_of};
+ghost use Rattle.mt_watch.specs.Private.Plane.{IsProduct, IsSmall, cross_product, dot, is_zero, offset_to_report, velocity_of};
 
 use mt_base::{Report, Row};
 

@@ -1,7 +1,7 @@
 ghost use Rattle.std.specs.Prelude.{◌≡◌, ◌*ℤ◌, pos};
 ghost use Rattle.mt_base.specs.Bounds.{AreWithinBounds, IsBoundedReport, IsBoundedRow, IsWithin};
 ghost use Rattle.mt_base.specs.Verdict.{is_aged, is_along, is_lateral, is_vertical, verdict_of};
-ghost use Rattle.mt_watch.specs.Plane.{IsProduct, is_beyond};
+ghost use Rattle.mt_watch.specs.Private.Plane.{IsProduct, is_beyond};
 
 use crate::vector::Vector;
 use mt_base::{Base, Report, Row, Rules, Second, Verdict};

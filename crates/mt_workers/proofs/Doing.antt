@@ -8,7 +8,8 @@ use Rattle.mt_board.specs.Changing.{IsChanged}
 use Rattle.mt_board.specs.Seat.{Seat}
 use Rattle.mt_board.proofs.SeatLemmas.{renewals_add}
 use Rattle.mt_workers.specs.Jobs.{AreTaken, AreJobsOver}
-use Rattle.mt_workers.specs.Work.{HasWorked, HasWorkedAll}
+use Rattle.mt_workers.specs.Work.{HasWorkedAll}
+use Rattle.mt_workers.specs.Private.Work.{HasWorked}
 
 none_taken : (left : Option (List (List ℕ))) → AreTaken left left []
 none_taken None = tt

@@ -1,3 +1,4 @@
 pub mod Jobs
 pub mod MemJobs
+pub mod Private
 pub mod Work

@@ -6,7 +6,7 @@ use Rattle.mt_base.specs.Tally.{raised}
 use Rattle.mt_board.specs.Probing.{Probe, free_probe}
 use Rattle.mt_probe.specs.Hits.{Trial, told_of}
 use Rattle.mt_write.specs.declared.reply.AdviceItem.{AdviceItem}
-use Rattle.mt_world.specs.Sound.{clearances_of}
+use Rattle.mt_world.specs.Private.Sound.{clearances_of}
 use Rattle.mt_world.specs.World.{items_from}
 
 -- the number of the last of some clearances

@@ -7,13 +7,14 @@ use Rattle.mt_base.specs.History.{IsLegal, state_of}
 use Rattle.mt_base.specs.Picture.{State, opening}
 use Rattle.mt_base.specs.Tables.{Setup}
 use Rattle.mt_base.proofs.HistoryLemmas.{version_is}
-use Rattle.mt_machine.specs.Book.{Book, empty_book, told_book}
+use Rattle.mt_machine.specs.Book.{Book, empty_book}
+use Rattle.mt_machine.specs.Private.Book.{told_book}
 use Rattle.mt_picture.specs.Story.{Story}
 use Rattle.mt_probe.specs.Hits.{Trial, told_of}
 use Rattle.mt_probe.specs.Shot.{Shot}
 use Rattle.mt_probe.specs.Shot.{state_in_shot as state_in}
 use Rattle.mt_world.specs.declared.actor.Actor.{Actor}
-use Rattle.mt_world.specs.Sound.{IsKeptOf, IsSoundActor, IsSoundWorld, IsTakenOf, actor_shown}
+use Rattle.mt_world.specs.Private.Sound.{IsKeptOf, IsSoundActor, IsSoundWorld, IsTakenOf, actor_shown}
 use Rattle.mt_world.specs.World.{new_actor}
 use Rattle.mt_world.specs.World as world
 

@@ -1,3 +1,2 @@
-pub mod Sound
-pub mod Told
+pub mod Private
 pub mod World

@@ -4,7 +4,7 @@ ghost use Rattle.mt_base.specs.Bounds.{IsAskedFor, IsBoundedCommand};
 ghost use Rattle.mt_write.specs.declared.reply.Reply.TheVariants as replies;
 ghost use Rattle.mt_lines.specs.Fit.{IsFit};
 ghost use Rattle.mt_picture.specs.Story.{IsEntered, IsPrepGivenFor, IsCommandRefused as IsDenied};
-ghost use Rattle.mt_world.specs.Sound.{story_of};
+ghost use Rattle.mt_world.specs.Private.Sound.{story_of};
 ghost use Rattle.mt_world.specs.World.{IsAccepted, IsCommandAnswered, IsRefused};
 
 use crate::telling::changed;

@@ -6,7 +6,7 @@ ghost use Rattle.mt_machine.specs.Book.{with_probe};
 ghost use Rattle.mt_probe.specs.Hits.{told_of};
 ghost use Rattle.mt_write.specs.declared.reply.Reply.TheVariants as replies;
 ghost use Rattle.mt_lines.specs.Fit.{IsFit};
-ghost use Rattle.mt_world.specs.Sound.{IsKeptOf, IsProbeOf, IsUnprobedOf};
+ghost use Rattle.mt_world.specs.Private.Sound.{IsKeptOf, IsProbeOf, IsUnprobedOf};
 ghost use Rattle.mt_world.specs.World.{IsGiven, IsProbeAnswered, IsRefused, actor_of, setup_of, with_all_taken, with_book};
 
 use crate::telling::refused;

@@ -1,7 +1,7 @@
 //! What is answered, as replies.
 ghost use Rattle.std.specs.Prelude.{◌≡◌};
 ghost use Rattle.mt_lines.specs.Fit.{IsFit};
-ghost use Rattle.mt_world.specs.Told.{entered_reply, no_reply};
+ghost use Rattle.mt_world.specs.Private.Told.{entered_reply, no_reply};
 
 use mt_base::Entered;
 use mt_board::No;

@@ -31,7 +31,7 @@ pub struct World {
 
 impl Model for World {
     ghost use Rattle.std.specs.Prelude.{[], map, true};
-    ghost use Rattle.mt_world.specs.Sound.{IsSoundWorld, actor_shown};
+    ghost use Rattle.mt_world.specs.Private.Sound.{IsSoundWorld, actor_shown};
     ghost use Rattle.mt_world.specs.World.{World};
 
     ghost Value = { World };

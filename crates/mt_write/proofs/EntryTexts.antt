@@ -15,7 +15,7 @@ use Rattle.mt_base.specs.declared.command.Command.TheVariants as commands
 use Rattle.mt_base.specs.declared.flight.Report.{Report}
 use Rattle.mt_base.specs.declared.flight.Straight.{Straight}
 use Rattle.mt_write.specs.Entry.{values, whole, clearance_members, entry_members}
-use Rattle.mt_write.specs.Numbers.{accept_front, approval_text, call_text, clear_front, clearance_text, external_front, external_gains, external_numbers, external_text, level_text, number_text, plan_back, plan_front, plan_route, probed_text, report_front, report_text, tentative_front, who_text, withdraw_text}
+use Rattle.mt_write.specs.Private.Numbers.{accept_front, approval_text, call_text, clear_front, clearance_text, external_front, external_gains, external_numbers, external_text, level_text, number_text, plan_back, plan_front, plan_route, probed_text, report_front, report_text, tentative_front, who_text, withdraw_text}
 
 -- the digits of a whole number
 pub digits : (z : ℤ) → written.number_text (of_integer z) ≡ signed_decimal z

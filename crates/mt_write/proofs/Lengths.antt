@@ -25,7 +25,7 @@ use Rattle.mt_write.specs.declared.reply.Reply.{Reply}
 use Rattle.mt_write.specs.declared.reply.Reply.TheVariants as reply
 use Rattle.mt_write.specs.Entry.{values, whole}
 use Rattle.mt_write.specs.Flight.{or_null, row_value, tent_value}
-use Rattle.mt_write.specs.Numbers.{flag_text, flight_text, verdict_text}
+use Rattle.mt_write.specs.Private.Numbers.{flag_text, flight_text, verdict_text}
 use Rattle.mt_write.specs.Reply.{advised_members, advised_value, hit_value, reply_text}
 use Rattle.mt_write.proofs.IllegalTexts.{illegal_parts, illegal_text, word_length}
 use Rattle.mt_write.proofs.ReplyTexts.{judged_text}

@@ -3,7 +3,7 @@ use Rattle.std.proofs.Common.{◌≡◌, ℕ, List, ◌++◌, Result, Ok, Err, s
 use Rattle.std.specs.Bool.{⊤}
 use Rattle.std.specs.Global.{Vec}
 use Rattle.mt_memory.specs.declared.Memory.{Memory}
-use Rattle.mt_write.specs.Puts.{Puts}
+use Rattle.mt_write.specs.Private.Puts.{Puts}
 
 pub puts_is : (r : Result ⊤ Memory) (old new : Vec ℕ) (t u : List ℕ) → t ≡ u → Puts r old new t → Puts r old new u
 puts_is r old new t u e h = subst (Puts r old new) e h

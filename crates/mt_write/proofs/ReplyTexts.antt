@@ -11,7 +11,7 @@ use Rattle.mt_base.specs.declared.verdict.Verdict.{Verdict}
 use Rattle.mt_write.specs.declared.reply.AdviceItem.{AdviceItem}
 use Rattle.mt_write.specs.declared.reply.Reply.TheVariants as reply
 use Rattle.mt_write.specs.Entry.{values, whole}
-use Rattle.mt_write.specs.Numbers.{advised_for, flag_text, tried_text, verdict_text}
+use Rattle.mt_write.specs.Private.Numbers.{advised_for, flag_text, tried_text, verdict_text}
 use Rattle.mt_write.specs.Reply.{advised_value, flags, hit_value, holding, reply_text}
 
 pub form_text : (name : List ℕ) → codes "{\"field\":\"" ++ (escape name ++ codes "\",\"no\":\"form\"}\n") ≡ reply_text (reply.Form name)

@@ -13,7 +13,7 @@ use Rattle.mt_base.specs.declared.hit.Hit.{Hit}
 use Rattle.mt_write.specs.declared.reply.Reply.TheVariants as reply
 use Rattle.mt_write.specs.Entry.{whole}
 use Rattle.mt_write.specs.Flight.{or_null, row_value, tent_value}
-use Rattle.mt_write.specs.Numbers.{flight_front, flight_text}
+use Rattle.mt_write.specs.Private.Numbers.{flight_front, flight_text}
 use Rattle.mt_write.specs.Reply.{advised_members, hit_value, kind_letter, reply_text}
 
 pub plain_kinds : (a b : Kind) → kind_letter a ∷ kind_letter b ∷ [] ≡ escape (kind_letter a ∷ kind_letter b ∷ [])

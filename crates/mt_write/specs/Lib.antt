@@ -1,7 +1,5 @@
 pub mod Entry
 pub mod Flight
-pub mod Joined
-pub mod Numbers
-pub mod Puts
+pub mod Private
 pub mod Reply
 pub mod Short

@@ -2,8 +2,8 @@
 ghost use Rattle.std.specs.Prelude.{◌++◌, codes, false};
 ghost use Rattle.serde_json.specs.Written.{items_text};
 ghost use Rattle.mt_write.specs.Entry.{values};
-ghost use Rattle.mt_write.specs.Numbers.{advised_for};
-ghost use Rattle.mt_write.specs.Puts.{Puts};
+ghost use Rattle.mt_write.specs.Private.Numbers.{advised_for};
+ghost use Rattle.mt_write.specs.Private.Puts.{Puts};
 ghost use Rattle.mt_write.specs.Reply.{advised_value};
 
 use crate::reply::AdviceItem;

@@ -1,8 +1,8 @@
 //! The entries of clearances.
 ghost use Rattle.std.specs.Prelude.{◌++◌};
 ghost use Rattle.mt_base.specs.declared.clearance.Clearance.TheVariants.{Level, Direct};
-ghost use Rattle.mt_write.specs.Numbers.{accept_front, call_text, clearance_text, eff_text, fix_text, probed_text, who_text};
-ghost use Rattle.mt_write.specs.Puts.{Puts};
+ghost use Rattle.mt_write.specs.Private.Numbers.{accept_front, call_text, clearance_text, eff_text, fix_text, probed_text, who_text};
+ghost use Rattle.mt_write.specs.Private.Puts.{Puts};
 
 use crate::escape::put_escaped;
 use crate::number::put_number;

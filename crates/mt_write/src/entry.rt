@@ -2,8 +2,8 @@
 ghost use Rattle.std.specs.Prelude.{◌++◌};
 ghost use Rattle.mt_base.specs.declared.command.Command.TheVariants.{Tick};
 ghost use Rattle.mt_write.specs.Entry.{entry_members, entry_value};
-ghost use Rattle.mt_write.specs.Numbers.{call_text, force_text, report_front, report_numbers, report_text, who_text, withdraw_text};
-ghost use Rattle.mt_write.specs.Puts.{Puts};
+ghost use Rattle.mt_write.specs.Private.Numbers.{call_text, force_text, report_front, report_numbers, report_text, who_text, withdraw_text};
+ghost use Rattle.mt_write.specs.Private.Puts.{Puts};
 ghost use Rattle.serde_json.specs.Data.{object};
 ghost use Rattle.serde_json.specs.Written.{compact_text};
 

@@ -2,7 +2,7 @@
 ghost use Rattle.std.specs.Prelude.{◌≡◌, ◌<◌};
 ghost use Rattle.std.specs.Char.{digit_char};
 ghost use Rattle.json.specs.Print.{escape_byte, escape};
-ghost use Rattle.mt_write.specs.Puts.{Puts};
+ghost use Rattle.mt_write.specs.Private.Puts.{Puts};
 
 use crate::write::put;
 use mt_memory::Memory;

@@ -1,6 +1,6 @@
 //! The entry of an external flight.
-ghost use Rattle.mt_write.specs.Numbers.{external_front, external_gains, external_middle, external_numbers, external_text};
-ghost use Rattle.mt_write.specs.Puts.{Puts};
+ghost use Rattle.mt_write.specs.Private.Numbers.{external_front, external_gains, external_middle, external_numbers, external_text};
+ghost use Rattle.mt_write.specs.Private.Puts.{Puts};
 
 use crate::number::{put_number, put_numbers};
 use crate::truth::put_approval;

@@ -4,8 +4,8 @@ ghost use Rattle.serde_json.specs.Data.{array};
 ghost use Rattle.serde_json.specs.Written.{compact_text};
 ghost use Rattle.mt_write.specs.Entry.{values, whole};
 ghost use Rattle.mt_write.specs.Flight.{or_null, row_value, tent_value};
-ghost use Rattle.mt_write.specs.Numbers.{flight_flown, flight_front, flight_marked, flight_text};
-ghost use Rattle.mt_write.specs.Puts.{Puts};
+ghost use Rattle.mt_write.specs.Private.Numbers.{flight_flown, flight_front, flight_marked, flight_text};
+ghost use Rattle.mt_write.specs.Private.Puts.{Puts};
 
 use crate::escape::put_escaped;
 use crate::number::put_number;

@@ -1,7 +1,7 @@
 //! The refusal of an entry that a standby was to follow.
 ghost use Rattle.std.specs.Prelude.{◌≡◌, ◌++◌, codes, decimal};
 ghost use Rattle.mt_write.specs.declared.reply.Reply.TheVariants.{Illegal};
-ghost use Rattle.mt_write.specs.Puts.{Puts};
+ghost use Rattle.mt_write.specs.Private.Puts.{Puts};
 ghost use Rattle.mt_write.specs.Reply.{refusal_word, reply_text};
 
 use crate::write::put_all;

@@ -1,8 +1,8 @@
 //! Whole numbers as values of JSON.
 ghost use Rattle.std.specs.Prelude.{pos};
 ghost use Rattle.mt_write.specs.Entry.{whole};
-ghost use Rattle.mt_write.specs.Numbers.{number_text, numbers_text};
-ghost use Rattle.mt_write.specs.Puts.{Puts};
+ghost use Rattle.mt_write.specs.Private.Numbers.{number_text, numbers_text};
+ghost use Rattle.mt_write.specs.Private.Puts.{Puts};
 
 use crate::write::{put, put_all};
 use crate::written::Written;

@@ -1,7 +1,7 @@
 //! The entry of a planned flight.
 ghost use Rattle.std.specs.Prelude.{◌++◌};
-ghost use Rattle.mt_write.specs.Numbers.{approval_text, plan_back, plan_front, plan_route};
-ghost use Rattle.mt_write.specs.Puts.{Puts};
+ghost use Rattle.mt_write.specs.Private.Numbers.{approval_text, plan_back, plan_front, plan_route};
+ghost use Rattle.mt_write.specs.Private.Puts.{Puts};
 
 use crate::number::put_number;
 use crate::truth::put_approval;

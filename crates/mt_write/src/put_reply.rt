@@ -1,11 +1,11 @@
 //! A reply put into a room.
-ghost use Rattle.std.specs.Prelude.{◌≡◌, ◌++◌, codes, decimal, false};
+ghost use Rattle.std.specs.Prelude.{◌++◌, codes, decimal, false};
 ghost use Rattle.json.specs.Print.{escape};
 ghost use Rattle.serde_json.specs.Written.{items_text};
 ghost use Rattle.mt_write.specs.declared.reply.Reply.TheVariants.{Done, Hello};
 ghost use Rattle.mt_write.specs.Entry.{values};
-ghost use Rattle.mt_write.specs.Numbers.{tried_text};
-ghost use Rattle.mt_write.specs.Puts.{Puts};
+ghost use Rattle.mt_write.specs.Private.Numbers.{tried_text};
+ghost use Rattle.mt_write.specs.Private.Puts.{Puts};
 ghost use Rattle.mt_write.specs.Reply.{reply_text};
 
 use crate::advice::put_advice;

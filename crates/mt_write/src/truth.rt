@@ -1,8 +1,8 @@
 ghost use Rattle.std.specs.Prelude.{◌≡◌};
 ghost use Rattle.serde_json.specs.Data.{boolean};
 ghost use Rattle.serde_json.specs.Written.{compact_text};
-ghost use Rattle.mt_write.specs.Numbers.{approval_text};
-ghost use Rattle.mt_write.specs.Puts.{Puts};
+ghost use Rattle.mt_write.specs.Private.Numbers.{approval_text};
+ghost use Rattle.mt_write.specs.Private.Puts.{Puts};
 
 use crate::write::put;
 use mt_memory::Memory;

@@ -1,8 +1,8 @@
 //! What an entered command answers.
 ghost use Rattle.std.specs.Prelude.{◌≡◌, ◌||◌, ◌++◌, codes, decimal, false, MatchResult, Ok, Err};
-ghost use Rattle.mt_write.specs.Numbers.{flag_text, flags_text, verdict_text};
+ghost use Rattle.mt_write.specs.Private.Numbers.{flag_text, flags_text, verdict_text};
 ghost use Rattle.mt_write.specs.declared.reply.Reply.TheVariants.{Entered as answered};
-ghost use Rattle.mt_write.specs.Puts.{Puts};
+ghost use Rattle.mt_write.specs.Private.Puts.{Puts};
 ghost use Rattle.mt_write.specs.Reply.{reply_text};
 
 use crate::write::{put, put_all, put_versioned};

@@ -1,7 +1,7 @@
 //! Texts put one after another into a room.
 ghost use Rattle.std.specs.Prelude.{◌++◌, codes, decimal};
-ghost use Rattle.mt_write.specs.Puts.{Puts};
-ghost use Rattle.mt_write.specs.Joined.{texts_joined};
+ghost use Rattle.mt_write.specs.Private.Puts.{Puts};
+ghost use Rattle.mt_write.specs.Private.Joined.{texts_joined};
 
 use itoa::Buffer;
 use mt_memory::Memory;

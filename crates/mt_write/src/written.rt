@@ -2,7 +2,7 @@
 ghost use Rattle.std.specs.Prelude.{false, ◌++◌};
 ghost use Rattle.serde_json.specs.Data.{Data};
 ghost use Rattle.serde_json.specs.Written.{comma_if, compact_text, items_text};
-ghost use Rattle.mt_write.specs.Puts.{Puts};
+ghost use Rattle.mt_write.specs.Private.Puts.{Puts};
 ghost use Rattle.mt_write.specs.Entry.{values};
 
 use crate::write::put;

@@ -1,7 +1,7 @@
-pub mod Messages
-pub mod Fronts
-pub mod Pulling
-pub mod Linking
 pub mod Accepted
+pub mod Fronts
+pub mod Linking
+pub mod Messages
 pub mod Opening
-pub mod Origin
+pub mod Private
+pub mod Pulling

@@ -1,5 +1,5 @@
 -- What a message is to a reader of lines, and a line to a peer.
-use Rattle.std.specs.Prelude.{⊤, ℕ, ◌==◌, ◌-◌, Bool, true, false, not, ◌||◌, if◌then◌else◌, Option, None, Some, List, [], ◌++◌, length, slice_index}
+use Rattle.std.specs.Prelude.{⊤, ℕ, ◌==◌, ◌-◌, Bool, true, false, not, ◌||◌, if◌then◌else◌, List, [], ◌++◌, length, slice_index}
 use Rattle.std.specs.Str.{is_utf8}
 use Rattle.tungstenite.specs.Content.{Content, text, binary}
 use Rattle.tungstenite.specs.declared.message.Message.{Message}
@@ -15,11 +15,6 @@ payload_of (Kind.Binary bytes) = bytes
 payload_of (Kind.Ping bytes) = []
 payload_of (Kind.Pong bytes) = []
 payload_of (Kind.Close frame) = []
-
--- the same of a message that may be there
-abbrev pub bytes_in : Option Message → List ℕ
-bytes_in None = []
-bytes_in (Some message) = payload_of message
 
 abbrev pub IsData : Message → Type 0
 IsData (Kind.Text bytes) = ⊤

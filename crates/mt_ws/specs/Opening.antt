@@ -15,13 +15,6 @@ use Rattle.mt_ws.specs.Accepted.{IsFromHandshake}
 abbrev pub IsStreamUnread : {S : Type 0} → S → Opening S → Type 0
 IsStreamUnread stream opening = (opening.fresh ≡ Some stream) × (opening.kind ≡ Broken)
 
--- what a first byte says: 71 is `G`
-abbrev pub IsKindBy : {S : Type 0} → ℕ → S → Kind S → Type 0
-IsKindBy first stream (Lines front) = (first ≢ 71) × (front ≡ record { first = Some first; stream = stream })
-IsKindBy first stream (Web link) = (first ≡ 71) × IsFromHandshake link
-IsKindBy first stream Over = ⊥
-IsKindBy first stream Broken = first ≡ 71
-
 module _ {S : Type 0} (remaining contents : S → Option (List ℕ)) where
   -- A stream was opened. A line session still has the byte that was read; of a WebSocket's handshake nothing is told.
   abbrev pub BeginsLink : S → Kind S → Type 0

@@ -8,9 +8,7 @@ use Rattle.tungstenite.specs.declared.message.CloseFrame.{CloseFrame}
 use Rattle.tungstenite.specs.declared.error.Error.{Error}
 use Rattle.mt_ws.specs.declared.cause.WsCause.{WsCause}
 use Rattle.mt_ws.specs.declared.cause.WsCause.TheVariants as Cause
-use Rattle.mt_ws.specs.declared.pull.Pulled.{Pulled}
-use Rattle.mt_ws.specs.declared.pull.Pulled.TheVariants.{Data, End, Fault}
-use Rattle.mt_ws.specs.Messages.{IsData, is_beat, is_memory, is_after_close}
+use Rattle.mt_ws.specs.Messages.{is_beat, is_memory, is_after_close}
 
 module _ {S : Type 0} (remaining contents : S → Option (List ℕ)) where
   -- so many reads, and each answered a ping or a pong
@@ -44,8 +42,3 @@ module _ {S : Type 0} (remaining contents : S → Option (List ℕ)) where
   FailsBy old new Cause.Pings = (n : ℕ) × (n ≡ 4097) × Beats n old new
   FailsBy old new Cause.Long = ⊥
   FailsBy old new Cause.Memory = (e : Error) × (is_memory e ≡ true) × AnswersAfterPings old new (Err e)
-
-  abbrev pub Pulls : Socket S → Socket S → Pulled → Type 0
-  Pulls old new (Data m) = IsData m × AnswersAfterPings old new (Ok m)
-  Pulls old new (End failure) = ClosesSocket failure old new
-  Pulls old new (Fault cause) = FailsBy old new cause

@@ -1,7 +1,8 @@
 //! A stream that is opened by its first read: by its first byte it is a line session or a WebSocket.
 ghost use Rattle.std.specs.Prelude.{◌<◌, ◌≤◌, length, IfOk};
 ghost use Rattle.std.specs.Io.{ReadsAtMost};
-ghost use Rattle.mt_ws.specs.Opening.{BeginsLink, IsStreamUnread, IsKindBy, Opens, ReadsKind, ReadsOpening, WritesKind, WritesOpening};
+ghost use Rattle.mt_ws.specs.Opening.{BeginsLink, IsStreamUnread, Opens, ReadsKind, ReadsOpening, WritesKind, WritesOpening};
+ghost use Rattle.mt_ws.specs.Private.Opening.{IsKindBy};
 
 use crate::front::{Front, read_on};
 use crate::ws_link::WsLink;

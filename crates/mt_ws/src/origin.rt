@@ -2,7 +2,7 @@
 ghost use Rattle.std.specs.Prelude.{◌≡◌, ◌≢◌, ◌++◌, ◌↔◌, ℕ, List, IfOk, IsErr, IsTrue, MatchOption, codes};
 ghost use Rattle.http.specs.Request.{head_of};
 ghost use Rattle.http_header.specs.HeaderMap.{get};
-ghost use Rattle.mt_ws.specs.Origin.{BeginsNot, BeginsWith, IsHost, IsLocalPage, IsForeign, IsName, IsPort, IsScheme};
+ghost use Rattle.mt_ws.specs.Private.Origin.{BeginsNot, BeginsWith, IsHost, IsLocalPage, IsForeign, IsName, IsPort, IsScheme};
 
 use http::{Request, Response, StatusCode};
 use std::alloc::Global;

@@ -1,7 +1,8 @@
 //! The next message of a socket that is no ping and no pong.
 ghost use Rattle.std.specs.Prelude.{◌≡◌};
 ghost use Rattle.mt_ws.specs.Messages.{is_memory as is_want, is_after_close as is_closing, is_beat as beats};
-ghost use Rattle.mt_ws.specs.Pulling.{IsSent, Pulls};
+ghost use Rattle.mt_ws.specs.Pulling.{IsSent};
+ghost use Rattle.mt_ws.specs.Private.Pulling.{Pulls};
 ghost use Rattle.tungstenite.specs.Socket.{Flushed};
 
 use crate::cause::WsCause;

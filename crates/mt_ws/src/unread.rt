@@ -1,6 +1,7 @@
 //! What is left of a message.
 ghost use Rattle.std.specs.Prelude.{◌≡◌, ◌<◌, ◌≤◌, ◌↔◌, ◌++◌, [], length, take, IsTrue};
-ghost use Rattle.mt_ws.specs.Messages.{bytes_in, payload_of, is_unended as is_open_text, with_ending};
+ghost use Rattle.mt_ws.specs.Messages.{payload_of, is_unended as is_open_text, with_ending};
+ghost use Rattle.mt_ws.specs.Private.Messages.{bytes_in};
 
 use std::marker::Model;
 use tungstenite::Message;
@@ -16,7 +17,7 @@ pub struct Unread {
 
 impl Model for Unread {
     ghost use Rattle.std.specs.Prelude.{◌≤◌, ◌++◌, ℕ, List, drop, length};
-    ghost use Rattle.mt_ws.specs.Messages.{bytes_in};
+    ghost use Rattle.mt_ws.specs.Private.Messages.{bytes_in};
     ghost use Rattle.mt_io.specs.Gathering.{ending_of};
 
     ghost Value = { List ℕ };

@@ -1,6 +1,5 @@
 //! What is done with the turn not held: a gate holds one seat between its snapshot and what follows, until the other seat has entered a flight.
 //! A desk that held the turn meanwhile would never end these tests.
-ghost use Rattle.std.specs.Prelude.{◌≡◌};
 ghost use Rattle.std.specs.Thread.{IsSync};
 ghost use Rattle.mt_desk.specs.Desk.{IsSeatOfDesk};
 

@@ -1,5 +1,5 @@
 //! Flights that are far from each other are not tested.
-ghost use Rattle.std.specs.Prelude.{◌<◌, ◌≡◌, ℕ};
+ghost use Rattle.std.specs.Prelude.{◌<◌, ℕ};
 ghost use Rattle.mt_base.specs.Bounds.{IsBoundedCommand};
 ghost use Rattle.mt_base.specs.History.{IsInTime};
 ghost use Rattle.mt_probe.specs.Prepared.{MakesStrand};

@@ -1,5 +1,5 @@
 //! The door of TCP and its links: one session with a client over loopback.
-ghost use Rattle.std.specs.Prelude.{◌≡◌, ◌≤◌};
+ghost use Rattle.std.specs.Prelude.{◌≤◌};
 ghost use Rattle.std.specs.Thread.{IsSync};
 
 use super::seated::seated;

@@ -1,5 +1,4 @@
 //! One session over a link in memory and a seat alone: reports with a flag, jobs, and a worker.
-ghost use Rattle.std.specs.Prelude.{◌≡◌};
 ghost use Rattle.std.specs.Thread.{IsSync};
 
 use super::seated::seated;

@@ -1,5 +1,5 @@
 use Rattle.std.proofs.Common.{subst, sym}
-use Rattle.mt_area.specs.Lines.{IsLineOf}
+use Rattle.mt_area.specs.Private.Lines.{IsLineOf}
 use Rattle.mt_area.proofs.Sides.{ceiling_says, corner_kept, floor_says, nothing_says, side_says}
 use Rattle.mt_area.proofs.lines.line_at.Goals as goal
 

@@ -2,7 +2,7 @@ use Rattle.std.proofs.Common.{List, ◌+◌, [], subst, sym, take}
 use Rattle.std.proofs.lemmas.List.{take_all}
 use Rattle.mt_base.specs.declared.area.Area.{Area}
 use Rattle.mt_track.specs.Named.{named}
-use Rattle.mt_area.specs.Telling.{AddsPierced, IsPiercedByOne}
+use Rattle.mt_area.specs.Private.Telling.{AddsPierced, IsPiercedByOne}
 use Rattle.mt_base.specs.Area.{IsBoundedArea}
 use Rattle.mt_area.proofs.Reaching.{none_pierced}
 use Rattle.mt_area.proofs.Tellings.{Adds-more, Adds-none, from_nothing, none_told, one_area_more}

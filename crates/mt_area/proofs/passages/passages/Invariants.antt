@@ -1,6 +1,6 @@
 use Rattle.std.proofs.Common.{[], take}
 use Rattle.mt_track.specs.Named.{named}
-use Rattle.mt_area.specs.Telling.{AddsPierced, IsPiercedByOne}
+use Rattle.mt_area.specs.Private.Telling.{AddsPierced, IsPiercedByOne}
 use Rattle.mt_area.proofs.passages.passages.Given as goal
 
 abbrev pub invariant-loop-area : goal.invariant-loop-area

@@ -1,7 +1,7 @@
 use Rattle.std.proofs.Common.{List, Contains, subst, take}
 use Rattle.std.proofs.lemmas.List.{take_all}
 use Rattle.mt_base.specs.declared.area.Pierced.{Pierced}
-use Rattle.mt_area.specs.Telling.{AddsPierced}
+use Rattle.mt_area.specs.Private.Telling.{AddsPierced}
 use Rattle.mt_area.proofs.Tellings.{Adds-more, Adds-pushed, one_held_more}
 use Rattle.mt_base.proofs.Members.{take_push}
 use Rattle.mt_area.proofs.telling.add_all.Goals as goal

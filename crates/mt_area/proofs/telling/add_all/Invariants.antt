@@ -1,5 +1,5 @@
 use Rattle.std.proofs.Common.{Contains, take}
-use Rattle.mt_area.specs.Telling.{AddsPierced}
+use Rattle.mt_area.specs.Private.Telling.{AddsPierced}
 use Rattle.mt_area.proofs.telling.add_all.Given as goal
 
 abbrev pub invariant-loop-told : goal.invariant-loop-told

@@ -1,4 +1,4 @@
-use Rattle.mt_area.specs.Telling.{AreOfAll}
+use Rattle.mt_area.specs.Private.Telling.{AreOfAll}
 use Rattle.mt_area.proofs.telling.gathered.Given as goal
 
 abbrev pub invariant-loop-part : goal.invariant-loop-part

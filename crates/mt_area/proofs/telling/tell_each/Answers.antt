@@ -3,7 +3,7 @@ use Rattle.std.specs.Prelude.{slice_index_or}
 use Rattle.mt_base.specs.declared.area.Pierced.{Pierced}
 use Rattle.mt_track.specs.declared.roster.Item.{Item}
 use Rattle.mt_track.specs.Named.{named}
-use Rattle.mt_area.specs.Telling.{IsPiercedByOne}
+use Rattle.mt_area.specs.Private.Telling.{IsPiercedByOne}
 use Rattle.mt_area.proofs.telling.tell_each.Goals as goal
 
 if_ok_at : {X Y E : Type 0} (Q : Y → X → Type 0) (r : Result Y E) (x : X) → IfOk r (λ y. (z : X) → Q y z) → IfOk r (λ y. Q y x)

@@ -1,7 +1,7 @@
 use Rattle.std.proofs.Common.{◌≡◌, ◌+◌, ◌*◌, min, flat_map}
 use Rattle.std.specs.List.{range_with_len}
 use Rattle.mt_cover.specs.Cells.{stays_in}
-use Rattle.mt_cover.specs.Walk.{StandsAtSecond}
+use Rattle.mt_cover.specs.Private.Walk.{StandsAtSecond}
 use Rattle.mt_cover.proofs.walk.cover.Given as goal
 
 abbrev pub invariant-loop-slice : goal.invariant-loop-slice

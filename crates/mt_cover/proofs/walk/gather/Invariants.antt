@@ -3,8 +3,8 @@ use Rattle.std.specs.Prelude.{slice_get}
 use Rattle.mt_base.specs.declared.row.Row.{Row}
 use Rattle.mt_track.specs.Laid.{all_rows}
 use Rattle.mt_cover.specs.Box.{area_over}
-use Rattle.mt_cover.specs.InPlane.{IsAreaInPlane}
-use Rattle.mt_cover.specs.Walk.{StandsAtSecond, part}
+use Rattle.mt_cover.specs.Private.InPlane.{IsAreaInPlane}
+use Rattle.mt_cover.specs.Private.Walk.{StandsAtSecond, part}
 use Rattle.mt_cover.proofs.walk.gather.Given as goal
 
 abbrev pub invariant-loop-at : goal.invariant-loop-at

@@ -3,7 +3,7 @@ use Rattle.std.specs.List.{range_with_len}
 use Rattle.mt_track.specs.Layer.{IsLayerKept}
 use Rattle.mt_cover.specs.declared.sliced.Slice.{Slice}
 use Rattle.mt_cover.specs.Sliced.{layer_over, slice_in}
-use Rattle.mt_cover.specs.Walk.{StandsAtSecond}
+use Rattle.mt_cover.specs.Private.Walk.{StandsAtSecond}
 use Rattle.mt_cover.proofs.walk.slices.Given as goal
 
 abbrev pub invariant-loop-slice : goal.invariant-loop-slice

@@ -2,7 +2,7 @@ use Rattle.std.proofs.Common.{arith, sym, ◌∙◌, subst, List}
 use Rattle.std.proofs.lemmas.List.{take_all}
 use Rattle.mt_edges.specs.Pairs.{IsEdge}
 use Rattle.mt_kept.specs.declared.open_pair.OpenPair.{OpenPair}
-use Rattle.mt_kept.specs.Made.{AreReplaced}
+use Rattle.mt_kept.specs.Private.Made.{AreReplaced}
 use Rattle.mt_kept.proofs.Replacing.{dropped_both, new_edge, replaced_more, replaced_none}
 use Rattle.mt_kept.proofs.kept.replace_pairs.Goals as goal
 

@@ -1,6 +1,6 @@
 use Rattle.std.proofs.Common.{◌≡◌, ◌≤◌, ◌+◌, length, take}
 use Rattle.mt_edges.specs.Pairs.{AreDistinctPairs}
-use Rattle.mt_kept.specs.Made.{AreReplaced}
+use Rattle.mt_kept.specs.Private.Made.{AreReplaced}
 use Rattle.mt_kept.proofs.kept.replace_pairs.Given as goal
 
 abbrev pub invariant-loop-find : goal.invariant-loop-find

@@ -1,6 +1,6 @@
 use Rattle.std.proofs.Common.{◌≡◌, take}
 use Rattle.std.specs.List.{filter}
-use Rattle.mt_kept.specs.Made.{touches_place}
+use Rattle.mt_kept.specs.Private.Made.{touches_place}
 use Rattle.mt_kept.proofs.lists.at_place.Given as goal
 
 abbrev pub invariant-loop-pair : goal.invariant-loop-pair

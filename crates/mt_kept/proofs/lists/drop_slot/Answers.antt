@@ -1,6 +1,6 @@
 use Rattle.std.proofs.Common.{rules}
 use Rattle.std.proofs.lemmas.Fn.{filter_same}
-use Rattle.mt_kept.specs.Made.{avoids}
+use Rattle.mt_kept.specs.Private.Made.{avoids}
 use Rattle.mt_kept.proofs.lists.drop_slot.Goals as goal
 
 pub returns-clause-rest : goal.returns-clause-rest

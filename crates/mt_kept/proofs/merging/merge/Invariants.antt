@@ -1,5 +1,5 @@
 use Rattle.std.proofs.Common.{◌+◌, ◌≤◌, length, vec_len, vec_capacity}
-use Rattle.mt_kept.specs.Merging.{AreMerging}
+use Rattle.mt_kept.specs.Private.Merging.{AreMerging}
 use Rattle.mt_kept.proofs.merging.merge.Given as goal
 
 abbrev pub invariant-loop-conflict : goal.invariant-loop-conflict

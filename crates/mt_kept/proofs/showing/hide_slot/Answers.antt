@@ -4,8 +4,8 @@ use Rattle.std.specs.List.{filter}
 use Rattle.mt_base.proofs.Members.{take_push}
 use Rattle.mt_base.specs.declared.conflict.Conflict.{Conflict}
 use Rattle.mt_kept.specs.declared.open_pair.OpenPair.{OpenPair}
-use Rattle.mt_kept.specs.Made.{meets}
-use Rattle.mt_kept.specs.Window.{Shows}
+use Rattle.mt_kept.specs.Private.Made.{meets}
+use Rattle.mt_kept.specs.Private.Window.{Shows}
 use Rattle.mt_kept.proofs.Keeping.{Shows-nothing}
 use Rattle.mt_kept.proofs.Shown.{hidden_more, hidden_same}
 use Rattle.mt_kept.proofs.showing.hide_slot.Goals as goal

@@ -1,8 +1,8 @@
 use Rattle.std.proofs.Common.{◌↔◌, ◌≤◌, take, Contains}
 use Rattle.std.specs.List.{filter}
 use Rattle.mt_base.specs.declared.conflict.Conflict.{Conflict}
-use Rattle.mt_kept.specs.Made.{meets}
-use Rattle.mt_kept.specs.Window.{Shows}
+use Rattle.mt_kept.specs.Private.Made.{meets}
+use Rattle.mt_kept.specs.Private.Window.{Shows}
 use Rattle.mt_kept.proofs.showing.hide_slot.Given as goal
 
 abbrev pub invariant-loop-pair : goal.invariant-loop-pair

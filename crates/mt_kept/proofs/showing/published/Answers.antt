@@ -2,7 +2,7 @@ use Rattle.std.proofs.Common.{take, subst, refl, List, Contains, ◌↔◌}
 use Rattle.std.proofs.lemmas.List.{take_all}
 use Rattle.mt_base.specs.declared.conflict.Conflict.{Conflict}
 use Rattle.mt_kept.specs.declared.open_pair.OpenPair.{OpenPair}
-use Rattle.mt_kept.specs.Window.{Shows}
+use Rattle.mt_kept.specs.Private.Window.{Shows}
 use Rattle.mt_kept.proofs.Publishing.{list_more, list_same}
 use Rattle.mt_base.proofs.Members.{take_push}
 use Rattle.mt_kept.proofs.showing.published.Goals as goal

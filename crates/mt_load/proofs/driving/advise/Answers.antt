@@ -1,7 +1,7 @@
 use Rattle.std.proofs.Common.{◌+◌, ◌<◌, ◌^◌, arith}
 use Rattle.std.proofs.lemmas.Result.{on_ok_weaker}
 use Rattle.mt_read.specs.declared.request.Request.TheVariants.{Take}
-use Rattle.mt_load.specs.Load.{probes_of}
+use Rattle.mt_load.specs.Private.Load.{probes_of}
 use Rattle.mt_load.proofs.Numbers.{advice_named, quiet_asked}
 use Rattle.mt_load.proofs.driving.advise.Goals as goal
 

@@ -1,6 +1,6 @@
 use Rattle.std.proofs.Common.{take}
 use Rattle.mt_base.specs.Tables.{setup_with}
-use Rattle.mt_machine.specs.Advising.{AreFreeAmong}
+use Rattle.mt_machine.specs.Private.Advising.{AreFreeAmong}
 use Rattle.mt_machine.proofs.advising.free_among.Given as goal
 
 abbrev pub invariant-loop-clearance : goal.invariant-loop-clearance

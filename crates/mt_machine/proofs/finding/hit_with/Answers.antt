@@ -1,7 +1,7 @@
 use Rattle.std.proofs.Common.{◌≡◌, ap, subst, Some, refl}
 use Rattle.mt_base.specs.declared.hit.Hit.{Hit}
 use Rattle.mt_base.specs.Tables.{Setup, setup_with}
-use Rattle.mt_machine.specs.Hits.{IsHitWith}
+use Rattle.mt_machine.specs.Private.Hits.{IsHitWith}
 use Rattle.mt_machine.proofs.Struck.{no_hit, one_hit}
 use Rattle.mt_machine.proofs.finding.hit_with.Goals as goal
 

@@ -1,6 +1,6 @@
 use Rattle.std.proofs.Common.{◌-◌, ◌≤◌, length}
 use Rattle.std.specs.List.{AllWithin}
-use Rattle.mt_names.specs.Naming.{IsCallBefore, IsNotBefore}
+use Rattle.mt_names.specs.Private.Naming.{IsCallBefore, IsNotBefore}
 use Rattle.mt_names.proofs.names.before.Given as goal
 
 abbrev pub invariant-loop-low : goal.invariant-loop-low

@@ -2,7 +2,7 @@ use Rattle.std.proofs.Common.{◌≡◌, ◌∙◌, ℕ, List, Option, length, r
 use Rattle.std.specs.declared.sync.Arc.{Arc}
 use Rattle.std.specs.declared.vec.Vec.{Vec}
 use Rattle.std.specs.Arc.{arc_value}
-use Rattle.mt_paged.specs.Pages.{page_places, row}
+use Rattle.mt_paged.specs.Private.Pages.{page_places, row}
 use Rattle.mt_paged.proofs.Sharing.{all_copies, empty_places, same_row}
 use Rattle.mt_paged.proofs.page.empty_pages.Goals as goal
 

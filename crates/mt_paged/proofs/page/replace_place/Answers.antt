@@ -5,7 +5,7 @@ use Rattle.std.specs.Arc.{arc_value}
 use Rattle.std.specs.Option.{option_map}
 use Rattle.std.specs.Vec.{with_item}
 use Rattle.std.proofs.lemmas.List.{map-set}
-use Rattle.mt_paged.specs.Pages.{page_places}
+use Rattle.mt_paged.specs.Private.Pages.{page_places}
 use Rattle.mt_paged.proofs.Sharing.{copied, on_err}
 use Rattle.mt_paged.proofs.page.replace_place.Goals as goal
 

@@ -1,6 +1,6 @@
 use Rattle.std.proofs.Common.{arith, sym, subst}
 use Rattle.std.proofs.lemmas.Int.{ints}
-use Rattle.mt_pair.specs.Gap.{IsOffsetWithin}
+use Rattle.mt_pair.specs.Private.Gap.{IsOffsetWithin}
 use Rattle.mt_pair.proofs.Gaps.{offset_is, width_fits}
 use Rattle.mt_pair.proofs.Sizes.{offset_of_within}
 use Rattle.mt_pair.proofs.horizontal.offset_at_start.Goals as goal

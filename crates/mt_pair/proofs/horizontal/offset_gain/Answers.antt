@@ -1,5 +1,5 @@
 use Rattle.std.proofs.Common.{sym, subst}
-use Rattle.mt_pair.specs.Gap.{IsOffsetWithin}
+use Rattle.mt_pair.specs.Private.Gap.{IsOffsetWithin}
 use Rattle.mt_pair.proofs.Gaps.{gain_is}
 use Rattle.mt_pair.proofs.Sizes.{gain_of_within}
 use Rattle.mt_pair.proofs.horizontal.offset_gain.Goals as goal

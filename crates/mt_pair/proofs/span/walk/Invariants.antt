@@ -1,6 +1,6 @@
 use Rattle.std.proofs.Common.{◌-◌, ◌≤◌}
 use Rattle.mt_base.specs.Conflict.{IsConflict}
-use Rattle.mt_pair.specs.Held.{BeginsBy}
+use Rattle.mt_pair.specs.Private.Held.{BeginsBy}
 use Rattle.mt_pair.proofs.span.walk.Given as goal
 
 abbrev pub invariant-loop-k : goal.invariant-loop-k

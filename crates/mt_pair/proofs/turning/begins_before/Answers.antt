@@ -1,6 +1,6 @@
 use Rattle.std.proofs.Common.{sym, true≢false, refl}
 use Rattle.std.proofs.lemmas.Bool.Decides.{not_from_Decides}
-use Rattle.mt_pair.specs.Turning.{IsFalling}
+use Rattle.mt_pair.specs.Private.Turning.{IsFalling}
 use Rattle.mt_pair.proofs.Turns.{AreNone, none_before_gap, none_before_over, none_before_under, some_before}
 use Rattle.mt_pair.proofs.turning.begins_before.Goals as goal
 

@@ -1,6 +1,6 @@
 use Rattle.std.proofs.Common.{sym, true≢false, refl}
 use Rattle.std.proofs.lemmas.Bool.Decides.{not_from_Decides}
-use Rattle.mt_pair.specs.Turning.{IsSooner}
+use Rattle.mt_pair.specs.Private.Turning.{IsSooner}
 use Rattle.mt_pair.proofs.Turns.{AreNone, none_from_gap, none_from_over, none_from_under, some_since}
 use Rattle.mt_pair.proofs.turning.lasts_until.Goals as goal
 

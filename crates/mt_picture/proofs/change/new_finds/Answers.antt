@@ -2,7 +2,7 @@ use Rattle.std.proofs.Common.{◌≡◌, ap, ◌∙◌, sym, refl, inl, inr, sub
 use Rattle.std.proofs.lemmas.Result.{IfOk-weaker}
 use Rattle.mt_base.specs.Picture.{NamedTrajectory}
 use Rattle.mt_base.specs.Tables.{Setup}
-use Rattle.mt_picture.specs.Asking.{WasAsked}
+use Rattle.mt_picture.specs.Private.Asking.{WasAsked}
 use Rattle.mt_track.specs.Named.{named}
 use Rattle.mt_kept.specs.Places.{seen}
 use Rattle.mt_picture.proofs.Knowing.{candidates_right}

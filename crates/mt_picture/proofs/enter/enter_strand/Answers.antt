@@ -1,5 +1,5 @@
 use Rattle.std.proofs.Common.{Some, refl}
-use Rattle.mt_picture.specs.Holding.{held_story}
+use Rattle.mt_picture.specs.Private.Holding.{held_story}
 use Rattle.mt_picture.proofs.Bounding.{none_preps}
 use Rattle.mt_picture.proofs.Passing.{few_entries}
 use Rattle.mt_picture.proofs.Preparing.{asked_within, prepared_now}

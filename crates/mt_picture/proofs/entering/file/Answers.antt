@@ -5,7 +5,7 @@ use Rattle.mt_base.specs.declared.conflict.Kind.TheVariants.{Actual}
 use Rattle.mt_base.specs.Picture.{NamedTrajectory}
 use Rattle.mt_probe.specs.declared.flight.Flight.{Flight}
 use Rattle.mt_probe.specs.Shot.{state_in_shot as state_in}
-use Rattle.mt_picture.specs.Places.{made_of_kind}
+use Rattle.mt_picture.specs.Private.Places.{made_of_kind}
 use Rattle.mt_picture.proofs.Entered.{put_filed}
 use Rattle.std.specs.Arc.{arc_value}
 use Rattle.mt_probe.specs.Prepared.{named_trajectory, path_made}

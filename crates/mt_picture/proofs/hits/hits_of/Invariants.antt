@@ -1,6 +1,6 @@
 use Rattle.std.proofs.Common.{◌↔◌, Contains, take}
 use Rattle.mt_base.specs.declared.hit.Hit.{Hit}
-use Rattle.mt_picture.specs.Hits.{IsHitOfOnePair}
+use Rattle.mt_picture.specs.Private.Hits.{IsHitOfOnePair}
 use Rattle.mt_picture.proofs.hits.hits_of.Given as goal
 
 abbrev pub invariant-loop-pair : goal.invariant-loop-pair

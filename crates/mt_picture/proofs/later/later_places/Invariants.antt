@@ -1,4 +1,4 @@
-use Rattle.mt_picture.specs.Candidates.{AreLater}
+use Rattle.mt_picture.specs.Private.Candidates.{AreLater}
 use Rattle.mt_picture.proofs.later.later_places.Given as goal
 
 abbrev pub invariant-loop-n : goal.invariant-loop-n

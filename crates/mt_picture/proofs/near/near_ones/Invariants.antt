@@ -1,6 +1,6 @@
 use Rattle.std.proofs.Common.{take}
 use Rattle.mt_cover.specs.Cells.{cover_of}
-use Rattle.mt_picture.specs.Candidates.{AreNearOnes}
+use Rattle.mt_picture.specs.Private.Candidates.{AreNearOnes}
 use Rattle.mt_picture.proofs.near.near_ones.Given as goal
 
 abbrev pub invariant-loop-place : goal.invariant-loop-place

@@ -1,5 +1,5 @@
 use Rattle.std.proofs.Common.{◌≡◌, ◌++◌, map, take}
-use Rattle.mt_picture.specs.Candidates.{unknown_at}
+use Rattle.mt_picture.specs.Private.Candidates.{unknown_at}
 use Rattle.mt_picture.proofs.verdicts.add_unknown.Given as goal
 
 abbrev pub invariant-loop-place : goal.invariant-loop-place

@@ -1,5 +1,5 @@
 use Rattle.std.proofs.Common.{take}
-use Rattle.mt_picture.specs.Candidates.{AreStill}
+use Rattle.mt_picture.specs.Private.Candidates.{AreStill}
 use Rattle.mt_picture.proofs.verdicts.still_ones.Given as goal
 
 abbrev pub invariant-loop-found : goal.invariant-loop-found

@@ -2,8 +2,8 @@ use Rattle.std.proofs.Common.{List, le_refl, map, subst, take}
 use Rattle.std.proofs.lemmas.List.{take_all}
 use Rattle.mt_track.specs.declared.roster.Item.{Item}
 use Rattle.mt_track.specs.Named.{named}
-use Rattle.mt_plain.specs.Added.{AddsConflicts, IsOfRight}
-use Rattle.mt_plain.specs.Tests.{tests_of_pair}
+use Rattle.mt_plain.specs.Private.Added.{AddsConflicts, IsOfRight}
+use Rattle.mt_plain.specs.Private.Tests.{tests_of_pair}
 use Rattle.mt_plain.proofs.Found.{Adds-more, IsOfRight-push, map_take_push}
 use Rattle.mt_plain.proofs.Tallies.{RoseUpTo-part, on_err, raised_by-push}
 use Rattle.mt_plain.proofs.pairs.add_pairs.Goals as goal

@@ -1,6 +1,6 @@
 use Rattle.std.proofs.Common.{◌≡◌, map, take}
 use Rattle.mt_track.specs.Named.{named}
-use Rattle.mt_plain.specs.Added.{AddsConflicts, IsOfRight}
+use Rattle.mt_plain.specs.Private.Added.{AddsConflicts, IsOfRight}
 use Rattle.mt_base.specs.Tally.{raised_by}
 use Rattle.mt_plain.specs.Tests.{tests_of_left}
 use Rattle.mt_plain.proofs.pairs.add_pairs.Given as goal

@@ -2,7 +2,7 @@ use Rattle.std.proofs.Common.{List, [], map, subst, take}
 use Rattle.std.proofs.lemmas.List.{take_all}
 use Rattle.mt_track.specs.declared.roster.Item.{Item}
 use Rattle.mt_track.specs.Named.{named}
-use Rattle.mt_plain.specs.Added.{AddsConflicts}
+use Rattle.mt_plain.specs.Private.Added.{AddsConflicts}
 use Rattle.mt_base.specs.Tally.{RoseUpTo}
 use Rattle.mt_plain.specs.Tests.{pairs_of_different_flights, tests_of_left}
 use Rattle.mt_plain.proofs.Found.{Adds-more, IsOfTwo, IsOfTwo-push, IsPublishedOf-all, map_take_push}

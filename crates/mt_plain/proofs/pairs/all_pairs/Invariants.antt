@@ -1,7 +1,7 @@
 use Rattle.std.proofs.Common.{◌≡◌, [], map, take}
 use Rattle.std.specs.List.{sum_by}
 use Rattle.mt_track.specs.Named.{named}
-use Rattle.mt_plain.specs.Added.{AddsConflicts}
+use Rattle.mt_plain.specs.Private.Added.{AddsConflicts}
 use Rattle.mt_base.specs.Tally.{raised_by}
 use Rattle.mt_plain.specs.Tests.{tests_of_left}
 use Rattle.mt_plain.proofs.Found.{IsOfTwo}

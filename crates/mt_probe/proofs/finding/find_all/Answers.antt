@@ -4,8 +4,8 @@ use Rattle.std.proofs.lemmas.List.Elements.{Contains-get_or}
 use Rattle.mt_base.specs.Picture.{NamedTrajectory}
 use Rattle.mt_cover.specs.Sliced.{slices_of}
 use Rattle.mt_meet.specs.declared.table.Met.{Met}
-use Rattle.mt_probe.specs.Boxed.{AreMetItems}
-use Rattle.mt_probe.specs.Finds.{FindsMore}
+use Rattle.mt_probe.specs.Private.Boxed.{AreMetItems}
+use Rattle.mt_probe.specs.Private.Finds.{FindsMore}
 use Rattle.mt_probe.specs.Items.{other_at}
 use Rattle.mt_probe.proofs.Gathered.{both_more, none_more}
 use Rattle.mt_probe.proofs.Candidates.{few_met, fewer, one_met_more, others_met}

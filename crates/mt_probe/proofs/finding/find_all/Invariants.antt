@@ -1,5 +1,5 @@
 use Rattle.std.proofs.Common.{◌≤◌, ◌+◌, ◌*◌, [], length, take}
-use Rattle.mt_probe.specs.Finds.{FindsMore}
+use Rattle.mt_probe.specs.Private.Finds.{FindsMore}
 use Rattle.mt_probe.proofs.Candidates.{others_met}
 use Rattle.mt_probe.proofs.finding.find_all.Given as goal
 

@@ -2,7 +2,7 @@ use Rattle.std.proofs.Common.{◌∙◌, ℕ, Option, List, [], Contains, length
 use Rattle.std.proofs.lemmas.Result.{IfOk-weaker}
 use Rattle.mt_base.specs.Conflict.{IsConflict}
 use Rattle.mt_base.specs.Picture.{NamedTrajectory}
-use Rattle.mt_probe.specs.Finds.{FindsMore}
+use Rattle.mt_probe.specs.Private.Finds.{FindsMore}
 use Rattle.mt_probe.specs.Narrow.{all_end}
 use Rattle.mt_probe.proofs.Gathered.{one_more, quiet_more}
 use Rattle.mt_base.proofs.Members.{Contains-head}

@@ -1,5 +1,5 @@
 use Rattle.std.proofs.Common.{◌<◌, ◌*◌, ◌-◌, ℕ, length}
-use Rattle.mt_probe.specs.Clear.{IsClearAt}
+use Rattle.mt_probe.specs.Private.Clear.{IsClearAt}
 use Rattle.mt_probe.proofs.hitting.has_hit.Given as goal
 
 abbrev pub invariant-loop-met : goal.invariant-loop-met

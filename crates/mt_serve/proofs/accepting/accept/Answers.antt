@@ -1,5 +1,5 @@
 use Rattle.std.proofs.Common.{◌∷◌, ◌++◌, [], sym, refl, ap, ◌∙◌, subst, rules, arith}
-use Rattle.mt_serve.specs.Accepting.{Accepting}
+use Rattle.mt_serve.specs.Private.Accepting.{Accepting}
 use Rattle.mt_serve.proofs.Accepts.{accepting_more, at_some, channels_more}
 use Rattle.mt_serve.proofs.accepting.accept.Goals as goal
 

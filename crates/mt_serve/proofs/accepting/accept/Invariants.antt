@@ -1,6 +1,6 @@
 use Rattle.std.proofs.Common.{◌≡◌, ◌≤◌, ◌+◌, []}
 use Rattle.std.specs.VecDeque.{deque_len, deque_capacity}
-use Rattle.mt_serve.specs.Accepting.{Accepting}
+use Rattle.mt_serve.specs.Private.Accepting.{Accepting}
 use Rattle.mt_serve.specs.Sitting.{HaveNoChannel}
 use Rattle.mt_serve.proofs.accepting.accept.Given as goal
 

@@ -1,6 +1,6 @@
 use Rattle.std.specs.VecDeque.{deque_len}
 use Rattle.mt_desk.specs.Desk.{IsSeatOfDesk}
-use Rattle.mt_serve.specs.Joining.{JoinsSeats}
+use Rattle.mt_serve.specs.Private.Joining.{JoinsSeats}
 use Rattle.mt_serve.proofs.seating.join_seats.Given as goal
 
 abbrev pub invariant-loop-seat : goal.invariant-loop-seat

@@ -7,10 +7,11 @@ use Rattle.mt_io.specs.declared.source.Source as Source
 use Rattle.mt_io.specs.declared.sink.Sink as Sink
 use Rattle.mt_turn.specs.declared.view.View.{View}
 use Rattle.mt_serve.specs.declared.counts.Counts.{Counts}
-use Rattle.mt_serve.specs.Joining.{JoinsSessions}
-use Rattle.mt_serve.specs.Seating.{HasJoined, views_of}
+use Rattle.mt_serve.specs.Private.Joining.{JoinsSessions}
+use Rattle.mt_serve.specs.Private.Seating.{HasJoined, views_of}
 use Rattle.mt_serve.specs.Sitting.{Met}
-use Rattle.mt_serve.specs.Tied.{backs_of, ends_of, gave_back}
+use Rattle.mt_serve.specs.Tied.{backs_of}
+use Rattle.mt_serve.specs.Private.Tied.{ends_of, gave_back}
 use Rattle.mt_serve.proofs.Accepts.{all_front}
 use Rattle.mt_serve.proofs.Joins.{done_ready, sessions_none, sessions_more, sessions_over, counts_over, counts_room}
 use Rattle.mt_serve.proofs.Counting.{counted_parts}

@@ -1,7 +1,7 @@
 use Rattle.std.proofs.Common.{◌≡◌, ◌≤◌}
 use Rattle.std.specs.VecDeque.{deque_len}
 use Rattle.mt_desk.specs.Desk.{IsSeatOfDesk}
-use Rattle.mt_serve.specs.Joining.{JoinsSessions}
+use Rattle.mt_serve.specs.Private.Joining.{JoinsSessions}
 use Rattle.mt_serve.proofs.seating.join_sessions.Given as goal
 
 abbrev pub invariant-loop-done : goal.invariant-loop-done

@@ -1,4 +1,4 @@
-use Rattle.mt_serve.specs.Working.{Worked}
+use Rattle.mt_serve.specs.Private.Working.{Worked}
 use Rattle.mt_serve.proofs.Joins.{workers_more}
 use Rattle.mt_serve.proofs.seating.join_workers.Goals as goal
 

@@ -1,6 +1,6 @@
 use Rattle.std.specs.VecDeque.{deque_len}
 use Rattle.mt_desk.specs.Desk.{IsSeatOfDesk}
-use Rattle.mt_serve.specs.Joining.{JoinsWorkers}
+use Rattle.mt_serve.specs.Private.Joining.{JoinsWorkers}
 use Rattle.mt_serve.proofs.seating.join_workers.Given as goal
 
 abbrev pub invariant-loop-rested : goal.invariant-loop-rested

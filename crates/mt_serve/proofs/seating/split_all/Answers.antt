@@ -1,5 +1,5 @@
 use Rattle.std.proofs.Common.{subst, sym, ap, length, arith}
-use Rattle.mt_serve.specs.Seating.{HasSplit}
+use Rattle.mt_serve.specs.Private.Seating.{HasSplit}
 use Rattle.mt_serve.proofs.Accepts.{length_push}
 use Rattle.mt_serve.proofs.Seats.{split_more, gave_more}
 use Rattle.mt_serve.proofs.seating.split_all.Goals as goal

@@ -1,7 +1,7 @@
 use Rattle.std.proofs.Common.{◌≡◌, ◌≤◌, ◌+◌, length}
 use Rattle.std.specs.VecDeque.{deque_len, deque_capacity}
 use Rattle.mt_desk.specs.Desk.{IsSeatOfDesk}
-use Rattle.mt_serve.specs.Seating.{HasSplit}
+use Rattle.mt_serve.specs.Private.Seating.{HasSplit}
 use Rattle.mt_serve.proofs.seating.split_all.Given as goal
 
 abbrev pub invariant-loop : goal.invariant-loop

@@ -3,7 +3,7 @@ use Rattle.mt_io.specs.Door.{Count}
 use Rattle.mt_turn.specs.Views.{first_view}
 use Rattle.mt_base.specs.Tables.{Setup}
 use Rattle.mt_serve.specs.Sitting.{seats_of, starts_of}
-use Rattle.mt_serve.specs.Working.{froms_of}
+use Rattle.mt_serve.specs.Private.Working.{froms_of}
 use Rattle.mt_serve.proofs.Whole.{few_met, not_listened, ready_of, served_all, split_as, whole}
 use Rattle.mt_serve.proofs.service.serve.Goals as goal
 

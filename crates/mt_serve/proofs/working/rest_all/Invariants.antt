@@ -1,6 +1,6 @@
 use Rattle.std.proofs.Common.{◌≡◌, ◌≤◌, ◌+◌, ◌++◌}
 use Rattle.std.specs.VecDeque.{deque_len, deque_capacity}
-use Rattle.mt_serve.specs.Working.{froms_of}
+use Rattle.mt_serve.specs.Private.Working.{froms_of}
 use Rattle.mt_serve.proofs.working.rest_all.Given as goal
 
 abbrev pub invariant-loop-working : goal.invariant-loop-working

@@ -1,7 +1,7 @@
 use Rattle.std.proofs.Common.{◌≡◌, ◌≤◌, ◌^◌, ◌-◌, ℕ, List, Option, None, vec_capacity}
 use Rattle.mt_session.specs.Following.{Standing}
-use Rattle.mt_session.specs.Keeping.{StaysOn}
-use Rattle.mt_session.specs.SoFar.{HasRun}
+use Rattle.mt_session.specs.Private.Keeping.{StaysOn}
+use Rattle.mt_session.specs.Private.SoFar.{HasRun}
 use Rattle.mt_session.proofs.over_link.turns.Given as goal
 
 abbrev pub invariant-loop-outcome : goal.invariant-loop-outcome

@@ -1,4 +1,4 @@
-use Rattle.mt_snapshot_advice.specs.Trying.{AreFreeOf}
+use Rattle.mt_snapshot_advice.specs.Private.Trying.{AreFreeOf}
 use Rattle.mt_snapshot_advice.proofs.trying.free_of.Given as goal
 
 abbrev pub invariant-loop-found : goal.invariant-loop-found

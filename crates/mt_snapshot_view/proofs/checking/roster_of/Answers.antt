@@ -4,8 +4,8 @@ use Rattle.std.specs.List.{flat_map}
 use Rattle.mt_base.specs.Picture.{NamedTrajectory, trajectories_of}
 use Rattle.mt_probe.specs.Shot.{records_in}
 use Rattle.mt_snapshot_view.specs.declared.order.Filed.{Filed}
-use Rattle.mt_snapshot_view.specs.Kept.{kept_at}
-use Rattle.mt_snapshot_view.specs.Order.{ArePlaced}
+use Rattle.mt_snapshot_view.specs.Private.Kept.{kept_at}
+use Rattle.mt_snapshot_view.specs.Private.Order.{ArePlaced}
 use Rattle.mt_snapshot_view.proofs.Trajectories.{as_many, card_in_turn, joins, others_before}
 use Rattle.mt_snapshot_view.proofs.checking.roster_of.Goals as goal
 

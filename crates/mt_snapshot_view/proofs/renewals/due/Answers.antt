@@ -6,7 +6,7 @@ use Rattle.mt_base.specs.Settled.{due_calls, is_due}
 use Rattle.mt_probe.specs.Shot.{records_in}
 use Rattle.mt_probe.proofs.Whole.{few_flights}
 use Rattle.mt_snapshot_view.specs.declared.order.Filed.{Filed}
-use Rattle.mt_snapshot_view.specs.Order.{ArePlaced}
+use Rattle.mt_snapshot_view.specs.Private.Order.{ArePlaced}
 use Rattle.mt_snapshot_view.proofs.Dues.{due_more, due_same}
 use Rattle.mt_snapshot_view.proofs.Trajectories.{as_many, card_in_turn}
 use Rattle.mt_snapshot_view.proofs.renewals.due.Goals as goal

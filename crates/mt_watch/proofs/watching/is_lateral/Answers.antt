@@ -1,5 +1,5 @@
 use Rattle.std.proofs.Common.{◌≡◌, ◌∙◌, false, refl, sym}
-use Rattle.mt_watch.specs.Plane.{is_zero}
+use Rattle.mt_watch.specs.Private.Plane.{is_zero}
 use Rattle.mt_watch.proofs.Sizes.{as_is}
 use Rattle.mt_watch.proofs.watching.is_lateral.Goals as goal
 

@@ -1,6 +1,6 @@
 use Rattle.std.proofs.Common.{◌≡◌}
 use Rattle.mt_board.specs.Seat.{GoesOn, IsSameSeat}
-use Rattle.mt_workers.specs.Work.{HasWorked}
+use Rattle.mt_workers.specs.Private.Work.{HasWorked}
 use Rattle.mt_workers.proofs.working.work.Given as goal
 
 abbrev pub invariant-loop : goal.invariant-loop

@@ -3,7 +3,7 @@ use Rattle.std.proofs.lemmas.List.{map-append, take_more}
 use Rattle.std.proofs.lemmas.List.Elements.{All-push}
 use Rattle.mt_write.specs.Short.{IsShortAdvised}
 use Rattle.mt_probe.specs.Hits.{Trial}
-use Rattle.mt_world.specs.Sound.{clearances_of}
+use Rattle.mt_world.specs.Private.Sound.{clearances_of}
 use Rattle.mt_world.proofs.Advice.{item_more, number_more}
 use Rattle.mt_world.proofs.advising.items_from.Goals as goal
 

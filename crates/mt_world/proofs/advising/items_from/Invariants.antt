@@ -1,6 +1,6 @@
 use Rattle.std.proofs.Common.{◌≡◌, All, take}
 use Rattle.mt_write.specs.Short.{IsShortAdvised}
-use Rattle.mt_world.specs.Sound.{clearances_of}
+use Rattle.mt_world.specs.Private.Sound.{clearances_of}
 use Rattle.mt_world.specs.World.{items_from}
 use Rattle.mt_world.proofs.Advice.{number_after}
 use Rattle.mt_world.proofs.advising.items_from.Given as goal

@@ -1,5 +1,5 @@
 use Rattle.std.proofs.Common.{◌≡◌, ◌≤◌, ◌+◌, ◌++◌, length, drop, vec_len, vec_capacity}
-use Rattle.mt_write.specs.Numbers.{numbers_text}
+use Rattle.mt_write.specs.Private.Numbers.{numbers_text}
 use Rattle.mt_write.proofs.number.put_numbers.Given as goal
 
 abbrev pub invariant-loop-key : goal.invariant-loop-key

@@ -1,7 +1,7 @@
 use Rattle.std.proofs.Common.{ℕ, List, ◌++◌, Ok, false, codes, append_assoc}
 use Rattle.serde_json.specs.Written.{items_text}
 use Rattle.mt_write.specs.Entry.{values}
-use Rattle.mt_write.specs.Numbers.{tried_text}
+use Rattle.mt_write.specs.Private.Numbers.{tried_text}
 use Rattle.mt_write.proofs.Putting.{puts_is, puts_then}
 use Rattle.mt_write.proofs.put_reply.put_probe.Goals as goal
 

@@ -1,5 +1,5 @@
 use Rattle.std.proofs.Common.{◌++◌, Ok, codes, decimal, append_assoc}
-use Rattle.mt_write.specs.Numbers.{verdict_text}
+use Rattle.mt_write.specs.Private.Numbers.{verdict_text}
 use Rattle.mt_write.proofs.Putting.{puts_is, puts_then}
 use Rattle.mt_write.proofs.verdict.put_judged.Goals as goal
 

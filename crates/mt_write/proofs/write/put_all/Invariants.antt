@@ -1,5 +1,5 @@
 use Rattle.std.proofs.Common.{◌≡◌, ◌≤◌, ◌+◌, ◌++◌, length, drop, vec_len, vec_capacity}
-use Rattle.mt_write.specs.Joined.{texts_joined}
+use Rattle.mt_write.specs.Private.Joined.{texts_joined}
 use Rattle.mt_write.proofs.write.put_all.Given as goal
 
 abbrev pub invariant-loop-piece : goal.invariant-loop-piece

@@ -7,7 +7,7 @@ use Rattle.serde_json.specs.Data.{Data}
 use Rattle.serde_json.specs.Written.{comma_if, compact_text, items_text}
 use Rattle.mt_memory.specs.declared.Memory.{Memory}
 use Rattle.mt_write.specs.Entry.{values}
-use Rattle.mt_write.specs.Puts.{Puts}
+use Rattle.mt_write.specs.Private.Puts.{Puts}
 use Rattle.mt_write.proofs.written.put_items.Goals as goal
 
 -- the items from a place on are the one there and those after it

@@ -1,6 +1,6 @@
 use Rattle.std.proofs.Common.{◌≡◌, ◌+◌, ◌*◌, ◌≤◌}
 use Rattle.mt_edges.specs.Pairs.{degree, without_end}
-use Rattle.mt_edges.specs.Kept.{Walk, standing_pairs}
+use Rattle.mt_edges.specs.Private.Kept.{Walk, standing_pairs}
 use Rattle.mt_edges.proofs.edges.Edges.drop_list.Given as goal
 
 abbrev pub invariant-loop-place : goal.invariant-loop-place

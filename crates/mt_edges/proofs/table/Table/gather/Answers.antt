@@ -1,5 +1,5 @@
 use Rattle.std.proofs.Common.{ℕ, ◌++◌, List, sym, ap, ◌∙◌, append-nil}
-use Rattle.mt_edges.specs.Kept.{gathered}
+use Rattle.mt_edges.specs.Private.Kept.{gathered}
 use Rattle.mt_edges.proofs.Reading.{gathered_all, gathered_step, read_turn, reads_begin}
 use Rattle.mt_edges.proofs.table.Table.gather.Goals as goal
 

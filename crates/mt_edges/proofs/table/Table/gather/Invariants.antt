@@ -1,5 +1,5 @@
 use Rattle.std.proofs.Common.{◌≡◌, ◌++◌, suc, length}
-use Rattle.mt_edges.specs.Kept.{ReadsWalk, gathered, left_at}
+use Rattle.mt_edges.specs.Private.Kept.{ReadsWalk, gathered, left_at}
 use Rattle.mt_edges.proofs.table.Table.gather.Given as goal
 
 abbrev pub invariant-loop-place : goal.invariant-loop-place

@@ -1,5 +1,5 @@
 use Rattle.std.proofs.Common.{◌+◌, sym, arith, subst}
-use Rattle.mt_edges.specs.Laid.{IsHead}
+use Rattle.mt_edges.specs.Private.Laid.{IsHead}
 use Rattle.mt_edges.proofs.Nodes.{stands}
 use Rattle.mt_edges.proofs.Reading.{NoneYet, none_found, none_more, read_turn, reads_begin}
 use Rattle.mt_edges.proofs.table.Table.get.Goals as goal

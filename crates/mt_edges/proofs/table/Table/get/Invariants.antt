@@ -1,5 +1,5 @@
 use Rattle.std.proofs.Common.{◌+◌, suc, length}
-use Rattle.mt_edges.specs.Kept.{ReadsWalk, left_at}
+use Rattle.mt_edges.specs.Private.Kept.{ReadsWalk, left_at}
 use Rattle.mt_edges.proofs.Reading.{NoneYet}
 use Rattle.mt_edges.proofs.table.Table.get.Given as goal
 

@@ -1,5 +1,5 @@
 use Rattle.std.proofs.Common.{◌≡◌, ◌∙◌, ◌+◌, ◌-◌, ℕ, subst, arith}
-use Rattle.mt_edges.specs.Kept.{HasRoom}
+use Rattle.mt_edges.specs.Private.Kept.{HasRoom}
 use Rattle.mt_edges.proofs.table.Table.grow.Goals as goal
 
 pub loop-preserved : goal.loop-preserved

@@ -1,5 +1,5 @@
 use Rattle.std.proofs.Common.{◌≡◌, ◌+◌, ◌-◌}
-use Rattle.mt_edges.specs.Kept.{HasRoom, IsTable, standing_pairs}
+use Rattle.mt_edges.specs.Private.Kept.{HasRoom, IsTable, standing_pairs}
 use Rattle.mt_edges.proofs.table.Table.grow.Given as goal
 
 abbrev pub invariant-loop : goal.invariant-loop

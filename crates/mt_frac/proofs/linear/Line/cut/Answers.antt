@@ -1,4 +1,4 @@
-use Rattle.std.proofs.Common.{arith, ◌<ℤ◌, ◌≤ℤ◌}
+use Rattle.std.proofs.Common.{arith}
 use Rattle.std.proofs.lemmas.Int.{ints}
 use Rattle.mt_frac.proofs.Cuts.{cut_falling, cut_nothing, cut_rising}
 use Rattle.mt_frac.proofs.Parts.{both_above, falls, rises}

@@ -1,5 +1,5 @@
 use Rattle.std.proofs.Common.{ℤ, pos, ◌*ℤ◌, ◌<ℤ◌, ◌↔◌}
-use Rattle.mt_frac.specs.Meeting.{Lies}
+use Rattle.mt_frac.specs.Private.Meeting.{Lies}
 use Rattle.mt_frac.proofs.Meets.{FirstAreBelow}
 use Rattle.mt_frac.proofs.linear.Line.meet.Given as goal
 

@@ -8,7 +8,7 @@ use Rattle.mt_frac.specs.declared.fraction.Frac.{Frac}
 use Rattle.mt_frac.specs.declared.quadratic.Quad.{Quad}
 use Rattle.mt_frac.specs.Signs.{IsBelowZeroIn}
 use Rattle.mt_frac.specs.Polynomials.{value}
-use Rattle.mt_frac.specs.Vertex.{slope, discriminant_of}
+use Rattle.mt_frac.specs.Private.Vertex.{slope, discriminant_of}
 use Rattle.mt_frac.proofs.Comparisons.{lt_yes, lt_no}
 use Rattle.mt_frac.proofs.Openness.{HoldsInside, value_is_open, inside_at_start, inside_at_end}
 use Rattle.mt_frac.proofs.Convexity.{concave_above, rising_above, falling_above, no_roots_above, vertex_below, vertex_after, vertex_until}

@@ -1,5 +1,5 @@
 use Rattle.std.proofs.Common.{◌∙◌, ap, map}
-use Rattle.mt_grid.specs.Lists.{list_or_empty}
+use Rattle.mt_grid.specs.Private.Lists.{list_or_empty}
 use Rattle.mt_grid.proofs.Near.{map-empty}
 use Rattle.mt_grid.proofs.grid.Grid.make.Goals as goal
 

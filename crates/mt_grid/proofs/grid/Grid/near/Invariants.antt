@@ -1,6 +1,6 @@
 use Rattle.std.proofs.Common.{◌↔◌, ℕ, take}
 use Rattle.mt_grid.specs.Lists.{IsNear}
-use Rattle.mt_grid.specs.Marks.{IsMarked}
+use Rattle.mt_grid.specs.Private.Marks.{IsMarked}
 use Rattle.mt_grid.proofs.grid.Grid.near.Given as goal
 
 abbrev pub invariant-loop-stay : goal.invariant-loop-stay

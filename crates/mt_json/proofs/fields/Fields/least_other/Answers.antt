@@ -1,7 +1,8 @@
 -- A member more, and the least key so far or its own.
 use Rattle.std.proofs.Common.{◌≡◌, ◌+◌, [], ◌∷◌, ◌++◌, take, Bool, false, true, cond, option_map, Some, sym, ap, ◌∙◌, arith}
 use Rattle.std.proofs.lemmas.List.{take_more}
-use Rattle.mt_json.specs.Keys.{is_allowed, lesser, other_key}
+use Rattle.mt_json.specs.Keys.{is_allowed, other_key}
+use Rattle.mt_json.specs.Private.Keys.{lesser}
 use Rattle.mt_json.specs.View.{members_view}
 use Rattle.mt_json.proofs.LeastOther.{other_key-more}
 use Rattle.mt_json.proofs.fields.Fields.least_other.Goals as goal

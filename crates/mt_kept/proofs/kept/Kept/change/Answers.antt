@@ -3,9 +3,9 @@ use Rattle.std.specs.List.{filter}
 use Rattle.std.specs.Result.{is_ok}
 use Rattle.mt_base.specs.declared.conflict.Conflict.{Conflict}
 use Rattle.mt_kept.specs.Finds.{AreFindsOfSlot}
-use Rattle.mt_kept.specs.Made.{AreReplaced, WereDropped, avoids, meets, opens}
+use Rattle.mt_kept.specs.Private.Made.{AreReplaced, WereDropped, avoids, meets, opens}
 use Rattle.mt_kept.specs.Places.{HaveOwnSlots, seen, with_slot}
-use Rattle.mt_kept.specs.Window.{Shows}
+use Rattle.mt_kept.specs.Private.Window.{Shows}
 use Rattle.mt_kept.proofs.Keeping.{kept_put, length_slot, map_slot, open_put}
 use Rattle.mt_kept.proofs.Replacing.{finds_sound, were_steps}
 use Rattle.mt_kept.proofs.Shown.{shown_all, shown_put}

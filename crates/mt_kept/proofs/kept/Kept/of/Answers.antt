@@ -2,7 +2,7 @@ use Rattle.std.proofs.Common.{◌≡◌, ◌++◌, map, sym, List, subst}
 use Rattle.std.specs.List.{filter}
 use Rattle.mt_kept.specs.declared.open_pair.OpenPair.{OpenPair}
 use Rattle.mt_kept.specs.Finds.{AreFindsAt}
-use Rattle.mt_kept.specs.Made.{is_closed_pair, quiet, touches_place}
+use Rattle.mt_kept.specs.Private.Made.{is_closed_pair, quiet, touches_place}
 use Rattle.mt_kept.specs.Places.{seen}
 use Rattle.mt_kept.proofs.Again.{finds_again}
 use Rattle.mt_kept.proofs.kept.Kept.of.Goals as goal

@@ -1,6 +1,6 @@
 use Rattle.std.proofs.Common.{◌+◌, ◌*◌, List, Option, subst, sym, arith}
 use Rattle.mt_cover.specs.Sliced.{Sliced}
-use Rattle.mt_meet.specs.Reaching.{AreReachesKept}
+use Rattle.mt_meet.specs.Private.Reaching.{AreReachesKept}
 use Rattle.mt_meet.proofs.Listing.{first_after, none_until}
 use Rattle.mt_meet.proofs.Meetings.{none_on_page, reaches_on}
 use Rattle.mt_meet.proofs.table.SliceTable.next_meeting.Goals as goal

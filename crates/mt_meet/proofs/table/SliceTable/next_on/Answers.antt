@@ -3,7 +3,7 @@ use Rattle.std.specs.Prelude.{pos}
 use Rattle.std.proofs.lemmas.List.{get_or_default}
 use Rattle.mt_meet.specs.declared.reach.Reach.{Reach}
 use Rattle.mt_meet.specs.Meeting.{IsMetAt}
-use Rattle.mt_meet.specs.Reaching.{IsReachOf, nowhere}
+use Rattle.mt_meet.specs.Private.Reaching.{IsReachOf, nowhere}
 use Rattle.mt_meet.proofs.Listing.{none_at}
 use Rattle.mt_meet.proofs.table.SliceTable.next_on.Goals as goal
 

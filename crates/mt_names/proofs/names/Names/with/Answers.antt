@@ -1,6 +1,6 @@
 use Rattle.std.proofs.Common.{subst, sym, ◌≡◌, ◌-◌, ◌↔◌, ◌⊎◌, ◌++◌, ◌∷◌, [], Contains, List, length, take, drop, refl}
 use Rattle.mt_names.specs.declared.names.Named.{Named}
-use Rattle.mt_names.specs.Naming.{AreRising, IsOtherName}
+use Rattle.mt_names.specs.Private.Naming.{AreRising, IsOtherName}
 use Rattle.mt_names.proofs.Splitting.{joined_with, with_members, with_rising}
 use Rattle.mt_names.proofs.names.Names.with.Goals as goal
 

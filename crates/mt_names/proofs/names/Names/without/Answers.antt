@@ -1,6 +1,6 @@
 use Rattle.std.proofs.Common.{subst, sym, ◌≡◌, ◌-◌, ◌↔◌, ◌++◌, Contains, List, length, take, drop, refl}
 use Rattle.mt_names.specs.declared.names.Named.{Named}
-use Rattle.mt_names.specs.Naming.{AreRising, IsOtherName}
+use Rattle.mt_names.specs.Private.Naming.{AreRising, IsOtherName}
 use Rattle.mt_names.proofs.Splitting.{joined_without, without_members, without_rising}
 use Rattle.mt_names.proofs.names.Names.without.Goals as goal
 

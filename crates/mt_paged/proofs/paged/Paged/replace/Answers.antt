@@ -3,7 +3,7 @@ use Rattle.std.specs.Arc.{arc_value}
 use Rattle.std.specs.Option.{option_map}
 use Rattle.std.specs.Vec.{with_item}
 use Rattle.std.proofs.lemmas.Result.{on_err_weaker, on_ok_weaker}
-use Rattle.mt_paged.specs.Pages.{AreRows, rows_joined, row}
+use Rattle.mt_paged.specs.Private.Pages.{AreRows, rows_joined, row}
 use Rattle.mt_paged.proofs.Rows.{within_count}
 use Rattle.mt_paged.proofs.Sharing.{copied, kept, on_either, on_err, page_is_full, same_row, written}
 use Rattle.mt_paged.proofs.paged.Paged.replace.Goals as goal

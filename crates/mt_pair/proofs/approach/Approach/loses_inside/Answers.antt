@@ -1,6 +1,6 @@
 use Rattle.std.proofs.lemmas.Bool.Decides.{not_from_Decides}
-use Rattle.mt_pair.specs.Below.{AreBelowAt}
-use Rattle.mt_pair.specs.Cases.{IsHighLoss}
+use Rattle.mt_pair.specs.Private.Below.{AreBelowAt}
+use Rattle.mt_pair.specs.Private.Cases.{IsHighLoss}
 use Rattle.std.specs.Option.{option_copied}
 use Rattle.mt_pair.proofs.Low.{copied_none, copied_some}
 use Rattle.mt_pair.proofs.Either.{by_first, by_none, by_second, by_some}

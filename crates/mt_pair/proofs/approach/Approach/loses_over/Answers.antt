@@ -1,6 +1,6 @@
 use Rattle.std.proofs.Common.{arith}
 use Rattle.std.proofs.lemmas.Int.{ints}
-use Rattle.mt_pair.specs.Cases.{IsLoss}
+use Rattle.mt_pair.specs.Private.Cases.{IsLoss}
 use Rattle.mt_pair.proofs.Instants.{loss_is_open}
 use Rattle.mt_pair.proofs.Seconds.{between_over}
 use Rattle.mt_pair.proofs.approach.Approach.loses_over.Goals as goal

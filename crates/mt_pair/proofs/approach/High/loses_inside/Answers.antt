@@ -1,5 +1,5 @@
 use Rattle.std.proofs.lemmas.Bool.Decides.{not_from_Decides}
-use Rattle.mt_pair.specs.Below.{AreBelowWithAt}
+use Rattle.mt_pair.specs.Private.Below.{AreBelowWithAt}
 use Rattle.mt_pair.proofs.Either.{by_first, by_second}
 use Rattle.mt_pair.proofs.approach.High.loses_inside.Goals as goal
 

@@ -1,7 +1,7 @@
 use Rattle.std.proofs.Common.{◌≡◌, ◌++◌, ◌∷◌, [], Some, ◌∙◌, List, subst, sym, refl}
 use Rattle.mt_base.specs.declared.command.Entry.{Entry}
 use Rattle.mt_probe.specs.Shot.{flight_at}
-use Rattle.mt_picture.specs.Stamps.{IsPicture}
+use Rattle.mt_picture.specs.Private.Stamps.{IsPicture}
 use Rattle.mt_picture.proofs.Again.{kept_same}
 use Rattle.mt_picture.proofs.Slotted.{places_same}
 use Rattle.mt_picture.proofs.Standing.{picture_put}

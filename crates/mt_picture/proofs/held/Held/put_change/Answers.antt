@@ -2,8 +2,8 @@ use Rattle.std.proofs.Common.{◌≡◌, ◌++◌, ◌∷◌, [], Some, ap, leng
 use Rattle.mt_base.specs.declared.command.Entry.{Entry}
 use Rattle.mt_kept.specs.Places.{HaveOwnSlots}
 use Rattle.mt_probe.specs.Shot.{Shot}
-use Rattle.mt_picture.specs.Places.{all_places}
-use Rattle.mt_picture.specs.Stamps.{IsPicture}
+use Rattle.mt_picture.specs.Private.Places.{all_places}
+use Rattle.mt_picture.specs.Private.Stamps.{IsPicture}
 use Rattle.mt_picture.proofs.Owning.{own_slots}
 use Rattle.mt_picture.proofs.Slotted.{length_places, places_set}
 use Rattle.mt_picture.proofs.Standing.{picture_put}

@@ -3,7 +3,7 @@ use Rattle.mt_base.specs.declared.command.Command.TheVariants.{Drop}
 use Rattle.mt_base.specs.declared.command.Entry.{Entry}
 use Rattle.mt_probe.specs.Shot.{flight_at}
 use Rattle.mt_probe.proofs.Placed.{filled_inside}
-use Rattle.mt_picture.specs.Stamps.{IsPicture}
+use Rattle.mt_picture.specs.Private.Stamps.{IsPicture}
 use Rattle.mt_picture.proofs.Entered.{there}
 use Rattle.mt_picture.proofs.Moved.{picture_drop}
 use Rattle.mt_picture.proofs.Slotted.{length_places, places_set}

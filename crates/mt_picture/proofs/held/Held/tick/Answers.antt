@@ -1,7 +1,7 @@
 use Rattle.std.proofs.Common.{◌≡◌, ◌++◌, ◌∷◌, [], List, subst, sym, arith}
 use Rattle.mt_base.specs.declared.command.Command.TheVariants.{Tick}
 use Rattle.mt_base.specs.declared.command.Entry.{Entry}
-use Rattle.mt_picture.specs.Stamps.{IsPicture}
+use Rattle.mt_picture.specs.Private.Stamps.{IsPicture}
 use Rattle.mt_picture.proofs.Moved.{none_tested, picture_tick}
 use Rattle.mt_picture.proofs.held.Held.tick.Goals as goal
 

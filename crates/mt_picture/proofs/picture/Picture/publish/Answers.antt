@@ -1,6 +1,6 @@
 use Rattle.std.proofs.Common.{◌∙◌, sym, refl, option_copied}
 use Rattle.mt_base.specs.declared.command.Entered.{Entered}
-use Rattle.mt_picture.specs.Holding.{held_story}
+use Rattle.mt_picture.specs.Private.Holding.{held_story}
 use Rattle.mt_picture.proofs.Bounding.{none_within}
 use Rattle.mt_picture.proofs.Published.{entered_now, legal_after, refused_now, replayable_after, stale_now}
 use Rattle.mt_picture.proofs.picture.Picture.publish.Goals as goal

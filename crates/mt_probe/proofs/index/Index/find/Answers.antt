@@ -1,7 +1,7 @@
 use Rattle.std.proofs.Common.{List, subst}
 use Rattle.mt_names.specs.declared.names.Named.{Named}
 use Rattle.mt_names.specs.Naming.{IsPlaceOf}
-use Rattle.mt_probe.specs.Indexed.{Indexed}
+use Rattle.mt_probe.specs.Private.Indexed.{Indexed}
 use Rattle.mt_probe.proofs.index.Index.find.Goals as goal
 
 pub returns : goal.returns

@@ -1,4 +1,4 @@
-use Rattle.mt_probe.specs.Indexed.{AreFilled}
+use Rattle.mt_probe.specs.Private.Indexed.{AreFilled}
 use Rattle.mt_probe.proofs.index.Index.free.Given as goal
 
 abbrev pub invariant-loop-slot : goal.invariant-loop-slot

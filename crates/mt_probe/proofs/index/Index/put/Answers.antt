@@ -2,7 +2,7 @@ use Rattle.std.proofs.Common.{◌≡◌, ◌∙◌, ◌+◌, ◌-◌, ℕ, ap, g
 use Rattle.std.specs.Arc.{arc_value}
 use Rattle.mt_names.specs.Naming.{IsRenaming}
 use Rattle.mt_probe.specs.declared.flight.Flight.{Flight}
-use Rattle.mt_probe.specs.Indexed.{Indexed, call_at_place}
+use Rattle.mt_probe.specs.Private.Indexed.{Indexed, call_at_place}
 use Rattle.mt_probe.proofs.Indexing.{at_most_one, called_some, few_there, inside_calls, number_of, put_index, some_there}
 use Rattle.mt_probe.proofs.index.Index.put.Goals as goal
 

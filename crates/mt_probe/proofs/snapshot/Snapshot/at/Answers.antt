@@ -1,6 +1,6 @@
 use Rattle.std.proofs.Common.{◌+◌}
 use Rattle.std.specs.Arc.{arc_value}
-use Rattle.mt_probe.specs.Body.{shot_of}
+use Rattle.mt_probe.specs.Private.Body.{shot_of}
 use Rattle.mt_probe.specs.Shot.{Shot}
 use Rattle.mt_probe.proofs.Placed.{moved_sound}
 use Rattle.mt_probe.proofs.snapshot.Snapshot.at.Goals as goal

@@ -4,7 +4,7 @@ use Rattle.std.specs.Prelude.{option_and_then}
 use Rattle.mt_base.specs.Picture.{flight_of}
 use Rattle.mt_names.specs.Naming.{IsPlaceOf}
 use Rattle.mt_probe.specs.declared.snapshot.Body.{Body}
-use Rattle.mt_probe.specs.Body.{shot_of}
+use Rattle.mt_probe.specs.Private.Body.{shot_of}
 use Rattle.mt_probe.specs.Shot.{Shot, flight_at, records_in}
 use Rattle.mt_probe.proofs.Indexing.{found_by}
 use Rattle.mt_probe.proofs.snapshot.Snapshot.find.Goals as goal

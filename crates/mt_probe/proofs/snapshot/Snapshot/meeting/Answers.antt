@@ -2,7 +2,7 @@ use Rattle.std.proofs.Common.{subst}
 use Rattle.std.proofs.lemmas.Result.{IfOk-weaker}
 use Rattle.std.specs.Arc.{arc_value}
 use Rattle.mt_cover.specs.Sliced.{slices_of}
-use Rattle.mt_probe.specs.Boxed.{HoldsSlices}
+use Rattle.mt_probe.specs.Private.Boxed.{HoldsSlices}
 use Rattle.mt_probe.specs.Shot.{Shot}
 use Rattle.mt_probe.proofs.Boxes.{met_items}
 use Rattle.mt_probe.proofs.snapshot.Snapshot.meeting.Goals as goal

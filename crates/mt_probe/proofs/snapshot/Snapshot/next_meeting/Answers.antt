@@ -1,6 +1,6 @@
 use Rattle.std.proofs.Common.{subst}
 use Rattle.std.specs.Arc.{arc_value}
-use Rattle.mt_probe.specs.Boxed.{HoldsSlices}
+use Rattle.mt_probe.specs.Private.Boxed.{HoldsSlices}
 use Rattle.mt_probe.specs.Shot.{Shot}
 use Rattle.mt_probe.proofs.Boxes.{next_met}
 use Rattle.mt_probe.proofs.snapshot.Snapshot.next_meeting.Goals as goal

@@ -1,7 +1,7 @@
 use Rattle.std.proofs.Common.{◌≡◌, ◌∙◌, ◌+◌, Some, ap, option_map, refl, sym, subst}
 use Rattle.std.proofs.lemmas.Result.{IfOk-weaker}
 use Rattle.std.specs.Arc.{arc_value}
-use Rattle.mt_probe.specs.Body.{shot_of}
+use Rattle.mt_probe.specs.Private.Body.{shot_of}
 use Rattle.mt_probe.specs.Putting.{Fits, records_put}
 use Rattle.mt_probe.specs.Shot.{Shot, flight_at, kept_of, records_in}
 use Rattle.mt_probe.proofs.Again.{old_of, same_call, same_holds, same_laid}

@@ -1,7 +1,7 @@
 use Rattle.std.proofs.Common.{◌≤◌, subst}
 use Rattle.std.specs.Arc.{arc_value}
 use Rattle.mt_change.specs.Sound.{IsSoundState}
-use Rattle.mt_probe.specs.Body.{shot_of}
+use Rattle.mt_probe.specs.Private.Body.{shot_of}
 use Rattle.mt_probe.specs.Shot.{Shot, state_in_shot}
 use Rattle.mt_probe.proofs.Whole.{sound_state}
 use Rattle.mt_probe.proofs.snapshot.Snapshot.version.Goals as goal

@@ -3,7 +3,7 @@ use Rattle.mt_read.specs.declared.request.Request.TheVariants.{Begin}
 use Rattle.mt_write.specs.declared.reply.DoneWord.TheVariants as done
 use Rattle.mt_write.specs.declared.reply.Reply.TheVariants.{Done}
 use Rattle.mt_world.specs.World.{IsServed, IsStarved, World, with_areas}
-use Rattle.mt_script.specs.Kept.{IsBegunWith}
+use Rattle.mt_script.specs.Private.Kept.{IsBegunWith}
 use Rattle.mt_script.proofs.Adding.{on_false}
 use Rattle.mt_script.proofs.Beside.{seen_as, served_as}
 use Rattle.mt_script.proofs.Keeping.{still_begun}

@@ -1,6 +1,6 @@
-use Rattle.std.proofs.Common.{◌≡◌, ◌∙◌, Some, ap, length, sym}
+use Rattle.std.proofs.Common.{◌∙◌, Some, ap, length, sym}
 use Rattle.mt_base.specs.declared.command.Entry.{Entry}
-use Rattle.mt_script.specs.Kept.{IsBegunWith}
+use Rattle.mt_script.specs.Private.Kept.{IsBegunWith}
 use Rattle.mt_script.proofs.Areas.{areas_told}
 use Rattle.mt_script.proofs.Beside.{seen_as}
 use Rattle.mt_script.proofs.script.Script.tell_areas.Goals as goal

@@ -7,7 +7,7 @@ use Rattle.mt_board.specs.declared.no.No.{No}
 use Rattle.mt_board.specs.declared.no.No.TheVariants.{Memory, Refused}
 use Rattle.mt_board.specs.Asking.{IsRead}
 use Rattle.mt_board.specs.Seat.{HasLooked, HasSeen, Seat}
-use Rattle.mt_session.specs.Served.{told_version}
+use Rattle.mt_session.specs.Private.Served.{told_version}
 use Rattle.mt_session.proofs.serving.Serving.refuse_number.Goals as goal
 
 -- a read is a look

@@ -1,5 +1,5 @@
 use Rattle.std.proofs.Common.{◌≡◌, take}
-use Rattle.mt_session.specs.Keeping.{StaysOn}
+use Rattle.mt_session.specs.Private.Keeping.{StaysOn}
 use Rattle.mt_session.specs.Session.{with_seat}
 use Rattle.mt_session.proofs.Renewals.{HasRenewed}
 use Rattle.mt_session.proofs.serving.Serving.settled.Given as goal

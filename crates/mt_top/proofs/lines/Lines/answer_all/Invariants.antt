@@ -1,7 +1,7 @@
 use Rattle.std.proofs.Common.{◌≡◌, ◌≤◌, ◌^◌, ◌-◌, ◌++◌, ℕ, List, None, true, false, vec_capacity}
 use Rattle.std.specs.Io.KnownBytes.{Appends}
 use Rattle.mt_lines.specs.Waits.{waits}
-use Rattle.mt_top.specs.Lines.{LinesSoFar}
+use Rattle.mt_top.specs.Private.Lines.{LinesSoFar}
 use Rattle.mt_top.proofs.lines.Lines.answer_all.Given as goal
 
 abbrev pub invariant-loop-status : goal.invariant-loop-status

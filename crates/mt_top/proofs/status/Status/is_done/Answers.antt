@@ -1,5 +1,5 @@
 use Rattle.std.proofs.Common.{◌≡◌, false, refl}
-use Rattle.mt_top.specs.Status.{is_done}
+use Rattle.mt_top.specs.Private.Status.{is_done}
 use Rattle.mt_top.specs.declared.status.Status.{Status}
 use Rattle.mt_top.specs.declared.status.Status.TheVariants.{Done}
 use Rattle.mt_top.proofs.status.Status.is_done.Goals as goal

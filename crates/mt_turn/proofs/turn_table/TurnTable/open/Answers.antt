@@ -1,7 +1,7 @@
 use Rattle.std.proofs.Common.{rules, ◌≡◌, [], ◌∷◌, sym, subst₂, Some}
 use Rattle.atomic_table.specs.Table.{opening}
 use Rattle.mt_turn.specs.Views.{first_view}
-use Rattle.mt_turn.specs.Turning.{Turning}
+use Rattle.mt_turn.specs.Private.Turning.{Turning}
 use Rattle.mt_turn.proofs.Ends.{opens}
 use Rattle.mt_turn.proofs.turn_table.TurnTable.open.Goals as goal
 

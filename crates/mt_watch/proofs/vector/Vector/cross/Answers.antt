@@ -1,6 +1,6 @@
 use Rattle.std.proofs.Common.{arith, subst, sym}
 use Rattle.std.proofs.lemmas.Int.{to_z-of_z}
-use Rattle.mt_watch.specs.Plane.{IsProduct}
+use Rattle.mt_watch.specs.Private.Plane.{IsProduct}
 use Rattle.mt_watch.proofs.Sizes.{cross_is_product, products_fit}
 use Rattle.mt_watch.proofs.vector.Vector.cross.Goals as goal
 

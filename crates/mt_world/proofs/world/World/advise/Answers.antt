@@ -1,5 +1,5 @@
 use Rattle.std.proofs.Common.{◌<◌, ◌∙◌, ap, inl, length, sym, arith}
-use Rattle.mt_world.specs.Sound.{clearances_of}
+use Rattle.mt_world.specs.Private.Sound.{clearances_of}
 use Rattle.mt_world.specs.World as world
 use Rattle.mt_world.proofs.Advice.{items_length, tried_length}
 use Rattle.mt_world.proofs.Taking.{advised_is, unadvised_is}

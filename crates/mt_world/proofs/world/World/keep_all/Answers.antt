@@ -4,7 +4,7 @@ use Rattle.mt_machine.specs.Book.{Book, with_all}
 use Rattle.mt_machine.proofs.Books.{all_more, told_all}
 use Rattle.mt_picture.specs.Story.{Story}
 use Rattle.mt_probe.specs.Hits.{told_of}
-use Rattle.mt_world.specs.Sound.{IsKeptOf, actor_shown}
+use Rattle.mt_world.specs.Private.Sound.{IsKeptOf, actor_shown}
 use Rattle.mt_world.specs.World.{new_actor}
 use Rattle.mt_world.specs.World as world
 use Rattle.mt_world.proofs.WorldLemmas.{actor_is, actor_sound, book_view, sound_set}

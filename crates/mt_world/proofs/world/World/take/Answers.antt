@@ -3,7 +3,7 @@ use Rattle.mt_base.specs.Picture.{State}
 use Rattle.mt_base.proofs.HistoryLemmas.{version_is}
 use Rattle.mt_picture.specs.Story.{Story}
 use Rattle.mt_write.specs.declared.reply.Reply.TheVariants.{Taken}
-use Rattle.mt_world.specs.Sound.{actor_shown}
+use Rattle.mt_world.specs.Private.Sound.{actor_shown}
 use Rattle.mt_world.specs.World.{new_actor}
 use Rattle.mt_world.proofs.WorldLemmas.{actor_sound, now_taken, on_true, sound_set, taken_view}
 use Rattle.mt_world.proofs.world.World.take.Goals as goal

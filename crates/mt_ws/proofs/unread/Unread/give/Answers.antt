@@ -1,6 +1,6 @@
 use Rattle.std.proofs.Common.{sym, ◌∙◌}
 use Rattle.std.proofs.lemmas.Bool.{eqb-true}
-use Rattle.mt_ws.specs.Messages.{bytes_in}
+use Rattle.mt_ws.specs.Private.Messages.{bytes_in}
 use Rattle.mt_io.specs.Gathering.{ending_of}
 use Rattle.mt_ws.proofs.Giving.{gives_rest, few_left, gives_break}
 use Rattle.mt_ws.proofs.unread.Unread.give.Goals as goal

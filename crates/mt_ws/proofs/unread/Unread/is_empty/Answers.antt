@@ -1,5 +1,5 @@
 use Rattle.std.proofs.lemmas.Bool.{eqb-true, eq-eqb}
-use Rattle.mt_ws.specs.Messages.{bytes_in}
+use Rattle.mt_ws.specs.Private.Messages.{bytes_in}
 use Rattle.mt_ws.proofs.Giving.{none_left}
 use Rattle.mt_ws.proofs.unread.Unread.is_empty.Goals as goal
 

@@ -1,0 +1,63 @@
+-- No public contract names these: they are of private steps and of proofs.
+-- Where trajectories are in some seconds, as boxes, and the areas that lie apart from those.
+use Rattle.std.specs.Prelude.{◌≡◌, ◌⊎◌, ℕ, ℤ, pos, ◌*◌, ◌*ℤ◌, ◌<ℤ◌, ◌≤ℤ◌, List, All, Some}
+use Rattle.mt_base.specs.declared.area.Area.{Area}
+use Rattle.mt_base.specs.declared.row.Row.{Row}
+use Rattle.mt_base.specs.Bounds.{IsHeight, IsInPlane}
+use Rattle.mt_base.specs.Instant.{value_at}
+use Rattle.mt_base.specs.Trajectory.{Trajectory, row_at}
+use Rattle.mt_area.specs.declared.reach.Extent.{Extent}
+use Rattle.mt_area.specs.declared.reach.Reach.{Reach}
+
+-- a number is within an extent; and so is a value with a gain at the instant n/d
+pub record IsWithinExtent (e : Extent) (z : ℤ) : Type 0 where
+  pub low : e.low ≤ℤ z
+  pub high : z ≤ℤ e.high
+
+pub record HoldsAt (e : Extent) (z gain n d : ℤ) : Type 0 where
+  pub low : (e.low *ℤ d) ≤ℤ value_at z gain n d
+  pub high : value_at z gain n d ≤ℤ (e.high *ℤ d)
+
+-- the second of two extents holds what the first one does
+pub record IsWiderExtent (e wider : Extent) : Type 0 where
+  pub low : wider.low ≤ℤ e.low
+  pub high : e.high ≤ℤ wider.high
+
+-- a row is in the plane, at a height that a row can have
+abbrev pub IsPlaced : Row → Type 0
+IsPlaced row = IsInPlane row.x row.y × IsHeight row.z
+
+-- the position and the height of a row are within a reach, at the start of its second and at the instant n/d of it
+pub record HoldsRow (reach : Reach) (row : Row) : Type 0 where
+  pub x : IsWithinExtent reach.x row.x
+  pub y : IsWithinExtent reach.y row.y
+  pub z : IsWithinExtent reach.z row.z
+
+pub record HoldsRowAt (reach : Reach) (row : Row) (n d : ℤ) : Type 0 where
+  pub x : HoldsAt reach.x row.x row.vx n d
+  pub y : HoldsAt reach.y row.y row.vy n d
+  pub z : HoldsAt reach.z row.z row.vz n d
+
+-- and at each instant of second k of a trajectory, if it covers that second
+abbrev pub HoldsSecond : Reach → Trajectory → ℕ → Type 0
+HoldsSecond reach t k = (row : Row) → row_at t k ≡ Some row → (n d : ℤ) → pos 0 ≤ℤ n → n <ℤ d → HoldsRowAt reach row n d
+
+pub record IsWiderReach (reach wider : Reach) : Type 0 where
+  pub x : IsWiderExtent reach.x wider.x
+  pub y : IsWiderExtent reach.y wider.y
+  pub z : IsWiderExtent reach.z wider.z
+
+-- an area ends below some heights or begins above them
+abbrev pub AreHeightsApart : Area → Extent → Type 0
+AreHeightsApart area z = (z.high ≤ℤ pos (6000 * area.bottom)) ⊎ (pos (6000 * area.top) ≤ℤ z.low)
+
+-- all corners lie on one side of some positions
+abbrev pub AreWestOrEast : List (ℤ × ℤ) → Extent → Type 0
+AreWestOrEast corners x = All (λ (c : ℤ × ℤ). c.0 <ℤ x.low) corners ⊎ All (λ (c : ℤ × ℤ). x.high <ℤ c.0) corners
+
+abbrev pub AreSouthOrNorth : List (ℤ × ℤ) → Extent → Type 0
+AreSouthOrNorth corners y = All (λ (c : ℤ × ℤ). c.1 <ℤ y.low) corners ⊎ All (λ (c : ℤ × ℤ). y.high <ℤ c.1) corners
+
+-- the boxes of an area and of a reach lie apart
+abbrev pub AreBoxesApart : Area → Reach → Type 0
+AreBoxesApart area reach = AreHeightsApart area reach.z ⊎ (AreWestOrEast area.corners reach.x ⊎ AreSouthOrNorth area.corners reach.y)

@@ -1,0 +1,21 @@
+-- No public contract names these: they are of private steps and of proofs.
+use Rattle.std.specs.Prelude.{ℕ, ◌<◌, ◌≤◌, Option, Some, None}
+
+-- the span of what a span and a later one hold
+abbrev pub joined : Option (ℕ × ℕ) → Option (ℕ × ℕ) → Option (ℕ × ℕ)
+joined None later = later
+joined (Some span) None = Some span
+joined (Some span) (Some later) = Some (span.0, later.1)
+
+-- the least k from low up to high with P, and the greatest
+pub record IsLeast (P : ℕ → Type 0) (low high first : ℕ) : Type 0 where
+  pub begun : low ≤ first
+  pub ahead : first < high
+  pub is : P first
+  pub none_before : (k : ℕ) → low ≤ k → k < first → ¬ P k
+
+pub record IsGreatest (P : ℕ → Type 0) (low high last : ℕ) : Type 0 where
+  pub begun : low ≤ last
+  pub ahead : last < high
+  pub is : P last
+  pub none_after : (k : ℕ) → last < k → k < high → ¬ P k

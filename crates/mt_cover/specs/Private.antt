@@ -1,0 +1,3 @@
+-- What no public contract names: invariants and relations of private steps.
+pub mod InPlane
+pub mod Walk

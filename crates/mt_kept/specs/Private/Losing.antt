@@ -1,0 +1,17 @@
+-- No public contract names these: they are of private steps and of proofs.
+use Rattle.std.specs.Prelude.{◌≢◌, ℕ, ◌<◌, List, Contains, Option}
+use Rattle.mt_base.specs.declared.rules.Rules.{Rules}
+use Rattle.mt_base.specs.Picture.{NamedTrajectory}
+use Rattle.mt_edges.specs.declared.edge.Edge.{Edge}
+use Rattle.mt_edges.specs.Pairs.{AreDistinctPairs}
+use Rattle.mt_kept.specs.Places.{slot_of}
+use Rattle.mt_kept.specs.Losing.{IsPair, Joins, LoseSeparation}
+
+-- The pairs of the places: no others, each once, and each two places with a loss second have one.
+pub record AreKept (rules : Rules) (places : List (Option NamedTrajectory)) (edges : List Edge) : Type 0 where
+  pub sound : (e : Edge) → Contains edges e → IsPair rules places e
+  pub complete : (a b k : ℕ) → a < b → LoseSeparation rules places a b k → Joins edges a b
+  pub once : AreDistinctPairs edges
+
+abbrev pub AvoidsSlot : ℕ → Edge → Type 0
+AvoidsSlot slot e = (slot_of e.a ≢ slot) × (slot_of e.b ≢ slot)

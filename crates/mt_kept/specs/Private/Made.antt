@@ -1,0 +1,106 @@
+-- No public contract names these: they are of private steps and of proofs.
+use Rattle.std.specs.Prelude.{◌≡◌, ℕ, ◌<◌, ◌↔◌, ◌⊎◌, ◌++◌, ◌∷◌, [], ◌+◌, ◌*◌, ◌≤◌, List, map, take, length, filter, Contains, Option, None, Bool, ⊤, not, ◌==◌, ◌&&◌, ◌||◌, nat_le}
+use Rattle.std.specs.List.{count_by}
+use Rattle.std.specs.Cmp.Lexicographic.{slice_cmp}
+use Rattle.std.specs.Ordering.{nat_cmp}
+use Rattle.std.specs.declared.cmp.Ordering.TheVariants.{Less}
+use Rattle.mt_base.specs.declared.conflict.Conflict.{Conflict}
+use Rattle.mt_base.specs.declared.rules.Rules.{Rules}
+use Rattle.mt_base.specs.Conflict.{IsLossSecond, IsSpanOfLoss}
+use Rattle.mt_base.specs.Picture.{NamedTrajectory}
+use Rattle.mt_edges.specs.declared.edge.Edge.{Edge}
+use Rattle.mt_edges.specs.Pairs.{touches}
+use Rattle.mt_kept.specs.declared.finds.Candidate.{Candidate}
+use Rattle.mt_kept.specs.declared.finds.Verdict.{Verdict}
+use Rattle.mt_kept.specs.declared.finds.Verdict.TheVariants.{Unknown, Known}
+use Rattle.mt_kept.specs.declared.open_pair.OpenPair.{OpenPair}
+use Rattle.mt_kept.specs.Finds.{IsOfOtherFlight}
+use Rattle.mt_kept.specs.Private.Losing.{AvoidsSlot}
+use Rattle.mt_kept.specs.Places.{horizon, slot_of}
+use Rattle.mt_base.specs.Tally.{raised_by}
+use Rattle.mt_kept.specs.Window.{IsFoundOf, IsOpen, edge_of, straddles}
+use Rattle.mt_kept.specs.Made.{is_open_pair}
+
+-- a pair doesn't end before the moment; it is open; it is not
+abbrev pub is_lasting : ℕ → Edge → Bool
+is_lasting now e = nat_le now e.last
+
+abbrev pub is_closed_pair : ℕ → Edge → Bool
+is_closed_pair now e = not (is_open_pair now e)
+
+-- of an open pair: that it is open, that no end is a place of that slot, that some end is, that one end is that place
+abbrev pub opens : ℕ → OpenPair → Bool
+opens now o = is_open_pair now o.edge
+
+abbrev pub avoids : ℕ → OpenPair → Bool
+avoids slot o = not (slot_of o.edge.a == slot) && not (slot_of o.edge.b == slot)
+
+abbrev pub meets : ℕ → OpenPair → Bool
+meets slot o = not (avoids slot o)
+
+abbrev pub touches_place : ℕ → OpenPair → Bool
+touches_place place o = touches place o.edge
+
+-- a pair as an open one that shows nothing
+abbrev pub quiet : Edge → OpenPair
+quiet e = record { edge = e; conflict = None }
+
+-- the conflict of two trajectories over that span, the one with the lesser callsign first
+abbrev pub conflict_of : NamedTrajectory → NamedTrajectory → ℕ → ℕ → Conflict
+conflict_of left right first last =
+    record { first = first; a = left.call; b = right.call; ka = left.kind; kb = right.kind; last = last }
+
+abbrev pub IsInOrder : NamedTrajectory → NamedTrajectory → ℕ × ℕ → Conflict → Type 0
+IsInOrder left right span c = (slice_cmp nat_cmp left.call right.call ≡ Less) × (c ≡ conflict_of left right span.0 span.1)
+
+-- Of these pairs, each of which was to be tested once if it straddles an edge of the window, some first ones were.
+pub record WereTested (now : ℕ) (edges : List Edge) (old new : ℕ) : Type 0 where
+  pub first : ℕ
+  pub is : new ≡ raised_by (count_by (straddles now) (take first edges)) old
+
+-- Of the pairs those of a slot were taken out, and the found ones put in.
+abbrev pub AreReplaced : ℕ → List OpenPair → List Edge → List Edge → Type 0
+AreReplaced slot finds old new = (e : Edge) → Contains new e ↔ ((Contains old e × AvoidsSlot slot e) ⊎ Contains (map edge_of finds) e)
+
+-- a pair of a slot, and at most six steps for each of these, and two
+abbrev pub touches_slot : ℕ → Edge → Bool
+touches_slot slot e = touches (2 * slot) e || touches (2 * slot + 1) e
+
+abbrev pub WereDropped : ℕ → List Edge → ℕ → ℕ → Type 0
+WereDropped slot edges old new = new ≤ old + 6 * length (filter (touches_slot slot) edges) + 2
+
+-- what is known is that
+abbrev pub IsKnownAs : Verdict → Option (ℕ × ℕ) → Type 0
+IsKnownAs Unknown span = ⊤
+IsKnownAs (Known known) span = span ≡ known
+
+-- one test where nothing is known
+abbrev pub tests_if_unknown : Verdict → ℕ
+tests_if_unknown Unknown = 1
+tests_if_unknown (Known span) = 0
+
+-- the pair between two places, the lesser first, with that span
+abbrev pub IsEdgeBetween : ℕ → ℕ → Edge → Type 0
+IsEdgeBetween place other e = ((e.a ≡ place) × (e.b ≡ other) × (place < other)) ⊎ ((e.a ≡ other) × (e.b ≡ place) × (other < place))
+
+abbrev pub IsEdgeOf : ℕ → ℕ → ℕ × ℕ → Edge → Type 0
+IsEdgeOf place other span e = IsEdgeBetween place other e × (e.first ≡ span.0) × (e.last ≡ span.1)
+
+-- a pair that was found, and what it shows where it is open
+pub record IsFind (rules : Rules) (now place other_place : ℕ) (mine other : NamedTrajectory) (o : OpenPair) : Type 0 where
+  pub ends : IsEdgeBetween place other_place o.edge
+  pub span : IsSpanOfLoss rules mine.path other.path 0 horizon o.edge.first o.edge.last
+  pub shown : IsOpen now o.edge → IsFoundOf rules now mine other o.conflict
+
+-- what one candidate adds to the finds: nothing, where it never loses separation, or one find
+abbrev pub IsFindAdded : Rules → ℕ → ℕ → ℕ → NamedTrajectory → NamedTrajectory → List OpenPair → List OpenPair → Type 0
+IsFindAdded rules now place other_place mine other old new =
+    ((new ≡ old) × ((k : ℕ) → k < horizon → ¬ IsLossSecond rules mine.path other.path k))
+    ⊎ ((o : OpenPair) × IsFind rules now place other_place mine other o × (new ≡ old ++ o ∷ []))
+
+-- The same of a candidate, where a trajectory of another flight stands in its place; else nothing is added.
+abbrev pub IsAddedAt : Rules → ℕ → List (Option NamedTrajectory) → ℕ → NamedTrajectory → Candidate → List OpenPair → List OpenPair
+    → Type 0
+IsAddedAt rules now places place mine x old new =
+    ((new ≡ old) × ((other : NamedTrajectory) → ¬ IsOfOtherFlight places place mine x.place other))
+    ⊎ ((other : NamedTrajectory) × IsOfOtherFlight places place mine x.place other × IsFindAdded rules now place x.place mine other old new)

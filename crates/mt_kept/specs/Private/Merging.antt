@@ -1,0 +1,35 @@
+-- No public contract names these: they are of private steps and of proofs.
+-- Lists of conflicts in the order of publishing, made one.
+use Rattle.std.specs.Prelude.{◌≡◌, ℕ, ◌+◌, ◌≤◌, ◌↔◌, ◌⊎◌, List, length, take, drop, Contains, AllPairs}
+use Rattle.std.specs.declared.cmp.Ordering.TheVariants.{Less}
+use Rattle.mt_base.specs.declared.conflict.Conflict.{Conflict}
+use Rattle.mt_base.specs.Picture.{conflict_cmp}
+
+-- one conflict comes before another; each of a list comes before those after it, and before each of another list
+abbrev pub ComesBefore : Conflict → Conflict → Type 0
+ComesBefore x y = conflict_cmp x y ≡ Less
+
+abbrev pub Rise : List Conflict → Type 0
+Rise xs = AllPairs ComesBefore xs
+
+abbrev pub LieBefore : List Conflict → List Conflict → Type 0
+LieBefore xs ys = (x y : Conflict) → Contains xs x → Contains ys y → ComesBefore x y
+
+-- a list without a conflict, in two parts: what comes before it and what comes after
+pub record IsParted (x : Conflict) (list before after : List Conflict) : Type 0 where
+  pub first : (c : Conflict) → Contains before c → ComesBefore c x
+  pub second : (c : Conflict) → Contains after c → ComesBefore x c
+  pub before_rise : Rise before
+  pub after_rise : Rise after
+  pub across : LieBefore before after
+  pub parts : (c : Conflict) → (Contains before c ⊎ Contains after c) → Contains list c
+  pub whole : (c : Conflict) → Contains list c → Contains before c ⊎ ((x ≡ c) ⊎ Contains after c)
+  pub short : length before + length after ≤ length list
+
+-- how far two lists are made one: the first n of the others and what of the list comes before them, in order; and the rest of the list
+pub record AreMerging (list others : List Conflict) (n : ℕ) (merged rest : List Conflict) : Type 0 where
+  pub rise : Rise merged
+  pub rest_rise : Rise rest
+  pub before : LieBefore merged rest
+  pub ahead : LieBefore merged (drop n others)
+  pub exact : (c : Conflict) → (Contains merged c ⊎ Contains rest c) ↔ (Contains list c ⊎ Contains (take n others) c)

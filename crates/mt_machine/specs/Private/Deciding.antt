@@ -1,0 +1,31 @@
+-- No public contract names these: they are of private steps and of proofs.
+-- What a decision has at hand, and the first hit that it finds.
+use Rattle.std.specs.Prelude.{◌≡◌, ◌≤◌, List, [], ◌∷◌, length, Option, Some, None, IfSome}
+use Rattle.std.specs.Option.{option_copied}
+use Rattle.mt_base.specs.declared.command.Command.{Command}
+use Rattle.mt_base.specs.declared.flight.Path.TheVariants.{Planned}
+use Rattle.mt_base.specs.declared.flight.Record.{Record}
+use Rattle.mt_base.specs.declared.hit.Hit.{Hit}
+use Rattle.mt_base.specs.History.{HasHits, look_at}
+use Rattle.mt_base.specs.Picture.{State, trajectory_of}
+use Rattle.mt_base.specs.Tables.{Setup}
+use Rattle.mt_base.specs.Trajectory.{Trajectory}
+use Rattle.mt_base.specs.WhatIf.{course_in}
+use Rattle.mt_predict.specs.declared.judging.Looked.{Looked}
+use Rattle.mt_predict.specs.Looking.{look_of}
+use Rattle.mt_predict.specs.Private.Looking.{HasStrand}
+
+-- the trajectory of a flight that is there and planned, along a route of at most 64 names
+abbrev pub IsPlannedStrand : Setup → Option Record → Option Trajectory → Type 0
+IsPlannedStrand setup flight strand =
+    IfSome (course_in flight) (λ course. (strand ≡ Some (trajectory_of setup (Planned course))) × (length course.route ≤ 64))
+
+-- whatever is looked at of a state for a command has at hand what the decision needs, where it has this trajectory
+abbrev pub IsStrandFor : Setup → State → Command → Option Trajectory → Type 0
+IsStrandFor setup s command strand =
+    (looked : Looked) → look_of looked ≡ look_at s command → option_copied looked.strand ≡ strand → HasStrand setup looked command
+
+-- the first of the hits of a command that was probed, if it has any; no other command has one
+abbrev pub IsFirstHit : Setup → State → Command → Option Hit → Type 0
+IsFirstHit setup s command None = HasHits setup s command []
+IsFirstHit setup s command (Some first) = (others : List Hit) × HasHits setup s command (first ∷ others)

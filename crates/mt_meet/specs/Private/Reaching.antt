@@ -1,0 +1,63 @@
+-- No public contract names these: they are of private steps and of proofs.
+-- What is compared first of two trajectories.
+use Rattle.std.specs.Prelude.{◌≡◌, ◌≤◌, ◌<◌, ◌+◌, ◌*◌, ◌/◌, ◌%◌, ◌^◌, ◌&&◌, false, ℕ, List, Option, Some, None, All, length, get_or, replicate, ⊤}
+use Rattle.mt_base.specs.declared.rules.Rules.{Rules}
+use Rattle.mt_cover.specs.Sliced.{AreSlices, Sliced, layer_over, no_layer}
+use Rattle.mt_pair.specs.Heights.{LieApart}
+use Rattle.mt_pair.specs.High.{level_of}
+use Rattle.mt_meet.specs.declared.reach.Reach.{Reach}
+use Rattle.mt_meet.specs.declared.table.Met.{Met}
+use Rattle.mt_meet.specs.Meeting.{IsFirstMet, MeetNone}
+
+-- the heights of all slices, and their first and last seconds; and those of none
+abbrev pub reach_of : Sliced → Reach
+reach_of s = record { layer = layer_over s.list; from = s.from; to = s.to; rvsm = s.rvsm }
+
+abbrev pub nowhere : Reach
+nowhere = record { layer = no_layer; from = 0; to = 0; rvsm = false }
+
+abbrev pub reach_in : Option Sliced → Reach
+reach_in None = nowhere
+reach_in (Some s) = reach_of s
+
+-- they have a second in common, and don't lie apart in height
+pub record AreClose (rules : Rules) (a b : Reach) : Type 0 where
+  pub left : a.from < b.to
+  pub right : b.from < a.to
+  pub heights : ¬ LieApart rules (level_of (a.rvsm && b.rvsm)) a.layer b.layer
+
+-- what is kept of an item are slices
+abbrev pub AreSlicesIn : Option Sliced → Type 0
+AreSlicesIn None = ⊤
+AreSlicesIn (Some s) = AreSlices s
+
+-- the reaches on a page; where it is absent, those of nothing
+abbrev pub page_of : Option (List Reach) → List Reach
+page_of None = replicate 64 nowhere
+page_of (Some page) = page
+
+-- the reach of an item, on the pages of some
+abbrev pub reach_at : List (Option (List Reach)) → ℕ → Reach
+reach_at pages item = get_or (page_of (get_or pages (item / 64) None)) (item % 64) nowhere
+
+-- so many items, which a u32 counts, of each of which the reach stands on the pages
+pub record AreReachesKept (count : ℕ) (table : List (Option Sliced)) (pages : List (Option (List Reach))) : Type 0 where
+  pub count_is : count ≡ length table
+  pub few : count < 2 ^ 32
+  pub each : All AreSlicesIn table
+  pub enough : count ≤ 64 * length pages
+  pub reaches_are : (item : ℕ) → reach_at pages item ≡ reach_in (get_or table item None)
+
+-- it is the reach of what is kept of an item, and that are slices
+pub record IsReachOf (x : Option Sliced) (reach : Reach) : Type 0 where
+  pub is : reach ≡ reach_in x
+  pub slices : AreSlicesIn x
+
+-- the reaches on that page are those of its items
+abbrev pub AreReachesOn : List (Option Sliced) → ℕ → List Reach → Type 0
+AreReachesOn table number page = (place : ℕ) → place < 64 → IsReachOf (get_or table (64 * number + place) None) (get_or page place nowhere)
+
+-- the first item of a page, from a place on, whose slices meet some; or none does
+abbrev pub IsNextOn : Rules → Sliced → List (Option Sliced) → ℕ → ℕ → Option Met → Type 0
+IsNextOn rules mine table number from (Some met) = IsFirstMet rules mine table (64 * number + from) met
+IsNextOn rules mine table number from None = MeetNone rules mine table (64 * number + from) (64 * number + 64)

@@ -1,0 +1,12 @@
+-- What no public contract names: invariants and relations of private steps.
+pub mod Asking
+pub mod Brought
+pub mod Candidates
+pub mod Entries
+pub mod Finding
+pub mod Hits
+pub mod Holding
+pub mod Places
+pub mod Putting
+pub mod Stamps
+pub mod Verdicts

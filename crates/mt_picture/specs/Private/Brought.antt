@@ -1,0 +1,44 @@
+-- No public contract names these: they are of private steps and of proofs.
+-- What a command brings into a slot, and the prep that it has of it.
+use Rattle.std.specs.Prelude.{◌≡◌, ◌<◌, ℕ, Bool, true, Some, length}
+use Rattle.mt_base.specs.declared.command.Command.{Command}
+use Rattle.mt_base.specs.declared.conflict.Kind.{Kind}
+use Rattle.mt_base.specs.declared.flight.Record.{Record}
+use Rattle.mt_base.specs.Picture.{NamedTrajectory}
+use Rattle.mt_kept.specs.Finds.{AreFindsOfSlot}
+use Rattle.mt_kept.specs.Kept.{Watched}
+use Rattle.mt_kept.specs.Places.{seen, with_slot}
+use Rattle.mt_probe.specs.declared.flight.Flight.{Flight}
+use Rattle.mt_probe.specs.Prepared.{IsLeftByEntry, Prepared}
+use Rattle.mt_probe.specs.Shot.{Shot, flight_at}
+use Rattle.mt_probe.specs.Shot.{state_in_shot as state_in}
+use Rattle.mt_picture.specs.declared.change.Change.{Change}
+use Rattle.mt_picture.specs.Private.Places.{first_of, place_kind, place_other, second_of}
+use Rattle.mt_picture.specs.Private.Stamps.{HaveStood}
+use Rattle.mt_picture.specs.Private.Verdicts.{IsPreps}
+
+-- A flight comes into a slot, an empty one or its own, with a new trajectory of a kind, that of its prep where that is known to be of use; of the
+-- other kind it has what it had, or nothing. Each trajectory that was made by the prep's version is one of the prep's state.
+pub record BringsNew (shot : Shot) (slot : ℕ) (f : Flight) (kind : Kind) (p : Prepared) (known : Bool) : Type 0 where
+  pub inside : slot < length shot.slots
+  pub was : (g : Flight) → flight_at shot slot ≡ Some g → g.card.call ≡ f.card.call
+  pub setup_is : p.setup ≡ shot.setup
+  pub call_is : f.card.call ≡ p.card.call
+  pub new : (m : NamedTrajectory) → place_kind kind (Some f) ≡ Some m → IsPreps p known m.path
+  pub other : (m : NamedTrajectory) → place_other kind (Some f) ≡ Some m → place_other kind (flight_at shot slot) ≡ Some m
+  pub stood : HaveStood shot p
+
+-- The change of the kept conflicts where a flight is put into a slot: what stands in its two places then, and the pairs of these.
+pub record IsChangeFor (kept : Watched) (slot : ℕ) (f : Flight) (change : Change) : Type 0 where
+  pub first_is : seen change.first ≡ first_of (Some f)
+  pub second_is : seen change.second ≡ second_of (Some f)
+  pub finds_are : AreFindsOfSlot kept.rules (with_slot kept.places slot (first_of (Some f)) (second_of (Some f))) kept.moment slot change.finds.items
+
+-- A command leaves a flight with this record, and the prep is of it: the record is the prep's, where that is known to be of use.
+pub record IsPreparedNow (shot : Shot) (who : ℕ) (command : Command) (card : Record) (p : Prepared) (known : Bool) : Type 0 where
+  pub left : IsLeftByEntry shot.setup (state_in shot) who command card
+  pub setup_is : p.setup ≡ shot.setup
+  pub call_is : p.card.call ≡ card.call
+  pub command_is : p.command ≡ command
+  pub card_is : known ≡ true → card ≡ p.card
+  pub stood : HaveStood shot p

@@ -1,0 +1,52 @@
+-- No public contract names these: they are of private steps and of proofs.
+-- What a prep says of the trajectories of a snapshot.
+use Rattle.std.specs.Prelude.{◌≡◌, ◌≢◌, ◌<◌, ◌≤◌, ◌/◌, ℕ, List, Bool, true, Option, Some, None, AllPairs, Contains, get_or, map}
+use Rattle.mt_base.specs.declared.conflict.Kind.{Kind}
+use Rattle.mt_base.specs.Conflict.{IsLossSecond}
+use Rattle.mt_base.specs.Picture.{NamedTrajectory}
+use Rattle.mt_base.specs.Trajectory.{Trajectory}
+use Rattle.mt_cover.specs.Cells.{cover_of}
+use Rattle.mt_kept.specs.declared.finds.Candidate.{Candidate}
+use Rattle.mt_kept.specs.declared.finds.Verdict.{Verdict}
+use Rattle.mt_kept.specs.declared.finds.Verdict.TheVariants.{Known, Unknown}
+use Rattle.mt_kept.specs.Finds.{IsRight, candidate_place}
+use Rattle.mt_kept.specs.Places.{at, horizon}
+use Rattle.mt_probe.specs.declared.flight.Flight.{Flight}
+use Rattle.mt_probe.specs.declared.flight.Made.{Made}
+use Rattle.mt_probe.specs.Items.{IsNearItem, kind_at}
+use Rattle.mt_probe.specs.Prepared.{Prepared}
+use Rattle.mt_probe.specs.Shot.{Shot, made_of}
+use Rattle.mt_picture.specs.Private.Places.{all_places, made_of_kind}
+
+-- A new trajectory is the prep's, where the prep is known to be of use.
+abbrev pub IsPreps : Prepared → Bool → Trajectory → Type 0
+IsPreps p known mine = known ≡ true → mine ≡ p.strand
+
+-- what is known of the trajectory of a kind of the flight at a place is right
+abbrev pub IsRightAt : Prepared → Bool → Option Flight → Kind → Verdict → Type 0
+IsRightAt p known slot kind verdict = (f : Flight) (made : Made) (mine : NamedTrajectory) → slot ≡ Some f → made_of f kind ≡ Some made
+    → f.card.call ≢ p.card.call → IsPreps p known mine.path → IsRight p.setup.rules mine (made_of_kind f kind made) verdict
+
+-- the trajectory of a kind of the flight at a place was made after the prep
+abbrev pub IsLaterAt : Prepared → Option Flight → Kind → Type 0
+IsLaterAt p slot kind = (f : Flight) (made : Made) → slot ≡ Some f → made_of f kind ≡ Some made → p.state.version < made.stamp
+
+-- it was made before it
+abbrev pub IsEarlierAt : Prepared → Option Flight → Kind → Type 0
+IsEarlierAt p slot kind = (f : Flight) (made : Made) → slot ≡ Some f → made_of f kind ≡ Some made → made.stamp ≤ p.state.version
+
+-- What is known of a candidate is right, and the candidate was made before the prep; where nothing is known of it though the prep is of use, it
+-- was made after the prep.
+pub record IsKnown (p : Prepared) (known : Bool) (slots : List (Option Flight)) (x : Candidate) : Type 0 where
+  pub right : IsRightAt p known (get_or slots (x.place / 2) None) (kind_at x.place) x.verdict
+  pub earlier : (span : Option (ℕ × ℕ)) → x.verdict ≡ Known span → IsEarlierAt p (get_or slots (x.place / 2) None) (kind_at x.place)
+  pub later : known ≡ true → x.verdict ≡ Unknown → IsLaterAt p (get_or slots (x.place / 2) None) (kind_at x.place)
+
+-- The candidates of a trajectory: each is near it and is listed once, with what is known of it. What stands of another flight and has a loss second
+-- with it is one.
+pub record AreNearCandidates (shot : Shot) (t : Trajectory) (p : Prepared) (known : Bool) (xs : List Candidate) : Type 0 where
+  pub near : (x : Candidate) → Contains xs x → IsNearItem shot (cover_of shot.setup.rules t) x.place
+  pub known_is : (x : Candidate) → Contains xs x → IsKnown p known shot.slots x
+  pub complete : (j k : ℕ) (other : NamedTrajectory) → at (all_places shot.slots) j ≡ Some other → other.call ≢ p.card.call → k < horizon
+      → IsLossSecond shot.setup.rules t other.path k → Contains (map candidate_place xs) j
+  pub once : AllPairs (λ x y. x.place ≢ y.place) xs

@@ -1,0 +1,4 @@
+-- What no public contract names: invariants and relations of private steps.
+pub mod Flying
+pub mod Looking
+pub mod Manners

@@ -1,0 +1,13 @@
+-- No public contract names these: they are of private steps and of proofs.
+use Rattle.std.specs.Arc.{arc_value}
+use Rattle.mt_probe.specs.declared.snapshot.Body.{Body}
+use Rattle.mt_probe.specs.Shot.{Shot}
+
+-- what a snapshot holds, as contracts see it
+abbrev pub shot_of : Body → Shot
+shot_of body = record {
+  setup = record { rules = body.rules; tables = arc_value body.tables };
+  version = body.version;
+  now = body.moment;
+  slots = body.slots;
+}

@@ -1,0 +1,20 @@
+-- No public contract names these: they are of private steps and of proofs.
+use Rattle.std.specs.Prelude.{ℕ, List, ⊤}
+use Rattle.mt_base.specs.declared.command.Command.{Command}
+use Rattle.mt_base.specs.declared.flight.Record.{Record}
+use Rattle.mt_base.specs.Trajectory.{Trajectory}
+use Rattle.mt_probe.specs.declared.finding.Found.{Found}
+use Rattle.mt_probe.specs.Shot.{Shot, state_in_shot}
+use Rattle.mt_probe.specs.Prepared.{Prepared}
+
+-- as contracts see it
+abbrev pub prepared_of : Shot → ℕ → Command → Record → Trajectory → List Found → Prepared
+prepared_of shot who command card strand finds = record {
+  setup = shot.setup;
+  state = state_in_shot shot;
+  who = who;
+  command = command;
+  card = card;
+  strand = strand;
+  finds = finds;
+}

@@ -1,0 +1,5 @@
+-- What no public contract names: invariants and relations of private steps.
+pub mod Bands
+pub mod Corners
+pub mod Field
+pub mod Steps

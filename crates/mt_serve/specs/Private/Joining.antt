@@ -1,0 +1,43 @@
+-- No public contract names these: they are of private steps and of proofs.
+-- Seats that were joined so far.
+use Rattle.std.specs.Prelude.{◌≡◌, List, ◌++◌, length, All, Option}
+use Rattle.mt_base.specs.declared.command.Entry.{Entry}
+use Rattle.mt_base.specs.Tables.{Setup}
+use Rattle.mt_desk.specs.Desk.{Desk, IsSeatOfDesk}
+use Rattle.mt_io.specs.Door.{Count, Gains}
+use Rattle.mt_io.specs.declared.source.Source as Source
+use Rattle.mt_io.specs.declared.sink.Sink as Sink
+use Rattle.mt_turn.specs.declared.view.View.{View}
+use Rattle.mt_turn.specs.Places.{Place}
+use Rattle.mt_serve.specs.Private.Seating.{HasJoined, views_of}
+use Rattle.mt_serve.specs.Sitting.{Met}
+use Rattle.mt_serve.specs.declared.counts.Counts.{Counts}
+use Rattle.mt_serve.specs.Summary.{counted}
+use Rattle.mt_serve.specs.Tied.{backs_of}
+use Rattle.mt_serve.specs.Private.Tied.{AreOver, ends_of, gave_back}
+use Rattle.mt_serve.specs.Private.Working.{IsRested, Worked, rests_of}
+
+-- the first seats of a list are joined, and others are left
+pub record JoinsSeats (desk : Desk) (v w : View Entry Setup) (all rest : List (Place Entry Setup)) : Type 0 where
+  pub past : List (Place Entry Setup)
+  pub parts : all ≡ past ++ rest
+  pub joined : HasJoined v w (views_of past)
+  pub ready : All (IsSeatOfDesk desk) rest
+
+pub record JoinsWorkers (desk : Desk) (v w : View Entry Setup) (all rest : List Worked) : Type 0 where
+  pub past : List Worked
+  pub parts : all ≡ past ++ rest
+  pub joined : HasJoined v w (views_of (rests_of past))
+  pub ready : All (λ (x : Worked). IsSeatOfDesk desk x.from) rest
+  pub worked : All IsRested past
+
+module _ {L : Type 0} (source : Source.Ghosts L) (sink : Sink.Ghosts L) where
+  pub record JoinsSessions (desk : Desk) (v w : View Entry Setup) (all rest : List (Met L)) (old new : Count) (back now : Option (List L)) (counts : Counts) : Type 0 where
+    pub past : List (Met L)
+    pub parts : all ≡ past ++ rest
+    pub joined : HasJoined v w (views_of (ends_of past))
+    pub ready : All (λ (x : Met L). IsSeatOfDesk desk x.from.seat) rest
+    pub served : AreOver source sink past
+    pub count : new ≡ gave_back old (length past)
+    pub returned : Gains back now (backs_of past)
+    pub counts_are : counts ≡ counted past

@@ -1,0 +1,22 @@
+-- No public contract names these: they are of private steps and of proofs.
+use Rattle.std.specs.Prelude.{◌+◌, ℕ, List, [], map, All}
+use Rattle.mt_base.specs.declared.command.Entry.{Entry}
+use Rattle.mt_base.specs.Tables.{Setup}
+use Rattle.mt_io.specs.Door.{Count}
+use Rattle.mt_io.specs.declared.source.Source as Source
+use Rattle.mt_io.specs.declared.sink.Sink as Sink
+use Rattle.mt_turn.specs.Places.{Place}
+use Rattle.mt_serve.specs.Serving.{HasServed}
+use Rattle.mt_serve.specs.Sitting.{Met}
+
+abbrev pub ends_of : {L : Type 0} → List (Met L) → List (Place Entry Setup)
+ends_of {L} mets = map (λ (m : Met L). m.seat) mets
+
+-- with so many links back more
+abbrev pub gave_back : Count → ℕ → Count
+gave_back c n = record c { back = c.back + n }
+
+module _ {L : Type 0} (source : Source.Ghosts L) (sink : Sink.Ghosts L) where
+  -- each session served its link
+  abbrev pub AreOver : List (Met L) → Type 0
+  AreOver mets = All (λ (m : Met L). HasServed source sink m.from.link m.from.seat m.from.has_channel m.link m.seat m.outcome) mets

@@ -1,0 +1,39 @@
+-- No public contract names these: they are of private steps and of proofs.
+use Rattle.std.specs.Prelude.{Result, Ok, Err, ⊤}
+use Rattle.mt_base.specs.declared.command.Entered.{Entered}
+use Rattle.mt_board.specs.declared.ask.Answer.{Answer}
+use Rattle.mt_board.specs.declared.ask.Answer.TheVariants as answers
+use Rattle.mt_board.specs.declared.ask.Ask.{Ask}
+use Rattle.mt_board.specs.declared.ask.Ask.TheVariants as asks
+use Rattle.mt_board.specs.declared.no.No.{No}
+use Rattle.mt_board.specs.declared.no.No.TheVariants as nos
+use Rattle.mt_history.specs.declared.following.FollowNo.{FollowNo}
+use Rattle.mt_history.specs.declared.following.FollowNo.TheVariants as follow
+use Rattle.mt_read.specs.declared.request.Request.{Request}
+use Rattle.mt_read.specs.declared.request.Request.TheVariants as requests
+use Rattle.mt_write.specs.declared.reply.Reply.{Reply}
+use Rattle.mt_write.specs.declared.reply.Reply.TheVariants as replies
+
+-- what a request that asks for what holds is, as what a read asks for
+abbrev pub read_ask : Request → Ask
+read_ask requests.Check = asks.Check
+read_ask (requests.Flight call sec) = asks.Flight call sec
+read_ask requests.Due = asks.Due
+read_ask request = asks.List
+
+-- what a read is answered, as a reply
+abbrev pub read_answer_reply : Result Answer No → Reply
+read_answer_reply (Ok (answers.List conflicts version)) = replies.List conflicts version
+read_answer_reply (Ok (answers.Check conflicts version)) = replies.List conflicts version
+read_answer_reply (Ok (answers.Due calls version)) = replies.Due calls version
+read_answer_reply (Ok (answers.Flight view)) = replies.Flight view
+read_answer_reply (Ok (answers.History entries version)) = replies.History entries version
+read_answer_reply (Err (nos.Refused refusal version)) = replies.Refused refusal version
+read_answer_reply (Err nos.Memory) = replies.Memory
+
+-- what an entry is answered, as a reply
+abbrev pub follow_reply : Result Entered FollowNo → Reply
+follow_reply (Ok entered) = replies.Entered entered
+follow_reply (Err (follow.Late version)) = replies.Late version
+follow_reply (Err (follow.Illegal version refusal)) = replies.Illegal version refusal
+follow_reply (Err follow.Memory) = replies.Memory

@@ -1,0 +1,4 @@
+-- What no public contract names: invariants and relations of private steps.
+pub mod Joined
+pub mod Numbers
+pub mod Puts

@@ -1,0 +1,9 @@
+-- No public contract names these: they are of private steps and of proofs.
+use Rattle.std.specs.Prelude.{⊤, ℕ, if◌then◌else◌, Option, None, Some, List, []}
+use Rattle.tungstenite.specs.declared.message.Message.{Message}
+use Rattle.mt_ws.specs.Messages.{payload_of}
+
+-- the same of a message that may be there
+abbrev pub bytes_in : Option Message → List ℕ
+bytes_in None = []
+bytes_in (Some message) = payload_of message
