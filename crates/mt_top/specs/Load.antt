@@ -1,8 +1,5 @@
 -- What a load run writes, and what its status says.
 use Rattle.std.specs.Prelude.{◌≡◌, ℕ, List, [], ◌++◌}
-use Rattle.std.specs.declared.option.Option.{Option}
-use Rattle.std.specs.Io.KnownBytes.{Appends}
-use Rattle.mt_io.specs.Writing.{AppendsFront}
 use Rattle.mt_load.specs.declared.summary.Summary.{Summary}
 use Rattle.mt_load.specs.Summary.{IsLoaded, summary_text}
 use Rattle.mt_top.specs.declared.status.Status.{Status}
@@ -21,10 +18,3 @@ LoadMeans flights number Done input left written = (left ≡ input) × IsSummary
 LoadMeans flights number WriteFault input left written = (left ≡ input) × ((unwritten : List ℕ) × IsSummaryLine flights number (written ++ unwritten))
 LoadMeans flights number Memory input left written = (left ≡ input) × (written ≡ [])
 LoadMeans flights number status input left written = ⊥
-
--- the same by what the output holds
-abbrev pub SaysSummary : ℕ → ℕ → Status → Option (List ℕ) → Option (List ℕ) → Type 0
-SaysSummary flights number Done before after = (line : List ℕ) × IsSummaryLine flights number line × Appends before after line
-SaysSummary flights number WriteFault before after = (line : List ℕ) × IsSummaryLine flights number line × AppendsFront before after line
-SaysSummary flights number Memory before after = after ≡ before
-SaysSummary flights number status before after = ⊥

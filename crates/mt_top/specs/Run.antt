@@ -1,11 +1,9 @@
 use Rattle.std.specs.Prelude.{◌≡◌, ◌^◌, ◌⊎◌, ℕ, List, [], ◌∷◌, ◌++◌, length, codes}
 use Rattle.std.specs.declared.option.Option.{Option}
 use Rattle.std.specs.declared.option.Option.TheVariants.{None, Some}
-use Rattle.std.specs.Io.KnownBytes.{Appends}
 use Rattle.mt_args.specs.declared.task.Task.{Task}
 use Rattle.mt_args.specs.declared.task.Task.TheVariants.{Load, Replay, Serve, Standby}
 use Rattle.mt_args.specs.Task.{task_of}
-use Rattle.mt_io.specs.Writing.{AppendsFront}
 use Rattle.mt_io.specs.declared.source.Source as Source
 use Rattle.mt_io.specs.declared.sink.Sink as Sink
 use Rattle.mt_lines.specs.Answering as answering
@@ -72,12 +70,6 @@ abbrev pub UsageMeans : Status → List ℕ → List ℕ → List ℕ → Type 0
 UsageMeans Usage input left written = (left ≡ input) × (written ≡ usage_line)
 UsageMeans WriteFault input left written = (left ≡ input) × ((unwritten : List ℕ) × (usage_line ≡ written ++ unwritten))
 UsageMeans status input left written = ⊥
-
--- the same by what the output holds
-abbrev pub SaysUsage : Status → Option (List ℕ) → Option (List ℕ) → Type 0
-SaysUsage Usage before after = Appends before after usage_line
-SaysUsage WriteFault before after = AppendsFront before after usage_line
-SaysUsage status before after = ⊥
 
 module _ {L : Type 0} (source : Source.Ghosts L) (sink : Sink.Ghosts L) (old new : Doorway L) (before now : ℕ) where
   -- What a run's status says, by what its words ask for; only words that ask to serve call the door. `before` and `now` are what the output counts
