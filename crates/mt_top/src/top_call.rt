@@ -7,14 +7,15 @@ ghost use Rattle.mt_lines.specs.Answering.{Explains};
 ghost use Rattle.mt_top.specs.Run.{IsNoFault, RunMeans, UsageMeans};
 ghost use Rattle.mt_top.specs.declared.status.Status.TheVariants.{DoorFault, ReadFault, WriteFault};
 
+use crate::following::Follower;
+use crate::lines::Lines;
 use crate::load::load;
-use crate::replay::replay;
 use crate::serving::serve;
-use crate::standing::stand_by;
 use crate::status::Status;
 use mt_args::{Task, read_words};
 use mt_base::Words;
 use mt_io::{Door, Gate, Sink, Source, put_all};
+use mt_script::Script;
 use std::alloc::Global;
 use std::sync::Wait;
 use std::thread::Threads;
@@ -63,8 +64,8 @@ pub fn run<R: Threads + Wait + Sync, S: Source, K: Sink, D: Door, G: Gate + Sync
         return usage(output);
     };
     match task {
-        Task::Replay => replay(rt, alloc, input, output),
-        Task::Standby => stand_by(rt, alloc, input, output),
+        Task::Replay => Lines::<Script>::answer_input(rt, alloc, input, output),
+        Task::Standby => Lines::<Follower>::answer_input(rt, alloc, input, output),
         Task::Load { flights, number } => load(rt, alloc, flights, number, output),
         Task::Serve {
             port,

@@ -10,13 +10,13 @@ returns-in_default-clause-means g c =
 
 pub returns-in-Replay-clause-means : goal.returns-in-Replay-clause-means
 returns-in-Replay-clause-means g c =
-    asked_for g.D.Link.Source g.D.Link.Sink _ _ _ _ c.args.words.now (Some Replay) c.replay.result _ _ _ _ (c.in-Ok.ensures.task ∙ ap Some c.in-Replay.is)
-    (uncalled _ _ _ _ _ _ _ refl c.replay.ensures.means)
+    asked_for g.D.Link.Source g.D.Link.Sink _ _ _ _ c.args.words.now (Some Replay) c.answer_input.result _ _ _ _ (c.in-Ok.ensures.task ∙ ap Some c.in-Replay.is)
+    (uncalled _ _ _ _ _ _ _ refl c.answer_input.ensures.means)
 
 pub returns-in-Standby-clause-means : goal.returns-in-Standby-clause-means
 returns-in-Standby-clause-means g c =
-    asked_for g.D.Link.Source g.D.Link.Sink _ _ _ _ c.args.words.now (Some Standby) c.stand_by.result _ _ _ _ (c.in-Ok.ensures.task ∙ ap Some c.in-Standby.is)
-    (uncalled _ _ _ _ _ _ _ refl c.stand_by.ensures.means)
+    asked_for g.D.Link.Source g.D.Link.Sink _ _ _ _ c.args.words.now (Some Standby) c.answer_input-in-Standby.result _ _ _ _ (c.in-Ok.ensures.task ∙ ap Some c.in-Standby.is)
+    (uncalled _ _ _ _ _ _ _ refl c.answer_input-in-Standby.ensures.means)
 
 pub returns-in-Load-clause-means : goal.returns-in-Load-clause-means
 returns-in-Load-clause-means g c =
