@@ -43,25 +43,33 @@ given_followed w next line reply given replied for short = ⊎_elim
     replied)
     for
 
+-- this reply is given to a line of a standby's world, where it is known whether the picture has begun
+abbrev StoodWhere : Bool → World → List ℕ → Reply → World → Type 0
+StoodWhere begun w line reply next = MatchBool begun
+    (standby.IsStandbyReplied w line reply next)
+    ((answered : World) × IsReplied w line reply answered × (next ≡ opened answered))
+
 pub given_stood : (w next : World) (line : List ℕ) (reply given : Reply) → IsStoodBy w line reply next → IsGivenFor reply given
     → (is_brief reply ≡ false → length line ≤ 65536) → IsStoodBy w line given next
 given_stood w next line reply given replied for short = by_begun w.begun replied where
-  by_begun : (begun : Bool)
-      → MatchBool begun (standby.IsStandbyReplied w line reply next) ((answered : World) × IsReplied w line reply answered × (next ≡ opened answered))
-      → MatchBool begun (standby.IsStandbyReplied w line given next) ((answered : World) × IsReplied w line given answered × (next ≡ opened answered))
+  by_begun : (begun : Bool) → StoodWhere begun w line reply next → StoodWhere begun w line given next
   by_begun true followed = given_followed w next line reply given followed for short
   by_begun false (answered, is, next_is) = (answered, given_replied w answered line reply given is for short, next_is)
 
 -- ---- what a line leaves of a script
 
-opened_as : (b : Bool) (m : World) → m.begun ≡ b → (cond b (world_of (record { setup = setup_of m; history = m.history })) m).begun ≡ b
+-- that, where it is known whether the picture has begun
+abbrev opened_where : Bool → World → World
+opened_where b m = cond b (world_of (record { setup = setup_of m; history = m.history })) m
+
+opened_as : (b : Bool) (m : World) → m.begun ≡ b → (opened_where b m).begun ≡ b
 opened_as true m is = refl
 opened_as false m is = is
 
 pub opened_begun : (m : World) → (opened m).begun ≡ m.begun
 opened_begun m = opened_as m.begun m refl
 
-opened_with : (b : Bool) (m : World) → (cond b (world_of (record { setup = setup_of m; history = m.history })) m).history ≡ m.history
+opened_with : (b : Bool) (m : World) → (opened_where b m).history ≡ m.history
 opened_with true m = refl
 opened_with false m = refl
 
@@ -70,13 +78,13 @@ opened_history m = opened_with m.begun m
 
 pub opened_still : (m : World) → m.begun ≡ false → m ≡ opened m
 opened_still m is = by_begun m.begun is where
-  by_begun : (b : Bool) → b ≡ false → m ≡ cond b (world_of (record { setup = setup_of m; history = m.history })) m
+  by_begun : (b : Bool) → b ≡ false → m ≡ opened_where b m
   by_begun false is = refl
   by_begun true is = cc
 
 pub opened_is : (m : World) (p : Story) → m.begun ≡ true → p.setup ≡ setup_of m → p.history ≡ m.history → world_of p ≡ opened m
 opened_is m p is setup history = by_begun m.begun is where
-  by_begun : (b : Bool) → b ≡ true → world_of p ≡ cond b (world_of (record { setup = setup_of m; history = m.history })) m
+  by_begun : (b : Bool) → b ≡ true → world_of p ≡ opened_where b m
   by_begun true is = λ i. world_of (record { setup = setup i; history = history i })
   by_begun false is = cc
 
@@ -92,15 +100,13 @@ is_some (Some s) standby P none one before = cc
 
 pub set_up : (w s m next : World) (line : List ℕ) (reply : Reply) → w ≡ s → w.begun ≡ false → IsReplied s line reply m → next ≡ opened m → IsStoodBy w line reply next
 set_up w s m next line reply same before replied is = by_begun w.begun before where
-  by_begun : (b : Bool) → b ≡ false
-      → MatchBool b (standby.IsStandbyReplied w line reply next) ((answered : World) × IsReplied w line reply answered × (next ≡ opened answered))
+  by_begun : (b : Bool) → b ≡ false → StoodWhere b w line reply next
   by_begun false e = (m, rw same replied, is)
   by_begun true e = cc
 
 -- the reply to a line that is too long
 pub long_stood : (w : World) (line : List ℕ) → 65536 < length line → IsStoodBy w line replies.Long w
 long_stood w line long = by_begun w.begun refl where
-  by_begun : (begun : Bool) → w.begun ≡ begun
-      → MatchBool begun (standby.IsStandbyReplied w line replies.Long w) ((answered : World) × IsReplied w line replies.Long answered × (w ≡ opened answered))
+  by_begun : (begun : Bool) → w.begun ≡ begun → StoodWhere begun w line replies.Long w
   by_begun true is = inl (rw (lt-ltb 65536 (length line) long) (record { reply_is = refl; same = refl }))
   by_begun false is = (w, long_replied w line long, opened_still w is)

@@ -1,5 +1,5 @@
 -- What a run means, by what its words ask for.
-use Rattle.std.proofs.Common.{◌≡◌, ℕ, List, [], refl, sym, subst}
+use Rattle.std.proofs.Common.{◌≡◌, ℕ, List, [], sym, subst}
 use Rattle.std.specs.declared.option.Option.{Option}
 use Rattle.std.specs.Io.KnownBytes.{Appends}
 use Rattle.mt_args.specs.declared.task.Task.{Task}
@@ -9,14 +9,10 @@ use Rattle.mt_io.specs.declared.sink.Sink as Sink
 use Rattle.mt_io.proofs.HasRead.{told}
 use Rattle.mt_io.proofs.Known.{consumes_none}
 use Rattle.mt_lines.specs.Answering.{Explains}
-use Rattle.mt_lines.proofs.Answering.{explained_as, nothing}
+use Rattle.mt_lines.proofs.Answering.{explained_as}
 use Rattle.mt_top.specs.declared.status.Status.{Status}
-use Rattle.mt_top.specs.declared.status.Status.TheVariants.{Done, Usage, WriteFault, Memory}
-use Rattle.mt_top.specs.Load.{IsSummaryLine, LoadMeans}
-use Rattle.mt_top.specs.Private.Load.{SaysSummary}
 use Rattle.mt_top.specs.Serve.{Doorway}
-use Rattle.mt_top.specs.Run.{RunMeans, TaskMeans, UsageMeans, usage_line}
-use Rattle.mt_top.specs.Private.Run.{SaysUsage}
+use Rattle.mt_top.specs.Run.{RunMeans, TaskMeans}
 
 module _ {L : Type 0} (source : Source.Ghosts L) (sink : Sink.Ghosts L) (old new : Doorway L) (f g : ℕ) where
   -- what holds by what the words ask for
@@ -34,28 +30,8 @@ uncalled old new Means before after held held_after same explained =
     (λ input left written means. (means, same)) explained
 
 -- nothing was read, and these bytes were written
-wrote : (Means : List ℕ → List ℕ → List ℕ → Type 0) (before held held_after : Option (List ℕ)) (written : List ℕ) → Appends held held_after written
+pub wrote : (Means : List ℕ → List ℕ → List ℕ → Type 0) (before held held_after : Option (List ℕ)) (written : List ℕ) → Appends held held_after written
     → ((left : List ℕ) → Means left left written) → Explains Means before before held held_after
 wrote Means before held held_after written appended means =
     let (left, tells, tells_after, at_end) = told before before [] (consumes_none before) in
     record { input = left; left = left; written = written; told = tells; told_after = tells; appended = appended; means = means left }
-
--- words that are no command
-pub usage_explained : (status : Status) (before held held_after : Option (List ℕ)) → SaysUsage status held held_after
-    → Explains (UsageMeans status) before before held held_after
-usage_explained Usage before held held_after appended = wrote (UsageMeans Usage) before held held_after usage_line appended (λ left. (refl, refl))
-usage_explained WriteFault before held held_after (front, rest, line_is, appended) =
-    wrote (UsageMeans WriteFault) before held held_after front appended (λ left. (refl, (rest, line_is)))
-usage_explained status before held held_after none = absurd none
-
--- a load run
-pub summary_explained : (flights number : ℕ) (status : Status) (before held held_after : Option (List ℕ)) → SaysSummary flights number status held held_after
-    → Explains (LoadMeans flights number status) before before held held_after
-summary_explained flights number Done before held held_after (line, summed, appended) =
-    wrote (LoadMeans flights number Done) before held held_after line appended (λ left. (refl, summed))
-summary_explained flights number WriteFault before held held_after (line, summed, (front, rest, line_is, appended)) =
-    wrote (LoadMeans flights number WriteFault) before held held_after front appended
-    (λ left. (refl, (rest, subst (IsSummaryLine flights number) line_is summed)))
-summary_explained flights number Memory before held held_after same =
-    subst (λ (after : Option (List ℕ)). Explains (LoadMeans flights number Memory) before before held after) (sym same) (nothing before held)
-summary_explained flights number status before held held_after none = absurd none

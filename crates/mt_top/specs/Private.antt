@@ -1,7 +1,5 @@
 -- What no public contract names: invariants and relations of private steps.
 pub mod Lines
-pub mod Load
-pub mod Run
 pub mod Serve
 pub mod Standby
 pub mod Status

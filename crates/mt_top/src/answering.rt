@@ -1,5 +1,5 @@
 //! What answers lines, and a line of a script.
-ghost use Rattle.std.specs.Prelude.{◌≡◌, ◌<◌, ◌≤◌, ℕ, List, [], false, length};
+ghost use Rattle.std.specs.Prelude.{◌≡◌, ◌<◌, ◌≤◌, ℕ, List, [], IfOk, false, length};
 ghost use Rattle.std.specs.Thread.{IsSync};
 ghost use Rattle.mt_lines.specs.Fit.{IsFit};
 ghost use Rattle.mt_lines.specs.Given.{IsGivenFor, is_brief};
@@ -7,20 +7,25 @@ ghost use Rattle.mt_script.specs.Begun.{is_begin};
 ghost use Rattle.mt_top.specs.Script.{IsReplied};
 ghost use Rattle.mt_write.specs.declared.reply.Reply.{Reply};
 ghost use Rattle.mt_write.specs.declared.reply.Reply.TheVariants as replies;
-ghost use Rattle.mt_world.specs.World.{World};
+ghost use Rattle.mt_world.specs.World.{World, opening_world};
 
+use mt_base::Memory;
 use mt_script::Script;
 use mt_wire::{LineNo, Place, Reply, Scratch, read_line};
 use std::alloc::Global;
 use std::thread::Threads;
 
 /// What answers lines one by one, and is seen as the world that they leave.
-pub(crate) trait Answers: Drop {
+pub(crate) trait Answers: Drop + Sized {
     /// The world.
     ghost world: { Self → World };
 
     /// This reply is given to a line of a world, and leaves this world.
     ghost replied: { World → List ℕ → Reply → World → Type 0 };
+
+    /// It before the first line.
+    fn make(alloc: Global) -> Result<Self, Memory>
+        ensures { IfOk result (λ answers. world answers ≡ opening_world) };
 
     /// Whether the picture has begun.
     fn has_begun(&self) -> bool
@@ -51,6 +56,10 @@ impl Answers for Script {
     ghost world = { λ script. script };
 
     ghost replied = { IsReplied };
+
+    fn make(alloc: Global) -> Result<Self, Memory> {
+        Script::make(alloc)
+    }
 
     fn has_begun(&self) -> bool {
         Script::has_begun(self)

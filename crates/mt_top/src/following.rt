@@ -1,10 +1,9 @@
 //! A line of a standby: it sets the picture up, or the standby answers it.
-ghost use Rattle.std.specs.Prelude.{◌≡◌, ◌≤◌, [], IfOk, false, length};
+ghost use Rattle.std.specs.Prelude.{◌≡◌, ◌≤◌, [], false, length};
 ghost use Rattle.mt_lines.specs.Fit.{IsFit};
 ghost use Rattle.mt_script.specs.Begun.{is_begin};
-ghost use Rattle.mt_top.specs.Standby.{IsStoodBy, opened};
 ghost use Rattle.mt_top.specs.Private.Standby.{IsOneOf, world_shown};
-ghost use Rattle.mt_world.specs.World.{opening_world};
+ghost use Rattle.mt_top.specs.Standby.{IsStoodBy, opened};
 
 use crate::answering::{Answers, answer};
 use mt_base::Memory;
@@ -34,16 +33,6 @@ impl Model for Follower {
 }
 
 impl Follower {
-    /// It before the first line.
-    pub(crate) fn make(alloc: Global) -> Result<Follower, Memory>
-        ensures { IfOk result (λ follower. follower ≡ opening_world) }
-    {
-        Ok(Follower {
-            script: Some(Script::make(alloc)?),
-            standby: None,
-        })
-    }
-
     // Answers a line before the picture has begun. Where it begins the picture, the standby of that answers from then on.
     fn set_up<R: Threads + Sync>(
         &mut self,
@@ -90,6 +79,13 @@ impl Answers for Follower {
     ghost world = { λ follower. follower };
 
     ghost replied = { IsStoodBy };
+
+    fn make(alloc: Global) -> Result<Self, Memory> {
+        Ok(Follower {
+            script: Some(Script::make(alloc)?),
+            standby: None,
+        })
+    }
 
     fn has_begun(&self) -> bool {
         match &self.standby {

@@ -7,9 +7,7 @@ mod laws;
 mod lines;
 mod load;
 mod opening;
-mod replay;
 mod serving;
-mod standing;
 mod status;
 mod top_call;
 

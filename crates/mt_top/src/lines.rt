@@ -9,6 +9,7 @@ ghost use Rattle.mt_lines.specs.Answering.{Explains};
 ghost use Rattle.mt_lines.specs.Waiting.{LeavesWaiting};
 ghost use Rattle.mt_lines.specs.Waits.{waits};
 ghost use Rattle.mt_top.specs.Private.Lines.{LinesMean, LinesSoFar, Turned};
+ghost use Rattle.mt_top.specs.Run.{AnswersMean};
 ghost use Rattle.mt_top.specs.declared.status.Status.TheVariants.{ReadFault, WriteFault};
 ghost use Rattle.mt_world.specs.World.{opening_world, setup_of};
 
@@ -50,20 +51,40 @@ impl Lines<Script> {
 }
 
 impl<A: Answers> Lines<A> {
-    /// All memory that is taken before the first line, but for what answers them.
-    pub(crate) fn make(alloc: Global, script: A) -> Result<Lines<A>, Memory>
+    /// The lines before the first one: all memory is taken that is taken before it.
+    pub(crate) fn make(alloc: Global) -> Result<Lines<A>, Memory>
         ensures reader { IfOk result (λ lines. lines.reader ≡ fresh) }
-        ensures script { IfOk result (λ lines. lines.script ≡ script) }
+        ensures script { IfOk result (λ lines. A.world lines.script ≡ opening_world) }
         ensures room { IfOk result (λ lines. 65536 ≤ vec_capacity lines.room) }
         ensures waiting { IfOk result (λ lines. waits lines.waiting ≡ []) }
     {
         Ok(Lines {
             reader: LineReader::make(alloc)?,
             scratch: Scratch::new(alloc),
-            script,
+            script: A::make(alloc)?,
             room: Vec::with_capacity(alloc, ROOM)?,
             waiting: Waiting::make(alloc)?,
         })
+    }
+
+    /// Answers the lines of the input on the output, to its end or to the line that ends them.
+    pub(crate) fn answer_input<R: Threads + Sync, S: Source, K: Sink>(
+        rt: &R,
+        alloc: Global,
+        input: &mut S,
+        output: &mut K,
+    ) -> Status
+        requires sync { IsSync R.row }
+        ensures means { Explains (AnswersMean A.replied result) (S.left input.old) (S.left input.new) (K.held output.old) (K.held output.new) }
+        ensures read { result ≡ ReadFault → Rose (S.faults input.old) (S.faults input.new) }
+        ensures write { result ≡ WriteFault → Rose (K.faults output.old) (K.faults output.new) }
+        ensures reads { S.reads_to input.old input.new }
+        ensures writes { K.writes_to output.old output.new }
+    {
+        match Lines::<A>::make(alloc) {
+            Ok(mut lines) => lines.answer_all(rt, alloc, false, input, output),
+            Err(_) => Status::Memory,
+        }
     }
 
     /// Whether the picture has begun.
@@ -218,14 +239,4 @@ fn is_set_up<A: Answers>(until_begun: bool, script: &A) -> bool
     ensures { result ≡ until_begun && (A.world script.now).begun }
 {
     until_begun && script.has_begun()
-}
-
-/// The lines of a script before the first one: all memory is taken that is taken before it.
-pub(crate) fn script_lines(alloc: Global) -> Result<Lines<Script>, Memory>
-    ensures reader { IfOk result (λ lines. lines.reader ≡ fresh) }
-    ensures script { IfOk result (λ lines. lines.script ≡ opening_world) }
-    ensures room { IfOk result (λ lines. 65536 ≤ vec_capacity lines.room) }
-    ensures waiting { IfOk result (λ lines. waits lines.waiting ≡ []) }
-{
-    Lines::make(alloc, Script::make(alloc)?)
 }

@@ -1,8 +1,9 @@
 //! A large input, made and summed up.
-ghost use Rattle.std.specs.Prelude.{◌≡◌, ◌≤◌, IfOk};
+ghost use Rattle.std.specs.Prelude.{◌≡◌, ◌≤◌, ℕ, List, IfOk};
+ghost use Rattle.std.specs.declared.option.Option.{Option};
 ghost use Rattle.mt_io.specs.Causes.{Rose};
-ghost use Rattle.mt_top.specs.Load.{IsSummaryLine};
-ghost use Rattle.mt_top.specs.Private.Load.{SaysSummary};
+ghost use Rattle.mt_lines.specs.Answering.{Explains};
+ghost use Rattle.mt_top.specs.Load.{IsSummaryLine, LoadMeans};
 ghost use Rattle.mt_top.specs.declared.status.Status.TheVariants.{WriteFault};
 
 use crate::status::Status;
@@ -25,7 +26,7 @@ fn line<R: Threads + Sync>(
     write_summary(alloc, &mt_load::load(rt, alloc, flights, number)?)
 }
 
-/// Makes the load run of so many flights and a number, and writes its summary line.
+/// Makes the load run of so many flights and a number, and writes its summary line. No input is read, whatever it has left.
 pub(crate) fn load<R: Threads + Sync, K: Sink>(
     rt: &R,
     alloc: Global,
@@ -34,7 +35,7 @@ pub(crate) fn load<R: Threads + Sync, K: Sink>(
     output: &mut K,
 ) -> Status
     requires { (1 ≤ flights) × (flights ≤ 1024) }
-    ensures said { SaysSummary flights number result (K.held output.old) (K.held output.new) }
+    ensures means { (left : Option (List ℕ)) → Explains (LoadMeans flights number result) left left (K.held output.old) (K.held output.new) }
     ensures cause { result ≡ WriteFault → Rose (K.faults output.old) (K.faults output.new) }
     ensures writes { K.writes_to output.old output.new }
 {

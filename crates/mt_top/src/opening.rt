@@ -6,10 +6,11 @@ ghost use Rattle.mt_lines.specs.Answering.{Explains};
 ghost use Rattle.mt_top.specs.Opening.{BeginsPicture, OpeningMeans};
 ghost use Rattle.mt_top.specs.declared.status.Status.TheVariants.{ReadFault, WriteFault};
 
-use crate::lines::script_lines;
+use crate::lines::Lines;
 use crate::status::Status;
 use mt_io::{Sink, Source};
 use mt_picture::Picture;
+use mt_script::Script;
 use std::alloc::Global;
 use std::thread::Threads;
 
@@ -32,7 +33,7 @@ pub(crate) fn open<R: Threads + Sync, S: Source, K: Sink>(
     ensures writes { K.writes_to output.old output.new }
     ensures later { (S.faults input.old ≤ S.faults input.new) × (K.faults output.old ≤ K.faults output.new) }
 {
-    let Ok(mut lines) = script_lines(alloc) else {
+    let Ok(mut lines) = Lines::<Script>::make(alloc) else {
         return Err(Status::Memory);
     };
     let status = lines.answer_all(rt, alloc, true, input, output);

@@ -1,20 +1,21 @@
 //! The top call.
-ghost use Rattle.std.specs.Prelude.{◌≡◌};
+ghost use Rattle.std.specs.Prelude.{◌≡◌, ℕ, List};
+ghost use Rattle.std.specs.declared.option.Option.{Option};
 ghost use Rattle.std.specs.Thread.{IsSync};
 ghost use Rattle.mt_io.specs.Causes.{Rose};
 ghost use Rattle.mt_lines.specs.Answering.{Explains};
-ghost use Rattle.mt_top.specs.Run.{IsNoFault, RunMeans};
-ghost use Rattle.mt_top.specs.Private.Run.{SaysUsage};
+ghost use Rattle.mt_top.specs.Run.{IsNoFault, RunMeans, UsageMeans};
 ghost use Rattle.mt_top.specs.declared.status.Status.TheVariants.{DoorFault, ReadFault, WriteFault};
 
+use crate::following::Follower;
+use crate::lines::Lines;
 use crate::load::load;
-use crate::replay::replay;
 use crate::serving::serve;
-use crate::standing::stand_by;
 use crate::status::Status;
 use mt_args::{Task, read_words};
 use mt_base::Words;
 use mt_io::{Door, Gate, Sink, Source, put_all};
+use mt_script::Script;
 use std::alloc::Global;
 use std::sync::Wait;
 use std::thread::Threads;
@@ -63,8 +64,8 @@ pub fn run<R: Threads + Wait + Sync, S: Source, K: Sink, D: Door, G: Gate + Sync
         return usage(output);
     };
     match task {
-        Task::Replay => replay(rt, alloc, input, output),
-        Task::Standby => stand_by(rt, alloc, input, output),
+        Task::Replay => Lines::<Script>::answer_input(rt, alloc, input, output),
+        Task::Standby => Lines::<Follower>::answer_input(rt, alloc, input, output),
         Task::Load { flights, number } => load(rt, alloc, flights, number, output),
         Task::Serve {
             port,
@@ -76,14 +77,14 @@ pub fn run<R: Threads + Wait + Sync, S: Source, K: Sink, D: Door, G: Gate + Sync
     }
 }
 
-// Writes the usage line.
+// Writes the usage line. No input is read, whatever it has left.
 fn usage<K: Sink>(output: &mut K) -> Status
-    ensures said { SaysUsage result (K.held output.old) (K.held output.new) }
+    ensures means { (left : Option (List ℕ)) → Explains (UsageMeans result) left left (K.held output.old) (K.held output.new) }
     ensures cause { result ≡ WriteFault → Rose (K.faults output.old) (K.faults output.new) }
     ensures writes { K.writes_to output.old output.new }
 {
-    if put_all(output, USAGE).is_err() {
-        return Status::WriteFault;
+    match put_all(output, USAGE) {
+        Ok(()) => Status::Usage,
+        Err(_) => Status::WriteFault,
     }
-    Status::Usage
 }

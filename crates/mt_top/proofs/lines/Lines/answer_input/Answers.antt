@@ -1,9 +1,9 @@
 use Rattle.mt_top.proofs.Opened.{replayed, wanted}
-use Rattle.mt_top.specs.Standby.{IsStoodBy}
-use Rattle.mt_top.proofs.standing.stand_by.Goals as goal
+use Rattle.mt_top.proofs.lines.Lines.answer_input.Goals as goal
 
 pub returns-in-Ok-clause-means : goal.returns-in-Ok-clause-means
-returns-in-Ok-clause-means g c = replayed _ _ _ _ c.answer_all.new.self.script IsStoodBy c.answer_all.result c.answer_all.ensures.means
+returns-in-Ok-clause-means g c =
+    replayed _ _ _ _ (g.A.Answers.world c.answer_all.new.self.script) g.A.Answers.replied c.answer_all.result c.answer_all.ensures.means
 
 pub returns-in-Ok-clause-read : goal.returns-in-Ok-clause-read
 returns-in-Ok-clause-read g c = c.answer_all.ensures.read
@@ -13,7 +13,7 @@ returns-in-Ok-clause-write g c = c.answer_all.ensures.write
 
 -- memory wanted before the first line is told as that, not as a fault
 pub returns-in-Err-clause-means : goal.returns-in-Err-clause-means
-returns-in-Err-clause-means g c = wanted IsStoodBy _ _
+returns-in-Err-clause-means g c = wanted g.A.Answers.replied _ _
 
 pub returns-in-Err-clause-read : goal.returns-in-Err-clause-read
 returns-in-Err-clause-read g c = λ is. cc
