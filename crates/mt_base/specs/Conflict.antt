@@ -1,7 +1,8 @@
-use Rattle.std.specs.Prelude.{◌≡◌, ℕ, ◌<◌, ◌≤◌, Option, Some, None}
+use Rattle.std.specs.Prelude.{◌≡◌, ℕ, Option, Some}
 use Rattle.mt_base.specs.declared.row.Row.{Row}
 use Rattle.mt_base.specs.declared.rules.Rules.{Rules}
 use Rattle.mt_base.specs.Loss.{LosesIn}
+use Rattle.mt_base.specs.Span.{IsSpan, IsSpanOf}
 use Rattle.mt_base.specs.Trajectory.{Trajectory, row_at}
 
 -- Second k is a loss second of two trajectories: both cover it, and at some instant of it their rows lose separation.
@@ -12,14 +13,10 @@ pub record IsLossSecond (rules : Rules) (a b : Trajectory) (k : ℕ) : Type 0 wh
   pub right_is : row_at b k ≡ Some right
   pub loss : LosesIn rules a.rvsm b.rvsm left right
 
--- Of the seconds from `from` up to `to`, `first` is the least loss second and `last` the greatest.
-pub record IsSpanOfLoss (rules : Rules) (a b : Trajectory) (from to first last : ℕ) : Type 0 where
-  pub inside : (from ≤ first) × (first ≤ last) × (last < to)
-  pub first_is : IsLossSecond rules a b first
-  pub last_is : IsLossSecond rules a b last
-  pub none_outside : (k : ℕ) → from ≤ k → k < to → IsLossSecond rules a b k → (first ≤ k) × (k ≤ last)
+-- Of the seconds from one up to another, `first` is the least loss second and `last` the greatest.
+abbrev pub IsSpanOfLoss : Rules → Trajectory → Trajectory → ℕ → ℕ → ℕ → ℕ → Type 0
+IsSpanOfLoss rules a b = IsSpanOf (IsLossSecond rules a b)
 
 -- The conflict of two trajectories in a range of seconds: that span, or none where no second of the range is a loss second.
 abbrev pub IsConflict : Rules → Trajectory → Trajectory → ℕ → ℕ → Option (ℕ × ℕ) → Type 0
-IsConflict rules a b from to (Some span) = IsSpanOfLoss rules a b from to span.0 span.1
-IsConflict rules a b from to None = (k : ℕ) → from ≤ k → k < to → ¬ IsLossSecond rules a b k
+IsConflict rules a b = IsSpan (IsLossSecond rules a b)

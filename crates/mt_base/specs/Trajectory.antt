@@ -8,6 +8,10 @@ pub record Trajectory : Type 0 where
   pub rows : List Row
   pub rvsm : Bool
 
+-- The second before which every trajectory ends.
+abbrev pub horizon : ℕ
+horizon = 10014400
+
 -- the row of second k, where the trajectory covers it
 abbrev pub row_at : Trajectory → ℕ → Option Row
 row_at t k = if nat_lt k t.start then None else slice_get t.rows (k - t.start)

@@ -12,7 +12,8 @@ use Rattle.mt_edges.specs.declared.edge.Edge.{Edge}
 use Rattle.mt_edges.specs.Pairs.{HaveSameEnds, IsEach, touches}
 use Rattle.mt_base.proofs.OneConflict.{one_span}
 use Rattle.mt_kept.specs.declared.open_pair.OpenPair.{OpenPair}
-use Rattle.mt_kept.specs.Places.{at, horizon}
+use Rattle.mt_kept.specs.Places.{at}
+use Rattle.mt_base.specs.Trajectory.{horizon}
 use Rattle.mt_kept.specs.Losing.{IsPair, LoseSeparation, Touches}
 use Rattle.mt_kept.specs.Private.Losing.{AreKept}
 use Rattle.mt_kept.specs.Window.{IsOpen, edge_of}

@@ -13,7 +13,8 @@ use Rattle.mt_edges.specs.declared.edge.Edge.{Edge}
 use Rattle.mt_edges.specs.Pairs.{HaveSameEnds}
 use Rattle.mt_kept.specs.declared.finds.Candidate.{Candidate}
 use Rattle.mt_kept.specs.declared.open_pair.OpenPair.{OpenPair}
-use Rattle.mt_kept.specs.Places.{at, horizon, seen}
+use Rattle.mt_kept.specs.Places.{at, seen}
+use Rattle.mt_base.specs.Trajectory.{horizon}
 use Rattle.mt_kept.specs.Private.Made.{IsAddedAt, IsEdgeBetween, IsFind}
 use Rattle.mt_kept.specs.Finds.{AreCandidates, IsOfOtherFlight, IsRight, candidate_place}
 use Rattle.std.specs.List.Sorted.{IsStrictlyIncreasing}

@@ -10,7 +10,8 @@ use Rattle.mt_edges.specs.declared.edge.Edge.{Edge}
 use Rattle.mt_edges.specs.Pairs.{HaveSameEnds}
 use Rattle.mt_kept.specs.declared.finds.Candidate.{Candidate}
 use Rattle.mt_kept.specs.declared.open_pair.OpenPair.{OpenPair}
-use Rattle.mt_kept.specs.Places.{at, horizon, slot_of}
+use Rattle.mt_kept.specs.Places.{at, slot_of}
+use Rattle.mt_base.specs.Trajectory.{horizon}
 use Rattle.mt_kept.specs.Losing.{IsPair, Joins, Touches, TouchesSlot}
 use Rattle.mt_kept.specs.Window.{IsFoundOf, edge_of}
 use Rattle.mt_kept.specs.Finds.{Agree, AreCandidates, AreFindsOfSlot, AreFindsAt, IsOfOtherFlight, candidate_place}

@@ -10,7 +10,7 @@ use Rattle.mt_base.specs.Loss.{IsNearAt, LosesAt}
 use Rattle.mt_base.specs.Picture.{window_end}
 use Rattle.mt_base.specs.Trajectory.{Trajectory}
 use Rattle.mt_edges.specs.declared.edge.Edge.{Edge}
-use Rattle.mt_kept.specs.Places.{horizon}
+use Rattle.mt_base.specs.Trajectory.{horizon}
 use Rattle.mt_kept.specs.Window.{IsOpen, straddles}
 
 -- the loss of two rows at an instant, over plain numbers

@@ -10,7 +10,8 @@ use Rattle.mt_kept.specs.declared.finds.Verdict.{Verdict}
 use Rattle.mt_kept.specs.declared.finds.Verdict.TheVariants.{Unknown, Known}
 use Rattle.mt_kept.specs.declared.open_pair.OpenPair.{OpenPair}
 use Rattle.mt_kept.specs.Losing.{IsPair, Joins, LoseSeparation, Touches, TouchesSlot}
-use Rattle.mt_kept.specs.Places.{at, horizon, slot_of}
+use Rattle.mt_kept.specs.Places.{at, slot_of}
+use Rattle.mt_base.specs.Trajectory.{horizon}
 use Rattle.mt_kept.specs.Window.{IsOpen, ShowsInWindow, edge_of, is_straddling}
 
 -- what is known of two trajectories is right: it is their conflict over all seconds

@@ -4,7 +4,8 @@ use Rattle.mt_base.specs.declared.rules.Rules.{Rules}
 use Rattle.mt_base.specs.Conflict.{IsLossSecond, IsSpanOfLoss}
 use Rattle.mt_base.specs.Picture.{NamedTrajectory}
 use Rattle.mt_edges.specs.declared.edge.Edge.{Edge}
-use Rattle.mt_kept.specs.Places.{at, horizon, slot_of}
+use Rattle.mt_kept.specs.Places.{at, slot_of}
+use Rattle.mt_base.specs.Trajectory.{horizon}
 
 -- Two places have trajectories of different flights, and second k is a loss second of them.
 pub record LoseSeparation (rules : Rules) (places : List (Option NamedTrajectory)) (a b k : ℕ) : Type 0 where

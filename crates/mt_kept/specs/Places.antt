@@ -6,10 +6,6 @@ use Rattle.mt_base.specs.Picture.{NamedTrajectory}
 use Rattle.mt_track.specs.declared.roster.Item.{Item}
 use Rattle.mt_track.specs.Named.{named}
 
--- all seconds that a trajectory can cover lie before this one
-abbrev pub horizon : ℕ
-horizon = 10014400
-
 -- the trajectory of an item, where there is one
 abbrev pub seen : Option Item → Option NamedTrajectory
 seen place = option_map named place

@@ -7,7 +7,8 @@ ghost use Rattle.mt_base.specs.Picture.{NamedTrajectory};
 ghost use Rattle.mt_track.specs.Named.{named};
 ghost use Rattle.mt_kept.specs.Finds.{Agree, AreCandidates, AreFindsAt, IsOfOtherFlight, IsRight, cost, cost_of};
 ghost use Rattle.mt_kept.specs.Private.Made.{IsFindAdded, IsAddedAt, IsEdgeOf, IsKnownAs, tests_if_unknown};
-ghost use Rattle.mt_kept.specs.Places.{horizon, seen};
+ghost use Rattle.mt_kept.specs.Places.{seen};
+ghost use Rattle.mt_base.specs.Trajectory.{horizon};
 ghost use Rattle.mt_base.specs.Tally.{RoseUpTo, raised_by};
 ghost use Rattle.mt_kept.specs.Window.{IsFoundOf, IsOpen, straddles};
 

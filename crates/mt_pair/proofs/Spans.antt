@@ -25,18 +25,6 @@ loss_second rules a b k x y at_a at_b = (
   (λ loss. record { left = x; right = y; left_is = at_a; right_is = at_b; loss = loss }),
 )
 
--- a span of loss seconds is the conflict
-pub IsConflict-is : (rules : Rules) (a b : Trajectory) (from to : ℕ) (span : Option (ℕ × ℕ)) → IsSpan (IsLossSecond rules a b) from to span → IsConflict rules a b from to span
-IsConflict-is rules a b from to None none = none
-IsConflict-is rules a b from to (Some span) is =
-    record { inside = is.inside; first_is = is.first_is; last_is = is.last_is; none_outside = is.none_outside }
-
--- a conflict is such a span, too
-pub IsSpan-conflict : (rules : Rules) (a b : Trajectory) (from to : ℕ) (span : Option (ℕ × ℕ)) → IsConflict rules a b from to span → IsSpan (IsLossSecond rules a b) from to span
-IsSpan-conflict rules a b from to None none = none
-IsSpan-conflict rules a b from to (Some span) is =
-    record { inside = is.inside; first_is = is.first_is; last_is = is.last_is; none_outside = is.none_outside }
-
 -- the rows of a second, counted from a later row of each
 pub loses_after : (rules : Rules) (pa pb : Bool) (a b : Row) (s t from k : ℕ) → s ≤ from → t ≤ from → from ≤ k
     → LosesIn rules pa pb (row_after (row_after a (from - s)) (k - from)) (row_after (row_after b (from - t)) (k - from)) ↔ LosesIn rules pa pb (row_after a (k - s)) (row_after b (k - t))

@@ -18,7 +18,7 @@ use Rattle.mt_pair.specs.Private.Held.{BeginsBy}
 use Rattle.mt_base.specs.Span.{IsSpan}
 use Rattle.mt_base.specs.Private.Span.{joined}
 use Rattle.mt_base.proofs.Spans.{IsSpan-joined, IsSpan-same}
-use Rattle.mt_pair.proofs.Spans.{IsConflict-is, IsSpan-conflict, loss_second}
+use Rattle.mt_pair.proofs.Spans.{loss_second}
 
 -- what the code reads where a list has no such place
 abbrev pub blank : Segment
@@ -111,17 +111,14 @@ pub overlap_is : (rules : Rules) (a b : Trajectory) (from to : ℕ) (s t : Segme
     → ((k : ℕ) → from ≤ k → k < to → CoversSecond a k s) → ((k : ℕ) → from ≤ k → k < to → CoversSecond b k t)
     → IsSpan (λ k. LosesIn rules a.rvsm b.rvsm (row_after s.first (k - s.from)) (row_after t.first (k - t.from))) from to span → IsConflict rules a b from to span
 overlap_is rules a b from to s t span left right is =
-    IsConflict-is rules a b from to span
-    (IsSpan-same (λ k. LosesIn rules a.rvsm b.rvsm (row_after s.first (k - s.from)) (row_after t.first (k - t.from))) (IsLossSecond rules a b) from to span
+    IsSpan-same (λ k. LosesIn rules a.rvsm b.rvsm (row_after s.first (k - s.from)) (row_after t.first (k - t.from))) (IsLossSecond rules a b) from to span
     (λ k begun ahead.
     let same = loss_second rules a b k _ _ (left k begun ahead).row (right k begun ahead).row in
     (same.1, same.0))
-    is)
+    is
 
 -- one part more
 pub IsConflict-joined : (rules : Rules) (a b : Trajectory) (from middle to : ℕ) (span more : Option (ℕ × ℕ)) → from ≤ middle → middle ≤ to
     → IsConflict rules a b from middle span → IsConflict rules a b middle to more → IsConflict rules a b from to (joined span more)
 IsConflict-joined rules a b from middle to span more ordered longer is next =
-    IsConflict-is rules a b from to (joined span more)
-    (IsSpan-joined (IsLossSecond rules a b) from middle to span more ordered longer (IsSpan-conflict rules a b from middle span is)
-    (IsSpan-conflict rules a b middle to more next))
+    IsSpan-joined (IsLossSecond rules a b) from middle to span more ordered longer is next

@@ -15,7 +15,8 @@ use Rattle.mt_base.proofs.Members.{Contains-map_cases, distinct_append, distinct
 use Rattle.mt_cover.specs.Cells.{cover_of}
 use Rattle.mt_kept.specs.declared.finds.Candidate.{Candidate}
 use Rattle.mt_kept.specs.Finds.{candidate_place}
-use Rattle.mt_kept.specs.Places.{at, horizon}
+use Rattle.mt_kept.specs.Places.{at}
+use Rattle.mt_base.specs.Trajectory.{horizon}
 use Rattle.mt_kept.proofs.Gathering.{rising_once}
 use Rattle.mt_probe.specs.declared.flight.Flight.{Flight}
 use Rattle.mt_probe.specs.declared.flight.Made.{Made}

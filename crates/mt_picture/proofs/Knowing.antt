@@ -12,7 +12,8 @@ use Rattle.mt_base.specs.Trajectory.{Trajectory}
 use Rattle.mt_cover.specs.Cells.{cover_of}
 use Rattle.mt_kept.specs.declared.finds.Candidate.{Candidate}
 use Rattle.mt_kept.specs.Finds.{AreCandidates, IsRight}
-use Rattle.mt_kept.specs.Places.{at, horizon, slot_of}
+use Rattle.mt_kept.specs.Places.{at, slot_of}
+use Rattle.mt_base.specs.Trajectory.{horizon}
 use Rattle.mt_kept.proofs.Keeping.{halves}
 use Rattle.mt_probe.specs.declared.finding.Found.{Found}
 use Rattle.mt_probe.specs.declared.flight.Flight.{Flight}

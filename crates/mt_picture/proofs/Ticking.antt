@@ -14,7 +14,8 @@ use Rattle.mt_base.specs.Picture.{NamedTrajectory, State, trajectories}
 use Rattle.mt_base.specs.Tables.{Setup}
 use Rattle.mt_edges.specs.declared.edge.Edge.{Edge}
 use Rattle.mt_kept.specs.Losing.{IsPair}
-use Rattle.mt_kept.specs.Places.{at, horizon}
+use Rattle.mt_kept.specs.Places.{at}
+use Rattle.mt_base.specs.Trajectory.{horizon}
 use Rattle.mt_base.specs.Tally.{raised_by}
 use Rattle.mt_kept.specs.Window.{WasTestedOnce, is_straddling, straddles}
 use Rattle.mt_kept.proofs.Publishing.{before_or_after}

@@ -13,7 +13,7 @@ use Rattle.mt_base.specs.Picture.{NamedTrajectory, State, trajectories}
 use Rattle.mt_base.specs.Trajectory.{Trajectory}
 use Rattle.mt_cover.specs.declared.stays.Stay.{Stay}
 use Rattle.mt_cover.specs.Cells.{cover_of}
-use Rattle.mt_kept.specs.Places.{horizon}
+use Rattle.mt_base.specs.Trajectory.{horizon}
 use Rattle.mt_base.specs.Tally.{raised_by}
 use Rattle.mt_kept.specs.Window.{is_straddling}
 use Rattle.mt_probe.specs.Items.{Meet}

@@ -22,7 +22,7 @@ use Rattle.mt_track.specs.Laid.{IsStrand}
 use Rattle.mt_probe.specs.declared.flight.Flight.{Flight}
 use Rattle.mt_probe.specs.Private.Boxed.{AreMetItems, IsMetOf, slices_at, slices_by}
 use Rattle.mt_probe.specs.Items.{AreNearItems, IsNearItem, kind_at, other_at, other_of, others_among, path_of, stays_at, stays_by, stays_of_item}
-use Rattle.mt_probe.specs.Narrow.{all_end}
+use Rattle.mt_base.specs.Trajectory.{horizon}
 use Rattle.mt_probe.specs.Shot.{Shot, made_named}
 use Rattle.mt_probe.specs.Standing.{IsSoundShot}
 use Rattle.mt_probe.proofs.Nearby.{kept_by}
@@ -115,7 +115,7 @@ lost_within shot t met call other k sound laid is held loss =
     let meet = losing_meet rules t it.path k sound.rules laid it.laid (subst (λ (p : Trajectory). IsLossSecond rules t p k) path loss) in
     is.hull.none_outside k (subst (λ (s : Sliced). MeetAt rules (slices_of rules t) s k) (sym it.slices) meet)
 
-pub early : (shot : Shot) (t : Trajectory) (met : Met) → IsStrand t → IsMetOf shot (slices_of shot.setup.rules t) met → met.last < all_end
+pub early : (shot : Shot) (t : Trajectory) (met : Met) → IsStrand t → IsMetOf shot (slices_of shot.setup.rules t) met → met.last < horizon
 early shot t met laid is = let within = is.hull.last_is.left.within in omega (arith, within, laid.early)
 
 -- what is met is at a place
@@ -140,7 +140,7 @@ part_by_hull rules a b first last from to begin end (Some span) begin_is end_is 
 
 -- the conflict in these seconds is the whole conflict
 pub whole_by_hull : (rules : Rules) (a b : Trajectory) (first last : ℕ) (r : Option (ℕ × ℕ)) → ((k : ℕ) → IsLossSecond rules a b k → (first ≤ k) × (k ≤ last))
-    → last < all_end → IsConflict rules a b first (last + 1) r → IsConflict rules a b 0 all_end r
+    → last < horizon → IsConflict rules a b first (last + 1) r → IsConflict rules a b 0 horizon r
 whole_by_hull rules a b first last None inside ends none = λ k low high loss.
     let between = inside k loss in none k between.0 (omega (arith, between.1)) loss
 whole_by_hull rules a b first last (Some span) inside ends some = record {

@@ -18,7 +18,7 @@ use Rattle.mt_probe.specs.declared.finding.Found.{Found}
 use Rattle.mt_probe.specs.declared.flight.Flight.{Flight}
 use Rattle.mt_probe.specs.Finds.{AreFinds, AreDifferentFinds, AreOneEach, IsFound, IsFindListed, IsOfAnother}
 use Rattle.mt_probe.specs.Private.Finds.{AreCalledApart, FindsMore}
-use Rattle.mt_probe.specs.Narrow.{all_end}
+use Rattle.mt_base.specs.Trajectory.{horizon}
 use Rattle.mt_probe.specs.Shot.{Shot, flight_at, kept_of, made_named, records_in, state_in_shot}
 use Rattle.mt_probe.specs.Standing.{IsSoundShot}
 use Rattle.mt_base.proofs.Members.{All-from_held, Contains-cases, Contains-flat_map, Contains-flat_map_cases, Contains-none, distinct_append}
@@ -43,7 +43,7 @@ module _ (rules : Rules) (now : ℕ) (t : Trajectory) where
   none_more finds = record { kept = λ found held. held; exact = λ found held. inl held; listed = λ other held k ahead loss. absurd (Contains-none other held); once = λ others apart before. before }
 
   -- one that has no loss second adds nothing
-  pub quiet_more : (other : NamedTrajectory) (finds : List Found) → ((k : ℕ) → k < all_end → ¬ IsLossSecond rules t other.path k)
+  pub quiet_more : (other : NamedTrajectory) (finds : List Found) → ((k : ℕ) → k < horizon → ¬ IsLossSecond rules t other.path k)
       → FindsMore rules now t (other ∷ []) finds finds
   quiet_more other finds quiet = record {
     kept = λ found held. held;

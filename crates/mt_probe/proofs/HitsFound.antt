@@ -18,7 +18,7 @@ use Rattle.mt_base.specs.WhatIf.{AreHitsOf, IsHit, hit_cmp}
 use Rattle.mt_probe.specs.declared.finding.Found.{Found}
 use Rattle.mt_probe.specs.Finds.{AreFinds}
 use Rattle.mt_probe.specs.Private.Hits.{IsHitOfOne, hit_by, hit_of}
-use Rattle.mt_probe.specs.Narrow.{all_end}
+use Rattle.mt_base.specs.Trajectory.{horizon}
 use Rattle.mt_base.proofs.Members.{Contains-cases, Contains-flat_map, Contains-flat_map_cases, Contains-none}
 use Rattle.mt_probe.proofs.Spans.{one_conflict}
 
@@ -129,7 +129,7 @@ hits_found setup s call t finds hits early finds_are members sorted = record {
       let other : NamedTrajectory = record { call = is.flight.call; kind = Actual; path = trajectory_of setup is.flight.path } in
       let there = Contains-flat_map (trajectories_of setup) s.records is.flight other is.flies (0, omega arith, refl) in
       let ends = is.span.inside in
-      let before : hit.first < all_end = omega (arith, ends.1, ends.2) in
+      let before : hit.first < horizon = omega (arith, ends.1, ends.2) in
       let it = finds_are.complete other (record { there = there; apart = is.other }) hit.first before is.span.first_is in
       let window = one_conflict setup.rules t other.path s.now (window_end s.now) it.found.window (Some (hit.first, hit.last)) it.is.window is.span in
       record { found = it.found; held = it.held; is = hit_on it.found hit (record { kind_is = it.is.kind_is; with_is = is.with_is ∙ sym it.is.call_is; window_is = window }) }

@@ -6,13 +6,13 @@ use Rattle.mt_base.specs.Picture.{NamedTrajectory, State, trajectories, window_e
 use Rattle.mt_base.specs.Tables.{Setup}
 use Rattle.mt_base.specs.Trajectory.{Trajectory}
 use Rattle.mt_probe.specs.declared.finding.Found.{Found}
-use Rattle.mt_probe.specs.Narrow.{all_end}
+use Rattle.mt_base.specs.Trajectory.{horizon}
 
 -- What is found with another trajectory: its name, and its conflict with the new one over all seconds and in the window.
 pub record IsFound (rules : Rules) (now : ℕ) (t : Trajectory) (other : NamedTrajectory) (found : Found) : Type 0 where
   pub call_is : found.call ≡ other.call
   pub kind_is : found.kind ≡ other.kind
-  pub whole : IsConflict rules t other.path 0 all_end found.whole
+  pub whole : IsConflict rules t other.path 0 horizon found.whole
   pub window : IsConflict rules t other.path now (window_end now) found.window
 
 -- a trajectory of another flight
@@ -41,7 +41,7 @@ pub record IsFindListed (rules : Rules) (now : ℕ) (t : Trajectory) (finds : Li
 -- listed, once, and no other; each find is exact.
 pub record AreFinds (setup : Setup) (s : State) (call : List ℕ) (t : Trajectory) (finds : List Found) : Type 0 where
   pub exact : (found : Found) → Contains finds found → IsFoundOfAnother setup s call t found
-  pub complete : (other : NamedTrajectory) → IsOfAnother setup s call other → (k : ℕ) → k < all_end → IsLossSecond setup.rules t other.path k
+  pub complete : (other : NamedTrajectory) → IsOfAnother setup s call other → (k : ℕ) → k < horizon → IsLossSecond setup.rules t other.path k
       → IsFindListed setup.rules s.now t finds other
   pub once : AllPairs AreDifferentFinds finds
 

@@ -8,7 +8,7 @@ ghost use Rattle.mt_probe.specs.Private.Boxed.{IsMetOf};
 ghost use Rattle.mt_probe.specs.Finds.{AreFinds, IsFound};
 ghost use Rattle.mt_probe.specs.Private.Finds.{FindsMore};
 ghost use Rattle.mt_probe.specs.Items.{WasTestedNear, kind_at, other_at};
-ghost use Rattle.mt_probe.specs.Narrow.{all_end};
+ghost use Rattle.mt_base.specs.Trajectory.{horizon};
 ghost use Rattle.mt_probe.specs.Shot.{state_in_shot};
 
 use crate::narrow::narrowed;
@@ -46,7 +46,7 @@ fn in_window(
 ) -> Option<(Second, Second)>
     requires rules { AreWithinBounds rules.now }
     requires early { now ≤ 10000000 }
-    requires whole { IsConflict rules.now strand.now other.now 0 all_end whole }
+    requires whole { IsConflict rules.now strand.now other.now 0 horizon whole }
     ensures conflict { IsConflict rules.now strand.now other.now now (window_end now) result }
     ensures counted { tests.new ≤ tests.old + 1 }
 {
@@ -70,7 +70,7 @@ fn find_one(
 ) -> Found
     requires rules { AreWithinBounds rules.now }
     requires early { now ≤ 10000000 }
-    requires ends { last < all_end }
+    requires ends { last < horizon }
     requires within { (k : ℕ) → IsLossSecond rules.now strand.now other.now k → (first ≤ k) × (k ≤ last) }
     ensures found { IsFound rules.now now strand.now (record { call = call; kind = kind; path = other.now }) result }
     ensures counted { tests.new ≤ tests.old + 2 }

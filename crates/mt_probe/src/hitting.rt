@@ -9,7 +9,7 @@ ghost use Rattle.mt_cover.specs.Sliced.{slices_of};
 ghost use Rattle.mt_probe.specs.Private.Boxed.{IsMetOf};
 ghost use Rattle.mt_probe.specs.Private.Clear.{IsClearAt};
 ghost use Rattle.mt_probe.specs.Items.{kind_at};
-ghost use Rattle.mt_probe.specs.Narrow.{all_end};
+ghost use Rattle.mt_base.specs.Trajectory.{horizon};
 ghost use Rattle.mt_probe.specs.Shot.{state_in_shot};
 
 use crate::finding::kind_of;
@@ -30,7 +30,7 @@ fn met_in_window(
 ) -> Option<(Second, Second)>
     requires rules { AreWithinBounds rules.now }
     requires early { now ≤ 10000000 }
-    requires ends { met.last < all_end }
+    requires ends { met.last < horizon }
     requires within { (k : ℕ) → IsLossSecond rules.now strand.now other.now k → (met.first ≤ k) × (k ≤ met.last) }
     ensures { IsConflict rules.now strand.now other.now now (window_end now) result }
 {

@@ -16,7 +16,8 @@ use Rattle.mt_kept.specs.declared.finds.Verdict.TheVariants.{Unknown, Known}
 use Rattle.mt_kept.specs.declared.open_pair.OpenPair.{OpenPair}
 use Rattle.mt_kept.specs.Finds.{IsOfOtherFlight}
 use Rattle.mt_kept.specs.Private.Losing.{AvoidsSlot}
-use Rattle.mt_kept.specs.Places.{horizon, slot_of}
+use Rattle.mt_kept.specs.Places.{slot_of}
+use Rattle.mt_base.specs.Trajectory.{horizon}
 use Rattle.mt_base.specs.Tally.{raised_by}
 use Rattle.mt_kept.specs.Window.{IsFoundOf, IsOpen, edge_of, straddles}
 use Rattle.mt_kept.specs.Made.{is_open_pair}

@@ -10,7 +10,8 @@ use Rattle.mt_kept.specs.declared.finds.Candidate.{Candidate}
 use Rattle.mt_kept.specs.declared.finds.Verdict.{Verdict}
 use Rattle.mt_kept.specs.declared.finds.Verdict.TheVariants.{Known, Unknown}
 use Rattle.mt_kept.specs.Finds.{IsRight, candidate_place}
-use Rattle.mt_kept.specs.Places.{at, horizon}
+use Rattle.mt_kept.specs.Places.{at}
+use Rattle.mt_base.specs.Trajectory.{horizon}
 use Rattle.mt_probe.specs.declared.flight.Flight.{Flight}
 use Rattle.mt_probe.specs.declared.flight.Made.{Made}
 use Rattle.mt_probe.specs.Items.{IsNearItem, kind_at}

@@ -5,7 +5,7 @@ use Rattle.mt_base.specs.Conflict.{IsLossSecond}
 use Rattle.mt_base.specs.Picture.{NamedTrajectory}
 use Rattle.mt_base.specs.Trajectory.{Trajectory}
 use Rattle.mt_probe.specs.declared.finding.Found.{Found}
-use Rattle.mt_probe.specs.Narrow.{all_end}
+use Rattle.mt_base.specs.Trajectory.{horizon}
 use Rattle.mt_probe.specs.Finds.{AreDifferentFinds, IsFindListed, IsFound}
 
 -- and so are two trajectories
@@ -28,6 +28,6 @@ AreOfNone others finds = (found : Found) (other : NamedTrajectory) → Contains 
 pub record FindsMore (rules : Rules) (now : ℕ) (t : Trajectory) (others : List NamedTrajectory) (old new : List Found) : Type 0 where
   pub kept : (found : Found) → Contains old found → Contains new found
   pub exact : (found : Found) → Contains new found → Contains old found ⊎ IsFoundAmong rules now t others found
-  pub listed : (other : NamedTrajectory) → Contains others other → (k : ℕ) → k < all_end → IsLossSecond rules t other.path k
+  pub listed : (other : NamedTrajectory) → Contains others other → (k : ℕ) → k < horizon → IsLossSecond rules t other.path k
       → IsFindListed rules now t new other
   pub once : AllPairs AreCalledApart others → AreOfNone others old → AllPairs AreDifferentFinds old → AllPairs AreDifferentFinds new

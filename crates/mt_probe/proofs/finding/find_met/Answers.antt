@@ -3,7 +3,7 @@ use Rattle.std.proofs.lemmas.Result.{IfOk-weaker}
 use Rattle.mt_base.specs.Conflict.{IsConflict}
 use Rattle.mt_base.specs.Picture.{NamedTrajectory}
 use Rattle.mt_probe.specs.Private.Finds.{FindsMore}
-use Rattle.mt_probe.specs.Narrow.{all_end}
+use Rattle.mt_base.specs.Trajectory.{horizon}
 use Rattle.mt_probe.proofs.Gathered.{one_more, quiet_more}
 use Rattle.mt_base.proofs.Members.{Contains-head}
 use Rattle.mt_probe.proofs.Candidates.{early, lost_within}
@@ -27,7 +27,7 @@ pub returns-in-None-clause-found : goal.returns-in-None-clause-found
 returns-in-None-clause-found c =
     let shot = c.args.snapshot.now in
     let found = rw (c.rules-rules.ensures.rules, c.now-now.ensures.now) at c.find_one-found.ensures.found in
-    let quiet = subst (λ (whole : Option (ℕ × ℕ)). IsConflict shot.setup.rules c.args.strand.now c.in-Some-path.other.now 0 all_end whole) c.in-None.is found.whole in
+    let quiet = subst (λ (whole : Option (ℕ × ℕ)). IsConflict shot.setup.rules c.args.strand.now c.in-Some-path.other.now 0 horizon whole) c.in-None.is found.whole in
     subst (λ (others : List NamedTrajectory). FindsMore shot.setup.rules shot.now c.args.strand.now others c.args.finds.now c.args.finds.now)
     (sym (other_one shot.slots c.args.call c.args.met.item c.kind_of-kind.result c.in-Some.card.now c.in-Some-path.other.now c.kind_of-kind.ensures
     c.in-Some.ensures (sym c.eq.ensures ∙ c.if-eq.false) c.in-Some-path.ensures))
