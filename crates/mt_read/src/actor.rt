@@ -22,7 +22,7 @@ pub(crate) fn actor_kind(fields: &Fields, origin: Origin) -> Result<(), Fault>
 }
 
 /// The actor: in a script from 0 to 15 and by default 0, in an entry from 0 to 2^32 - 1; 0 where there is none.
-#[tactic(auto, unfolding(crate::specs::Field::count_within))]
+#[tactic(auto, unfolding(crate::specs::Private::Field::count_within))]
 pub(crate) fn actor(fields: &Fields, origin: Origin) -> Result<u32, Fault>
     ensures { result ≡ judged (who_bounds origin (members fields.now)) (who_in origin (members fields.now)) }
 {

@@ -18,7 +18,7 @@ use mt_json::Fields;
 use std::alloc::Global;
 
 /// `area`.
-#[tactic(auto, unfolding(crate::specs::Line::checked, crate::specs::Field::count_within))]
+#[tactic(auto, unfolding(crate::specs::Line::checked, crate::specs::Private::Field::count_within))]
 pub(crate) fn area_line(
     alloc: Global,
     fields: &Fields,

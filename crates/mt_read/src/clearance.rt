@@ -164,7 +164,7 @@ pub(crate) fn tentative_line(fields: &Fields, origin: Origin) -> Result<(u32, Co
 }
 
 // The number of a probe, which is at least 1.
-#[tactic(auto, unfolding(crate::specs::Field::within))]
+#[tactic(auto, unfolding(crate::specs::Private::Field::within))]
 fn probe_number(fields: &Fields) -> Result<u64, Fault>
     ensures { ReadsChecked result (check (bound key.Probe (pos 1) (pos (2 ^ 63 - 1)) (number key.Probe (members fields.now)))) (count key.Probe (members fields.now)) }
 {

@@ -27,7 +27,7 @@ pub(crate) fn drop_line(fields: &Fields, origin: Origin) -> Result<(u32, Command
 }
 
 /// `report`.
-#[tactic(auto, unfolding(crate::specs::Line::checked, crate::specs::Field::within))]
+#[tactic(auto, unfolding(crate::specs::Line::checked, crate::specs::Private::Field::within))]
 pub(crate) fn report_line(fields: &Fields, origin: Origin) -> Result<(u32, Command), Fault>
     ensures { result ≡ checked origin [] (change_layout change.Report) (members fields.now) }
 {
@@ -99,7 +99,7 @@ fn external_kinds(fields: &Fields, origin: Origin) -> Result<Filed, Fault>
 }
 
 // The values and gains of the first second, each within its bounds.
-#[tactic(auto, unfolding(crate::specs::Steps::row_steps))]
+#[tactic(auto, unfolding(crate::specs::Private::Steps::row_steps))]
 fn first_row(fields: &Fields) -> Result<Row, Fault>
     ensures { result ≡ row_steps (members fields.now) }
 {
@@ -140,7 +140,7 @@ fn row_at_end(row: &Row, seconds: u32) -> Result<(), Fault>
 }
 
 // The stretch, each number within its bounds, step by step.
-#[tactic(auto, unfolding(crate::specs::Steps::external_steps))]
+#[tactic(auto, unfolding(crate::specs::Private::Steps::external_steps))]
 fn external_steps(fields: &Fields, rvsm: bool) -> Result<Straight, Fault>
     ensures { result ≡ external_steps rvsm (members fields.now) }
 {

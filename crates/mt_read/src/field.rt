@@ -140,7 +140,7 @@ pub(crate) fn role(fields: &Fields, key: Key) -> Result<Role, Fault>
 }
 
 /// The number at a key, by default 0, from `low` to `high`.
-#[tactic(auto, unfolding(mt_base::specs::Checks::check, crate::specs::Field::within))]
+#[tactic(auto, unfolding(mt_base::specs::Checks::check, crate::specs::Private::Field::within))]
 pub(crate) fn within(fields: &Fields, key: Key, low: i64, high: i64) -> Result<i64, Fault>
     ensures exact { result ≡ within key low high (members fields.now) }
     ensures bounded { IfOk result (λ n. (low ≤ℤ n) × (n ≤ℤ high)) }
@@ -154,7 +154,7 @@ pub(crate) fn within(fields: &Fields, key: Key, low: i64, high: i64) -> Result<i
 }
 
 /// The number at a key, by default 0, from `low` to `high`, none of them below 0.
-#[tactic(auto, unfolding(crate::specs::Field::within, crate::specs::Field::count_within))]
+#[tactic(auto, unfolding(crate::specs::Private::Field::within, crate::specs::Private::Field::count_within))]
 pub(crate) fn count_within(fields: &Fields, key: Key, low: u32, high: u32) -> Result<u32, Fault>
     ensures exact { result ≡ count_within key low high (members fields.now) }
     ensures reads { ReadsChecked result (check (bound key (pos low) (pos high) (number key (members fields.now)))) (count key (members fields.now)) }

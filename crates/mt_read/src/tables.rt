@@ -17,7 +17,7 @@ use mt_json::Fields;
 use std::alloc::Global;
 
 /// `fix`.
-#[tactic(auto, unfolding(crate::specs::Line::checked, crate::specs::Field::within))]
+#[tactic(auto, unfolding(crate::specs::Line::checked, crate::specs::Private::Field::within))]
 pub(crate) fn fix_line(fields: &Fields, origin: Origin) -> Result<(u32, Request), Fault>
     ensures { result ≡ checked origin [] (layout_of word.Fix) (members fields.now) }
 {
