@@ -182,7 +182,7 @@ refused_replied s line a reply short is refusal =
     inl (rw (asked_as s line a short is, ← refusal) (record { reply_is = refl; next_is = refl }))
 
 pub unread_replied : (s : Session) (line : List ℕ) (refusal : LineNo) (reply : Reply) → length line ≤ 65536
-    → GivesReading {A = ℕ × Request} (Err refusal) (read_as (role_place s.role) usual_rules line) → Err reply ≡ or_reply (Err refusal) → IsRepliedTo s line reply s
+    → GivesReading {A = ℕ × Request} (Err refusal) (read_as (role_place s.role) usual_rules line) → Err reply ≡ or_reply {A = ℕ × Request} (Err refusal) → IsRepliedTo s line reply s
 unread_replied s line nos.Memory reply short is refusal =
     let memory : reply ≡ replies.Memory = cc in
     rw memory (inr (short, idle_starved s (asked_in_role s.role line) s (s.seat, looked_itself s.seat, refl)))

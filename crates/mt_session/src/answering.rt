@@ -1,10 +1,11 @@
 //! What a line is answered.
-ghost use Rattle.std.specs.Prelude.{◌≡◌, ◌⊎◌, ◌≤◌, length, Option, Some, Err};
+ghost use Rattle.std.specs.Prelude.{◌≡◌, ◌⊎◌, ◌≤◌, ℕ, length, Option, Some, Err};
 ghost use Rattle.std.specs.Thread.{IsSync};
 ghost use Rattle.mt_base.specs.Bounds.{IsAskedFor, IsBoundedCommand};
 ghost use Rattle.mt_base.specs.Rules.{usual_rules};
 ghost use Rattle.mt_lines.specs.Fit.{IsFit};
 ghost use Rattle.mt_read.specs.Bounded.{IsBoundedRequest};
+ghost use Rattle.mt_read.specs.declared.request.Request.{Request};
 ghost use Rattle.mt_read.specs.declared.request.Request.TheVariants.{Change};
 ghost use Rattle.mt_write.specs.declared.reply.Reply.TheVariants as replies;
 ghost use Rattle.mt_session.specs.Following.{job_if, job_of};
@@ -27,7 +28,7 @@ use std::thread::Threads;
 
 // The refusal of a line, as a reply.
 fn unread(no: LineNo) -> Reply
-    ensures reply { Err result ≡ or_reply (Err no) }
+    ensures reply { Err result ≡ or_reply {A = ℕ × Request} (Err no) }
     ensures fit { IsFit result }
 {
     match no {
