@@ -1,5 +1,5 @@
 -- What a run means, by what its words ask for.
-use Rattle.std.proofs.Common.{◌≡◌, ℕ, List, [], sym, subst}
+use Rattle.std.proofs.Common.{◌≡◌, ℕ, List, [], None, refl, sym, subst}
 use Rattle.std.specs.declared.option.Option.{Option}
 use Rattle.std.specs.Io.KnownBytes.{Appends}
 use Rattle.mt_args.specs.declared.task.Task.{Task}
@@ -11,8 +11,9 @@ use Rattle.mt_io.proofs.Known.{consumes_none}
 use Rattle.mt_lines.specs.Answering.{Explains}
 use Rattle.mt_lines.proofs.Answering.{explained_as}
 use Rattle.mt_top.specs.declared.status.Status.{Status}
+use Rattle.mt_top.specs.declared.status.Status.TheVariants.{Done, Usage, Setup, ReadFault, WriteFault, DoorFault, Spent, Memory}
 use Rattle.mt_top.specs.Serve.{Doorway}
-use Rattle.mt_top.specs.Run.{RunMeans, TaskMeans}
+use Rattle.mt_top.specs.Run.{IsNoFault, RunMeans, TaskMeans}
 
 module _ {L : Type 0} (source : Source.Ghosts L) (sink : Sink.Ghosts L) (old new : Doorway L) (f g : ℕ) where
   -- what holds by what the words ask for
@@ -35,3 +36,20 @@ pub wrote : (Means : List ℕ → List ℕ → List ℕ → Type 0) (before held
 wrote Means before held held_after written appended means =
     let (left, tells, tells_after, at_end) = told before before [] (consumes_none before) in
     record { input = left; left = left; written = written; told = tells; told_after = tells; appended = appended; means = means left }
+
+-- Whatever the input has left, a status means what no bytes can: it isn't the status.
+pub refuted : (Means : Status → List ℕ → List ℕ → List ℕ → Type 0) (status other : Status) (held held_after : Option (List ℕ))
+    → ((input left written : List ℕ) → ¬ Means other input left written) → ((left : Option (List ℕ)) → Explains (Means status) left left held held_after) → ¬ (status ≡ other)
+refuted Means status other held held_after never means is =
+    let e = subst (λ (s : Status). Explains (Means s) None None held held_after) is (means None) in never e.input e.left e.written e.means
+
+-- where no fault can be the status, none is
+pub faultless : (status : Status) → ¬ (status ≡ ReadFault) → ¬ (status ≡ WriteFault) → ¬ (status ≡ DoorFault) → IsNoFault status
+faultless ReadFault read write door = absurd (read refl)
+faultless WriteFault read write door = absurd (write refl)
+faultless DoorFault read write door = absurd (door refl)
+faultless Done read write door = tt
+faultless Usage read write door = tt
+faultless Setup read write door = tt
+faultless Spent read write door = tt
+faultless Memory read write door = tt

@@ -1,4 +1,4 @@
-use Rattle.std.proofs.Common.{refl, subst}
+use Rattle.std.proofs.Common.{refl, subst, sym, ◌∙◌}
 use Rattle.mt_lines.proofs.Answering.{nothing}
 use Rattle.mt_top.specs.Load.{IsSummaryLine, LoadMeans}
 use Rattle.mt_top.specs.declared.status.Status.TheVariants.{Done, WriteFault}
@@ -10,10 +10,11 @@ returns-in_default-clause-means g c = λ left. nothing left _
 
 pub returns-in-Ok-put_all-clause-means : goal.returns-in-Ok-put_all-clause-means
 returns-in-Ok-put_all-clause-means g c =
-    λ left. wrote (LoadMeans c.args.flights c.args.number Done) left _ _ c.in-Ok.line.items c.in-Ok-put_all.ensures.ok (λ input. (refl, c.in-Ok.ensures))
+    let summed = subst (IsSummaryLine c.args.flights c.args.number) (sym c.deref.ensures.value) c.in-Ok.ensures in
+    λ left. wrote (LoadMeans c.args.flights c.args.number Done) left _ _ c.deref.result.now c.in-Ok-put_all.ensures.ok (λ input. (refl, summed))
 
-pub returns-in-Err-clause-means : goal.returns-in-Err-clause-means
-returns-in-Err-clause-means g c =
+pub returns-clause-means : goal.returns-clause-means
+returns-clause-means g c =
     let (front, rest, line_is, appended) = c.in-Err.ensures.err in
     λ left. wrote (LoadMeans c.args.flights c.args.number WriteFault) left _ _ front appended
-    (λ input. (refl, (rest, subst (IsSummaryLine c.args.flights c.args.number) line_is c.in-Ok.ensures)))
+    (λ input. (refl, (rest, subst (IsSummaryLine c.args.flights c.args.number) (sym c.deref.ensures.value ∙ line_is) c.in-Ok.ensures)))
