@@ -12,7 +12,7 @@ use mt_base::{Command, Conflicts, Entered, Entries, Entry, Memory, Tally};
 use mt_board::No;
 use mt_picture::Picture;
 use mt_probe::{Prep, Snapshot};
-use mt_turn::Kept;
+use mt_turn::Recorded;
 use std::alloc::Global;
 use std::marker::Model;
 
@@ -34,7 +34,7 @@ impl Model for Legal {
     ghost invariant = { λ l. IsLegalStory l.picture };
 }
 
-impl Kept for Legal {
+impl Recorded for Legal {
     type Entry = Entry;
 
     type Fixed = Fixed;

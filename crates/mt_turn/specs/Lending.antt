@@ -7,7 +7,8 @@ use Rattle.mt_turn.specs.declared.view.Joined.{Joined}
 use Rattle.mt_turn.specs.declared.view.View.{View}
 use Rattle.mt_turn.specs.Views.{entries_of, Extends}
 
--- The value x is lent to a seat that knows v: its history begins with all that the seat has seen and has nothing later of the seat's number, and its plain data is the seat's
+-- The value x is lent to a seat that knows v: its history begins with all that the seat has seen and has nothing later of the seat's number,
+-- and its plain data is the seat's
 pub record Lent {E F S : Type 0} (history : S → List E) (number : E → ℕ) (fixed : S → F) (v : View E F) (x : S) : Type 0 where
   pub begins : (later : List E) × (history x ≡ v.seen ++ later) × (entries_of number v.number later ≡ [])
   pub mine : entries_of number v.number (history x) ≡ v.mine
@@ -27,7 +28,8 @@ Grows {E} number n lent log = (log ≡ lent) ⊎ ((e : E) × (number e ≡ n) ×
 abbrev pub AreViewsOfOneSeat : {E F : Type 0} → View E F → View E F → Type 0
 AreViewsOfOneSeat v w = (w.number ≡ v.number) × (w.gave ≡ v.gave) × (w.joined ≡ v.joined) × (w.fixed ≡ v.fixed)
 
--- A seat that knew v leaves the history `log`, where it was lent `lent`, and knows w: it has seen all of `log`, and its own entries grew by the one that was added, or by none
+-- A seat that knew v leaves the history `log`, where it was lent `lent`, and knows w: it has seen all of `log`, and its own entries grew by
+-- the one that was added, or by none
 pub record Left {E F : Type 0} (number : E → ℕ) (v : View E F) (lent log : List E) (w : View E F) : Type 0 where
   pub seen : w.seen ≡ log
   pub begins : Extends v.seen log
@@ -47,7 +49,8 @@ HaveOwnNumbers {E} joined = (i j : ℕ) (a b : Joined E) → get_elem? joined i 
 abbrev pub AllJoined : {E F : Type 0} → View E F → Type 0
 AllJoined v = (n : ℕ) → Contains v.gave n → IsJoined v.joined n
 
--- The history at the end, where the first seat knows v: it begins with what each seat has seen, each seat's entries are its own, no two seats had one number, and there are no others
+-- The history at the end, where the first seat knows v: it begins with what each seat has seen, each seat's entries are its own, no two seats
+-- had one number, and there are no others
 pub record ClosesHistory {E F : Type 0} (number : E → ℕ) (v : View E F) (log : List E) : Type 0 where
   pub begins : Extends v.seen log
   pub mine : entries_of number 0 log ≡ v.mine

@@ -5,7 +5,7 @@ ghost use Rattle.mt_turn.specs.Views.{first_view, with_phase, giver, newcomer, t
 ghost use Rattle.mt_turn.specs.Lending.{HasTurn, Lent, Grows, Left, AllJoined, ClosesHistory};
 
 use crate::held::Held;
-use crate::kept::Kept;
+use crate::recorded::Recorded;
 use crate::seat::{Seat, Turn};
 use crate::turn_table::TurnTable;
 use mt_memory::Memory;
@@ -13,7 +13,7 @@ use std::alloc::Global;
 use std::snapshot::Snapshot;
 use std::sync::Wait;
 
-impl<T: Kept> Seat<T> {
+impl<T: Recorded> Seat<T> {
     /// 0 for the first seat, and else the number that the split gave.
     pub fn number(&self) -> u32
         ensures { result ≡ self.now.view.number }
@@ -22,7 +22,7 @@ impl<T: Kept> Seat<T> {
     }
 }
 
-impl<T: Kept> Turn<T> {
+impl<T: Recorded> Turn<T> {
     /// A turn over a value with no entry yet, and its first seat, which has the number 0 and has seen nothing.
     ///
     /// `first_view` says what the seat knows. The one error is want of memory, and the value comes back with it.
@@ -70,8 +70,8 @@ impl<T: Kept> Turn<T> {
 
     /// Waits for the turn, and lends the value. What is said holds if it returns.
     ///
-    /// `Lent` says how the value stands to what the seat knows: its history begins with what the seat has seen, and no later entry has the seat's number.
-    /// While another seat has the turn the thread sleeps. No clause says that the turn comes.
+    /// `Lent` says how the value stands to what the seat knows: its history begins with what the seat has seen, and no later entry has the
+    /// seat's number. While another seat has the turn the thread sleeps. No clause says that the turn comes.
     pub fn enter<R: Wait>(&self, rt: &R, seat: &mut Seat<T>) -> Held<T>
         requires own { seat.old.home ≡ self.now }
         requires idle { seat.old.view.phase ≡ Idle }

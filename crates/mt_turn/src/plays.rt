@@ -3,7 +3,7 @@ ghost use Rattle.mt_turn.specs.Private.Steps.{Draws, Looks, SeesHistory, HandsOn
 ghost use Rattle.mt_turn.specs.Views.{giver, newcomer, taker};
 ghost use Rattle.mt_turn.specs.Private.Views.{spent};
 
-use crate::kept::Kept;
+use crate::recorded::Recorded;
 use crate::view::View;
 use atomic_table::{Join, Play, Split};
 use std::marker::PhantomData;
@@ -20,7 +20,7 @@ pub(crate) struct Look<T> {
     value: PhantomData<T>,
 }
 
-impl<T: Kept> Play<Option<T>, View<T::Entry, T::Fixed>> for Look<T> {
+impl<T: Recorded> Play<Option<T>, View<T::Entry, T::Fixed>> for Look<T> {
     ghost then = { λ _. Looks T.history T.number T.fixed };
 }
 
@@ -29,7 +29,7 @@ pub(crate) struct Count<T> {
     value: PhantomData<T>,
 }
 
-impl<T: Kept> Play<Option<T>, View<T::Entry, T::Fixed>> for Count<T> {
+impl<T: Recorded> Play<Option<T>, View<T::Entry, T::Fixed>> for Count<T> {
     ghost then = { λ _. SeesHistory T.history T.number };
 }
 

@@ -2,7 +2,7 @@
 ghost use Rattle.std.specs.Prelude.{◌≡◌};
 ghost use Rattle.mt_turn.specs.Private.Views.{carried_of};
 
-use crate::kept::Kept;
+use crate::recorded::Recorded;
 use crate::turn_table::{Token, TurnTable};
 use std::marker::Model;
 
@@ -10,12 +10,12 @@ use std::marker::Model;
 ///
 /// Contracts see it as a `Place`: the turn that it is of, its `home`, and what it knows, its `view`.
 /// Outside of a turn its phase is `Idle`. A seat that is dropped while it has the turn stops all others.
-pub struct Seat<T: Kept> {
+pub struct Seat<T: Recorded> {
     pub(crate) token: Token<T>,
     pub(crate) number: u32,
 }
 
-impl<T: Kept> Model for Seat<T> {
+impl<T: Recorded> Model for Seat<T> {
     ghost use Rattle.std.specs.Prelude.{◌≡◌};
     ghost use Rattle.mt_turn.specs.Places.{Place};
     ghost use Rattle.mt_turn.specs.Private.Views.{carried_of};
@@ -27,7 +27,7 @@ impl<T: Kept> Model for Seat<T> {
     ghost invariant = { λ s. (s.number ≡ s.token.me.0.number) × (s.token.me.1 ≡ carried_of s.token.me.0.phase) };
 }
 
-impl<T: Kept> Seat<T> {
+impl<T: Recorded> Seat<T> {
     pub(crate) fn into_token(self) -> Token<T>
         ensures own { result.table_id ≡ self.home }
         ensures view { result.me.0 ≡ self.view }
@@ -38,7 +38,7 @@ impl<T: Kept> Seat<T> {
     }
 }
 
-impl<T: Kept> Drop for Seat<T> {
+impl<T: Recorded> Drop for Seat<T> {
     fn drop(self) {
         let Self {
             token: _,
@@ -49,11 +49,11 @@ impl<T: Kept> Drop for Seat<T> {
 
 /// One value behind a turn. Contracts see it as the name that its seats have as their `home`.
 #[derive(Drop)]
-pub struct Turn<T: Kept> {
+pub struct Turn<T: Recorded> {
     pub(crate) inner: TurnTable<T>,
 }
 
-impl<T: Kept> Model for Turn<T> {
+impl<T: Recorded> Model for Turn<T> {
     ghost use Rattle.atomic_table.specs.Seated.{TableId};
 
     ghost Value = { TableId };

@@ -5,8 +5,8 @@ ghost use Rattle.mt_turn.specs.declared.view.Phase.TheVariants.{Idle, Waits, Hol
 ghost use Rattle.mt_turn.specs.Views.{first_view, with_phase, giver, newcomer, taker, up_to};
 ghost use Rattle.mt_turn.specs.Lending.{HasTurn, Lent, Grows, Left, AllJoined, ClosesHistory};
 
-use crate::kept::Kept;
 use crate::plays::{Count, Cut, Draw, Glue, Look, Number, Pass};
+use crate::recorded::Recorded;
 use crate::rule::Rule;
 use crate::view::View;
 use atomic_table::{Refused, Table};
@@ -21,7 +21,7 @@ use std::sync::atomic::{AtomicU64, Ordering};
 /// A seat of the table behind a turn.
 pub(crate) type Token<T> = atomic_table::Seat<
     Option<T>,
-    View<<T as Kept>::Entry, <T as Kept>::Fixed>,
+    View<<T as Recorded>::Entry, <T as Recorded>::Fixed>,
 >;
 
 /// The word with the remainder of the next ticket.
@@ -52,17 +52,18 @@ fn bed_of(ticket: u64) -> usize
     ((ticket % 8) * 8 + (ticket / 8) % 8) as usize
 }
 
-/// What a thread with this ticket writes into its word before it sleeps. It isn't 0, and tickets that are out at one time and have one word have different marks.
+/// What a thread with this ticket writes into its word before it sleeps. It isn't 0, and tickets that are out at one time and have one word
+/// have different marks.
 fn mark_of(ticket: u64) -> u64 {
     (ticket / 64) % 0x4000_0000 * 2 + 1
 }
 
 /// The table behind a turn: four words, and a slot with the value. Beside it are the words to sleep on, of which no clause speaks.
 #[derive(Drop)]
-pub(crate) struct TurnTable<T: Kept> {
+pub(crate) struct TurnTable<T: Recorded> {
     pub(crate) table: Table<
         Option<T>,
-        View<<T as Kept>::Entry, <T as Kept>::Fixed>,
+        View<<T as Recorded>::Entry, <T as Recorded>::Fixed>,
         Snapshot<T>,
         Rule<T>,
         Global,
@@ -71,7 +72,7 @@ pub(crate) struct TurnTable<T: Kept> {
     ghost counts: { (table.shared.table_id.words ≡ 4) × (table.shared.table_id.slots ≡ 1) },
 }
 
-impl<T: Kept> TurnTable<T> {
+impl<T: Recorded> TurnTable<T> {
     pub(crate) fn open(alloc: Global, value: T) -> Result<(TurnTable<T>, Token<T>), (T, Memory)>
         requires empty { T.history value ≡ [] }
         ensures ok { IfOk result (λ r. (r.1.table_id ≡ r.0.table.shared.table_id) × (r.1.me ≡ (first_view (T.fixed value), []))) }
@@ -139,7 +140,8 @@ impl<T: Kept> TurnTable<T> {
 
     /// Looks until the ticket is the one being served, and takes the value.
     ///
-    /// After some looks that find another ticket it marks its word, looks once more, and sleeps while the word has its mark. So no wake is lost: who passes the turn on after that look finds a mark, or the word was cleared after the mark was written.
+    /// After some looks that find another ticket it marks its word, looks once more, and sleeps while the word has its mark. So no wake is
+    /// lost: who passes the turn on after that look finds a mark, or the word was cleared after the mark was written.
     fn wait<R: Wait>(&self, rt: &R, token: &mut Token<T>, ticket: u64) -> T
         requires own { token.old.table_id ≡ self.now.table.shared.table_id }
         requires waits { (t : ℕ) × (t % 2 ^ 64 ≡ ticket) × (token.old.me.0.phase ≡ Waits t) }

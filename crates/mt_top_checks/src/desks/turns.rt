@@ -3,7 +3,7 @@ ghost use Rattle.std.specs.Prelude.{◌≡◌, ◌+◌, ◌^◌, ◌≤◌, [], 
 ghost use Rattle.mt_turn.specs.declared.view.Phase.TheVariants.{Idle};
 ghost use Rattle.mt_turn.specs.Lending.{AreViewsOfOneSeat};
 
-use mt_turn::{Kept, Seat, Turn};
+use mt_turn::{Recorded, Seat, Turn};
 use std::process::Abort;
 use std::sync::Wait;
 use std::thread::{Threads, join};
@@ -20,7 +20,7 @@ struct Register {
     entries: Vec<Entry>,
 }
 
-impl Kept for Register {
+impl Recorded for Register {
     type Entry = Entry;
 
     type Fixed = ();

@@ -12,8 +12,8 @@ use std::alloc::Global;
 use std::process::Abort;
 use std::thread::Threads;
 
-// Two plans, one far north of the other and not approved for RVSM, and an external flight that comes towards the first, one flight level above it. The first is marked
-// to climb there.
+// Two plans, one far north of the other and not approved for RVSM, and an external flight that comes towards the first, one flight level
+// above it. The first is marked to climb there.
 const MARKED: &str =
     r#"{"at":0,"call":"DDD1","do":"plan","from":350,"level":350,"route":["Q0","Q1"],"rvsm":true,"type":"JA1","who":0}
 {"at":0,"call":"III1","do":"plan","from":350,"level":350,"route":["Q2","Q3"],"rvsm":false,"type":"JA1","who":0}

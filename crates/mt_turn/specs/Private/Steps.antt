@@ -1,5 +1,6 @@
 -- No public contract names these: they are of private steps and of proofs.
--- What each step of a turn tells the seat that makes it. `m` is the seat before, `r` the word that was found, and `m'` the seat after: what it knows, and the slot that it has.
+-- What each step of a turn tells the seat that makes it. `m` is the seat before, `r` the word that was found, and `m'` the seat after: what
+-- it knows, and the slot that it has.
 use Rattle.std.specs.Prelude.{◌≡◌, ◌≢◌, ℕ, ◌+◌, ◌%◌, ◌^◌, List, [], ◌∷◌, length, Option, Some}
 use Rattle.atomic_table.specs.Table.{Me, rest}
 use Rattle.mt_turn.specs.declared.view.Phase.TheVariants.{Idle, Splits, Waits, Holds, Counted}

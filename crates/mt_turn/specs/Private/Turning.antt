@@ -1,6 +1,7 @@
 -- No public contract names these: they are of private steps and of proofs.
 -- The rule of a turn: what holds of its words, its slot and what its seats know, at every moment.
--- The words are the next ticket, the ticket being served, the count of entries, and the next seat's number. The slot has the value, or is out with the seat being served.
+-- The words are the next ticket, the ticket being served, the count of entries, and the next seat's number. The slot has the value, or is out
+-- with the seat being served.
 use Rattle.std.specs.Prelude.{◌≡◌, ℕ, ◌+◌, ◌%◌, ◌^◌, ◌<◌, ◌≤◌, ◌⊎◌, List, [], ◌∷◌, length, Contains, Option, Some}
 use mathlib.Core.Option.{some, none}
 use lib.ListN.{get_elem?}
@@ -41,7 +42,8 @@ module _ {E : Type 0} where
   numbers_drawn (Splits n) = 1
   numbers_drawn _ = 0
 
-  -- what is true of a phase, where the history is `log`, the tickets from `served` on and below `next` are out, there are `seats` seats, and the seat has seen `seen`
+  -- what is true of a phase, where the history is `log`, the tickets from `served` on and below `next` are out, there are `seats` seats, and
+  -- the seat has seen `seen`
   abbrev pub IsInPhase : List E → ℕ → ℕ → ℕ → List E → Phase E → Type 0
   IsInPhase log served next seats seen (Splits n) = n ≡ seats
   IsInPhase log served next seats seen (Waits t) = (served ≤ t) × (t < next)

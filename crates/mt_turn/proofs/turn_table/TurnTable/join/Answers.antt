@@ -8,5 +8,5 @@ join_seat-requires g c = (
   search rules,
   search rules,
   search rules,
-  joins g.T.Kept.history g.T.Kept.number g.T.Kept.fixed (g.T.Kept.fixed c.args.self.now.table.shared.key.value) _ _ _ _ c.requires.idle.0 c.requires.first c.requires.idle.1,
+  joins g.T.Recorded.history g.T.Recorded.number g.T.Recorded.fixed (g.T.Recorded.fixed c.args.self.now.table.shared.key.value) _ _ _ _ c.requires.idle.0 c.requires.first c.requires.idle.1,
 )

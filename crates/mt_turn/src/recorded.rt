@@ -4,7 +4,7 @@ ghost use Rattle.std.specs.Prelude.{◌≡◌, ℕ, List, length};
 /// A value with a history that only grows, and with plain data that never changes.
 ///
 /// A turn knows nothing else of the value: not what an entry is, nor what the plain data says.
-pub trait Kept {
+pub trait Recorded {
     /// An entry of the history.
     type Entry;
 
