@@ -9,8 +9,8 @@ use Rattle.mt_base.specs.Picture.{NamedTrajectory}
 use Rattle.mt_edges.specs.declared.edge.Edge.{Edge}
 use Rattle.mt_base.proofs.Tallies.{raised_by-add, sum_by-push}
 use Rattle.mt_kept.specs.declared.finds.Candidate.{Candidate}
-use Rattle.mt_kept.specs.declared.finds.Verdict.{Verdict}
-use Rattle.mt_kept.specs.declared.finds.Verdict.TheVariants.{Unknown, Known}
+use Rattle.mt_kept.specs.declared.finds.Knowledge.{Knowledge}
+use Rattle.mt_kept.specs.declared.finds.Knowledge.TheVariants.{Unknown, Known}
 use Rattle.mt_kept.specs.Places.{at}
 use Rattle.mt_kept.specs.Window.{straddles}
 use Rattle.mt_kept.specs.Private.Made.{IsKnownAs, tests_if_unknown}
@@ -26,7 +26,7 @@ at_most_one : (b : Bool) → cond b 1 0 ≤ 1
 at_most_one true = omega arith
 at_most_one false = omega arith
 
-pub cost_both : (now : ℕ) (v : Verdict) (span : ℕ × ℕ) (e : Edge) (old mid new : ℕ) → e.first ≡ span.0 → e.last ≡ span.1 → IsKnownAs v (Some span)
+pub cost_both : (now : ℕ) (v : Knowledge) (span : ℕ × ℕ) (e : Edge) (old mid new : ℕ) → e.first ≡ span.0 → e.last ≡ span.1 → IsKnownAs v (Some span)
     → mid ≡ raised_by (tests_if_unknown v) old → RoseUpTo (cond (straddles now e) 1 0) mid new → RoseUpTo (cost_of now v) old new
 cost_both now Unknown span e old mid new first last known before after = record {
   more = 1 + after.more;
@@ -51,7 +51,7 @@ is_other_is (Some s) call t e apart = step (bytes_eq s.call call) refl where
   step false eq = refl
 
 pub listed_cost : (places : List (Option NamedTrajectory)) (place : ℕ) (mine other : NamedTrajectory) (now : ℕ) (x : Candidate) (old new : ℕ)
-    → IsOfOtherFlight places place mine x.place other → RoseUpTo (cost_of now x.verdict) old new → RoseUpTo (cost places place mine.call now x) old new
+    → IsOfOtherFlight places place mine x.place other → RoseUpTo (cost_of now x.knowledge) old new → RoseUpTo (cost places place mine.call now x) old new
 listed_cost places place mine other now x old new is rose =
     let listed : is_listed places place mine.call x ≡ true =
     and_from (not (x.place == place)) (is_other (at places x.place) mine.call) (ap not (ne_eqb x.place place is.elsewhere))
@@ -76,12 +76,12 @@ pub cost_part : (f : Candidate → ℕ) (xs : List Candidate) (i old new : ℕ) 
 cost_part f xs i old new h = record { more = h.more; within = let part = sum_by-take-le f xs i in let w = h.within in omega arith; is = h.is }
 
 -- the cost of all candidates
-cost_one_is : (now : ℕ) (v : Verdict) → cost_of now v ≡ 2 * cond (is_unknown v) 1 0 + cond (is_crossing now v) 1 0
+cost_one_is : (now : ℕ) (v : Knowledge) → cost_of now v ≡ 2 * cond (is_unknown v) 1 0 + cond (is_crossing now v) 1 0
 cost_one_is now Unknown = refl
 cost_one_is now (Known None) = refl
 cost_one_is now (Known (Some span)) = let none : 2 * 0 ≡ 0 = omega arith in omega arith
 
-cost_if : (listed : Bool) (now : ℕ) (v : Verdict) → cond listed (cost_of now v) 0 ≡ 2 * cond (listed && is_unknown v) 1 0 + cond (listed && is_crossing now v) 1 0
+cost_if : (listed : Bool) (now : ℕ) (v : Knowledge) → cond listed (cost_of now v) 0 ≡ 2 * cond (listed && is_unknown v) 1 0 + cond (listed && is_crossing now v) 1 0
 cost_if true now v = cost_one_is now v
 cost_if false now v = refl
 
@@ -97,7 +97,7 @@ cost_sum places place call now [] = refl
 cost_sum places place call now (x ∷ xs) =
     let rest = cost_sum places place call now xs in
     let first = sum_by-cons (cost places place call now) x xs in
-    let one = cost_if (is_listed places place call x) now x.verdict in
+    let one = cost_if (is_listed places place call x) now x.knowledge in
     let all = counted (asks_two places place call) x xs in
     let some = counted (asks_one places place call now) x xs in
     omega arith

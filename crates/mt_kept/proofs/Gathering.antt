@@ -132,7 +132,7 @@ gathered_more rules places now place mine xs i x old new below is once added so_
 -- the candidate at a step, of which is known what is right
 pub right_at : (rules : Rules) (places : List (Option NamedTrajectory)) (place : ℕ) (mine : NamedTrajectory) (xs : List Candidate) (i : ℕ) (x : Candidate)
     → AreCandidates rules places place mine xs → i < length xs → x ≡ get_or xs i x → (other : NamedTrajectory) → IsOfOtherFlight places place mine x.place other
-    → IsRight rules mine other x.verdict
+    → IsRight rules mine other x.knowledge
 right_at rules places place mine xs i x candidates below is other there = candidates.right x other (i, below, sym is) there
 
 pub at_read : (places : List (Option Item)) (i : ℕ) (r : Option Item) → i < length places → r ≡ get_or places i r → at (map seen places) i ≡ seen r

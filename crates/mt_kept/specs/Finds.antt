@@ -6,8 +6,8 @@ use Rattle.mt_base.specs.Conflict.{IsConflict, IsLossSecond}
 use Rattle.mt_base.specs.Picture.{NamedTrajectory}
 use Rattle.mt_edges.specs.Pairs.{HaveSameEnds}
 use Rattle.mt_kept.specs.declared.finds.Candidate.{Candidate}
-use Rattle.mt_kept.specs.declared.finds.Verdict.{Verdict}
-use Rattle.mt_kept.specs.declared.finds.Verdict.TheVariants.{Unknown, Known}
+use Rattle.mt_kept.specs.declared.finds.Knowledge.{Knowledge}
+use Rattle.mt_kept.specs.declared.finds.Knowledge.TheVariants.{Unknown, Known}
 use Rattle.mt_kept.specs.declared.open_pair.OpenPair.{OpenPair}
 use Rattle.mt_kept.specs.Losing.{IsPair, Joins, LoseSeparation, Touches, TouchesSlot}
 use Rattle.mt_kept.specs.Places.{at, slot_of}
@@ -15,7 +15,7 @@ use Rattle.mt_base.specs.Trajectory.{horizon}
 use Rattle.mt_kept.specs.Window.{IsOpen, ShowsInWindow, edge_of, is_straddling}
 
 -- what is known of two trajectories is right: it is their conflict over all seconds
-abbrev pub IsRight : Rules → NamedTrajectory → NamedTrajectory → Verdict → Type 0
+abbrev pub IsRight : Rules → NamedTrajectory → NamedTrajectory → Knowledge → Type 0
 IsRight rules mine other Unknown = ⊤
 IsRight rules mine other (Known span) = IsConflict rules mine.path other.path 0 horizon span
 
@@ -33,7 +33,7 @@ candidate_place x = x.place
 pub record AreCandidates (rules : Rules) (places : List (Option NamedTrajectory)) (place : ℕ) (mine : NamedTrajectory)
     (xs : List Candidate) : Type 0 where
   pub right : (x : Candidate) (other : NamedTrajectory) → Contains xs x → IsOfOtherFlight places place mine x.place other
-      → IsRight rules mine other x.verdict
+      → IsRight rules mine other x.knowledge
   pub complete : (j k : ℕ) (other : NamedTrajectory) → IsOfOtherFlight places place mine j other → k < horizon
       → IsLossSecond rules mine.path other.path k → Contains (map candidate_place xs) j
   pub once : AllPairs (λ x y. x.place ≢ y.place) xs
@@ -72,27 +72,27 @@ cost_known now None = 0
 cost_known now (Some span) = if is_straddling now span.0 span.1 then 1 else 0
 
 -- two where nothing is known
-abbrev pub cost_of : ℕ → Verdict → ℕ
+abbrev pub cost_of : ℕ → Knowledge → ℕ
 cost_of now Unknown = 2
 cost_of now (Known span) = cost_known now span
 
 -- how many a candidate asks for: none where no trajectory of another flight stands
 abbrev pub cost : List (Option NamedTrajectory) → ℕ → List ℕ → ℕ → Candidate → ℕ
-cost places place call now x = if is_listed places place call x then cost_of now x.verdict else 0
+cost places place call now x = if is_listed places place call x then cost_of now x.knowledge else 0
 
 -- whether nothing is known of a candidate, and whether what is known straddles an edge of the window
-abbrev pub is_unknown : Verdict → Bool
+abbrev pub is_unknown : Knowledge → Bool
 is_unknown Unknown = true
 is_unknown (Known span) = false
 
-abbrev pub is_crossing : ℕ → Verdict → Bool
+abbrev pub is_crossing : ℕ → Knowledge → Bool
 is_crossing now Unknown = false
 is_crossing now (Known None) = false
 is_crossing now (Known (Some span)) = is_straddling now span.0 span.1
 
 -- the candidates that ask for two tests, and those that ask for one
 abbrev pub asks_two : List (Option NamedTrajectory) → ℕ → List ℕ → Candidate → Bool
-asks_two places place call x = is_listed places place call x && is_unknown x.verdict
+asks_two places place call x = is_listed places place call x && is_unknown x.knowledge
 
 abbrev pub asks_one : List (Option NamedTrajectory) → ℕ → List ℕ → ℕ → Candidate → Bool
-asks_one places place call now x = is_listed places place call x && is_crossing now x.verdict
+asks_one places place call now x = is_listed places place call x && is_crossing now x.knowledge

@@ -22,7 +22,7 @@ use std::alloc::Global;
 
 /// What is known of two trajectories: nothing, or their conflict over all seconds.
 #[derive(Clone, Copy)]
-pub enum Verdict {
+pub enum Knowledge {
     /// They have to be tested.
     Unknown,
     /// They have this conflict, its first and its last second, or none.
@@ -35,26 +35,26 @@ pub struct Candidate {
     /// The place.
     pub place: u32,
     /// What is known.
-    pub verdict: Verdict,
+    pub knowledge: Knowledge,
 }
 
 /// The conflict over all seconds of a new item and another, by a test where it isn't known.
 fn whole(
     item: &Item,
     other: &Item,
-    verdict: Verdict,
+    knowledge: Knowledge,
     rules: &Rules,
     tests: &mut Tally,
 ) -> Option<(Second, Second)>
     requires rules_kept { AreWithinBounds rules.now }
-    requires known { IsRight rules.now (named item.now) (named other.now) verdict }
+    requires known { IsRight rules.now (named item.now) (named other.now) knowledge }
     ensures is { IsConflict rules.now (named item.now).path (named other.now).path 0 horizon result }
-    ensures same { IsKnownAs verdict result }
-    ensures counted { tests.new ≡ raised_by (tests_if_unknown verdict) tests.old }
+    ensures same { IsKnownAs knowledge result }
+    ensures counted { tests.new ≡ raised_by (tests_if_unknown knowledge) tests.old }
 {
-    match verdict {
-        Verdict::Unknown => lose(&item.strand, &other.strand, rules, 0, HORIZON, tests),
-        Verdict::Known(span) => span,
+    match knowledge {
+        Knowledge::Unknown => lose(&item.strand, &other.strand, rules, 0, HORIZON, tests),
+        Knowledge::Known(span) => span,
     }
 }
 
@@ -109,11 +109,11 @@ fn add_find(
     requires early { now ≤ 10000000 }
     requires elsewhere { candidate.place ≢ place }
     requires apart { item.now.call ≢ other.now.call }
-    requires known { IsRight rules.now (named item.now) (named other.now) candidate.verdict }
+    requires known { IsRight rules.now (named item.now) (named other.now) candidate.knowledge }
     ensures added { OnOk result (IsFindAdded rules.now now place candidate.place (named item.now) (named other.now) finds.old.items finds.new.items) }
-    ensures counted { RoseUpTo (cost_of now candidate.verdict) tests.old tests.new }
+    ensures counted { RoseUpTo (cost_of now candidate.knowledge) tests.old tests.new }
 {
-    let Some(span) = whole(item, other, candidate.verdict, rules, tests) else {
+    let Some(span) = whole(item, other, candidate.knowledge, rules, tests) else {
         return Ok(());
     };
     let edge = edge_between(place, candidate.place, span);
@@ -135,7 +135,7 @@ fn add_candidate(
     requires rules_kept { AreWithinBounds rules.now }
     requires early { now ≤ 10000000 }
     requires right { (other : NamedTrajectory) → IsOfOtherFlight (map seen places.now) place (named item.now) candidate.place other
-        → IsRight rules.now (named item.now) other candidate.verdict }
+        → IsRight rules.now (named item.now) other candidate.knowledge }
     ensures added { OnOk result (IsAddedAt rules.now now (map seen places.now) place (named item.now) candidate finds.old.items finds.new.items) }
     ensures counted { RoseUpTo (cost (map seen places.now) place item.now.call now candidate) tests.old tests.new }
 {

@@ -11,7 +11,7 @@ mod merging;
 mod open_pair;
 mod showing;
 
-pub use finds::{Candidate, Verdict};
+pub use finds::{Candidate, Knowledge};
 pub use kept::Kept;
 pub use laws::finds_laws;
 pub use mt_edges::Edge;

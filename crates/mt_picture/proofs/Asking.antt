@@ -13,8 +13,8 @@ use Rattle.mt_base.specs.Picture.{NamedTrajectory, State, trajectories}
 use Rattle.mt_base.specs.Tables.{Setup}
 use Rattle.mt_cover.specs.declared.stays.Stay.{Stay}
 use Rattle.mt_kept.specs.declared.finds.Candidate.{Candidate}
-use Rattle.mt_kept.specs.declared.finds.Verdict.{Verdict}
-use Rattle.mt_kept.specs.declared.finds.Verdict.TheVariants.{Known, Unknown}
+use Rattle.mt_kept.specs.declared.finds.Knowledge.{Knowledge}
+use Rattle.mt_kept.specs.declared.finds.Knowledge.TheVariants.{Known, Unknown}
 use Rattle.mt_kept.specs.Finds.{IsRight, asks_one, asks_two, cost, is_crossing, is_listed, is_other, is_unknown}
 use Rattle.mt_kept.specs.Places.{at}
 use Rattle.mt_base.specs.Tally.{RoseUpTo}
@@ -32,7 +32,7 @@ use Rattle.mt_picture.specs.Private.Places.{all_places, made_of_kind}
 use Rattle.mt_picture.specs.Stamps.{IsMadeAt}
 use Rattle.mt_picture.specs.Private.Stamps.{AreStamped, HaveStood}
 use Rattle.mt_picture.specs.Story.{Story}
-use Rattle.mt_picture.specs.Private.Verdicts.{AreNearCandidates, IsPreps}
+use Rattle.mt_picture.specs.Private.Known.{AreNearCandidates, IsPreps}
 use Rattle.mt_picture.proofs.HitsHere.{both_true}
 use Rattle.mt_picture.proofs.Knowing.{kept_made, stands_at, stays_there}
 use Rattle.mt_picture.proofs.Standings.{same_place}
@@ -115,7 +115,7 @@ module _ (story : Story) (shot : Shot) (p : Prepared) (known : Bool) (place : �
         });
       }
 
-  later_one : (x : Candidate) (t : NamedTrajectory) → Contains xs x → at places x.place ≡ Some t → t.call ≢ mine.call → known ≡ true → x.verdict ≡ Unknown
+  later_one : (x : Candidate) (t : NamedTrajectory) → Contains xs x → at places x.place ≡ Some t → t.call ≢ mine.call → known ≡ true → x.knowledge ≡ Unknown
       → IsLaterNow story p.state.version mine t
   later_one x t held is apart is_known unknown =
       let s = stands_at shot.slots x.place t is in
@@ -127,29 +127,29 @@ module _ (story : Story) (shot : Shot) (p : Prepared) (known : Bool) (place : �
             (all (x.place / 2) s.flight (kind_at x.place) s.made s.at_is s.made_is);
       }
 
-  crossing_one : (x : Candidate) (t : NamedTrajectory) → Contains xs x → at places x.place ≡ Some t → t.call ≢ mine.call → is_crossing shot.now x.verdict ≡ true
+  crossing_one : (x : Candidate) (t : NamedTrajectory) → Contains xs x → at places x.place ≡ Some t → t.call ≢ mine.call → is_crossing shot.now x.knowledge ≡ true
       → IsCrossingNow story p mine t
   crossing_one x t held is apart e =
       let s = stands_at shot.slots x.place t is in
       let differ : s.flight.card.call ≢ p.card.call = λ same. apart (sym (ap (λ (u : NamedTrajectory). u.call) s.is) ∙ same ∙ sym own) in
       let right = (near.known_is x held).right s.flight s.made mine s.at_is s.made_is differ preps in
-      let right_t : IsRight p.setup.rules mine t x.verdict = subst (λ (u : NamedTrajectory). IsRight p.setup.rules mine u x.verdict) s.is right in
+      let right_t : IsRight p.setup.rules mine t x.knowledge = subst (λ (u : NamedTrajectory). IsRight p.setup.rules mine u x.knowledge) s.is right in
       let rules_story : p.setup.rules ≡ story.setup.rules = rules_are ∙ ap (λ (u : Setup). u.rules) setup_is in
-      by_verdict x.verdict refl (subst (λ (u : Rules). IsRight u mine t x.verdict) rules_story right_t) e where
+      by_knowledge x.knowledge refl (subst (λ (u : Rules). IsRight u mine t x.knowledge) rules_story right_t) e where
         now_is : shot.now ≡ (state_of story.setup story.history).now
         now_is = ap (λ (q : State). q.now) stands
 
         -- it was there when the prep was made
-        was_there : (span : Option (ℕ × ℕ)) → x.verdict ≡ Known span → Contains (trajectories p.setup p.state) t
+        was_there : (span : Option (ℕ × ℕ)) → x.knowledge ≡ Known span → Contains (trajectories p.setup p.state) t
         was_there span known_is =
             let s = stands_at shot.slots x.place t is in
             subst (Contains (trajectories p.setup p.state)) s.is (stood (x.place / 2) s.flight (kind_at x.place) s.made s.at_is s.made_is
             ((near.known_is x held).earlier span known_is s.flight s.made s.at_is s.made_is))
 
-        by_verdict : (v : Verdict) → x.verdict ≡ v → IsRight story.setup.rules mine t v → is_crossing shot.now v ≡ true → IsCrossingNow story p mine t
-        by_verdict Unknown v_is r c = absurd (cc)
-        by_verdict (Known None) v_is r c = absurd (cc)
-        by_verdict (Known (Some span)) v_is r c = record {
+        by_knowledge : (v : Knowledge) → x.knowledge ≡ v → IsRight story.setup.rules mine t v → is_crossing shot.now v ≡ true → IsCrossingNow story p mine t
+        by_knowledge Unknown v_is r c = absurd (cc)
+        by_knowledge (Known None) v_is r c = absurd (cc)
+        by_knowledge (Known (Some span)) v_is r c = record {
           now = near_one x t held is apart;
           prepared = was_there (Some span) v_is;
           first = span.0;
@@ -181,7 +181,7 @@ module _ (story : Story) (shot : Shot) (p : Prepared) (known : Bool) (place : �
       let l = listed_there places place mine.call s.of (listed s.of x.1) in
       subst P (sym (seen_is s.of l.other l.is) ∙ s.is) (one s.of l.other x.0 x.1 l.is l.apart))
 
-  unknown_is : (v : Verdict) → is_unknown v ≡ true → v ≡ Unknown
+  unknown_is : (v : Knowledge) → is_unknown v ≡ true → v ≡ Unknown
   unknown_is Unknown e = refl
   unknown_is (Known span) e = absurd (cc)
 
@@ -200,16 +200,16 @@ module _ (story : Story) (shot : Shot) (p : Prepared) (known : Bool) (place : �
       let x_is = (Contains-filter two xs x).0 x_in in
       let y_is = (Contains-filter one xs y).0 y_in in
       let same_one : x ≡ y = one_at_place xs x y near.once x_is.0 y_is.0 same in
-      let unknown = unknown_is x.verdict (both_true (some x) (is_unknown x.verdict) x_is.1).1 in
-      let crossing : is_crossing shot.now y.verdict ≡ true = (both_true (some y) (is_crossing shot.now y.verdict) y_is.1).1 in
-      let none : is_crossing shot.now y.verdict ≡ false =
-      subst (λ (z : Candidate). is_crossing shot.now z.verdict ≡ false) same_one (rw unknown refl) in
+      let unknown = unknown_is x.knowledge (both_true (some x) (is_unknown x.knowledge) x_is.1).1 in
+      let crossing : is_crossing shot.now y.knowledge ≡ true = (both_true (some y) (is_crossing shot.now y.knowledge) y_is.1).1 in
+      let none : is_crossing shot.now y.knowledge ≡ false =
+      subst (λ (z : Candidate). is_crossing shot.now z.knowledge ≡ false) same_one (rw unknown refl) in
       (let both : true ≡ false = sym crossing ∙ none in cc)
 
   both_listed : (x : Candidate) → Contains (filter two xs ++ filter one xs) x → is_listed places place mine.call x ≡ true
   both_listed x held = ⊎_elim
-      (λ among. (both_true (some x) (is_unknown x.verdict) ((Contains-filter two xs x).0 among).1).0)
-      (λ among. (both_true (some x) (is_crossing shot.now x.verdict) ((Contains-filter one xs x).0 among).1).0)
+      (λ among. (both_true (some x) (is_unknown x.knowledge) ((Contains-filter two xs x).0 among).1).0)
+      (λ among. (both_true (some x) (is_crossing shot.now x.knowledge) ((Contains-filter one xs x).0 among).1).0)
       (Contains-append_cases (filter two xs) (filter one xs) x held)
 
   distinct_both : AllPairs (λ s t. s ≢ t) (map seen (filter two xs) ++ map seen (filter one xs))
@@ -226,11 +226,11 @@ module _ (story : Story) (shot : Shot) (p : Prepared) (known : Bool) (place : �
       let within = rose.within in
       record {
         later = map seen (filter two xs);
-        later_each = each_seen (IsLaterNow story p.state.version mine) two (λ x e. (both_true (some x) (is_unknown x.verdict) e).0)
-            (λ x t held e is apart. later_one x t held is apart is_known (unknown_is x.verdict (both_true (some x) (is_unknown x.verdict) e).1));
+        later_each = each_seen (IsLaterNow story p.state.version mine) two (λ x e. (both_true (some x) (is_unknown x.knowledge) e).0)
+            (λ x t held e is apart. later_one x t held is apart is_known (unknown_is x.knowledge (both_true (some x) (is_unknown x.knowledge) e).1));
         crossing = map seen (filter one xs);
-        crossing_each = each_seen (IsCrossingNow story p mine) one (λ x e. (both_true (some x) (is_crossing shot.now x.verdict) e).0)
-            (λ x t held e is apart. crossing_one x t held is apart (both_true (some x) (is_crossing shot.now x.verdict) e).1);
+        crossing_each = each_seen (IsCrossingNow story p mine) one (λ x e. (both_true (some x) (is_crossing shot.now x.knowledge) e).0)
+            (λ x t held e is apart. crossing_one x t held is apart (both_true (some x) (is_crossing shot.now x.knowledge) e).1);
         distinct = distinct_both;
         more = rose.more;
         within = omega (arith, total, a, b, within);
@@ -240,8 +240,8 @@ module _ (story : Story) (shot : Shot) (p : Prepared) (known : Bool) (place : �
   -- no more than two for each that is listed
   few : (ys : List Candidate) → 2 * length (filter two ys) + length (filter one ys) ≤ 2 * length (filter some ys)
   few [] = omega arith
-  few (y ∷ ys) = by_test (some y) refl y.verdict refl (few ys) where
-    by_test : (b : Bool) → some y ≡ b → (v : Verdict) → y.verdict ≡ v → 2 * length (filter two ys) + length (filter one ys) ≤ 2 * length (filter some ys)
+  few (y ∷ ys) = by_test (some y) refl y.knowledge refl (few ys) where
+    by_test : (b : Bool) → some y ≡ b → (v : Knowledge) → y.knowledge ≡ v → 2 * length (filter two ys) + length (filter one ys) ≤ 2 * length (filter some ys)
         → 2 * length (filter two (y ∷ ys)) + length (filter one (y ∷ ys)) ≤ 2 * length (filter some (y ∷ ys))
     by_test false e v v_is rest = rw e rest
     by_test true e Unknown v_is rest = rw (e, v_is) (omega (arith, rest))

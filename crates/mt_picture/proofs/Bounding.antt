@@ -16,7 +16,7 @@ use Rattle.mt_picture.specs.Asked.{IsWithinBoth, IsWithinBound, IsWithinPrep, Is
 use Rattle.mt_picture.specs.Private.Asking.{AreCandidatesAsked, WasAskedOf}
 use Rattle.mt_picture.specs.Private.Stamps.{AreStamped, HaveStood}
 use Rattle.mt_picture.specs.Story.{IsPrepFor, IsUsable, Story}
-use Rattle.mt_picture.specs.Private.Verdicts.{IsPreps}
+use Rattle.mt_picture.specs.Private.Known.{IsPreps}
 use Rattle.mt_picture.proofs.Asking.{again, anew}
 
 -- no test is within each bound

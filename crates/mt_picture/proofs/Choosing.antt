@@ -31,7 +31,7 @@ use Rattle.mt_track.specs.Laid.{IsStrand}
 use Rattle.mt_picture.specs.Private.Candidates.{AreAllNear, AreLater, AreNearOnes, AreStill, IsStillOne, StandsInPlace, unknown_at}
 use Rattle.mt_picture.specs.Private.Places.{all_places, made_of_kind}
 use Rattle.mt_picture.specs.Private.Stamps.{AreStamped, HaveStood}
-use Rattle.mt_picture.specs.Private.Verdicts.{AreNearCandidates, IsKnown, IsPreps}
+use Rattle.mt_picture.specs.Private.Known.{AreNearCandidates, IsKnown, IsPreps}
 use Rattle.mt_picture.proofs.Knowing.{StandsAt, earlier_there, found_right, kept_made, stands_at, stays_there}
 use Rattle.mt_picture.proofs.Standings.{as_at, one_there}
 
@@ -93,7 +93,7 @@ module _ (shot : Shot) (h : List Entry) (t : Trajectory) (p : Prepared) (known :
   still_known : (x : Candidate) → IsStillOne shot.slots p.state.version p.finds x → IsKnown p known shot.slots x
   still_known x s =
       let st = s.is.stands in
-      subst (λ (y : Candidate). IsKnown p known shot.slots y) (sym (ap (λ v. record { place = x.place; verdict = v }) s.is.verdict_is)) (record {
+      subst (λ (y : Candidate). IsKnown p known shot.slots y) (sym (ap (λ v. record { place = x.place; knowledge = v }) s.is.knowledge_is)) (record {
         right = λ f made mine at_is made_is apart uses. found_right shot (x.place / 2) (kind_at x.place) p known s.is.stamp st.flight.card s.found stood
             (stamp_is x s) (sym (ap (option_map (λ (g : Flight). g.card)) st.at_is)) s.is.early is_known
             (λ other of call_is kind_is. says x s other of (call_is ∙ st.call_is) (kind_is ∙ st.kind_is)) f made mine at_is made_is apart uses;

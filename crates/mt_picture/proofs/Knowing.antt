@@ -26,7 +26,7 @@ use Rattle.mt_probe.proofs.Covered.{even_kind, odd_kind}
 use Rattle.mt_base.proofs.Members.{Contains-head}
 use Rattle.mt_picture.specs.Private.Places.{all_places, first_of, made_of_kind, second_of}
 use Rattle.mt_picture.specs.Private.Stamps.{HaveStood}
-use Rattle.mt_picture.specs.Private.Verdicts.{AreNearCandidates, IsEarlierAt, IsPreps}
+use Rattle.mt_picture.specs.Private.Known.{AreNearCandidates, IsEarlierAt, IsPreps}
 use Rattle.mt_picture.proofs.Slotted.{at_first, at_second}
 
 -- what is found says the conflict over all seconds
@@ -129,8 +129,8 @@ candidates_right shot place mine p known xs rules_are own preps near = record {
       let s = stands_at shot.slots x.place other is.is in
       let apart : s.flight.card.call ≢ p.card.call = λ same. is.apart (own ∙ sym same ∙ ap (λ (u : NamedTrajectory). u.call) s.is) in
       let right = (near.known_is x held).right s.flight s.made mine s.at_is s.made_is apart preps in
-      subst (λ (rules : Rules). IsRight rules mine other x.verdict) rules_are
-      (subst (λ (u : NamedTrajectory). IsRight p.setup.rules mine u x.verdict) s.is right);
+      subst (λ (rules : Rules). IsRight rules mine other x.knowledge) rules_are
+      (subst (λ (u : NamedTrajectory). IsRight p.setup.rules mine u x.knowledge) s.is right);
   complete = λ j k other is early loss. near.complete j k other is.is (λ same. is.apart (own ∙ sym same)) early loss;
   once = near.once;
 }

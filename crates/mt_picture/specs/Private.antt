@@ -6,7 +6,7 @@ pub mod Entries
 pub mod Finding
 pub mod Hits
 pub mod Holding
+pub mod Known
 pub mod Places
 pub mod Putting
 pub mod Stamps
-pub mod Verdicts

@@ -3,14 +3,14 @@ ghost use Rattle.std.specs.Prelude.{◌≡◌, ◌≤◌, ◌++◌, ℕ, IfOk, I
 ghost use Rattle.mt_cover.specs.Cells.{cover_of};
 ghost use Rattle.mt_picture.specs.Private.Candidates.{AreAllNear, AreStill, IsStill, StandsInPlace, unknown_at};
 ghost use Rattle.mt_picture.specs.Private.Stamps.{AreStamped, HaveStood};
-ghost use Rattle.mt_picture.specs.Private.Verdicts.{AreNearCandidates, IsPreps};
+ghost use Rattle.mt_picture.specs.Private.Known.{AreNearCandidates, IsPreps};
 
 use crate::later::later_places;
 use crate::near::near_ones;
 use crate::places::find_trajectory;
 use mt_base::{Entry, Memory};
 use mt_cover::cover;
-use mt_kept::{Candidate, Verdict};
+use mt_kept::{Candidate, Knowledge};
 use mt_probe::{Found, Prep, Snapshot};
 use mt_track::Strand;
 use std::alloc::Global;
@@ -27,7 +27,7 @@ fn still(snapshot: &Snapshot, found: &Found, version: u64) -> Option<Candidate>
     }
     Some(Candidate {
         place: it.place,
-        verdict: Verdict::Known(found.whole),
+        knowledge: Knowledge::Known(found.whole),
     })
 }
 
@@ -52,7 +52,7 @@ fn add_unknown(list: &mut Vec<Candidate>, places: &[u32]) -> Result<(), Memory>
     for place in places {
         list.push(Candidate {
             place: *place,
-            verdict: Verdict::Unknown,
+            knowledge: Knowledge::Unknown,
         })?;
     }
     Ok(())

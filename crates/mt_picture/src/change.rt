@@ -10,10 +10,10 @@ ghost use Rattle.mt_picture.specs.Private.Brought.{BringsNew, IsChangeFor};
 ghost use Rattle.mt_picture.specs.Private.Finding.{AreFindsFor};
 ghost use Rattle.mt_picture.specs.Private.Places.{first_of, made_of_kind, place_kind, second_of};
 ghost use Rattle.mt_picture.specs.Private.Stamps.{HaveStood};
-ghost use Rattle.mt_picture.specs.Private.Verdicts.{IsPreps};
+ghost use Rattle.mt_picture.specs.Private.Known.{IsPreps};
 
+use crate::candidates::candidates;
 use crate::held::Held;
-use crate::verdicts::candidates;
 use mt_base::{Kind, Memory, Tally};
 use mt_kept::OpenPair;
 use mt_probe::{Flight, Prep};

@@ -1,6 +1,7 @@
 //! The kept picture: its history, the snapshot now, and the conflicts that are published of it, kept by increments.
 #![tactic(auto)]
 
+mod candidates;
 mod change;
 mod deciding;
 mod enter;
@@ -13,7 +14,6 @@ mod near;
 mod picture;
 mod places;
 mod usable;
-mod verdicts;
 
 pub use laws::{restoring_law, stale_law};
 pub use mt_board::No;

@@ -11,8 +11,8 @@ use Rattle.mt_base.specs.Picture.{NamedTrajectory}
 use Rattle.mt_edges.specs.declared.edge.Edge.{Edge}
 use Rattle.mt_edges.specs.Pairs.{touches}
 use Rattle.mt_kept.specs.declared.finds.Candidate.{Candidate}
-use Rattle.mt_kept.specs.declared.finds.Verdict.{Verdict}
-use Rattle.mt_kept.specs.declared.finds.Verdict.TheVariants.{Unknown, Known}
+use Rattle.mt_kept.specs.declared.finds.Knowledge.{Knowledge}
+use Rattle.mt_kept.specs.declared.finds.Knowledge.TheVariants.{Unknown, Known}
 use Rattle.mt_kept.specs.declared.open_pair.OpenPair.{OpenPair}
 use Rattle.mt_kept.specs.Finds.{IsOfOtherFlight}
 use Rattle.mt_kept.specs.Private.Losing.{AvoidsSlot}
@@ -71,12 +71,12 @@ abbrev pub WereDropped : ℕ → List Edge → ℕ → ℕ → Type 0
 WereDropped slot edges old new = new ≤ old + 6 * length (filter (touches_slot slot) edges) + 2
 
 -- what is known is that
-abbrev pub IsKnownAs : Verdict → Option (ℕ × ℕ) → Type 0
+abbrev pub IsKnownAs : Knowledge → Option (ℕ × ℕ) → Type 0
 IsKnownAs Unknown span = ⊤
 IsKnownAs (Known known) span = span ≡ known
 
 -- one test where nothing is known
-abbrev pub tests_if_unknown : Verdict → ℕ
+abbrev pub tests_if_unknown : Knowledge → ℕ
 tests_if_unknown Unknown = 1
 tests_if_unknown (Known span) = 0
 

@@ -10,7 +10,7 @@ use Rattle.mt_base.specs.declared.command.Command.{Command}
 use Rattle.mt_probe.specs.Prepared.{Prepared, left_made}
 use Rattle.mt_probe.specs.Shot.{Shot, state_in_shot}
 use Rattle.mt_picture.specs.Private.Places.{all_places}
-use Rattle.mt_picture.specs.Private.Verdicts.{AreNearCandidates}
+use Rattle.mt_picture.specs.Private.Known.{AreNearCandidates}
 
 -- the candidates of a new trajectory in a place were asked for
 pub record AreCandidatesAsked (shot : Shot) (p : Prepared) (known : Bool) (place : ℕ) (mine : NamedTrajectory) (old new : ℕ) : Type 0 where

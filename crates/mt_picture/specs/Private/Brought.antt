@@ -15,7 +15,7 @@ use Rattle.mt_probe.specs.Shot.{state_in_shot as state_in}
 use Rattle.mt_picture.specs.declared.change.Change.{Change}
 use Rattle.mt_picture.specs.Private.Places.{first_of, place_kind, place_other, second_of}
 use Rattle.mt_picture.specs.Private.Stamps.{HaveStood}
-use Rattle.mt_picture.specs.Private.Verdicts.{IsPreps}
+use Rattle.mt_picture.specs.Private.Known.{IsPreps}
 
 -- A flight comes into a slot, an empty one or its own, with a new trajectory of a kind, that of its prep where that is known to be of use; of the
 -- other kind it has what it had, or nothing. Each trajectory that was made by the prep's version is one of the prep's state.

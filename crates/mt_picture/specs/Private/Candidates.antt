@@ -6,7 +6,7 @@ use Rattle.mt_base.specs.declared.conflict.Kind.{Kind}
 use Rattle.mt_base.specs.History.{call_of}
 use Rattle.mt_cover.specs.declared.stays.Stay.{Stay}
 use Rattle.mt_kept.specs.declared.finds.Candidate.{Candidate}
-use Rattle.mt_kept.specs.declared.finds.Verdict.TheVariants.{Known, Unknown}
+use Rattle.mt_kept.specs.declared.finds.Knowledge.TheVariants.{Known, Unknown}
 use Rattle.mt_kept.specs.Finds.{candidate_place}
 use Rattle.mt_probe.specs.declared.finding.Found.{Found}
 use Rattle.mt_probe.specs.declared.flight.Flight.{Flight}
@@ -29,7 +29,7 @@ pub record IsStill (slots : List (Option Flight)) (version : ℕ) (found : Found
   pub stamp : ℕ
   pub stands : StandsInPlace slots x.place found.call found.kind stamp
   pub early : stamp ≤ version
-  pub verdict_is : x.verdict ≡ Known found.whole
+  pub knowledge_is : x.knowledge ≡ Known found.whole
 
 -- it is so of one of some finds
 pub record IsStillOne (slots : List (Option Flight)) (version : ℕ) (finds : List Found) (x : Candidate) : Type 0 where
@@ -75,7 +75,7 @@ pub record AreLater (slots : List (Option Flight)) (h : List Entry) (version end
 
 -- a candidate of which nothing is known
 abbrev pub unknown_at : ℕ → Candidate
-unknown_at place = record { place = place; verdict = Unknown }
+unknown_at place = record { place = place; knowledge = Unknown }
 
 -- of some places those near a cover, each once
 pub record AreNearOnes (shot : Shot) (cover : List Stay) (places near : List ℕ) : Type 0 where

@@ -7,8 +7,8 @@ use Rattle.mt_base.specs.Picture.{NamedTrajectory}
 use Rattle.mt_base.specs.Trajectory.{Trajectory}
 use Rattle.mt_cover.specs.Cells.{cover_of}
 use Rattle.mt_kept.specs.declared.finds.Candidate.{Candidate}
-use Rattle.mt_kept.specs.declared.finds.Verdict.{Verdict}
-use Rattle.mt_kept.specs.declared.finds.Verdict.TheVariants.{Known, Unknown}
+use Rattle.mt_kept.specs.declared.finds.Knowledge.{Knowledge}
+use Rattle.mt_kept.specs.declared.finds.Knowledge.TheVariants.{Known, Unknown}
 use Rattle.mt_kept.specs.Finds.{IsRight, candidate_place}
 use Rattle.mt_kept.specs.Places.{at}
 use Rattle.mt_base.specs.Trajectory.{horizon}
@@ -24,9 +24,9 @@ abbrev pub IsPreps : Prepared → Bool → Trajectory → Type 0
 IsPreps p known mine = known ≡ true → mine ≡ p.strand
 
 -- what is known of the trajectory of a kind of the flight at a place is right
-abbrev pub IsRightAt : Prepared → Bool → Option Flight → Kind → Verdict → Type 0
-IsRightAt p known slot kind verdict = (f : Flight) (made : Made) (mine : NamedTrajectory) → slot ≡ Some f → made_of f kind ≡ Some made
-    → f.card.call ≢ p.card.call → IsPreps p known mine.path → IsRight p.setup.rules mine (made_of_kind f kind made) verdict
+abbrev pub IsRightAt : Prepared → Bool → Option Flight → Kind → Knowledge → Type 0
+IsRightAt p known slot kind knowledge = (f : Flight) (made : Made) (mine : NamedTrajectory) → slot ≡ Some f → made_of f kind ≡ Some made
+    → f.card.call ≢ p.card.call → IsPreps p known mine.path → IsRight p.setup.rules mine (made_of_kind f kind made) knowledge
 
 -- the trajectory of a kind of the flight at a place was made after the prep
 abbrev pub IsLaterAt : Prepared → Option Flight → Kind → Type 0
@@ -39,9 +39,9 @@ IsEarlierAt p slot kind = (f : Flight) (made : Made) → slot ≡ Some f → mad
 -- What is known of a candidate is right, and the candidate was made before the prep; where nothing is known of it though the prep is of use, it
 -- was made after the prep.
 pub record IsKnown (p : Prepared) (known : Bool) (slots : List (Option Flight)) (x : Candidate) : Type 0 where
-  pub right : IsRightAt p known (get_or slots (x.place / 2) None) (kind_at x.place) x.verdict
-  pub earlier : (span : Option (ℕ × ℕ)) → x.verdict ≡ Known span → IsEarlierAt p (get_or slots (x.place / 2) None) (kind_at x.place)
-  pub later : known ≡ true → x.verdict ≡ Unknown → IsLaterAt p (get_or slots (x.place / 2) None) (kind_at x.place)
+  pub right : IsRightAt p known (get_or slots (x.place / 2) None) (kind_at x.place) x.knowledge
+  pub earlier : (span : Option (ℕ × ℕ)) → x.knowledge ≡ Known span → IsEarlierAt p (get_or slots (x.place / 2) None) (kind_at x.place)
+  pub later : known ≡ true → x.knowledge ≡ Unknown → IsLaterAt p (get_or slots (x.place / 2) None) (kind_at x.place)
 
 -- The candidates of a trajectory: each is near it and is listed once, with what is known of it. What stands of another flight and has a loss second
 -- with it is one.

@@ -7,6 +7,6 @@ returns-in_default-clause-added c = inl (refl, λ k early. c.in_default.ensures.
 
 pub returns-clause-counted : goal.returns-clause-counted
 returns-clause-counted c =
-    cost_both c.args.now c.args.candidate.verdict c.in-Some.span c.edge_between-edge.result c.args.tests.now c.whole.new.tests
+    cost_both c.args.now c.args.candidate.knowledge c.in-Some.span c.edge_between-edge.result c.args.tests.now c.whole.new.tests
     c.shown_if_open-conflict.new.tests c.edge_between-edge.ensures.1 c.edge_between-edge.ensures.2 c.in-Some.ensures.same c.in-Some.ensures.counted
     c.shown_if_open-conflict.ensures.counted

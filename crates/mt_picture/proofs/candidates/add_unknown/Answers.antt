@@ -1,6 +1,6 @@
 use Rattle.std.proofs.Common.{refl}
 use Rattle.std.proofs.lemmas.List.{append_assoc, map-append, take_all, take_more}
-use Rattle.mt_picture.proofs.verdicts.add_unknown.Goals as goal
+use Rattle.mt_picture.proofs.candidates.add_unknown.Goals as goal
 
 pub loop-place-preserved : goal.loop-place-preserved
 loop-place-preserved c =

@@ -1,5 +1,5 @@
 use Rattle.std.proofs.Common.{refl}
-use Rattle.mt_picture.proofs.verdicts.all_near.Goals as goal
+use Rattle.mt_picture.proofs.candidates.all_near.Goals as goal
 
 pub returns : goal.returns
 returns c =

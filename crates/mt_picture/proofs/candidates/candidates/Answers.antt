@@ -1,7 +1,7 @@
 use Rattle.std.proofs.Common.{◌≡◌, true}
 use Rattle.std.proofs.lemmas.Result.{IfOk-weaker}
 use Rattle.mt_picture.proofs.Choosing.{near_all, near_known}
-use Rattle.mt_picture.proofs.verdicts.candidates.Goals as goal
+use Rattle.mt_picture.proofs.candidates.candidates.Goals as goal
 
 pub returns-then-not-known : goal.returns-then-not-known
 returns-then-not-known c =

@@ -1,6 +1,6 @@
 use Rattle.std.proofs.Common.{◌≡◌, Some, ap, arith}
 use Rattle.mt_picture.specs.declared.places.Standing.{Standing}
-use Rattle.mt_picture.proofs.verdicts.still.Goals as goal
+use Rattle.mt_picture.proofs.candidates.still.Goals as goal
 
 pub returns-in_err-it-clause-only : goal.returns-in_err-it-clause-only
 returns-in_err-it-clause-only c = λ place stamp stands early. absurd (let none = c.in_err-it.ensures.only place stamp stands in cc)

@@ -3,8 +3,8 @@ use Rattle.std.proofs.lemmas.List.{take_all}
 use Rattle.mt_base.proofs.Members.{distinct_take, take_push}
 use Rattle.mt_probe.specs.Finds.{AreDifferentFinds}
 use Rattle.mt_picture.proofs.Candidacy.{still_more, still_none, still_same}
-use Rattle.mt_picture.proofs.verdicts.still_ones.Goals as goal
-use Rattle.mt_picture.proofs.verdicts.still_ones.Goals.{in-Some+in_ok-push, in_default}
+use Rattle.mt_picture.proofs.candidates.still_ones.Goals as goal
+use Rattle.mt_picture.proofs.candidates.still_ones.Goals.{in-Some+in_ok-push, in_default}
 
 pub loop-found-init : goal.loop-found-init
 loop-found-init c = rw c.new-list.ensures.items (still_none c.args.snapshot.now.slots c.version-version.result)
