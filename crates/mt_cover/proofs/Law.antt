@@ -14,7 +14,7 @@ use Rattle.mt_base.specs.Conflict.{IsLossSecond}
 use Rattle.mt_base.specs.Trajectory.{Trajectory, row_at}
 use Rattle.mt_track.specs.declared.layer.Layer.{Layer}
 use Rattle.mt_track.specs.Laid.{IsStrand}
-use Rattle.mt_track.specs.Layer.{IsInLayer}
+use Rattle.mt_track.specs.Private.Layer.{IsInLayer}
 use Rattle.mt_track.proofs.Strands.{IsBoundedRow-row_at}
 use Rattle.mt_cover.specs.declared.area.Area.{Area}
 use Rattle.mt_cover.specs.declared.area.Extent.{Extent}

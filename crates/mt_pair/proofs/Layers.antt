@@ -12,7 +12,8 @@ use Rattle.mt_base.specs.Instant.{value_at}
 use Rattle.mt_base.specs.Bounds.{IsWithin}
 use Rattle.mt_base.specs.Loss.{IsNearAt, LosesIn, height}
 use Rattle.mt_track.specs.declared.layer.Layer.{Layer}
-use Rattle.mt_track.specs.Layer.{IsInLayer, IsLayerKept}
+use Rattle.mt_track.specs.Layer.{IsLayerKept}
+use Rattle.mt_track.specs.Private.Layer.{IsInLayer}
 use Rattle.mt_pair.specs.Heights.{AreApartBy, EndBelow, LieApart}
 use Rattle.mt_pair.specs.Private.Heights.{IsMinimumIn}
 use Rattle.mt_pair.specs.High.{level_of}

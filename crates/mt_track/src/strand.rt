@@ -3,9 +3,7 @@ ghost use Rattle.mt_base.specs.Bounds.{IsBoundedRow, IsBoundedStretch};
 ghost use Rattle.mt_base.specs.Trajectory.{row_at, straight};
 ghost use Rattle.mt_track.specs.Laid.{AreSegmentsOf, IsStrand, Follows, extended};
 ghost use Rattle.mt_track.specs.Private.Laid.{CoversSecond};
-ghost use Rattle.mt_track.specs.Layer.{AreInLayer, IsLayerKept};
 
-use crate::layer::{Layer, no_height, with_segment};
 use crate::segment::{Segment, goes_on, later};
 use mt_base::{Memory, Row, Second, Straight};
 use std::alloc::Global;
@@ -25,20 +23,18 @@ pub struct Strand {
     end: Second,
     segments: Vec<Segment>,
     rvsm: bool,
-    layer: Layer,
 }
 
 impl Model for Strand {
     ghost use Rattle.mt_base.specs.Trajectory.{Trajectory};
     ghost use Rattle.mt_track.specs.Laid.{all_rows};
     ghost use Rattle.mt_track.specs.Private.Laid.{IsLaid};
-    ghost use Rattle.mt_track.specs.Layer.{AreInLayer, IsLayerKept};
 
     ghost Value = { Trajectory };
 
     ghost view = { λ s. record { start = s.start; rows = all_rows s.segments.items; rvsm = s.rvsm } };
 
-    ghost invariant = { λ s. IsLaid s.start s.end s.segments.items × AreInLayer s.layer (all_rows s.segments.items) × IsLayerKept s.layer };
+    ghost invariant = { λ s. IsLaid s.start s.end s.segments.items };
 }
 
 impl Strand {
@@ -52,7 +48,6 @@ impl Strand {
             end: at,
             segments: Vec::new(alloc),
             rvsm,
-            layer: no_height(),
         }
     }
 
@@ -63,7 +58,6 @@ impl Strand {
         ensures ok { OnOk result (self.new ≡ extended self.old segment) }
         ensures err { OnErr result (self.new ≡ self.old) }
     {
-        let layer = with_segment(self.layer, &segment);
         let count = self.segments.len();
         if count > 0 && goes_on(&self.segments[count - 1], &segment.first) {
             self.segments[count - 1].to = segment.to;
@@ -71,7 +65,6 @@ impl Strand {
             self.segments.push(segment)?;
         }
         self.end = segment.to;
-        self.layer = layer;
         Ok(())
     }
 
@@ -157,14 +150,6 @@ impl Strand {
         &self.segments
     }
 
-    /// The heights that it takes at any instant of its seconds, its vertical margin below and above.
-    pub fn layer(&self) -> Layer
-        ensures holds { AreInLayer result self.now.rows }
-        ensures kept { IsLayerKept result }
-    {
-        self.layer
-    }
-
     /// The same strand once more.
     pub fn copy(&self) -> Result<Strand, Memory>
         ensures { IfOk result (λ strand. strand ≡ self.now) }
@@ -174,7 +159,6 @@ impl Strand {
             end: self.end,
             segments: self.segments.clone()?,
             rvsm: self.rvsm,
-            layer: self.layer,
         })
     }
 }

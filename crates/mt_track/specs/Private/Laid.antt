@@ -1,5 +1,5 @@
 -- No public contract names these: they are of private steps and of proofs.
-use Rattle.std.specs.Prelude.{◌≡◌, ℕ, zero, suc, Some, ◌-◌, ◌≤◌, List, [], ◌∷◌, ⊤}
+use Rattle.std.specs.Prelude.{◌≡◌, ℕ, zero, suc, Some, ◌-◌, ◌≤◌, List, [], ◌∷◌}
 use Rattle.mt_base.specs.Bounds.{IsBoundedOver, IsBoundedRow}
 use Rattle.mt_base.specs.Trajectory.{Trajectory, row_at}
 use Rattle.mt_track.specs.declared.segment.Segment.{Segment}

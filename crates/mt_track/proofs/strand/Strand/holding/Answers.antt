@@ -8,7 +8,7 @@ pub loop-high-init : goal.loop-high-init
 loop-high-init c =
     let in_fields : c.args.k < c.self.inside.start + length (all_rows c.self.inside.segments.items) = rw (← c.self.view_is) at c.requires.within in
     let begun : c.self.inside.start ≤ c.args.k = rw (← c.self.view_is) at c.requires.begun in
-    let lie = c.self.invariant.0.adjoin in
+    let lie = c.self.invariant.adjoin in
     let covered : c.args.k < c.self.inside.end = omega (arith, length-all_rows _ _ _ lie) in
     let longer : c.self.inside.start < c.self.inside.end = omega arith in
     let number : c.len-high.result ≡ length c.self.inside.segments.items = omega (arith, c.self.inside.segments.ok.0) in
@@ -21,7 +21,7 @@ loop-high-init c =
 
 pub loop-high-preserved-then-index-k : goal.loop-high-preserved-then-index-k
 loop-high-preserved-then-index-k c =
-    let lies = lies_at c.self.inside.start c.self.inside.end c.self.inside.segments.items _ c.index.result.now c.self.invariant.0.adjoin (omega arith) c.index.ensures in
+    let lies = lies_at c.self.inside.start c.self.inside.end c.self.inside.segments.items _ c.index.result.now c.self.invariant.adjoin (omega arith) c.index.ensures in
     record {
       some = omega arith;
       within = c.loop-high.invariant.within;
@@ -31,7 +31,7 @@ loop-high-preserved-then-index-k c =
 
 pub loop-high-preserved : goal.loop-high-preserved
 loop-high-preserved c =
-    let lies = lies_at c.self.inside.start c.self.inside.end c.self.inside.segments.items _ c.index.result.now c.self.invariant.0.adjoin (omega arith) c.index.ensures in
+    let lies = lies_at c.self.inside.start c.self.inside.end c.self.inside.segments.items _ c.index.result.now c.self.invariant.adjoin (omega arith) c.index.ensures in
     record {
       some = omega arith;
       within = omega arith;
@@ -40,6 +40,6 @@ loop-high-preserved c =
     }
 
 pub returns : goal.returns
-returns c = rw (← c.self.view_is) (found _ _ _ _ c.loop-high.low c.loop-high.high c.args.k c.index-2.result.now c.self.invariant.0
+returns c = rw (← c.self.view_is) (found _ _ _ _ c.loop-high.low c.loop-high.high c.args.k c.index-2.result.now c.self.invariant
     c.loop-high.invariant.some c.loop-high.invariant.within (omega arith) (rw (← c.self.view_is) at c.requires.begun)
     c.loop-high.invariant.begun c.loop-high.invariant.ahead c.index-2.ensures)

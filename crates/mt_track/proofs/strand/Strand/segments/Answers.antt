@@ -4,10 +4,10 @@ use Rattle.mt_track.proofs.strand.Strand.segments.Goals as goal
 
 pub returns-clause-are : goal.returns-clause-are
 returns-clause-are c = rw (c.deref.ensures.value, ← c.self.view_is) (record {
-  adjoin = rw (length-all_rows _ _ _ c.self.invariant.0.adjoin) c.self.invariant.0.adjoin;
+  adjoin = rw (length-all_rows _ _ _ c.self.invariant.adjoin) c.self.invariant.adjoin;
   rows = refl;
-  apart = c.self.invariant.0.apart;
+  apart = c.self.invariant.apart;
 })
 
 pub returns-clause-kept : goal.returns-clause-kept
-returns-clause-kept c = rw (← c.self.view_is) c.self.invariant.0.kept
+returns-clause-kept c = rw (← c.self.view_is) c.self.invariant.kept
