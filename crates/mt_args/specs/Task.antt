@@ -22,8 +22,8 @@ pub record Setting : Type 0 where
 abbrev pub is_sign : ℕ → Bool
 is_sign byte = byte == 61
 
-abbrev pub is_whole : List ℕ → Bool
-is_whole word = nat_lt (position_or_len is_sign word) (length word)
+abbrev pub has_sign : List ℕ → Bool
+has_sign word = nat_lt (position_or_len is_sign word) (length word)
 
 abbrev pub parted : List ℕ → Setting
 parted word = record { name = before_first is_sign word; value = after_first is_sign word }
@@ -35,9 +35,9 @@ before setting others = option_map (λ more. setting ∷ more) others
 -- Words as options, in order: an option is one word `name=value`, or two, the name and the value. Nothing, where a value is missing.
 abbrev pub settings_of : List (List ℕ) → Option (List Setting)
 settings_of [] = Some []
-settings_of (word ∷ []) = if is_whole word then Some (parted word ∷ []) else None
+settings_of (word ∷ []) = if has_sign word then Some (parted word ∷ []) else None
 settings_of (word ∷ next ∷ words) =
-    if is_whole word then before (parted word) (settings_of (next ∷ words))
+    if has_sign word then before (parted word) (settings_of (next ∷ words))
     else before (record { name = word; value = next }) (settings_of words)
 
 -- The number of an option that is set at most once.

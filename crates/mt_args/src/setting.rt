@@ -1,6 +1,6 @@
 //! Options among the words.
 ghost use Rattle.std.specs.Prelude.{◌≡◌, ◌<◌, ◌≤◌, drop, length, true, false, MatchOption, None};
-ghost use Rattle.mt_args.specs.Task.{before, is_whole, parted, settings_of};
+ghost use Rattle.mt_args.specs.Task.{before, has_sign, parted, settings_of};
 
 use mt_base::Words;
 
@@ -42,8 +42,8 @@ pub fn setting_at(words: &Words, at: usize) -> Option<Setting<'_>>
 
 // What stands before the first sign = of a word and after it.
 fn parts(word: &str) -> Option<(&str, &str)>
-    ensures { MatchOption result (is_whole word.now ≡ false)
-        (λ p. (is_whole word.now ≡ true) × (parted word.now ≡ record { name = p.0.now; value = p.1.now })) }
+    ensures { MatchOption result (has_sign word.now ≡ false)
+        (λ p. (has_sign word.now ≡ true) × (parted word.now ≡ record { name = p.0.now; value = p.1.now })) }
 {
     word.split_once('=')
 }

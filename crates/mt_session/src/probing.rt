@@ -30,8 +30,8 @@ fn hit_of(with: Callsign, first: Second, last: Second) -> Hit
     Hit { with, first, last }
 }
 
-// Hits once more.
-fn copied(alloc: Global, hits: &[Hit]) -> Result<Hits, Memory>
+// The same hits, of each of which it is said that its line is short.
+fn short_hits(alloc: Global, hits: &[Hit]) -> Result<Hits, Memory>
     requires { AreShortHits hits.now }
     ensures same { IfOk result (λ copy. copy ≡ hits.now) }
     ensures brief { IfOk result AreBrief }
@@ -84,7 +84,7 @@ impl<B: Board> Serving<B> {
     {
         match self.what_if(rt, call, clearance, eff, gate) {
             Ok(probe) => {
-                let Ok(conflicts) = copied(alloc, probe.hits()) else {
+                let Ok(conflicts) = short_hits(alloc, probe.hits()) else {
                     return Reply::Memory;
                 };
                 let (eff, version) = (probe.eff(), probe.version());

@@ -4,7 +4,7 @@ use Rattle.std.proofs.lemmas.List.Elements.{All-push}
 use Rattle.mt_base.specs.declared.hit.Hit.{Hit}
 use Rattle.mt_base.specs.Name.{is_name}
 use Rattle.mt_write.specs.Short.{IsShortHit}
-use Rattle.mt_session.proofs.probing.copied.Goals as goal
+use Rattle.mt_session.proofs.probing.short_hits.Goals as goal
 
 pub hit_of-requires : goal.hit_of-requires
 hit_of-requires c =

@@ -1,15 +1,15 @@
 use Rattle.std.proofs.Common.{inl, inr, refl, Ok, Err}
 use Rattle.mt_session.proofs.serving.Serving.probe.Goals as goal
 
-pub returns-in-Ok-copied-clause-probed : goal.returns-in-Ok-copied-clause-probed
-returns-in-Ok-copied-clause-probed g c =
+pub returns-in-Ok-short_hits-clause-probed : goal.returns-in-Ok-short_hits-clause-probed
+returns-in-Ok-short_hits-clause-probed g c =
     inl (record {
       seat = c.what_if.new.self.session.seat;
       result = Ok (g.B.Probe.Probed.told c.in-Ok.probe);
       tried = (
         c.in-Ok.ensures.probed,
         record {
-          reply_is = rw (c.in-Ok-copied.ensures.same, c.hits.ensures.told, c.eff-eff.ensures, c.version-version.ensures, c.keep-number.ensures.number, c.in-Ok.ensures.kept) refl;
+          reply_is = rw (c.in-Ok-short_hits.ensures.same, c.hits.ensures.told, c.eff-eff.ensures, c.version-version.ensures, c.keep-number.ensures.number, c.in-Ok.ensures.kept) refl;
           next_is = rw (c.keep-number.ensures.kept, c.in-Ok.ensures.kept) refl;
         },
       );
