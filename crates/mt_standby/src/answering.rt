@@ -15,8 +15,8 @@ use mt_write::{DoneWord, Reply};
 use std::thread::Threads;
 
 impl Standby {
-    /// Answers a line of at most 65,536 bytes: an entry that it is to follow, or a line that asks what holds. The definition is `IsStandbyReplied`. A text
-    /// with an escape goes into `scratch`, which is kept from line to line.
+    /// Answers a line of at most 65,536 bytes: an entry that it is to follow, or a line that asks what holds. The definition is
+    /// `IsStandbyReplied`. A text with an escape goes into `scratch`, which is kept from line to line.
     pub fn answer<R: Threads + Sync>(&mut self, rt: &R, scratch: &mut Scratch, line: &[u8]) -> Reply
         requires { length line.now ≤ 65536 }
         ensures replied { IsStandbyReplied (world_of self.old) line.now result (world_of self.new) }

@@ -28,10 +28,10 @@ const USAGE: &[u8] =
 /// links come from, and `gate` a place between two turns of a session.
 ///
 /// The word `replay` alone answers each line of the input on the output. The word `standby` alone does so up to the line that begins the
-/// picture, and then follows the entries of a primary's history, and tells what holds. The word `load` with its options makes a large input, runs it and
-/// writes one line that sums it up. The word `serve` with its options answers the lines of the input up to the one that begins a picture, serves
-/// links of the door over it, and writes one line that sums that up. Any other words are answered by the usage line. Words are read by the
-/// table of `mt_args`.
+/// picture, and then follows the entries of a primary's history, and tells what holds. The word `load` with its options makes a large input,
+/// runs it and writes one line that sums it up. The word `serve` with its options answers the lines of the input up to the one that begins a
+/// picture, serves links of the door over it, and writes one line that sums that up. Any other words are answered by the usage line. Words
+/// are read by the table of `mt_args`.
 ///
 /// `means` is the whole promise, for each status: by the words, of which lines of the input, from its first byte on, and in which order
 /// the bytes written are the answers. Each reply is that of the line in the state of the history of the lines before it. In `serve` one legal

@@ -86,8 +86,9 @@ impl World {
     /// Serves an actor's request: the reply that the definition of a world has for it, and that world after it; or `Memory` is the reply, and
     /// nothing has changed, but that settling may have renewed some flights.
     ///
-    /// Actors have the numbers 0 to 15. It asks that the request isn't one on areas, which a world of this type doesn't keep. A line that would set the picture up is refused, as it has begun. A reply that follows a change is short
-    /// enough for the room that is taken before the first line.
+    /// Actors have the numbers 0 to 15. It asks that the request isn't one on areas, which a world of this type doesn't keep. A line that
+    /// would set the picture up is refused, as it has begun. A reply that follows a change is short enough for the room that is taken before
+    /// the first line.
     pub fn step<R: Threads + Sync>(&mut self, rt: &R, who: u32, request: &Request) -> Reply
         requires who { who ≤ 15 }
         requires bounded { IsBoundedRequest self.old.rules request.now }
