@@ -56,6 +56,12 @@ stays_in rules t i = stays_over rules (t.start + 256 * i) (slice_rows t.rows i)
 abbrev pub cover_of : Rules → Trajectory → List Stay
 cover_of rules t = flat_map (stays_in rules t) (range_with_len 0 (div_ceil (length t.rows) 256))
 
+-- A stay, and other seconds from one up to but not including another, have a second in common.
+pub record Overlap (stay : Stay) (from to : ℕ) : Type 0 where
+  pub second : ℕ
+  pub left : (stay.from ≤ second) × (second < stay.to)
+  pub right : (from ≤ second) × (second < to)
+
 -- one of some stays is in that cell in second k
 pub record IsAt (stays : List Stay) (cell k : ℕ) : Type 0 where
   pub stay : Stay

@@ -1,7 +1,7 @@
-ghost use Rattle.std.specs.Prelude.{◌≡◌, ◌<◌, ◌++◌, ◌∷◌, [], OnOk};
+ghost use Rattle.std.specs.Prelude.{◌≡◌, ◌↔◌, ◌<◌, ◌++◌, ◌∷◌, [], IsTrue, OnOk};
 ghost use Rattle.mt_base.specs.Bounds.{AreWithinBounds};
 ghost use Rattle.mt_cover.specs.Box.{half, wider};
-ghost use Rattle.mt_cover.specs.Cells.{cells, cells_in, cells_of, stays_of};
+ghost use Rattle.mt_cover.specs.Cells.{Overlap, cells, cells_in, cells_of, stays_of};
 ghost use Rattle.mt_cover.specs.Private.InPlane.{IsAreaInPlane, IsExtentNearPlane};
 
 use crate::area::{Area, Extent, half, place, wider};
@@ -18,6 +18,15 @@ pub struct Stay {
     pub from: Second,
     /// The second after the last one.
     pub to: Second,
+}
+
+impl Stay {
+    /// Whether it has a second in common with the seconds `from <= k < to`.
+    pub fn overlaps(&self, from: Second, to: Second) -> bool
+        ensures { IsTrue result ↔ Overlap self.now from to }
+    {
+        self.from.max(from) < self.to.min(to)
+    }
 }
 
 /// The cells that a trajectory meets, seen as a list of stays: slice by slice, and in each slice line by line from the south and in a line

@@ -1,8 +1,8 @@
 -- A grid: 4,096 lists, one for each cell, of items and the seconds for which they count to it.
-use Rattle.std.specs.Prelude.{◌≡◌, ◌↔◌, ◌⊎◌, ℕ, length, ◌<◌, ◌≤◌, List, [], ◌∷◌, ◌++◌, Contains, All, fold, filter, not, nat_eq, slice_index_or, slice_set}
+use Rattle.std.specs.Prelude.{◌≡◌, ◌↔◌, ◌⊎◌, ℕ, length, ◌<◌, List, [], ◌∷◌, ◌++◌, Contains, All, fold, filter, not, nat_eq, slice_index_or, slice_set}
 use Rattle.std.specs.List.Sorted.{IsStrictlyIncreasing}
 use Rattle.mt_cover.specs.declared.stays.Stay.{Stay}
-use Rattle.mt_cover.specs.Cells.{ShareAt}
+use Rattle.mt_cover.specs.Cells.{Overlap, ShareAt}
 use Rattle.mt_grid.specs.declared.placed.Placed.{Placed}
 
 -- the list of a cell
@@ -34,16 +34,10 @@ without_stay item grid stay = slice_set grid stay.cell (others item (list_at gri
 abbrev pub without_stays : ℕ → List (List Placed) → List Stay → List (List Placed)
 without_stays item grid stays = fold (without_stay item) grid stays
 
--- in some second both a stay and what is placed count to their cell
-pub record Overlap (stay : Stay) (p : Placed) : Type 0 where
-  pub second : ℕ
-  pub left : (stay.from ≤ second) × (second < stay.to)
-  pub right : (p.from ≤ second) × (second < p.to)
-
--- an item is that of what is placed, which overlaps a stay
+-- an item is that of what is placed: in some second both it and a stay count to their cell
 pub record IsItemOf (p : Placed) (stay : Stay) (item : ℕ) : Type 0 where
   pub is : p.item ≡ item
-  pub common : Overlap stay p
+  pub common : Overlap stay p.from p.to
 
 -- an item of a list is near a stay
 pub record IsNearIn (list : List Placed) (stay : Stay) (item : ℕ) : Type 0 where

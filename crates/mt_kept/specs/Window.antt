@@ -1,9 +1,10 @@
 -- The pairs that are open in the window from a moment, and what they show in it.
-use Rattle.std.specs.Prelude.{◌≡◌, ◌≢◌, ℕ, ◌<◌, ◌≤◌, ◌⊎◌, List, length, All, AllPairs, Option, Some, None, Bool, true, ◌&&◌, ◌||◌, nat_lt, nat_le}
+use Rattle.std.specs.Prelude.{◌≡◌, ◌≢◌, ℕ, ◌<◌, ◌≤◌, ◌⊎◌, List, length, All, AllPairs, Option, Some, None, Bool, true}
 use Rattle.mt_base.specs.declared.conflict.Conflict.{Conflict}
 use Rattle.mt_base.specs.declared.rules.Rules.{Rules}
 use Rattle.mt_base.specs.Conflict.{IsLossSecond}
 use Rattle.mt_base.specs.Picture.{NamedTrajectory, IsOf, window_end}
+use Rattle.mt_pair.specs.Crossing.{crosses_one}
 use Rattle.mt_edges.specs.declared.edge.Edge.{Edge}
 use Rattle.mt_kept.specs.declared.open_pair.OpenPair.{OpenPair}
 use Rattle.mt_kept.specs.Losing.{IsPair}
@@ -15,11 +16,8 @@ abbrev pub IsOpen : ℕ → Edge → Type 0
 IsOpen now e = (e.first < window_end now) × (now ≤ e.last)
 
 -- A span of seconds straddles an edge of the window: it begins before the moment, or before the window's end, and goes on at it.
-abbrev pub crosses : ℕ → ℕ → ℕ → Bool
-crosses first last second = nat_lt first second && nat_le second last
-
 abbrev pub is_straddling : ℕ → ℕ → ℕ → Bool
-is_straddling now first last = crosses first last now || crosses first last (window_end now)
+is_straddling now first last = crosses_one now (window_end now) first last
 
 -- the span of a pair does
 abbrev pub straddles : ℕ → Edge → Bool

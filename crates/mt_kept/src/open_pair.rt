@@ -5,6 +5,7 @@ ghost use Rattle.mt_kept.specs.Window.{straddles};
 
 use mt_base::{Conflict, Memory, Second, WINDOW};
 use mt_edges::Edge;
+use mt_pair::crosses_one;
 
 /// A pair of places, the lesser first, with the conflict that their trajectories have in the window.
 #[derive(Clone, Copy)]
@@ -28,8 +29,7 @@ pub(crate) fn is_straddling(edge: &Edge, now: Second) -> bool
     requires { now ≤ 10000000 }
     ensures { result ≡ straddles now edge.now }
 {
-    let end = now + WINDOW;
-    (edge.first < now && now <= edge.last) || (edge.first < end && end <= edge.last)
+    crosses_one(edge.first, edge.last, now, now + WINDOW)
 }
 
 /// Puts a pair after the others.

@@ -10,6 +10,7 @@
 #![tactic(auto)]
 
 mod approach;
+mod crossing;
 mod heights;
 mod horizontal;
 mod overlap;
@@ -18,6 +19,7 @@ mod span;
 mod turning;
 mod vertical;
 
+pub use crossing::crosses_one;
 pub use heights::lie_apart;
 pub use overlap::stretch;
 pub use span::lose;

@@ -98,9 +98,7 @@ near_by_meeting shot t item theirs k sound laid is meet =
       there = subst (λ (list : List Stay). Contains list share.right.stay) (sym it.stays) share.right.of;
       meet = record {
         cell = share.right.there ∙ sym share.left.there;
-        second = k;
-        left = (share.left.begun, share.left.within);
-        right = (share.right.begun, share.right.within);
+        common = record { second = k; left = (share.left.begun, share.left.within); right = (share.right.begun, share.right.within) };
       };
     }
 

@@ -127,9 +127,7 @@ near_by_loss shot t other item k rules mine theirs loss stays =
       there = subst (λ (list : List Stay). Contains list share.right.stay) (sym stays) share.right.of;
       meet = record {
         cell = share.right.there ∙ sym share.left.there;
-        second = k;
-        left = (share.left.begun, share.left.within);
-        right = (share.right.begun, share.right.within);
+        common = record { second = k; left = (share.left.begun, share.left.within); right = (share.right.begun, share.right.within) };
       };
     }
 

@@ -11,7 +11,7 @@ use Rattle.mt_base.specs.declared.rules.Rules.{Rules}
 use Rattle.mt_base.specs.Picture.{NamedTrajectory}
 use Rattle.mt_base.specs.Trajectory.{Trajectory}
 use Rattle.mt_cover.specs.declared.stays.Stay.{Stay}
-use Rattle.mt_cover.specs.Cells.{cover_of}
+use Rattle.mt_cover.specs.Cells.{Overlap, cover_of}
 use Rattle.mt_probe.specs.declared.flight.Flight.{Flight}
 use Rattle.mt_probe.specs.Shot.{Shot, made_named, made_of}
 
@@ -39,9 +39,7 @@ stays_at rules slots item = stays_by rules (kind_at item) (get_or slots (item / 
 -- Two stays meet: they are in one cell, and have a second in common.
 pub record Meet (a b : Stay) : Type 0 where
   pub cell : b.cell ≡ a.cell
-  pub second : ℕ
-  pub left : (a.from ≤ second) × (second < a.to)
-  pub right : (b.from ≤ second) × (second < b.to)
+  pub common : Overlap a b.from b.to
 
 -- An item is near a cover: a stay of the trajectory that it names meets one of the cover's.
 pub record IsNearItem (shot : Shot) (cover : List Stay) (item : ℕ) : Type 0 where

@@ -1,21 +1,15 @@
 //! A conflict over all seconds, and what it tells of a part of them.
-ghost use Rattle.std.specs.Prelude.{◌≡◌, ◌≤◌, ◌↔◌, ℕ, None, IsTrue, IfSome};
+ghost use Rattle.std.specs.Prelude.{◌≡◌, ◌≤◌, ℕ, None, IfSome};
 ghost use Rattle.mt_base.specs.declared.rules.Rules.{Rules};
 ghost use Rattle.mt_base.specs.Conflict.{IsConflict};
 ghost use Rattle.mt_base.specs.Trajectory.{Trajectory};
-ghost use Rattle.mt_probe.specs.Narrow.{Straddles, StraddlesOne};
+ghost use Rattle.mt_probe.specs.Narrow.{CrossesOne};
 
 use mt_base::Second;
-
-// Whether an edge is straddled.
-fn straddles(first: Second, last: Second, edge: Second) -> bool
-    ensures { IsTrue result ↔ Straddles (first, last) edge }
-{
-    first < edge && edge <= last
-}
+use mt_pair::crosses_one;
 
 /// What a conflict in some seconds tells of those of them from `from` on and before `to`, of any two trajectories: the conflict there, or
-/// nothing where it straddles one of the two edges.
+/// nothing where it crosses one of the two edges.
 pub fn narrowed(
     whole: Option<(Second, Second)>,
     from: Second,
@@ -24,12 +18,12 @@ pub fn narrowed(
     requires { from ≤ to }
     ensures exact { IfSome result (λ part. (rules : Rules) (a b : Trajectory) (begin end : ℕ) → begin ≤ from → to ≤ end
         → IsConflict rules a b begin end whole → IsConflict rules a b from to part) }
-    ensures none { result ≡ None → StraddlesOne from to whole }
+    ensures none { result ≡ None → CrossesOne from to whole }
 {
     let Some((first, last)) = whole else {
         return Some(None);
     };
-    if straddles(first, last, from) || straddles(first, last, to) {
+    if crosses_one(first, last, from, to) {
         return None;
     }
     if last < from || to <= first {

@@ -8,7 +8,7 @@ use mt_cover::Stay;
 fn meet(stay: &Stay, other: &Stay) -> bool
     ensures { IsTrue result ↔ Meet stay.now other.now }
 {
-    other.cell == stay.cell && stay.from.max(other.from) < stay.to.min(other.to)
+    other.cell == stay.cell && stay.overlaps(other.from, other.to)
 }
 
 // Whether a stay meets one of some others.
