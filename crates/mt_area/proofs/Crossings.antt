@@ -8,7 +8,7 @@ use Rattle.mt_ring.proofs.Signs.{cases_ℤ, mul_nonneg}
 use Rattle.mt_base.specs.declared.area.Area.{Area}
 use Rattle.mt_base.specs.declared.row.Row.{Row}
 use Rattle.mt_base.specs.Area.{IsBoundedArea, IsInsideAt}
-use Rattle.mt_frac.specs.declared.linear.Line.{Line}
+use Rattle.mt_frac.specs.declared.linear.Linear.{Linear}
 use Rattle.mt_frac.specs.Meeting.{AreBelow, IsBoundedSide}
 use Rattle.mt_frac.specs.Polynomials.{line_value}
 use Rattle.mt_area.specs.Private.Lines.{AreCrossed, IsDuringOrAtEnd, IsLineOf, Says, StaysAboveLine, StaysBelow}
@@ -59,12 +59,12 @@ inside_says : (area : Area) (row : Row) (n d : ℤ) → IsInsideAt area row n d 
 inside_says area row n d at k = record { left = λ place. at.left k place; above = λ e. at.above; below = λ e. at.below }
 
 -- The lines so far are below 0 together exactly where the first places hold.
-pub record AreFirst (area : Area) (row : Row) (seconds i : ℕ) (lines : List Line) : Type 0 where
+pub record AreFirst (area : Area) (row : Row) (seconds i : ℕ) (lines : List Linear) : Type 0 where
   pub bounded : All IsBoundedSide lines
   pub exact : (n d : ℤ) → IsDuringOrAtEnd seconds n d → AreBelow lines n d ↔ FirstSay area row i n d
 
 -- a line that stays below 0 isn't needed
-pub AreFirst-skip : (area : Area) (row : Row) (seconds i : ℕ) (lines : List Line) (line : Line) → IsLineOf area row i line → StaysBelow line seconds
+pub AreFirst-skip : (area : Area) (row : Row) (seconds i : ℕ) (lines : List Linear) (line : Linear) → IsLineOf area row i line → StaysBelow line seconds
     → AreFirst area row seconds i lines → AreFirst area row seconds (i + 1) lines
 AreFirst-skip area row seconds i lines line is below first = record {
   bounded = first.bounded;
@@ -76,7 +76,7 @@ AreFirst-skip area row seconds i lines line is below first = record {
 }
 
 -- where one stays at 0 or above, nothing is inside
-pub none_crossed : (area : Area) (row : Row) (seconds i : ℕ) (line : Line) → IsLineOf area row i line → StaysAboveLine line seconds
+pub none_crossed : (area : Area) (row : Row) (seconds i : ℕ) (line : Linear) → IsLineOf area row i line → StaysAboveLine line seconds
     → (n d : ℤ) → IsDuringOrAtEnd seconds n d → ¬ IsInsideAt area row n d
 none_crossed area row seconds i line is above n d during inside =
     let low = (is n d during.positive).1 (inside_says area row n d inside i) in
@@ -84,10 +84,10 @@ none_crossed area row seconds i line is above n d during inside =
     absurd (omega (arith, lin, low, high))
 
 -- every other line is put after those before it
-abbrev IsBelow : ℤ → ℤ → Line → Type 0
+abbrev IsBelow : ℤ → ℤ → Linear → Type 0
 IsBelow n d line = line_value line.b line.c n d <ℤ pos 0
 
-pub AreFirst-push : (area : Area) (row : Row) (seconds i count : ℕ) (lines : List Line) (line : Line) → count < length lines → IsLineOf area row i line → IsBoundedSide line
+pub AreFirst-push : (area : Area) (row : Row) (seconds i count : ℕ) (lines : List Linear) (line : Linear) → count < length lines → IsLineOf area row i line → IsBoundedSide line
     → AreFirst area row seconds i (take count lines) → AreFirst area row seconds (i + 1) (take (count + 1) (slice_set lines count line))
 AreFirst-push area row seconds i count lines line room is kept first = rw (take_more_set lines count line room) (record {
   bounded = All-push IsBoundedSide (take count lines) line first.bounded kept;
@@ -107,7 +107,7 @@ none_yet area row seconds = record {
 }
 
 -- all eighteen
-pub AreFirst-all : (area : Area) (row : Row) (seconds i : ℕ) (lines : List Line) → IsBoundedArea area → 18 ≤ i → AreFirst area row seconds i lines
+pub AreFirst-all : (area : Area) (row : Row) (seconds i : ℕ) (lines : List Linear) → IsBoundedArea area → 18 ≤ i → AreFirst area row seconds i lines
     → AreCrossed area row seconds lines
 AreFirst-all area row seconds i lines kept all first = record {
   bounded = first.bounded;

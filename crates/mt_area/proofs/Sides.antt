@@ -10,7 +10,7 @@ use Rattle.mt_base.specs.Area.{IsBoundedArea, LiesLeft, corner, cross, place_aft
 use Rattle.mt_base.specs.Bounds.{IsBoundedRow, IsInPlane, IsWithin}
 use Rattle.mt_base.specs.Instant.{value_at}
 use Rattle.mt_base.specs.declared.row.Row.{Row}
-use Rattle.mt_frac.specs.declared.linear.Line.{Line}
+use Rattle.mt_frac.specs.declared.linear.Linear.{Linear}
 use Rattle.mt_frac.specs.Meeting.{IsBoundedSide}
 use Rattle.mt_frac.specs.Polynomials.{line_value}
 use Rattle.mt_area.specs.Private.Lines.{IsLineOf, line_to_ceiling, floor_of, side_of}
@@ -208,7 +208,7 @@ at_most : {m : ℕ} (z : ℤ) → unsigned_abs z < m → Abs m z
 at_most {m} (pos n) below = record { low = omega (arith, ints); high = omega (arith, ints) }
 at_most {m} (negsuc n) below = record { low = omega (arith, ints); high = omega (arith, ints) }
 
-pub after_fits : (line : Line) (seconds : ℕ) → IsBoundedSide line → seconds ≤ 14400 → AfterFits line.b line.c seconds
+pub after_fits : (line : Linear) (seconds : ℕ) → IsBoundedSide line → seconds ≤ 14400 → AfterFits line.b line.c seconds
 after_fits line seconds bounded short =
     let kb : Abs (2 ^ 40) line.b = at_most line.b bounded.b_bounded in
     let kc : Abs (2 ^ 50) line.c = at_most line.c bounded.c_bounded in

@@ -14,7 +14,7 @@ number_in low high text =
     then Some (digits_value 10 text) else None
 
 -- An option, as it is spelled: its name, with the dashes, and its value.
-pub record Setting : Type 0 where
+pub record CommandOption : Type 0 where
   pub name : List ℕ
   pub value : List ℕ
 
@@ -25,20 +25,20 @@ is_sign byte = byte == 61
 abbrev pub has_sign : List ℕ → Bool
 has_sign word = nat_lt (position_or_len is_sign word) (length word)
 
-abbrev pub parted : List ℕ → Setting
+abbrev pub parted : List ℕ → CommandOption
 parted word = record { name = before_first is_sign word; value = after_first is_sign word }
 
 -- an option before others, where these are well spelled
-abbrev pub before : Setting → Option (List Setting) → Option (List Setting)
-before setting others = option_map (λ more. setting ∷ more) others
+abbrev pub before : CommandOption → Option (List CommandOption) → Option (List CommandOption)
+before first others = option_map (λ more. first ∷ more) others
 
 -- Words as options, in order: an option is one word `name=value`, or two, the name and the value. Nothing, where a value is missing.
-abbrev pub settings_of : List (List ℕ) → Option (List Setting)
-settings_of [] = Some []
-settings_of (word ∷ []) = if has_sign word then Some (parted word ∷ []) else None
-settings_of (word ∷ next ∷ words) =
-    if has_sign word then before (parted word) (settings_of (next ∷ words))
-    else before (record { name = word; value = next }) (settings_of words)
+abbrev pub options_of : List (List ℕ) → Option (List CommandOption)
+options_of [] = Some []
+options_of (word ∷ []) = if has_sign word then Some (parted word ∷ []) else None
+options_of (word ∷ next ∷ words) =
+    if has_sign word then before (parted word) (options_of (next ∷ words))
+    else before (record { name = word; value = next }) (options_of words)
 
 -- The number of an option that is set at most once.
 abbrev pub once : Bool → ℕ → ℕ → List ℕ → Option ℕ
@@ -56,7 +56,7 @@ pub record Loading : Type 0 where
   pub number : Option ℕ
 
 -- The options of `serve`: the port, 1 to 65,535; the sessions, 1 to 64; the workers, 0 to 8. There is no other.
-abbrev pub serving_with : Serving → Setting → Option Serving
+abbrev pub serving_with : Serving → CommandOption → Option Serving
 serving_with set s =
     if bytes_eq s.name (codes "--port")
     then option_map (λ port. record set { port = Some port }) (once (is_some set.port) 1 65535 s.value)
@@ -67,7 +67,7 @@ serving_with set s =
     else None))
 
 -- The options of `load`: the flights, 1 to 1,024; the number that its input is made from, of 32 bits. There is no other.
-abbrev pub loading_with : Loading → Setting → Option Loading
+abbrev pub loading_with : Loading → CommandOption → Option Loading
 loading_with set s =
     if bytes_eq s.name (codes "--flights")
     then option_map (λ flights. record set { flights = Some flights }) (once (is_some set.flights) 1 1024 s.value)
@@ -81,13 +81,13 @@ and_then None next = None
 and_then (Some x) next = next x
 
 -- all options set, in any order
-module _ {S : Type 0} (with : S → Setting → Option S) where
-  abbrev pub all_set : S → List Setting → Option S
+module _ {S : Type 0} (with : S → CommandOption → Option S) where
+  abbrev pub all_set : S → List CommandOption → Option S
   all_set set [] = Some set
   all_set set (s ∷ more) = and_then (with set s) (λ next. all_set next more)
 
   abbrev pub set_by : S → List (List ℕ) → Option S
-  set_by set words = and_then (settings_of words) (all_set set)
+  set_by set words = and_then (options_of words) (all_set set)
 
 -- what is not set is usual: port 7700, 16 sessions, 2 workers; 40 flights, number 1
 abbrev pub serve_task : Serving → Task

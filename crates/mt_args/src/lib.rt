@@ -1,10 +1,10 @@
 //! The words of the command line, read as what the program is to do.
 #![tactic(auto)]
 
+mod command_option;
 mod loading;
 mod number;
 mod serving;
-mod setting;
 mod table;
 mod task;
 

@@ -2,8 +2,8 @@
 ghost use Rattle.std.specs.Prelude.{◌≡◌, ◌<◌, drop, length, IfOk, MatchResult, Some, None, option_map};
 ghost use Rattle.mt_args.specs.Task.{IsBoundedTask, load_task, loading_with, no_loading, set_by};
 
+use crate::command_option::{CommandOption, option_at};
 use crate::number::once;
-use crate::setting::{Setting, setting_at};
 use crate::task::{Task, Usage};
 use mt_base::Words;
 use std::marker::Model;
@@ -57,7 +57,7 @@ pub fn load(words: &Words) -> Result<Task, Usage>
     };
     let mut at = 1;
     while at < words.count() {
-        let Some(Setting { name, value, next }) = setting_at(words, at) else {
+        let Some(CommandOption { name, value, next }) = option_at(words, at) else {
             return Err(Usage);
         };
         loading.set(name, value)?;

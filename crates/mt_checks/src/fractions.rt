@@ -5,7 +5,7 @@ ghost use Rattle.mt_frac.specs.FractionOrder.{IsBefore};
 ghost use Rattle.mt_frac.specs.Signs.{IsBoundedLine, IsBoundedQuad};
 
 use crate::cases::{Check, Values, assert_case, check_each, number, parsed, word};
-use mt_frac::{Frac, Line, Quad};
+use mt_frac::{Frac, Linear, Quad};
 use std::cmp::Ordering;
 use std::process::Abort;
 
@@ -157,12 +157,12 @@ fn quadratic(rt: &impl Abort, values: &mut Values<'_>) -> Quad
     quad
 }
 
-fn line(rt: &impl Abort, values: &mut Values<'_>) -> Line
+fn line(rt: &impl Abort, values: &mut Values<'_>) -> Linear
     ensures { IsBoundedLine result }
 {
     let b = number(rt, values);
     let c = number(rt, values);
-    let line = Line { b, c };
+    let line = Linear { b, c };
     assert!(rt; is_bounded_line(line));
     line
 }
@@ -194,7 +194,7 @@ fn is_bounded_quad(quad: Quad) -> bool
         && quad.c.unsigned_abs() < 1 << 50
 }
 
-fn is_bounded_line(line: Line) -> bool
+fn is_bounded_line(line: Linear) -> bool
     ensures { IsTrue result → IsBoundedLine line }
 {
     line.b.unsigned_abs() < 1 << 18 && line.c.unsigned_abs() < 1 << 32

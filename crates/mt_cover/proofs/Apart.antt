@@ -8,8 +8,8 @@ use Rattle.mt_base.specs.declared.rules.Rules.{Rules}
 use Rattle.mt_base.specs.Bounds.{AreWithinBounds, IsBoundedRow}
 use Rattle.mt_base.specs.Loss.{LosesIn, apart_x, apart_y, width}
 use Rattle.mt_track.specs.declared.layer.Layer.{Layer}
-use Rattle.mt_cover.specs.declared.area.Area.{Area}
-use Rattle.mt_cover.specs.declared.area.Extent.{Extent}
+use Rattle.mt_cover.specs.declared.bounding_box.BoundingBox.{BoundingBox}
+use Rattle.mt_cover.specs.declared.bounding_box.Extent.{Extent}
 use Rattle.mt_cover.specs.Box.{half, wider}
 
 -- an extent holds a value at the start and at the end of a second
@@ -27,7 +27,7 @@ pub record Rises (layer : Layer) (row : Row) : Type 0 where
   pub high_end : ((row.z +ℤ row.w) +ℤ (row.vz +ℤ row.gw)) ≤ℤ layer.high
 
 -- a box holds a row
-pub record Holds (a : Area) (row : Row) : Type 0 where
+pub record Holds (a : BoundingBox) (row : Row) : Type 0 where
   pub x : Spans a.x row.x row.vx
   pub y : Spans a.y row.y row.vy
   pub margin : (row.r +ℤ row.gr) ≤ℤ a.margin
@@ -127,11 +127,11 @@ width_nonneg s r g t h nn dd s_nonneg r_nonneg t_nonneg g_nonneg h_nonneg begun 
     omega (arith, lin)
 
 -- Two boxes, one with each row: made wider, they meet in x and in y.
-pub record BoxesMeet (rules : Rules) (a b : Area) : Type 0 where
+pub record BoxesMeet (rules : Rules) (a b : BoundingBox) : Type 0 where
   pub x : Meet (wider a.x (a.margin +ℤ half rules)) (wider b.x (b.margin +ℤ half rules))
   pub y : Meet (wider a.y (a.margin +ℤ half rules)) (wider b.y (b.margin +ℤ half rules))
 
-pub boxes_meet : (rules : Rules) (pa pb : Bool) (a b : Area) (left right : Row) → AreWithinBounds rules → IsBoundedRow left → IsBoundedRow right → Holds a left → Holds b right
+pub boxes_meet : (rules : Rules) (pa pb : Bool) (a b : BoundingBox) (left right : Row) → AreWithinBounds rules → IsBoundedRow left → IsBoundedRow right → Holds a left → Holds b right
     → LosesIn rules pa pb left right → BoxesMeet rules a b
 boxes_meet rules pa pb a b left right rules_kept left_kept right_kept in_a in_b some =
     let s = rules_kept.sh.least in

@@ -3,7 +3,7 @@ use Rattle.std.proofs.Common.{◌≡◌, ℕ, zero, suc, ◌+◌, ◌-◌, ◌*�
 use Rattle.std.proofs.lemmas.List.{append-nil, map-append}
 use Rattle.std.proofs.lemmas.List.Concat.{flat_map-append}
 use Rattle.std.specs.List.{range_with_len}
-use Rattle.mt_cover.specs.declared.area.Extent.{Extent}
+use Rattle.mt_cover.specs.declared.bounding_box.Extent.{Extent}
 use Rattle.mt_cover.specs.declared.stays.Stay.{Stay}
 use Rattle.mt_cover.specs.Cells.{cells, cells_in, place, cells_between, stays_of}
 

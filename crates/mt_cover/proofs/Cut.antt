@@ -5,17 +5,17 @@ use Rattle.std.specs.Prelude.{slice_get}
 use Rattle.mt_base.specs.declared.row.Row.{Row}
 use Rattle.mt_base.specs.declared.rules.Rules.{Rules}
 use Rattle.mt_base.specs.Trajectory.{Trajectory}
-use Rattle.mt_cover.specs.declared.area.Area.{Area}
-use Rattle.mt_cover.specs.Box.{area_over}
+use Rattle.mt_cover.specs.declared.bounding_box.BoundingBox.{BoundingBox}
+use Rattle.mt_cover.specs.Box.{box_over}
 use Rattle.mt_cover.specs.Cells.{cells_of, slice_rows, stays_in, stays_of, stays_over}
 use Rattle.mt_cover.specs.Sliced.{slice_by, slice_in, slice_over}
 use Rattle.mt_cover.specs.Private.Walk.{part}
 use Rattle.mt_cover.proofs.Members.{slice_get-drop, slice_get-take}
 
-over_is : (rules : Rules) (from to : ℕ) (rows : List Row) (area : Area) → 0 < length rows → from + length rows ≡ to
-    → ((row : Row) → slice_get rows 0 ≡ Some row → area ≡ area_over rows row) → stays_over rules from rows ≡ stays_of from to (cells_of rules area)
-over_is rules from to [] area some to_is area_is = absurd (omega arith)
-over_is rules from to (row ∷ rows) area some to_is area_is =
+over_is : (rules : Rules) (from to : ℕ) (rows : List Row) (bounds : BoundingBox) → 0 < length rows → from + length rows ≡ to
+    → ((row : Row) → slice_get rows 0 ≡ Some row → bounds ≡ box_over rows row) → stays_over rules from rows ≡ stays_of from to (cells_of rules bounds)
+over_is rules from to [] bounds some to_is area_is = absurd (omega arith)
+over_is rules from to (row ∷ rows) bounds some to_is area_is =
     let same = area_is row refl in
     rw (same, ← to_is) refl
 
@@ -27,16 +27,16 @@ take_up_to {X} n xs = ⊎_elim
     (cases_lt (length xs) n)
 
 -- the rows of a slice, of which a box was gathered
-record IsGathered (t : Trajectory) (i from to : ℕ) (area : Area) : Type 0 where
+record IsGathered (t : Trajectory) (i from to : ℕ) (bounds : BoundingBox) : Type 0 where
   some : 0 < length (slice_rows t.rows i)
   end : from + length (slice_rows t.rows i) ≡ to
-  each : (row : Row) → slice_get (slice_rows t.rows i) 0 ≡ Some row → area ≡ area_over (slice_rows t.rows i) row
+  each : (row : Row) → slice_get (slice_rows t.rows i) 0 ≡ Some row → bounds ≡ box_over (slice_rows t.rows i) row
 
-is_gathered : (t : Trajectory) (rows : List Row) (i end from to : ℕ) (area : Area) → rows ≡ t.rows → end ≡ t.start + length t.rows → from ≡ t.start + 256 * i
+is_gathered : (t : Trajectory) (rows : List Row) (i end from to : ℕ) (bounds : BoundingBox) → rows ≡ t.rows → end ≡ t.start + length t.rows → from ≡ t.start + 256 * i
     → to ≡ min end (from + 256) → from < end
-    → ((row : Row) → slice_get rows (from - t.start) ≡ Some row → area ≡ area_over (part rows (from - t.start) (to - from)) row)
-    → IsGathered t i from to area
-is_gathered t rows i end from to area rows_is end_is from_is to_is some area_is =
+    → ((row : Row) → slice_get rows (from - t.start) ≡ Some row → bounds ≡ box_over (part rows (from - t.start) (to - from)) row)
+    → IsGathered t i from to bounds
+is_gathered t rows i end from to bounds rows_is end_is from_is to_is some area_is =
     let place : from - t.start ≡ 256 * i = omega (arith, from_is) in
     let rest : length (drop (256 * i) t.rows) ≡ length t.rows - 256 * i = length-drop (256 * i) t.rows in
     let number : min (length (drop (256 * i) t.rows)) 256 ≡ to - from = omega (arith, rest, end_is, from_is, to_is, some) in
@@ -50,24 +50,24 @@ is_gathered t rows i end from to area rows_is end_is from_is to_is some area_is 
           rw (rows_is, place, all) at (area_is row (rw (rows_is, place) there));
     }
 
-pub slice_is : (rules : Rules) (t : Trajectory) (rows : List Row) (i end from to : ℕ) (area : Area) → rows ≡ t.rows → end ≡ t.start + length t.rows → from ≡ t.start + 256 * i
+pub slice_is : (rules : Rules) (t : Trajectory) (rows : List Row) (i end from to : ℕ) (bounds : BoundingBox) → rows ≡ t.rows → end ≡ t.start + length t.rows → from ≡ t.start + 256 * i
     → to ≡ min end (from + 256) → from < end
-    → ((row : Row) → slice_get rows (from - t.start) ≡ Some row → area ≡ area_over (part rows (from - t.start) (to - from)) row)
-    → stays_in rules t i ≡ stays_of from to (cells_of rules area)
-slice_is rules t rows i end from to area rows_is end_is from_is to_is some area_is =
-    let h = is_gathered t rows i end from to area rows_is end_is from_is to_is some area_is in
+    → ((row : Row) → slice_get rows (from - t.start) ≡ Some row → bounds ≡ box_over (part rows (from - t.start) (to - from)) row)
+    → stays_in rules t i ≡ stays_of from to (cells_of rules bounds)
+slice_is rules t rows i end from to bounds rows_is end_is from_is to_is some area_is =
+    let h = is_gathered t rows i end from to bounds rows_is end_is from_is to_is some area_is in
     let end_of : (t.start + 256 * i) + length (slice_rows t.rows i) ≡ to = omega (arith, h.end, from_is) in
-    over_is rules (t.start + 256 * i) to (slice_rows t.rows i) area h.some end_of h.each ∙ ap (λ (n : ℕ). stays_of n to (cells_of rules area)) (sym from_is)
+    over_is rules (t.start + 256 * i) to (slice_rows t.rows i) bounds h.some end_of h.each ∙ ap (λ (n : ℕ). stays_of n to (cells_of rules bounds)) (sym from_is)
 
-slice_over_is : (rules : Rules) (rows : List Row) (area : Area) → 0 < length rows → ((row : Row) → slice_get rows 0 ≡ Some row → area ≡ area_over rows row)
-    → slice_over rules rows ≡ slice_by rules area
-slice_over_is rules [] area some area_is = absurd (omega arith)
-slice_over_is rules (row ∷ rows) area some area_is = ap (slice_by rules) (sym (area_is row refl))
+slice_over_is : (rules : Rules) (rows : List Row) (bounds : BoundingBox) → 0 < length rows → ((row : Row) → slice_get rows 0 ≡ Some row → bounds ≡ box_over rows row)
+    → slice_over rules rows ≡ slice_by rules bounds
+slice_over_is rules [] bounds some area_is = absurd (omega arith)
+slice_over_is rules (row ∷ rows) bounds some area_is = ap (slice_by rules) (sym (area_is row refl))
 
-pub box_is : (rules : Rules) (t : Trajectory) (rows : List Row) (i end from to : ℕ) (area : Area) → rows ≡ t.rows → end ≡ t.start + length t.rows → from ≡ t.start + 256 * i
+pub box_is : (rules : Rules) (t : Trajectory) (rows : List Row) (i end from to : ℕ) (bounds : BoundingBox) → rows ≡ t.rows → end ≡ t.start + length t.rows → from ≡ t.start + 256 * i
     → to ≡ min end (from + 256) → from < end
-    → ((row : Row) → slice_get rows (from - t.start) ≡ Some row → area ≡ area_over (part rows (from - t.start) (to - from)) row)
-    → slice_in rules t i ≡ slice_by rules area
-box_is rules t rows i end from to area rows_is end_is from_is to_is some area_is =
-    let h = is_gathered t rows i end from to area rows_is end_is from_is to_is some area_is in
-    slice_over_is rules (slice_rows t.rows i) area h.some h.each
+    → ((row : Row) → slice_get rows (from - t.start) ≡ Some row → bounds ≡ box_over (part rows (from - t.start) (to - from)) row)
+    → slice_in rules t i ≡ slice_by rules bounds
+box_is rules t rows i end from to bounds rows_is end_is from_is to_is some area_is =
+    let h = is_gathered t rows i end from to bounds rows_is end_is from_is to_is some area_is in
+    slice_over_is rules (slice_rows t.rows i) bounds h.some h.each

@@ -8,11 +8,11 @@ use Rattle.mt_ring.proofs.Ring.{lin, spread}
 use Rattle.mt_track.specs.declared.layer.Layer.{Layer}
 use Rattle.mt_track.specs.Rows.{row_after}
 use Rattle.mt_track.proofs.Straight.{row_after-next, row_after-none}
-use Rattle.mt_cover.specs.declared.area.Area.{Area}
-use Rattle.mt_cover.specs.declared.area.Extent.{Extent}
+use Rattle.mt_cover.specs.declared.bounding_box.BoundingBox.{BoundingBox}
+use Rattle.mt_cover.specs.declared.bounding_box.Extent.{Extent}
 use Rattle.mt_cover.specs.Box.{both, extent_of, grown, grown_by, hull, layer_of}
 
-pub grown_by-append : (a : Area) (xs ys : List Row) → grown_by a (xs ++ ys) ≡ grown_by (grown_by a xs) ys
+pub grown_by-append : (a : BoundingBox) (xs ys : List Row) → grown_by a (xs ++ ys) ≡ grown_by (grown_by a xs) ys
 grown_by-append a [] ys = refl
 grown_by-append a (x ∷ xs) ys = grown_by-append (grown a x) xs ys
 
@@ -82,7 +82,7 @@ layer-skip : (l : Layer) (r : Row) (n : ℕ) → both (both (both l (layer_of r)
 layer-skip l r n = λ i. record { low = low-skip l.low r.z r.w r.vz r.gw n i; high = high-skip l.high r.z r.w r.vz r.gw n i }
 
 -- a row between two others of one stretch adds nothing
-grown-skip : (a : Area) (r : Row) (n : ℕ) → grown (grown (grown a r) (next_row r)) (row_after r (suc n)) ≡ grown (grown a r) (row_after r (suc n))
+grown-skip : (a : BoundingBox) (r : Row) (n : ℕ) → grown (grown (grown a r) (next_row r)) (row_after r (suc n)) ≡ grown (grown a r) (row_after r (suc n))
 grown-skip a r n = λ i. record {
   x = hull-skip a.x r.x r.vx n i;
   y = hull-skip a.y r.y r.vy n i;
@@ -96,7 +96,7 @@ twice_low m p = omega (arith, ints, clamps)
 twice_high : (m p : ℤ) → int_max (int_max m p) p ≡ int_max m p
 twice_high m p = omega (arith, ints, clamps)
 
-grown-twice : (a : Area) (r : Row) → grown (grown a r) r ≡ grown a r
+grown-twice : (a : BoundingBox) (r : Row) → grown (grown a r) r ≡ grown a r
 grown-twice a r = λ i. record {
   x = record { low = twice_low a.x.low (extent_of r.x r.vx).low i; high = twice_high a.x.high (extent_of r.x r.vx).high i };
   y = record { low = twice_low a.y.low (extent_of r.y r.vy).low i; high = twice_high a.y.high (extent_of r.y r.vy).high i };
@@ -104,7 +104,7 @@ grown-twice a r = λ i. record {
   layer = record { low = twice_low a.layer.low (layer_of r).low i; high = twice_high a.layer.high (layer_of r).high i };
 }
 
-pub grown_by-straight : (a : Area) (r : Row) (n : ℕ) → grown_by a (straight_rows r (suc n)) ≡ grown (grown a r) (row_after r n)
+pub grown_by-straight : (a : BoundingBox) (r : Row) (n : ℕ) → grown_by a (straight_rows r (suc n)) ≡ grown (grown a r) (row_after r n)
 grown_by-straight a r zero = sym (grown-twice a r) ∙ ap (grown (grown a r)) (sym (row_after-none r))
 grown_by-straight a r (suc n) =
     grown_by-straight (grown a r) (next_row r) n ∙ ap (grown (grown (grown a r) (next_row r))) (row_after-next r n) ∙ grown-skip a r n

@@ -5,8 +5,8 @@ use Rattle.std.specs.Int.{int_max}
 use Rattle.std.specs.Prelude.{slice_get}
 use Rattle.mt_base.specs.declared.row.Row.{Row}
 use Rattle.mt_track.specs.declared.layer.Layer.{Layer}
-use Rattle.mt_cover.specs.declared.area.Area.{Area}
-use Rattle.mt_cover.specs.declared.area.Extent.{Extent}
+use Rattle.mt_cover.specs.declared.bounding_box.BoundingBox.{BoundingBox}
+use Rattle.mt_cover.specs.declared.bounding_box.Extent.{Extent}
 use Rattle.mt_cover.specs.Box.{both, extent_of, grown, grown_by, hull, layer_of}
 use Rattle.mt_cover.proofs.Apart.{Holds, Rises, Spans}
 
@@ -56,7 +56,7 @@ Rises-left layer other row h = record {
   high_end = omega (arith, ints, clamps, h.high_end);
 }
 
-Holds-new : (a : Area) (row : Row) → Holds (grown a row) row
+Holds-new : (a : BoundingBox) (row : Row) → Holds (grown a row) row
 Holds-new a row = record {
   x = Spans-right a.x (extent_of row.x row.vx) row.x row.vx (Spans-own row.x row.vx);
   y = Spans-right a.y (extent_of row.y row.vy) row.y row.vy (Spans-own row.y row.vy);
@@ -64,7 +64,7 @@ Holds-new a row = record {
   heights = Rises-right a.layer row;
 }
 
-Holds-grown : (a : Area) (next row : Row) → Holds a row → Holds (grown a next) row
+Holds-grown : (a : BoundingBox) (next row : Row) → Holds a row → Holds (grown a next) row
 Holds-grown a next row h = record {
   x = Spans-left a.x (extent_of next.x next.vx) row.x row.vx h.x;
   y = Spans-left a.y (extent_of next.y next.vy) row.y row.vy h.y;
@@ -72,11 +72,11 @@ Holds-grown a next row h = record {
   heights = Rises-left a.layer (layer_of next) row h.heights;
 }
 
-pub Holds-grown_by : (a : Area) (rows : List Row) (row : Row) → Holds a row → Holds (grown_by a rows) row
+pub Holds-grown_by : (a : BoundingBox) (rows : List Row) (row : Row) → Holds a row → Holds (grown_by a rows) row
 Holds-grown_by a [] row h = h
 Holds-grown_by a (next ∷ rows) row h = Holds-grown_by (grown a next) rows row (Holds-grown a next row h)
 
-pub Holds-slice_get : (a : Area) (rows : List Row) (i : ℕ) (row : Row) → slice_get rows i ≡ Some row → Holds (grown_by a rows) row
+pub Holds-slice_get : (a : BoundingBox) (rows : List Row) (i : ℕ) (row : Row) → slice_get rows i ≡ Some row → Holds (grown_by a rows) row
 Holds-slice_get a [] i row at = cc
 Holds-slice_get a (next ∷ rows) zero row at =
     let same : next ≡ row = cc in

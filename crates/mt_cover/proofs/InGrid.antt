@@ -6,9 +6,9 @@ use Rattle.std.specs.List.{range_with_len}
 use Rattle.mt_base.specs.declared.row.Row.{Row}
 use Rattle.mt_base.specs.declared.rules.Rules.{Rules}
 use Rattle.mt_base.specs.Trajectory.{Trajectory}
-use Rattle.mt_cover.specs.declared.area.Extent.{Extent}
+use Rattle.mt_cover.specs.declared.bounding_box.Extent.{Extent}
 use Rattle.mt_cover.specs.declared.stays.Stay.{Stay}
-use Rattle.mt_cover.specs.Box.{area_over, half, wider}
+use Rattle.mt_cover.specs.Box.{box_over, half, wider}
 use Rattle.mt_cover.specs.Cells.{cells, cells_in, cells_of, place, place_from, cells_between, slice_rows, stays_in, stays_over}
 
 place_from_few : (z : ℤ) → place_from z < 64
@@ -38,8 +38,8 @@ All-cells x y = All-flat_map (λ (cell : ℕ). cell < 4096) (λ (line : ℕ). li
 All-stays_over : (rules : Rules) (from : ℕ) (rows : List Row) → All (λ (stay : Stay). stay.cell < 4096) (stays_over rules from rows)
 All-stays_over rules from [] = All-nil (λ (stay : Stay). stay.cell < 4096)
 All-stays_over rules from (row ∷ rows) = All-map (λ (stay : Stay). stay.cell < 4096) (λ (cell : ℕ). record { cell = cell; from = from; to = from + length (row ∷ rows) })
-    (cells_of rules (area_over (row ∷ rows) row)) (All-cells (wider (area_over (row ∷ rows) row).x ((area_over (row ∷ rows) row).margin +ℤ half rules))
-    (wider (area_over (row ∷ rows) row).y ((area_over (row ∷ rows) row).margin +ℤ half rules)))
+    (cells_of rules (box_over (row ∷ rows) row)) (All-cells (wider (box_over (row ∷ rows) row).x ((box_over (row ∷ rows) row).margin +ℤ half rules))
+    (wider (box_over (row ∷ rows) row).y ((box_over (row ∷ rows) row).margin +ℤ half rules)))
 
 pub All-slices : (rules : Rules) (t : Trajectory) (n : ℕ) → All (λ (stay : Stay). stay.cell < 4096) (flat_map (stays_in rules t) (range_with_len 0 n))
 All-slices rules t n = All-flat_map (λ (stay : Stay). stay.cell < 4096) (λ (i : ℕ). i < n) (stays_in rules t)

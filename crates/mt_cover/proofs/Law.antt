@@ -16,11 +16,11 @@ use Rattle.mt_track.specs.declared.layer.Layer.{Layer}
 use Rattle.mt_track.specs.Laid.{IsStrand}
 use Rattle.mt_track.specs.Private.Layer.{IsInLayer}
 use Rattle.mt_track.proofs.Strands.{IsBoundedRow-row_at}
-use Rattle.mt_cover.specs.declared.area.Area.{Area}
-use Rattle.mt_cover.specs.declared.area.Extent.{Extent}
+use Rattle.mt_cover.specs.declared.bounding_box.BoundingBox.{BoundingBox}
+use Rattle.mt_cover.specs.declared.bounding_box.Extent.{Extent}
 use Rattle.mt_cover.specs.declared.sliced.Slice.{Slice}
 use Rattle.mt_cover.specs.declared.stays.Stay.{Stay}
-use Rattle.mt_cover.specs.Box.{area_of, area_over, half, wider}
+use Rattle.mt_cover.specs.Box.{box_of, box_over, half, wider}
 use Rattle.mt_cover.specs.Cells.{IsAt, MissesNone, ShareAt, cells, cells_in, cells_of, cover_of, place, place_from, cells_between, slice_rows, stays_in, stays_of, stays_over}
 use Rattle.mt_cover.specs.Sliced.{Have, Touch, TouchBoth, TouchingIsNear, no_slice, slice_at, slice_by, slice_in, slice_over, slices_of}
 use Rattle.mt_cover.proofs.Apart.{Holds, Meet, Rises, Spans, boxes_meet}
@@ -62,10 +62,10 @@ Contains-cells x y column line in_x in_y =
 
 -- stays cover a row in a second: there is a box, that of a slice, that holds the row, in each cell of which, made wider, one of them is
 record Covers (rules : Rules) (stays : List Stay) (slice : Slice) (row : Row) (k : ℕ) : Type 0 where
-  area : Area
-  is : slice ≡ slice_by rules area
-  holds : Holds area row
-  each : (cell : ℕ) → Contains (cells_of rules area) cell → IsAt stays cell k
+  bounds : BoundingBox
+  is : slice ≡ slice_by rules bounds
+  holds : Holds bounds row
+  each : (cell : ℕ) → Contains (cells_of rules bounds) cell → IsAt stays cell k
 
 IsAt-flat_map : {X : Type 0} (f : X → List Stay) (xs : List X) (x : X) (cell k : ℕ) → Contains xs x → IsAt (f x) cell k → IsAt (flat_map f xs) cell k
 IsAt-flat_map f xs x cell k in_x at = record {
@@ -88,10 +88,10 @@ IsAt-stays_of from to list cell k in_list begun within = record {
 covers_over : (rules : Rules) (from : ℕ) (rows : List Row) (i : ℕ) (row : Row) → slice_get rows i ≡ Some row → Covers rules (stays_over rules from rows) (slice_over rules rows) row (from + i)
 covers_over rules from [] i row at = cc
 covers_over rules from (first ∷ rows) i row at = record {
-  area = area_over (first ∷ rows) first;
+  bounds = box_over (first ∷ rows) first;
   is = refl;
-  holds = Holds-slice_get (area_of first) (first ∷ rows) i row at;
-  each = λ cell in_cells. IsAt-stays_of from (from + length (first ∷ rows)) (cells_of rules (area_over (first ∷ rows) first)) cell (from + i) in_cells (omega arith)
+  holds = Holds-slice_get (box_of first) (first ∷ rows) i row at;
+  each = λ cell in_cells. IsAt-stays_of from (from + length (first ∷ rows)) (cells_of rules (box_over (first ∷ rows) first)) cell (from + i) in_cells (omega arith)
       (omega (arith, slice_get_within (first ∷ rows) i row at));
 }
 
@@ -110,7 +110,7 @@ covers rules t k row at = ⊎_elim
           let c = covers_over rules (t.start + 256 * i) (slice_rows t.rows i) j row here in
           let second : t.start + 256 * i + j ≡ k = omega (arith, whole, begun) in
           record {
-            area = c.area;
+            bounds = c.bounds;
             is = get_or-map-range_with_len (slice_in rules t) 0 (div_ceil (length t.rows) 256) i i no_slice
                 (omega (arith, slice_get_within t.rows (k - t.start) row found)) (omega arith) ∙ c.is;
             holds = c.holds;
@@ -167,13 +167,13 @@ cut_by_loss rules a b k loss rules_kept a_kept b_kept =
     let right = covers rules b k loss.right loss.right_is in
     let left_kept = IsBoundedRow-row_at a k loss.left a_kept loss.left_is in
     let right_kept = IsBoundedRow-row_at b k loss.right b_kept loss.right_is in
-    let meet = boxes_meet rules _ _ left.area right.area loss.left loss.right rules_kept left_kept right_kept left.holds right.holds loss.loss in
+    let meet = boxes_meet rules _ _ left.bounds right.bounds loss.left loss.right rules_kept left_kept right_kept left.holds right.holds loss.loss in
     record {
       left = have_row rules a k loss.left loss.left_is;
       right = have_row rules b k loss.right loss.right_is;
       touch = rw (left.is, right.is) (record { x = touch _ _ meet.x; y = touch _ _ meet.y });
-      left_in = rw left.is (in_heights left.area.layer loss.left left_kept left.holds.heights);
-      right_in = rw right.is (in_heights right.area.layer loss.right right_kept right.holds.heights);
+      left_in = rw left.is (in_heights left.bounds.layer loss.left left_kept left.holds.heights);
+      right_in = rw right.is (in_heights right.bounds.layer loss.right right_kept right.holds.heights);
     }
 
 -- in each second that a trajectory covers it has a row
@@ -201,7 +201,7 @@ half_nonneg : (z : ℤ) → pos 1 ≤ℤ z → pos 0 ≤ℤ int_div (z +ℤ pos 
 half_nonneg (pos n) least = omega (arith, ints)
 half_nonneg (negsuc n) least = absurd (omega (arith, ints))
 
-reach_nonneg : (rules : Rules) (a : Area) (row : Row) → AreWithinBounds rules → IsBoundedRow row → Holds a row → pos 0 ≤ℤ (a.margin +ℤ half rules)
+reach_nonneg : (rules : Rules) (a : BoundingBox) (row : Row) → AreWithinBounds rules → IsBoundedRow row → Holds a row → pos 0 ≤ℤ (a.margin +ℤ half rules)
 reach_nonneg rules a row rules_kept kept holds =
     let h = half_nonneg rules.sh rules_kept.sh.least in
     omega (arith, ints, holds.margin, kept.r.value.least, kept.r.growth.least, h)
@@ -212,15 +212,15 @@ touching_is_near rules a b k rules_kept a_kept b_kept have_a have_b touch =
     let other = has_row rules b k have_b in
     let left = covers rules a k one.row one.is in
     let right = covers rules b k other.row other.is in
-    let m = reach_nonneg rules left.area one.row rules_kept (IsBoundedRow-row_at a k one.row a_kept one.is) left.holds in
-    let n = reach_nonneg rules right.area other.row rules_kept (IsBoundedRow-row_at b k other.row b_kept other.is) right.holds in
+    let m = reach_nonneg rules left.bounds one.row rules_kept (IsBoundedRow-row_at a k one.row a_kept one.is) left.holds in
+    let n = reach_nonneg rules right.bounds other.row rules_kept (IsBoundedRow-row_at b k other.row b_kept other.is) right.holds in
     let both = rw (left.is, right.is) at touch in
-    let by_left = left.area.margin +ℤ half rules in
-    let by_right = right.area.margin +ℤ half rules in
-    let x = meet_by (wider left.area.x by_left) (wider right.area.x by_right) (in_order left.area.x one.row.x one.row.vx by_left left.holds.x m)
-    (in_order right.area.x other.row.x other.row.vx by_right right.holds.x n) both.x in
-    let y = meet_by (wider left.area.y by_left) (wider right.area.y by_right) (in_order left.area.y one.row.y one.row.vy by_left left.holds.y m)
-    (in_order right.area.y other.row.y other.row.vy by_right right.holds.y n) both.y in
+    let by_left = left.bounds.margin +ℤ half rules in
+    let by_right = right.bounds.margin +ℤ half rules in
+    let x = meet_by (wider left.bounds.x by_left) (wider right.bounds.x by_right) (in_order left.bounds.x one.row.x one.row.vx by_left left.holds.x m)
+    (in_order right.bounds.x other.row.x other.row.vx by_right right.holds.x n) both.x in
+    let y = meet_by (wider left.bounds.y by_left) (wider right.bounds.y by_right) (in_order left.bounds.y one.row.y one.row.vy by_left left.holds.y m)
+    (in_order right.bounds.y other.row.y other.row.vy by_right right.holds.y n) both.y in
     share_by rules k (cover_of rules a) (cover_of rules b) (slice_at (slices_of rules a) k) (slice_at (slices_of rules b) k) one.row other.row left right
     (rw (left.is, right.is) x) (rw (left.is, right.is) y)
 

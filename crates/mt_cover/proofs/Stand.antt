@@ -13,8 +13,8 @@ use Rattle.mt_track.proofs.Joined.{IsBoundedOver-segment}
 use Rattle.mt_track.proofs.Segments.{edge-length, edge_from, lies_at, row_in}
 use Rattle.mt_track.specs.Private.Laid.{edge}
 use Rattle.mt_track.proofs.Straight.{IsBoundedRow-row_after, row_after-add}
-use Rattle.mt_cover.specs.declared.area.Area.{Area}
-use Rattle.mt_cover.specs.Box.{area_of, area_over, grown, grown_by}
+use Rattle.mt_cover.specs.declared.bounding_box.BoundingBox.{BoundingBox}
+use Rattle.mt_cover.specs.Box.{box_of, box_over, grown, grown_by}
 use Rattle.mt_cover.specs.Private.Walk.{StandsAtSecond, part}
 use Rattle.mt_cover.proofs.Ends.{grown_by-append, grown_by-straight}
 use Rattle.mt_cover.proofs.Parts.{part-more, part-straight}
@@ -32,7 +32,7 @@ IsBoundedOver-front a n k below kept =
     }
 
 -- what the rows of a segment from one second to another add to a box
-pub grown_by-ends : (a : Area) (f : Row) (begin from to : ℕ) → begin ≤ from → from < to
+pub grown_by-ends : (a : BoundingBox) (f : Row) (begin from to : ℕ) → begin ≤ from → from < to
     → grown (grown a (row_after f (from - begin))) (row_after f (to - 1 - begin)) ≡ grown_by a (straight_rows (row_after f (from - begin)) (to - from))
 grown_by-ends a f begin from to begun some =
     let count : to - from ≡ suc (to - 1 - from) = omega arith in
@@ -84,10 +84,10 @@ row_here start end ss index k s laid stands early is =
     row_in start end ss index s k laid.adjoin is stands.begun (stands.ahead (stands_within start end ss index k laid stands early))
 
 -- a box that has the rows up to a second, with those of the segment up to another
-pub gathered_on : (start end : ℕ) (ss : List Segment) (index from at until : ℕ) (s : Segment) (row : Row) (a b : Area) → IsLaid start end ss
+pub gathered_on : (start end : ℕ) (ss : List Segment) (index from at until : ℕ) (s : Segment) (row : Row) (a b : BoundingBox) → IsLaid start end ss
     → StandsAtSecond start ss index at → at < end → s ≡ get_or ss index s → start ≤ from → from ≤ at → at ≤ until → until ≤ s.to
-    → a ≡ area_over (part (all_rows ss) (from - start) (at - from)) row → b ≡ grown_by a (straight_rows (row_after s.first (at - s.from)) (until - at))
-    → b ≡ area_over (part (all_rows ss) (from - start) (until - from)) row
+    → a ≡ box_over (part (all_rows ss) (from - start) (at - from)) row → b ≡ grown_by a (straight_rows (row_after s.first (at - s.from)) (until - at))
+    → b ≡ box_over (part (all_rows ss) (from - start) (until - from)) row
 gathered_on start end ss index from at until s row a b laid stands early is covered begun on within a_is b_is =
     let h = here start end ss index at s laid stands early is in
     let lies = lies_at start end ss index s laid.adjoin (stands_within start end ss index at laid stands early) is in
@@ -101,9 +101,9 @@ gathered_on start end ss index from at until s row a b laid stands early is cove
     let seam : (from - start) + (at - from) ≡ at - start = omega arith in
     let all = part-more (all_rows ss) (from - start) (at - from) (until - at) in
     b_is
-    ∙ ap (λ (z : Area). grown_by z (straight_rows (row_after s.first (at - s.from)) (until - at))) a_is
-    ∙ sym (grown_by-append (area_of row) (part (all_rows ss) (from - start) (at - from)) (straight_rows (row_after s.first (at - s.from)) (until - at)))
-    ∙ ap (λ (rows : List Row). grown_by (area_of row) (part (all_rows ss) (from - start) (at - from) ++ rows)) (sym new)
+    ∙ ap (λ (z : BoundingBox). grown_by z (straight_rows (row_after s.first (at - s.from)) (until - at))) a_is
+    ∙ sym (grown_by-append (box_of row) (part (all_rows ss) (from - start) (at - from)) (straight_rows (row_after s.first (at - s.from)) (until - at)))
+    ∙ ap (λ (rows : List Row). grown_by (box_of row) (part (all_rows ss) (from - start) (at - from) ++ rows)) (sym new)
     ∙ rw (count, all, seam) refl
 
 -- an element is the same whatever stands for one that isn't there
@@ -141,13 +141,13 @@ pub here_or : (start end : ℕ) (ss : List Segment) (index k : ℕ) (d : Segment
     → Here end ss index k (get_or ss index d)
 here_or start end ss index k d laid stands early = here start end ss index k (get_or ss index d) laid stands early (at_element start end ss index k d laid stands early)
 
-pub first_area : (start end : ℕ) (ss : List Segment) (index k n : ℕ) (row first : Row) (s : Segment) (area : Area) → IsLaid start end ss → StandsAtSecond start ss index k → k < end
-    → s ≡ get_or ss index s → n ≡ 0 → first ≡ row_after s.first (k - s.from) → area ≡ area_of first → slice_get (all_rows ss) (k - start) ≡ Some row
-    → area ≡ area_over (part (all_rows ss) (k - start) n) row
-first_area start end ss index k n row first s area laid stands early is none first_is area_is at =
+pub first_box : (start end : ℕ) (ss : List Segment) (index k n : ℕ) (row first : Row) (s : Segment) (bounds : BoundingBox) → IsLaid start end ss → StandsAtSecond start ss index k → k < end
+    → s ≡ get_or ss index s → n ≡ 0 → first ≡ row_after s.first (k - s.from) → bounds ≡ box_of first → slice_get (all_rows ss) (k - start) ≡ Some row
+    → bounds ≡ box_over (part (all_rows ss) (k - start) n) row
+first_box start end ss index k n row first s bounds laid stands early is none first_is area_is at =
     let one = row_here start end ss index k s laid stands early is in
     let same : first ≡ row = cc in
-    rw none (area_is ∙ ap area_of same)
+    rw none (area_is ∙ ap box_of same)
 
 -- at the end of the segment the next one holds; before it, the same one
 pub stands_past : (start end : ℕ) (ss : List Segment) (index at until to : ℕ) (s : Segment) → IsLaid start end ss → StandsAtSecond start ss index at → at < end → s ≡ get_or ss index s

@@ -4,8 +4,8 @@ use Rattle.std.specs.Int.{int_max, int_min}
 use Rattle.mt_base.specs.declared.row.Row.{Row}
 use Rattle.mt_base.specs.declared.rules.Rules.{Rules}
 use Rattle.mt_track.specs.declared.layer.Layer.{Layer}
-use Rattle.mt_cover.specs.declared.area.Area.{Area}
-use Rattle.mt_cover.specs.declared.area.Extent.{Extent}
+use Rattle.mt_cover.specs.declared.bounding_box.BoundingBox.{BoundingBox}
+use Rattle.mt_cover.specs.declared.bounding_box.Extent.{Extent}
 
 -- from the lesser to the greater of a value and what it is after its gain
 abbrev pub extent_of : ℤ → ℤ → Extent
@@ -27,11 +27,11 @@ layer_of row = record {
 }
 
 -- x and `x + vx`, y and `y + vy` of a row, its margin at the end of its second, and its heights
-abbrev pub area_of : Row → Area
-area_of row = record { x = extent_of row.x row.vx; y = extent_of row.y row.vy; margin = row.r +ℤ row.gr; layer = layer_of row }
+abbrev pub box_of : Row → BoundingBox
+box_of row = record { x = extent_of row.x row.vx; y = extent_of row.y row.vy; margin = row.r +ℤ row.gr; layer = layer_of row }
 
 -- with a row more
-abbrev pub grown : Area → Row → Area
+abbrev pub grown : BoundingBox → Row → BoundingBox
 grown a row = record {
   x = hull a.x (extent_of row.x row.vx);
   y = hull a.y (extent_of row.y row.vy);
@@ -40,13 +40,13 @@ grown a row = record {
 }
 
 -- with some rows more
-abbrev pub grown_by : Area → List Row → Area
+abbrev pub grown_by : BoundingBox → List Row → BoundingBox
 grown_by a [] = a
 grown_by a (row ∷ rows) = grown_by (grown a row) rows
 
 -- The box of some rows: that of the first one, with all of them.
-abbrev pub area_over : List Row → Row → Area
-area_over rows first = grown_by (area_of first) rows
+abbrev pub box_over : List Row → Row → BoundingBox
+box_over rows first = grown_by (box_of first) rows
 
 -- half of the horizontal minimum, rounded up
 abbrev pub half : Rules → ℤ

@@ -8,10 +8,10 @@ use Rattle.mt_base.specs.Bounds.{AreWithinBounds}
 use Rattle.mt_base.specs.Conflict.{IsLossSecond}
 use Rattle.mt_base.specs.Trajectory.{Trajectory}
 use Rattle.mt_track.specs.Laid.{IsStrand}
-use Rattle.mt_cover.specs.declared.area.Area.{Area}
-use Rattle.mt_cover.specs.declared.area.Extent.{Extent}
+use Rattle.mt_cover.specs.declared.bounding_box.BoundingBox.{BoundingBox}
+use Rattle.mt_cover.specs.declared.bounding_box.Extent.{Extent}
 use Rattle.mt_cover.specs.declared.stays.Stay.{Stay}
-use Rattle.mt_cover.specs.Box.{area_over, half, wider}
+use Rattle.mt_cover.specs.Box.{box_over, half, wider}
 
 -- Which of 64 places of 115,200 units each a distance from the plane's edge lies in; what lies outside counts to the first or the last.
 abbrev pub place_from : ℤ → ℕ
@@ -33,7 +33,7 @@ abbrev pub cells : Extent → Extent → List ℕ
 cells x y = flat_map (cells_in x) (cells_between y)
 
 -- the cells of a box, made wider on each side by its greatest margin and half of the horizontal minimum
-abbrev pub cells_of : Rules → Area → List ℕ
+abbrev pub cells_of : Rules → BoundingBox → List ℕ
 cells_of rules a = cells (wider a.x (a.margin +ℤ half rules)) (wider a.y (a.margin +ℤ half rules))
 
 -- a stay in each of some cells, for the same seconds
@@ -43,7 +43,7 @@ stays_of from to list = map (λ cell. record { cell = cell; from = from; to = to
 -- the stays of a slice that begins at a second and has those rows
 abbrev pub stays_over : Rules → ℕ → List Row → List Stay
 stays_over rules from [] = []
-stays_over rules from (row ∷ rows) = stays_of from (from + length (row ∷ rows)) (cells_of rules (area_over (row ∷ rows) row))
+stays_over rules from (row ∷ rows) = stays_of from (from + length (row ∷ rows)) (cells_of rules (box_over (row ∷ rows) row))
 
 -- slice i
 abbrev pub slice_rows : List Row → ℕ → List Row

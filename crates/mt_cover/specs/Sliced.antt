@@ -9,14 +9,14 @@ use Rattle.mt_base.specs.Trajectory.{Trajectory}
 use Rattle.mt_track.specs.declared.layer.Layer.{Layer}
 use Rattle.mt_track.specs.Laid.{IsStrand}
 use Rattle.mt_track.specs.Layer.{IsLayerKept}
-use Rattle.mt_cover.specs.declared.area.Area.{Area}
-use Rattle.mt_cover.specs.declared.area.Extent.{Extent}
+use Rattle.mt_cover.specs.declared.bounding_box.BoundingBox.{BoundingBox}
+use Rattle.mt_cover.specs.declared.bounding_box.Extent.{Extent}
 use Rattle.mt_cover.specs.declared.sliced.Slice.{Slice}
-use Rattle.mt_cover.specs.Box.{area_over, both, half, wider}
+use Rattle.mt_cover.specs.Box.{box_over, both, half, wider}
 use Rattle.mt_cover.specs.Cells.{ShareAt, cover_of, slice_rows}
 
 -- the box of a slice's rows, made wider on each side by its greatest margin and half of the horizontal minimum, and its heights
-abbrev pub slice_by : Rules → Area → Slice
+abbrev pub slice_by : Rules → BoundingBox → Slice
 slice_by rules a = record { x = wider a.x (a.margin +ℤ half rules); y = wider a.y (a.margin +ℤ half rules); layer = a.layer }
 
 -- what stands for the slice of no row
@@ -26,7 +26,7 @@ no_slice = record { x = record { low = pos 0; high = pos 0 }; y = record { low =
 -- the slice of those rows
 abbrev pub slice_over : Rules → List Row → Slice
 slice_over rules [] = no_slice
-slice_over rules (row ∷ rows) = slice_by rules (area_over (row ∷ rows) row)
+slice_over rules (row ∷ rows) = slice_by rules (box_over (row ∷ rows) row)
 
 -- slice i of a trajectory
 abbrev pub slice_in : Rules → Trajectory → ℕ → Slice

@@ -2,14 +2,14 @@
 //! lose separation meet one cell in that second.
 #![tactic(auto)]
 
-mod area;
+mod bounding_box;
 mod heights;
 mod laws;
 mod sliced;
 mod stays;
 mod walk;
 
-pub use area::Extent;
+pub use bounding_box::Extent;
 pub use laws::{misses_none_law, touching_is_near_law};
 pub use mt_memory::Memory;
 pub use sliced::{Slice, Slices};

@@ -1,10 +1,10 @@
 ghost use Rattle.std.specs.Prelude.{◌≡◌, ◌+◌, ◌-◌, ◌*◌, ◌/◌};
 ghost use Rattle.mt_base.specs.Bounds.{AreWithinBounds};
 ghost use Rattle.mt_track.specs.Layer.{IsLayerKept};
-ghost use Rattle.mt_cover.specs.Private.InPlane.{IsAreaInPlane};
+ghost use Rattle.mt_cover.specs.Private.InPlane.{IsBoxInPlane};
 ghost use Rattle.mt_cover.specs.Sliced.{AreSlices, Have, layer_over, slice_at, slice_by};
 
-use crate::area::{Area, Extent, half, wider};
+use crate::bounding_box::{BoundingBox, Extent, half, wider};
 use mt_base::{Rules, Second};
 use mt_track::Layer;
 use std::marker::Model;
@@ -102,16 +102,16 @@ impl Slices {
 }
 
 /// The slice of a box.
-pub(crate) fn slice_by(rules: &Rules, area: Area) -> Slice
+pub(crate) fn slice_by(rules: &Rules, bounds: BoundingBox) -> Slice
     requires rules_kept { AreWithinBounds rules.now }
-    requires kept { IsAreaInPlane area }
-    ensures is { result ≡ slice_by rules.now area }
+    requires kept { IsBoxInPlane bounds }
+    ensures is { result ≡ slice_by rules.now bounds }
     ensures kept { IsLayerKept result.layer }
 {
-    let by = area.margin + half(rules);
+    let by = bounds.margin + half(rules);
     Slice {
-        x: wider(area.x, by),
-        y: wider(area.y, by),
-        layer: area.layer,
+        x: wider(bounds.x, by),
+        y: wider(bounds.y, by),
+        layer: bounds.layer,
     }
 }

@@ -2,9 +2,9 @@ ghost use Rattle.std.specs.Prelude.{◌≡◌, ◌↔◌, ◌<◌, ◌++◌, ◌
 ghost use Rattle.mt_base.specs.Bounds.{AreWithinBounds};
 ghost use Rattle.mt_cover.specs.Box.{half, wider};
 ghost use Rattle.mt_cover.specs.Cells.{Overlap, cells, cells_in, cells_of, stays_of};
-ghost use Rattle.mt_cover.specs.Private.InPlane.{IsAreaInPlane, IsExtentNearPlane};
+ghost use Rattle.mt_cover.specs.Private.InPlane.{IsBoxInPlane, IsExtentNearPlane};
 
-use crate::area::{Area, Extent, half, place, wider};
+use crate::bounding_box::{BoundingBox, Extent, half, place, wider};
 use mt_base::{Memory, Rules, Second};
 use std::alloc::Global;
 use std::marker::Model;
@@ -103,15 +103,15 @@ impl Cover {
     pub(crate) fn add(
         &mut self,
         rules: &Rules,
-        area: Area,
+        bounds: BoundingBox,
         from: Second,
         to: Second,
     ) -> Result<(), Memory>
         requires rules_kept { AreWithinBounds rules.now }
-        requires kept { IsAreaInPlane area }
-        ensures { OnOk result (self.new ≡ self.old ++ stays_of from to (cells_of rules.now area)) }
+        requires kept { IsBoxInPlane bounds }
+        ensures { OnOk result (self.new ≡ self.old ++ stays_of from to (cells_of rules.now bounds)) }
     {
-        let by = area.margin + half(rules);
-        self.add_cells(wider(area.x, by), wider(area.y, by), from, to)
+        let by = bounds.margin + half(rules);
+        self.add_cells(wider(bounds.x, by), wider(bounds.y, by), from, to)
     }
 }

@@ -5,14 +5,14 @@ ghost use Rattle.mt_base.specs.Trajectory.{straight_rows};
 ghost use Rattle.mt_track.specs.Laid.{all_rows};
 ghost use Rattle.mt_track.specs.Private.Laid.{IsLaid};
 ghost use Rattle.mt_track.specs.Rows.{row_after};
-ghost use Rattle.mt_cover.specs.Box.{area_over, grown_by};
+ghost use Rattle.mt_cover.specs.Box.{box_over, grown_by};
 ghost use Rattle.mt_cover.specs.Cells.{cover_of};
-ghost use Rattle.mt_cover.specs.Private.InPlane.{IsAreaInPlane};
+ghost use Rattle.mt_cover.specs.Private.InPlane.{IsBoxInPlane};
 ghost use Rattle.mt_cover.specs.Sliced.{slices_of};
 ghost use Rattle.mt_cover.specs.declared.stays.Stay.{Stay};
 ghost use Rattle.mt_cover.specs.Private.Walk.{StandsAtSecond, part};
 
-use crate::area::{Area, area_of, grown};
+use crate::bounding_box::{BoundingBox, box_of, grown};
 use crate::heights::{both, no_layer};
 use crate::sliced::{SLICE, Slices, slice_by};
 use crate::stays::Cover;
@@ -21,24 +21,24 @@ use mt_track::{Segment, Strand, later};
 use std::alloc::Global;
 
 /// The box with the rows of a segment from one second to another. Their values are linear, so they are extreme in the first or the last.
-fn with_part(area: Area, segment: &Segment, from: Second, to: Second) -> Area
-    requires kept { IsAreaInPlane area }
+fn with_part(bounds: BoundingBox, segment: &Segment, from: Second, to: Second) -> BoundingBox
+    requires kept { IsBoxInPlane bounds }
     requires bounded { IsBoundedOver segment.now.first (segment.now.to - segment.now.from) }
     requires begun { segment.now.from ≤ from }
     requires some { from < to }
     requires within { to ≤ segment.now.to }
-    ensures is { result ≡ grown_by area (straight_rows (row_after segment.now.first (from - segment.now.from)) (to - from)) }
-    ensures kept { IsAreaInPlane result }
+    ensures is { result ≡ grown_by bounds (straight_rows (row_after segment.now.first (from - segment.now.from)) (to - from)) }
+    ensures kept { IsBoxInPlane result }
 {
     let first = later(&segment.first, from - segment.from);
     let last = later(&segment.first, to - 1 - segment.from);
-    grown(grown(area, &first), &last)
+    grown(grown(bounds, &first), &last)
 }
 
 /// What was gathered of a slice: its box, and the number of the segment that holds the second after it.
 #[derive(Clone, Copy)]
 pub(crate) struct Gathered {
-    area: Area,
+    bounds: BoundingBox,
     index: usize,
 }
 
@@ -58,24 +58,24 @@ fn gather(
     requires some { from < to }
     requires within { to ≤ end }
     ensures is { (row : Row) → slice_get (all_rows segments.now) (from - start) ≡ Some row
-        → result.area ≡ area_over (part (all_rows segments.now) (from - start) (to - from)) row }
-    ensures kept { IsAreaInPlane result.area }
+        → result.bounds ≡ box_over (part (all_rows segments.now) (from - start) (to - from)) row }
+    ensures kept { IsBoxInPlane result.bounds }
     ensures stands { StandsAtSecond start segments.now result.index to }
 {
     let mut index = index;
     let mut at = from;
     let first = later(&segments[index].first, from - segments[index].from);
-    let mut area = area_of(&first);
+    let mut bounds = box_of(&first);
     while at < to {
         let segment = &segments[index];
         let until = segment.to.min(to);
-        area = with_part(area, segment, at, until);
+        bounds = with_part(bounds, segment, at, until);
         at = until;
         if segment.to <= to {
             index += 1;
         }
     }
-    Gathered { area, index }
+    Gathered { bounds, index }
 }
 
 /// The cover of a strand. Its seconds are cut from its start into slices of 256. In each slice the strand counts to the cells that the box of
@@ -94,7 +94,7 @@ pub fn cover(alloc: Global, strand: &Strand, rules: &Rules) -> Result<Cover, Mem
         let from = start + SLICE * slice;
         let to = end.min(from + SLICE);
         let gathered = gather(segments, start, end, index, from, to);
-        cover.add(rules, gathered.area, from, to)?;
+        cover.add(rules, gathered.bounds, from, to)?;
         index = gathered.index;
     }
     Ok(cover)
@@ -115,7 +115,7 @@ pub fn slices(alloc: Global, strand: &Strand, rules: &Rules) -> Result<Slices, M
         let begin = start + SLICE * slice;
         let until = end.min(begin + SLICE);
         let gathered = gather(segments, start, end, index, begin, until);
-        let own = slice_by(rules, gathered.area);
+        let own = slice_by(rules, gathered.bounds);
         layer = both(layer, own.layer);
         list.push(own)?;
         index = gathered.index;

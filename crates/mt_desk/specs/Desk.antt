@@ -6,7 +6,7 @@ use Rattle.mt_base.specs.Tables.{Setup}
 use Rattle.mt_board.specs.Seat.{Seat}
 use Rattle.mt_turn.specs.declared.view.Phase.TheVariants.{Idle}
 use Rattle.mt_turn.specs.declared.view.View.{View}
-use Rattle.mt_turn.specs.Places.{Place}
+use Rattle.mt_turn.specs.Seats.{SeatNow}
 
 -- A desk: the turn that its seats are of, and the rules and tables, which never change.
 pub record Desk : Type 0 where
@@ -14,7 +14,7 @@ pub record Desk : Type 0 where
   pub fixed : Setup
 
 -- A seat is one of the desk's, with its rules and tables, and doesn't have the turn.
-pub record IsSeatOfDesk (d : Desk) (p : Place Entry Setup) : Type 0 where
+pub record IsSeatOfDesk (d : Desk) (p : SeatNow Entry Setup) : Type 0 where
   pub home_is : p.home ≡ d.home
   pub idle : p.view.phase ≡ Idle
   pub fixed_is : p.view.fixed ≡ Some d.fixed
@@ -29,5 +29,5 @@ pub record Hand : Type 0 where
   pub view : View Entry Setup
 
 -- the seat of a hand
-abbrev pub seat_of_hand : Hand → Place Entry Setup
+abbrev pub seat_of_hand : Hand → SeatNow Entry Setup
 seat_of_hand h = record { home = h.desk.home; view = h.view }

@@ -14,7 +14,7 @@ use mt_turn::Turn;
 use std::alloc::Global;
 use std::marker::Model;
 
-/// A seat of a desk. Contracts see it as a `Place`: the turn that it is of, and what it knows.
+/// A seat of a desk. Contracts see it as a `SeatNow`: the turn that it is of, and what it knows.
 pub type Seat = mt_turn::Seat<Legal>;
 
 /// One kept picture behind a turn. Contracts see it as the name of the turn with the rules and tables.

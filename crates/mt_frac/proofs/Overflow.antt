@@ -4,7 +4,7 @@ use Rattle.std.proofs.lemmas.Int.{ints}
 use mir.Syntax.{w128}
 use Rattle.mt_frac.specs.declared.fraction.Frac.{Frac}
 use Rattle.mt_frac.specs.declared.quadratic.Quad.{Quad}
-use Rattle.mt_frac.specs.declared.linear.Line.{Line}
+use Rattle.mt_frac.specs.declared.linear.Linear.{Linear}
 use Rattle.mt_frac.specs.declared.end.End.{End}
 use Rattle.mt_frac.specs.Meeting.{IsBoundedSide}
 use Rattle.mt_frac.specs.Signs.{IsBoundedQuad, IsBoundedLine}
@@ -124,7 +124,7 @@ pub record LineFits (b c n d : ℤ) : Type 0 where
   pub fits_cd : FitsSigned w128 (c *ℤ d)
   pub fits_all : FitsSigned w128 (b *ℤ n +ℤ c *ℤ d)
 
-pub line_fits : (line : Line) (at : Frac) → IsBoundedLine line → LineFits line.b line.c at.num at.den
+pub line_fits : (line : Linear) (at : Frac) → IsBoundedLine line → LineFits line.b line.c at.num at.den
 line_fits line at bounds =
     let kb = at_most (2 ^ 18) line.b bounds.b_bounded in
     let kc = at_most (2 ^ 32) line.c bounds.c_bounded in
@@ -141,7 +141,7 @@ line_fits line at bounds =
     }
 
 -- the same for a line of greater numbers, at an end of an interval
-pub side_fits : (line : Line) (at : End) → IsBoundedSide line → LineFits line.b line.c at.num at.den
+pub side_fits : (line : Linear) (at : End) → IsBoundedSide line → LineFits line.b line.c at.num at.den
 side_fits line at bounds =
     let kb = at_most (2 ^ 40) line.b bounds.b_bounded in
     let kc = at_most (2 ^ 50) line.c bounds.c_bounded in

@@ -8,7 +8,7 @@ use Rattle.std.proofs.lemmas.List.Elements.{All-cons, All-head, All-tail}
 use Rattle.std.specs.Prelude.{◌/◌, ◌%◌}
 use Rattle.mt_ring.proofs.Ring.{lin, spread}
 use Rattle.mt_ring.proofs.Signs.{mul_nonneg}
-use Rattle.mt_frac.specs.declared.linear.Line.{Line}
+use Rattle.mt_frac.specs.declared.linear.Linear.{Linear}
 use Rattle.mt_frac.specs.Private.Instants.{HoldsOver}
 use Rattle.mt_frac.specs.Meeting.{AreBelow, MeetBelow}
 use Rattle.mt_frac.specs.Polynomials.{line_value}
@@ -83,21 +83,21 @@ inside_over P low high open_p = (
 none_open : IsOpen (AreBelow [])
 none_open = record { near = λ m e x y h. record { from = 0; holds = λ k far i d below. absurd (omega arith) } }
 
-one_open : (line : Line) (lines : List Line) → IsOpen (AreBelow lines) → IsOpen (AreBelow (line ∷ lines))
+one_open : (line : Linear) (lines : List Linear) → IsOpen (AreBelow lines) → IsOpen (AreBelow (line ∷ lines))
 one_open line lines rest =
-    let P = λ (l : Line) (n d : ℤ). line_value l.b l.c n d <ℤ pos 0 in
+    let P = λ (l : Linear) (n d : ℤ). line_value l.b l.c n d <ℤ pos 0 in
     same_open (λ n d. P line n d × AreBelow lines n d) (AreBelow (line ∷ lines))
     (λ n d. (
-      (λ h. All-cons (λ (l : Line). P l n d) line lines h.0 h.1),
-      (λ h. (All-head (λ (l : Line). P l n d) line lines h, All-tail (λ (l : Line). P l n d) line lines h)),
+      (λ h. All-cons (λ (l : Linear). P l n d) line lines h.0 h.1),
+      (λ h. (All-head (λ (l : Linear). P l n d) line lines h, All-tail (λ (l : Linear). P l n d) line lines h)),
     ))
     (both_open (P line) (AreBelow lines) (line_is_open line.b line.c) rest)
 
-pub are_open : (lines : List Line) → IsOpen (AreBelow lines)
+pub are_open : (lines : List Linear) → IsOpen (AreBelow lines)
 are_open [] = none_open
 are_open (line ∷ lines) = one_open line lines (are_open lines)
 
-pub meet_over : (lines : List Line) (low high : ℕ) → MeetBelow lines (pos low) (pos high) ↔ HoldsOver (AreBelow lines) low high
+pub meet_over : (lines : List Linear) (low high : ℕ) → MeetBelow lines (pos low) (pos high) ↔ HoldsOver (AreBelow lines) low high
 meet_over lines low high =
     let same = inside_over (AreBelow lines) low high (are_open lines) in (
       (λ some. same.0 (record {

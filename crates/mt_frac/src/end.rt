@@ -3,7 +3,7 @@
 ghost use Rattle.std.specs.Prelude.{unsigned_abs, pos, ◌<◌, ◌^◌, ◌<ℤ◌, ◌≤ℤ◌};
 
 /// An end of what is left of an interval, as `num`/`den`: a whole number, or where a line is 0. It is a `Frac` with room for the lines of
-/// `Line::meet`.
+/// `Linear::meet`.
 #[derive(Clone, Copy)]
 pub(crate) struct End {
     pub(crate) num: i128,

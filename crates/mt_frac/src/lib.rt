@@ -14,5 +14,5 @@ mod meeting;
 mod quadratic;
 
 pub use fraction::Frac;
-pub use linear::Line;
+pub use linear::Linear;
 pub use quadratic::Quad;

@@ -11,12 +11,12 @@ use crate::fraction::Frac;
 ///
 /// `below_in` asks that `b` and `c` are below 2^18 and 2^32 in size, `meet` that they are below 2^40 and 2^50.
 #[derive(Clone, Copy)]
-pub struct Line {
+pub struct Linear {
     pub b: i128,
     pub c: i128,
 }
 
-impl Line {
+impl Linear {
     /// The open part of the interval from `lo` to `hi` on which the line is below 0, as its two
     /// ends, the lesser first: a fraction lies strictly between these exactly where it lies
     /// strictly between `lo` and `hi` and the line is below 0 there. `None` exactly where there is

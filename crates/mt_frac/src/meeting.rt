@@ -6,14 +6,14 @@ ghost use Rattle.mt_frac.specs.Private.Meeting.{CutsTo};
 ghost use Rattle.mt_frac.specs.Polynomials.{line_value};
 
 use crate::end::End;
-use crate::linear::Line;
+use crate::linear::Linear;
 
-impl Line {
+impl Linear {
     /// Whether at one fraction strictly between `lo` and `hi` all of the lines are below 0; where there are no lines, true.
     ///
     /// It asks that each `b` is below 2^40 and each `c` below 2^50 in size, and that 0 <= `lo` < `hi` <= 14,400. It takes no memory. Each line
     /// cuts off the part on which it isn't below 0; what is left is an interval.
-    pub fn meet(lines: &[Line], lo: i64, hi: i64) -> bool
+    pub fn meet(lines: &[Linear], lo: i64, hi: i64) -> bool
         requires bounded { All IsBoundedSide lines.now }
         requires begun { pos 0 ≤ℤ lo }
         requires ordered { lo <ℤ hi }

@@ -6,8 +6,8 @@ use Rattle.mt_base.specs.declared.command.Entry.{Entry}
 use Rattle.mt_io.specs.Lines.{lines_of}
 use Rattle.mt_read.specs.declared.request.LineNo.{LineNo}
 use Rattle.mt_read.specs.Entry.{entry}
-use Rattle.mt_history.specs.declared.reading.Bad.{Bad}
-use Rattle.mt_history.specs.declared.reading.Bad.TheVariants.{Line, Memory}
+use Rattle.mt_history.specs.declared.reading.BadHistory.{BadHistory}
+use Rattle.mt_history.specs.declared.reading.BadHistory.TheVariants.{Line, Memory}
 use Rattle.mt_history.specs.Printed.{AreReadAsEntries, IsBad, IsFirstBad}
 use Rattle.mt_history.specs.Private.Printed.{IsBadLine}
 
@@ -94,7 +94,7 @@ first_bad bytes rest line others entries place refusal up cut at refused =
           (sym (ap (λ (lines : List (List ℕ)). take place lines) lines_are ∙ take_at up.done (line ∷ lines_of others) place counted)) up.read;
     }
 
-pub bad_is : (bytes rest line others : List ℕ) (entries : List Entry) (place : ℕ) (bad : Bad) → IsReadUpTo bytes rest entries
+pub bad_is : (bytes rest line others : List ℕ) (entries : List Entry) (place : ℕ) (bad : BadHistory) → IsReadUpTo bytes rest entries
     → lines_of rest ≡ line ∷ lines_of others → place ≡ length entries → IsBadLine line place bad → IsBad bytes bad
 bad_is bytes rest line others entries place (Line named) up cut at is =
     first_bad bytes rest line others entries named is.1.0 up cut (is.0 ∙ at) is.1.1
@@ -125,6 +125,6 @@ none_bad bytes entries place read bad =
     let both : Ok e ≡ Err bad.refusal = sym is ∙ bad.refused in
     cc
 
-pub never_bad : (bytes : List ℕ) (entries : List Entry) (bad : Bad) → AreReadAsEntries (lines_of bytes) entries → IsBad bytes bad → bad ≡ Memory
+pub never_bad : (bytes : List ℕ) (entries : List Entry) (bad : BadHistory) → AreReadAsEntries (lines_of bytes) entries → IsBad bytes bad → bad ≡ Memory
 never_bad bytes entries (Line place) read bad = absurd (none_bad bytes entries place read bad)
 never_bad bytes entries Memory read bad = refl

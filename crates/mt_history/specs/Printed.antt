@@ -5,8 +5,8 @@ use Rattle.mt_io.specs.Lines.{lines_of}
 use Rattle.mt_read.specs.declared.request.LineNo.{LineNo}
 use Rattle.mt_read.specs.Entry.{entry}
 use Rattle.mt_write.specs.Entry.{entry_text}
-use Rattle.mt_history.specs.declared.reading.Bad.{Bad}
-use Rattle.mt_history.specs.declared.reading.Bad.TheVariants.{Line, Memory}
+use Rattle.mt_history.specs.declared.reading.BadHistory.{BadHistory}
+use Rattle.mt_history.specs.declared.reading.BadHistory.TheVariants.{Line, Memory}
 
 -- the texts of entries, one after the other; each ends with its 0x0A
 abbrev pub printed : List Entry → List ℕ
@@ -26,6 +26,6 @@ pub record IsFirstBad (bytes : List ℕ) (place : ℕ) : Type 0 where
   pub read : AreReadAsEntries (take place (lines_of bytes)) before
 
 -- why bytes are not read: their first line that is no entry, or want of memory
-abbrev pub IsBad : List ℕ → Bad → Type 0
+abbrev pub IsBad : List ℕ → BadHistory → Type 0
 IsBad bytes (Line place) = IsFirstBad bytes place
 IsBad bytes Memory = ⊤

@@ -2,8 +2,8 @@ ghost use Rattle.std.specs.Prelude.{◌≡◌, ℕ, List, All};
 ghost use Rattle.mt_base.specs.declared.command.Entry.{Entry};
 ghost use Rattle.mt_base.specs.Complete.{IsComplete};
 ghost use Rattle.mt_io.specs.Lines.{lines_of};
-ghost use Rattle.mt_history.specs.declared.reading.Bad.{Bad};
-ghost use Rattle.mt_history.specs.declared.reading.Bad.TheVariants as bads;
+ghost use Rattle.mt_history.specs.declared.reading.BadHistory.{BadHistory};
+ghost use Rattle.mt_history.specs.declared.reading.BadHistory.TheVariants as bads;
 ghost use Rattle.mt_history.specs.Printed.{AreReadAsEntries, IsBad, printed};
 
 /// The lines of printed entries are read as these entries, where each of them is complete, as those of every picture are. Lines are read as no
@@ -11,5 +11,5 @@ ghost use Rattle.mt_history.specs.Printed.{AreReadAsEntries, IsBad, printed};
 pub fn history_printed_law()
     ensures back { (entries : List Entry) → All IsComplete entries → AreReadAsEntries (lines_of (printed entries)) entries }
     ensures one { (lines : List (List ℕ)) (some others : List Entry) → AreReadAsEntries lines some → AreReadAsEntries lines others → some ≡ others }
-    ensures good { (bytes : List ℕ) (entries : List Entry) (bad : Bad) → AreReadAsEntries (lines_of bytes) entries → IsBad bytes bad → bad ≡ bads.Memory }
+    ensures good { (bytes : List ℕ) (entries : List Entry) (bad : BadHistory) → AreReadAsEntries (lines_of bytes) entries → IsBad bytes bad → bad ≡ bads.Memory }
 {}

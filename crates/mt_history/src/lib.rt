@@ -12,5 +12,5 @@ pub use following::{FollowNo, follow_entry};
 pub use laws::history_printed_law;
 pub use mt_memory::Memory;
 pub use printing::print;
-pub use reading::{Bad, read_all};
+pub use reading::{BadHistory, read_all};
 pub use rebuilding::{Wrong, rebuild};

@@ -1,6 +1,6 @@
 -- A link in memory of a fixed room.
 use Rattle.std.specs.Prelude.{ℕ}
-use Rattle.mt_io.specs.Calls.{Calls}
+use Rattle.mt_io.specs.Calls.{FaultPlan}
 use Rattle.mt_io.specs.MemSource as sources
 use Rattle.mt_io.specs.MemSink as sinks
 use Rattle.mt_io.specs.declared.mem_link.MemLink.{MemLink}
@@ -10,10 +10,10 @@ abbrev pub room_of : MemLink → ℕ
 room_of link = sinks.room_of link.sink
 
 -- the reads of it, and the writes
-abbrev pub reads_of : MemLink → Calls
+abbrev pub reads_of : MemLink → FaultPlan
 reads_of link = sources.calls_of link.source
 
-abbrev pub writes_of : MemLink → Calls
+abbrev pub writes_of : MemLink → FaultPlan
 writes_of link = sinks.calls_of link.sink
 
 -- how many bytes a read gives at most, and how many a write takes

@@ -1,6 +1,6 @@
 -- A sink in memory of a fixed room.
 use Rattle.std.specs.Prelude.{◌≡◌, ◌<◌, ◌≤◌, ℕ, vec_len}
-use Rattle.mt_io.specs.Calls.{Calls, GoOn, AreUnlisted}
+use Rattle.mt_io.specs.Calls.{FaultPlan, GoOn, AreUnlisted}
 use Rattle.mt_io.specs.declared.mem_sink.MemSink.{MemSink}
 
 -- how many bytes it can hold
@@ -8,7 +8,7 @@ abbrev pub room_of : MemSink → ℕ
 room_of sink = sink.room
 
 -- its calls
-abbrev pub calls_of : MemSink → Calls
+abbrev pub calls_of : MemSink → FaultPlan
 calls_of sink = sink.calls
 
 -- how many bytes a call takes at most

@@ -1,10 +1,10 @@
 -- A source in memory.
 use Rattle.std.specs.Prelude.{◌≡◌, ℕ}
-use Rattle.mt_io.specs.Calls.{Calls, GoOn, AreUnlisted}
+use Rattle.mt_io.specs.Calls.{FaultPlan, GoOn, AreUnlisted}
 use Rattle.mt_io.specs.declared.mem_source.MemSource.{MemSource}
 
 -- its calls
-abbrev pub calls_of : MemSource → Calls
+abbrev pub calls_of : MemSource → FaultPlan
 calls_of source = source.calls
 
 -- how many bytes a call gives at most

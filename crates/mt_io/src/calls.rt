@@ -5,17 +5,17 @@ ghost use Rattle.mt_io.specs.Calls.{AreUnlisted, GoOn, IsNextListed, listing, on
 use std::marker::Model;
 
 /// The calls on an object in memory: which are to fail, counted from 1, how many were made, and how many failed. Contracts see it as a
-/// `Calls`.
+/// `FaultPlan`.
 #[derive(Drop)]
-pub struct Calls {
+pub struct FaultPlan {
     listed: Vec<u64>,
     made: u64,
     failed: u64,
 }
 
-impl Model for Calls {
+impl Model for FaultPlan {
     ghost use Rattle.std.specs.Prelude.{All, ◌<◌, ◌^◌};
-    ghost use Rattle.mt_io.specs.Calls.{Calls as CallsNow};
+    ghost use Rattle.mt_io.specs.Calls.{FaultPlan as CallsNow};
 
     ghost Value = { CallsNow };
 
@@ -24,12 +24,12 @@ impl Model for Calls {
     ghost invariant = { λ c. All (λ n. n < 2 ^ 64) c.listed.items };
 }
 
-impl Calls {
+impl FaultPlan {
     /// No call was made yet. Those that the list names are to fail.
-    pub fn listing(listed: Vec<u64>) -> Calls
+    pub fn listing(listed: Vec<u64>) -> FaultPlan
         ensures { result ≡ listing listed.items }
     {
-        Calls {
+        FaultPlan {
             listed,
             made: 0,
             failed: 0,

@@ -5,7 +5,7 @@ ghost use Rattle.mt_io.specs.Calls.{CountsCall, IsNextListed, listing};
 ghost use Rattle.mt_io.specs.Causes.{HasCause};
 ghost use Rattle.mt_io.specs.Door.{Gains, GivesLink, listened, took_one};
 
-use crate::calls::Calls;
+use crate::calls::FaultPlan;
 use crate::door::Door;
 use crate::mem_link::MemLink;
 use crate::source::Failed;
@@ -25,7 +25,7 @@ pub struct MemDoor {
     sessions: u32,
     given: u32,
     back: u32,
-    calls: Calls,
+    calls: FaultPlan,
     ghost room: { vec_len backs + (given - back) + deque_len links ≤ vec_capacity backs },
     ghost some: { back ≤ given },
     ghost most: { given ≤ sessions },
@@ -51,7 +51,7 @@ impl MemDoor {
             sessions: 0,
             given: 0,
             back: 0,
-            calls: Calls::listing(Vec::new(alloc)),
+            calls: FaultPlan::listing(Vec::new(alloc)),
         })
     }
 
@@ -63,7 +63,7 @@ impl MemDoor {
         ensures count { ⟦<MemDoor as Door>⟧.count result ≡ ⟦<MemDoor as Door>⟧.count self }
         ensures calls { calls_of result ≡ listing calls.items }
     {
-        self.calls = Calls::listing(calls);
+        self.calls = FaultPlan::listing(calls);
         self
     }
 

@@ -4,7 +4,7 @@ ghost use Rattle.std.specs.Io.KnownBytes.{WriteAppends};
 ghost use Rattle.mt_io.specs.Calls.{CountsCall, IsNextListed, listing};
 ghost use Rattle.mt_io.specs.Causes.{HasCause};
 
-use crate::calls::Calls;
+use crate::calls::FaultPlan;
 use crate::sink::Sink;
 use crate::source::Failed;
 use mt_memory::Memory;
@@ -17,7 +17,7 @@ pub struct MemSink {
     bytes: Vec<u8>,
     room: usize,
     most: usize,
-    calls: Calls,
+    calls: FaultPlan,
     ghost within: { vec_len bytes ≤ room },
     ghost reserved: { room ≤ vec_capacity bytes },
     ghost some: { 0 < most },
@@ -40,7 +40,7 @@ impl MemSink {
             bytes: Vec::with_capacity(alloc, room)?,
             room,
             most: usize::MAX,
-            calls: Calls::listing(Vec::new(alloc)),
+            calls: FaultPlan::listing(Vec::new(alloc)),
         })
     }
 
@@ -54,7 +54,7 @@ impl MemSink {
         ensures calls { calls_of result ≡ listing calls.items }
         ensures most { most_of result ≡ most }
     {
-        self.calls = Calls::listing(calls);
+        self.calls = FaultPlan::listing(calls);
         self.most = most as usize;
         self
     }

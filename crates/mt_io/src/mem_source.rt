@@ -5,7 +5,7 @@ ghost use Rattle.std.specs.Io.KnownBytes.{ReadConsumes};
 ghost use Rattle.mt_io.specs.Calls.{CountsCall, IsNextListed, listing};
 ghost use Rattle.mt_io.specs.Causes.{HasCause};
 
-use crate::calls::Calls;
+use crate::calls::FaultPlan;
 use crate::source::{Failed, Source};
 
 /// Bytes in memory, and the place of the first that is left. A call gives as many as it can, up to a greatest number. It fails where it is
@@ -15,7 +15,7 @@ pub struct MemSource {
     bytes: Vec<u8>,
     at: usize,
     most: usize,
-    calls: Calls,
+    calls: FaultPlan,
     ghost within: { at ≤ vec_len bytes },
     ghost some: { 0 < most },
 }
@@ -34,7 +34,7 @@ impl MemSource {
             bytes,
             at: 0,
             most: usize::MAX,
-            calls: Calls::listing(none),
+            calls: FaultPlan::listing(none),
         }
     }
 
@@ -47,7 +47,7 @@ impl MemSource {
         ensures calls { calls_of result ≡ listing calls.items }
         ensures most { most_of result ≡ most }
     {
-        self.calls = Calls::listing(calls);
+        self.calls = FaultPlan::listing(calls);
         self.most = most as usize;
         self
     }

@@ -8,7 +8,7 @@ ghost use Rattle.mt_io.specs.Lines.{lines_of};
 ghost use Rattle.mt_load.specs.Summary.{IsCountedAgain};
 
 use mt_base::Entries;
-use mt_history::{Bad, Wrong, print, read_all, rebuild};
+use mt_history::{BadHistory, Wrong, print, read_all, rebuild};
 use mt_memory::Memory;
 use mt_picture::Picture;
 use mt_tables::Tables;
@@ -25,8 +25,8 @@ fn read_back(alloc: Global, picture: &Picture) -> Result<Entries, Memory>
     let text = print(alloc, picture, 0, picture.version())?;
     match read_all(alloc, &text) {
         Ok(entries) => Ok(entries),
-        Err(Bad::Line(_)) => unreachable!(),
-        Err(Bad::Memory) => Err(Memory),
+        Err(BadHistory::Line(_)) => unreachable!(),
+        Err(BadHistory::Memory) => Err(Memory),
     }
 }
 

@@ -10,7 +10,7 @@ use Rattle.mt_base.specs.declared.rules.Rules.{Rules}
 use Rattle.mt_base.specs.Instant.{value_at}
 use Rattle.mt_base.specs.Loss.{IsNearAt, IsOneAboveAt, LosesAt, LosesIn, apart_x, apart_y, apart_z, fl290, fl410, height, width}
 use Rattle.mt_track.specs.Rows.{row_after}
-use Rattle.mt_frac.specs.declared.linear.Line.{Line}
+use Rattle.mt_frac.specs.declared.linear.Linear.{Linear}
 use Rattle.mt_frac.specs.declared.quadratic.Quad.{Quad}
 use Rattle.mt_frac.specs.Polynomials.{value, line_value}
 use Rattle.mt_frac.proofs.Openness.{IsOpen, value_is_open, line_is_open, both_open, either_open, same_open}
@@ -23,7 +23,7 @@ use Rattle.mt_pair.specs.Private.Gap.{above_of, gap_of, excess_of}
 use Rattle.mt_pair.specs.High.{level_of}
 use Rattle.mt_pair.specs.Private.High.{AreFar, AreLow, IsLow, IsDuring, LosesAbove, StaysAbove}
 
-pub are_open : (gap : Quad) (over under : Line) → IsOpen (AreBelowAt gap over under)
+pub are_open : (gap : Quad) (over under : Linear) → IsOpen (AreBelowAt gap over under)
 are_open gap over under =
     let g = λ (n d : ℤ). value gap.a gap.b gap.c n d <ℤ pos 0 in
     let l = λ (n d : ℤ). line_value over.b over.c n d <ℤ pos 0 in
@@ -97,7 +97,7 @@ between b c s n d at_start at_end s+ begun ahead =
     let q = mul_nonneg (b *ℤ s +ℤ c) n at_end begun in
     nonneg_cancel s (line_value b c n d) s+ (simp spread (omega (arith, lin, simp spread at p, simp spread at q)))
 
-pub stays : (line : Line) (seconds : ℕ) (n d : ℤ) → 0 < seconds → StaysAbove line seconds → IsDuring seconds n d → line_value line.b line.c n d <ℤ pos 0 → ⊥
+pub stays : (line : Linear) (seconds : ℕ) (n d : ℤ) → 0 < seconds → StaysAbove line seconds → IsDuring seconds n d → line_value line.b line.c n d <ℤ pos 0 → ⊥
 stays line seconds n d some above during = contrary _
     (between line.b line.c (pos seconds) n d above.start above.end (omega (arith, ints)) during.begun during.ahead)
 
@@ -188,7 +188,7 @@ loses_moved rules level a b k n d =
 
 -- ---- the cases of the code
 
-pub loses_by : (rules : Rules) (level : ℤ) (a b : Row) (seconds : ℕ) (gap : Quad) (over under : Line) (high : Option High) (n d : ℤ) → 0 < seconds
+pub loses_by : (rules : Rules) (level : ℤ) (a b : Row) (seconds : ℕ) (gap : Quad) (over under : Linear) (high : Option High) (n d : ℤ) → 0 < seconds
     → gap ≡ gap_of rules a b → over ≡ excess_of rules.sv a b → under ≡ excess_of rules.sv b a → IsHighOf rules level a b seconds high
     → IsDuring seconds n d → LosesAbove rules level a b n d ↔ (AreBelowAt gap over under n d ⊎ IsHighLoss gap high n d)
 loses_by rules level a b seconds gap over under None n d some g o u low during = rw (g, o, u) (
@@ -221,7 +221,7 @@ loses_by rules level a b seconds gap over under (Some high) n d some g o u is du
 )
 
 -- that there is a loss is open
-are_open_with : (gap : Quad) (over under held : Line) → IsOpen (AreBelowWithAt gap over under held)
+are_open_with : (gap : Quad) (over under held : Linear) → IsOpen (AreBelowWithAt gap over under held)
 are_open_with gap over under held = both_open (AreBelowAt gap over under) (λ n d. line_value held.b held.c n d <ℤ pos 0) (are_open gap over under) (line_is_open held.b held.c)
 
 high_is_open : (gap : Quad) (high : Option High) → IsOpen (IsHighLoss gap high)

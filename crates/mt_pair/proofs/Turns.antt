@@ -5,7 +5,7 @@ use Rattle.std.proofs.lemmas.Bool.{cases_lt}
 use Rattle.std.proofs.lemmas.Int.{ints}
 use Rattle.mt_ring.proofs.Ring.{lin, spread}
 use Rattle.mt_ring.proofs.Signs.{cases_ℤ, mul_nonneg, square_nonneg, weaken}
-use Rattle.mt_frac.specs.declared.linear.Line.{Line}
+use Rattle.mt_frac.specs.declared.linear.Linear.{Linear}
 use Rattle.mt_frac.specs.declared.quadratic.Quad.{Quad}
 use Rattle.mt_frac.specs.Polynomials.{value, line_value}
 use Rattle.mt_frac.specs.Private.Vertex.{slope}
@@ -73,39 +73,39 @@ late m k n d more begun within =
 contradicts : (z : ℤ) → pos 0 ≤ℤ z → z <ℤ pos 0 → ⊥
 contradicts z h k = omega (arith, lin)
 
-pub none_before_gap : (gap : Quad) (over under : Line) (low m : ℕ) → pos 0 ≤ℤ gap.a → IsFalling (value gap.a gap.b gap.c (pos m) (pos 1)) (slope gap.a gap.b (pos m) (pos 1))
+pub none_before_gap : (gap : Quad) (over under : Linear) (low m : ℕ) → pos 0 ≤ℤ gap.a → IsFalling (value gap.a gap.b gap.c (pos m) (pos 1)) (slope gap.a gap.b (pos m) (pos 1))
     → ¬ HoldsOver (AreBelowAt gap over under) low m
 none_before_gap gap over under low m convex later some =
     let at = some.holds in
     contradicts _ (gap_until gap.a gap.b gap.c (pos m) _ at.d convex (omega (arith, lin, at.begun, at.within)) (early m some.k at.n at.d some.ahead at.begun at.within) later)
     at.holds.gap_is
 
-pub none_before_over : (gap : Quad) (over under : Line) (low m : ℕ) → IsFalling (line_value over.b over.c (pos m) (pos 1)) over.b → ¬ HoldsOver (AreBelowAt gap over under) low m
+pub none_before_over : (gap : Quad) (over under : Linear) (low m : ℕ) → IsFalling (line_value over.b over.c (pos m) (pos 1)) over.b → ¬ HoldsOver (AreBelowAt gap over under) low m
 none_before_over gap over under low m later some =
     let at = some.holds in
     contradicts _ (line_until over.b over.c (pos m) _ at.d (omega (arith, lin, at.begun, at.within)) (early m some.k at.n at.d some.ahead at.begun at.within) later)
     at.holds.over_is
 
-pub none_before_under : (gap : Quad) (over under : Line) (low m : ℕ) → IsFalling (line_value under.b under.c (pos m) (pos 1)) under.b → ¬ HoldsOver (AreBelowAt gap over under) low m
+pub none_before_under : (gap : Quad) (over under : Linear) (low m : ℕ) → IsFalling (line_value under.b under.c (pos m) (pos 1)) under.b → ¬ HoldsOver (AreBelowAt gap over under) low m
 none_before_under gap over under low m later some =
     let at = some.holds in
     contradicts _ (line_until under.b under.c (pos m) _ at.d (omega (arith, lin, at.begun, at.within)) (early m some.k at.n at.d some.ahead at.begun at.within) later)
     at.holds.under_is
 
-pub none_from_gap : (gap : Quad) (over under : Line) (m high : ℕ) → pos 0 ≤ℤ gap.a → IsSooner (value gap.a gap.b gap.c (pos m) (pos 1)) (slope gap.a gap.b (pos m) (pos 1))
+pub none_from_gap : (gap : Quad) (over under : Linear) (m high : ℕ) → pos 0 ≤ℤ gap.a → IsSooner (value gap.a gap.b gap.c (pos m) (pos 1)) (slope gap.a gap.b (pos m) (pos 1))
     → ¬ HoldsOver (AreBelowAt gap over under) m high
 none_from_gap gap over under m high convex sooner some =
     let at = some.holds in
     contradicts _ (gap_since gap.a gap.b gap.c (pos m) _ at.d convex (omega (arith, lin, at.begun, at.within)) (late m some.k at.n at.d some.begun at.begun at.within) sooner)
     at.holds.gap_is
 
-pub none_from_over : (gap : Quad) (over under : Line) (m high : ℕ) → IsSooner (line_value over.b over.c (pos m) (pos 1)) over.b → ¬ HoldsOver (AreBelowAt gap over under) m high
+pub none_from_over : (gap : Quad) (over under : Linear) (m high : ℕ) → IsSooner (line_value over.b over.c (pos m) (pos 1)) over.b → ¬ HoldsOver (AreBelowAt gap over under) m high
 none_from_over gap over under m high sooner some =
     let at = some.holds in
     contradicts _ (line_since over.b over.c (pos m) _ at.d (omega (arith, lin, at.begun, at.within)) (late m some.k at.n at.d some.begun at.begun at.within) sooner)
     at.holds.over_is
 
-pub none_from_under : (gap : Quad) (over under : Line) (m high : ℕ) → IsSooner (line_value under.b under.c (pos m) (pos 1)) under.b → ¬ HoldsOver (AreBelowAt gap over under) m high
+pub none_from_under : (gap : Quad) (over under : Linear) (m high : ℕ) → IsSooner (line_value under.b under.c (pos m) (pos 1)) under.b → ¬ HoldsOver (AreBelowAt gap over under) m high
 none_from_under gap over under m high sooner some =
     let at = some.holds in
     contradicts _ (line_since under.b under.c (pos m) _ at.d (omega (arith, lin, at.begun, at.within)) (late m some.k at.n at.d some.begun at.begun at.within) sooner)
@@ -125,7 +125,7 @@ below_or_later z s not_sooner = ⊎_elim
     (cases_ℤ z)
 
 -- at the start of second m all are below 0: then so they are in second m, and in the one before
-in_second : (gap : Quad) (over under : Line) (m : ℕ) → AreBelowAt gap over under (pos m) (pos 1) → HoldsIn (AreBelowAt gap over under) m
+in_second : (gap : Quad) (over under : Linear) (m : ℕ) → AreBelowAt gap over under (pos m) (pos 1) → HoldsIn (AreBelowAt gap over under) m
 in_second gap over under m at = record {
   n = pos 0;
   d = pos 1;
@@ -134,7 +134,7 @@ in_second gap over under m at = record {
   holds = subst (λ (x : ℤ). AreBelowAt gap over under x (pos 1)) (omega (arith, ints)) at;
 }
 
-before_second : (gap : Quad) (over under : Line) (m : ℕ) → AreBelowAt gap over under (pos (suc m)) (pos 1) → HoldsIn (AreBelowAt gap over under) m
+before_second : (gap : Quad) (over under : Linear) (m : ℕ) → AreBelowAt gap over under (pos (suc m)) (pos 1) → HoldsIn (AreBelowAt gap over under) m
 before_second gap over under m at =
     let near = (are_open gap over under).near (pos (suc m)) (pos 1) (pos m) (pos 1) at in
     let k = pos (suc near.from) in
@@ -151,12 +151,12 @@ before_second gap over under m at =
       number_is k l m e = rw e (simp spread (omega (arith, lin)))
 
 -- the three values at the start of second m
-pub record AreNone (P : ℤ → ℤ → Type 0) (gap : Quad) (over under : Line) (m : ℕ) : Type 0 where
+pub record AreNone (P : ℤ → ℤ → Type 0) (gap : Quad) (over under : Linear) (m : ℕ) : Type 0 where
   pub gap_is : ¬ P (value gap.a gap.b gap.c (pos m) (pos 1)) (slope gap.a gap.b (pos m) (pos 1))
   pub over_is : ¬ P (line_value over.b over.c (pos m) (pos 1)) over.b
   pub under_is : ¬ P (line_value under.b under.c (pos m) (pos 1)) under.b
 
-pub some_before : (gap : Quad) (over under : Line) (low high m : ℕ) → pos 0 ≤ℤ gap.a → low < m → AreNone IsFalling gap over under m → HoldsOver (AreBelowAt gap over under) low high
+pub some_before : (gap : Quad) (over under : Linear) (low high m : ℕ) → pos 0 ≤ℤ gap.a → low < m → AreNone IsFalling gap over under m → HoldsOver (AreBelowAt gap over under) low high
     → HoldsOver (AreBelowAt gap over under) low m
 some_before gap over under low high zero convex less none some = absurd (omega arith)
 some_before gap over under low high (suc m) convex less none some = ⊎_elim
@@ -174,7 +174,7 @@ some_before gap over under low high (suc m) convex less none some = ⊎_elim
     record { k = m; begun = omega (arith, less); ahead = omega arith; holds = before_second gap over under m (record { gap_is = g; over_is = o; under_is = u }) })
     (cases_lt some.k (suc m))
 
-pub some_since : (gap : Quad) (over under : Line) (low high m : ℕ) → pos 0 ≤ℤ gap.a → m < high → AreNone IsSooner gap over under m → HoldsOver (AreBelowAt gap over under) low high
+pub some_since : (gap : Quad) (over under : Linear) (low high m : ℕ) → pos 0 ≤ℤ gap.a → m < high → AreNone IsSooner gap over under m → HoldsOver (AreBelowAt gap over under) low high
     → HoldsOver (AreBelowAt gap over under) m high
 some_since gap over under low high m convex less none some = ⊎_elim
     (λ sooner.

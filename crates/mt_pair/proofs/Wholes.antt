@@ -4,7 +4,7 @@ use Rattle.std.proofs.lemmas.Int.{to_z-of_z}
 use mir.Syntax.{w128}
 use Rattle.mt_ring.proofs.Ring.{lin, spread}
 use Rattle.mt_ring.proofs.Sizes.{Abs, abs_add, abs_from, abs_lit, abs_mul, abs_weaken, fits_64, fits_128}
-use Rattle.mt_frac.specs.declared.linear.Line.{Line}
+use Rattle.mt_frac.specs.declared.linear.Linear.{Linear}
 use Rattle.mt_frac.specs.declared.quadratic.Quad.{Quad}
 use Rattle.mt_frac.specs.Polynomials.{value, line_value}
 use Rattle.mt_frac.specs.Signs.{IsBoundedLine, IsBoundedQuad}
@@ -58,7 +58,7 @@ gap_fits gap k bounded short =
       fits_slope = fits_64 (abs_add (abs_mul (abs_lit 2) rise) b) (lit< tt);
     }
 
-pub record LineFits (line : Line) (k : ℕ) : Type 0 where
+pub record LineFits (line : Linear) (k : ℕ) : Type 0 where
   pub wide_b : FitsSigned w128 line.b
   pub wide_c : FitsSigned w128 line.c
   pub fits_b : FitsSigned w64 line.b
@@ -67,7 +67,7 @@ pub record LineFits (line : Line) (k : ℕ) : Type 0 where
   pub fits_product : FitsSigned w64 (line.b *ℤ pos k)
   pub fits_all : FitsSigned w64 (line.b *ℤ pos k +ℤ line.c)
 
-pub line_fits : (line : Line) (k : ℕ) → IsBoundedLine line → k ≤ 16384 → LineFits line k
+pub line_fits : (line : Linear) (k : ℕ) → IsBoundedLine line → k ≤ 16384 → LineFits line k
 line_fits line k bounded short =
     let b : Abs 262144 line.b = abs_from _ line.b (omega (arith, bounded.b_bounded)) in
     let c : Abs 4294967296 line.c = abs_from _ line.c (omega (arith, bounded.c_bounded)) in
@@ -83,7 +83,7 @@ line_fits line k bounded short =
     }
 
 -- a line's slope, narrowed to 64 bits
-pub narrow : (line : Line) → IsBoundedLine line → to_z w64 (of_z w64 (to_z w128 (of_z w128 line.b))) ≡ line.b
+pub narrow : (line : Linear) → IsBoundedLine line → to_z w64 (of_z w64 (to_z w128 (of_z w128 line.b))) ≡ line.b
 narrow line bounded =
     let b : Abs 262144 line.b = abs_from _ line.b (omega (arith, bounded.b_bounded)) in
     ap (λ (z : ℤ). to_z w64 (of_z w64 z)) (to_z-of_z w128 line.b (fits_128 b (lit< tt))) ∙ to_z-of_z w64 line.b (fits_64 b (lit< tt))

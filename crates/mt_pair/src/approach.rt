@@ -5,16 +5,16 @@ use crate::question::{are_below_inside, are_below_with, whole};
 use crate::turning::{are_quiet, begins_before, lasts_until};
 use crate::vertical::{above, excess};
 use mt_base::{Row, Rules, Second, Steps};
-use mt_frac::{Frac, Line, Quad};
+use mt_frac::{Frac, Linear, Quad};
 
 /// The lines of the greater vertical minimum: the two that are below 0 where two trajectories are nearer than that, and for each of the two
 /// one that is below 0 where it is above the level from which that minimum holds.
 #[derive(Clone, Copy)]
 pub(crate) struct High {
-    over: Line,
-    under: Line,
-    left: Line,
-    right: Line,
+    over: Linear,
+    under: Linear,
+    left: Linear,
+    right: Linear,
     ghost over_bounded: { IsBoundedLine over },
     ghost under_bounded: { IsBoundedLine under },
     ghost left_bounded: { IsBoundedLine left },
@@ -63,8 +63,8 @@ impl High {
 #[derive(Clone, Copy)]
 pub(crate) struct Approach<'a> {
     gap: Quad,
-    over: Line,
-    under: Line,
+    over: Linear,
+    under: Linear,
     high: Option<&'a High>,
     ghost gap_bounded: { IsBoundedQuad gap },
     ghost over_bounded: { IsBoundedLine over },

@@ -4,10 +4,10 @@ ghost use Rattle.mt_frac.specs.Signs.{IsBoundedLine, IsBoundedQuad};
 ghost use Rattle.mt_pair.specs.Private.Below.{AreBelowAt, AreBelowWithAt, HoldsBetween};
 
 use mt_base::Second;
-use mt_frac::{Frac, Line, Quad};
+use mt_frac::{Frac, Linear, Quad};
 
 /// Whether at one fraction strictly between the two all three are below 0. Each line cuts off what is not below 0 of it.
-pub(crate) fn are_below_inside(gap: Quad, over: Line, under: Line, lo: Frac, hi: Frac) -> bool
+pub(crate) fn are_below_inside(gap: Quad, over: Linear, under: Linear, lo: Frac, hi: Frac) -> bool
     requires gap_bounded { IsBoundedQuad gap }
     requires over_bounded { IsBoundedLine over }
     requires under_bounded { IsBoundedLine under }
@@ -26,9 +26,9 @@ pub(crate) fn are_below_inside(gap: Quad, over: Line, under: Line, lo: Frac, hi:
 /// Whether at one fraction strictly between the two these three and a further line are below 0.
 pub(crate) fn are_below_with(
     gap: Quad,
-    over: Line,
-    under: Line,
-    held: Line,
+    over: Linear,
+    under: Linear,
+    held: Linear,
     lo: Frac,
     hi: Frac,
 ) -> bool

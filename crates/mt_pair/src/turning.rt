@@ -8,7 +8,7 @@ ghost use Rattle.mt_pair.specs.Private.Below.{AreBelowAt};
 ghost use Rattle.mt_pair.specs.Private.Turning.{IsFalling, IsSooner};
 
 use mt_base::Second;
-use mt_frac::{Line, Quad};
+use mt_frac::{Linear, Quad};
 
 /// The quadratic at the start of second k.
 fn gap_at(gap: Quad, k: Second) -> i64
@@ -30,7 +30,7 @@ fn slope_at(gap: Quad, k: Second) -> i64
 }
 
 /// A line there.
-fn line_at(line: Line, k: Second) -> i64
+fn line_at(line: Linear, k: Second) -> i64
     requires bounded { IsBoundedLine line }
     requires short { k ≤ 16384 }
     ensures { result ≡ line_value line.b line.c (pos k) (pos 1) }
@@ -57,7 +57,7 @@ fn gap_is_sooner(gap: Quad, k: Second) -> bool
 }
 
 /// The same of a line.
-fn line_is_later(line: Line, k: Second) -> bool
+fn line_is_later(line: Linear, k: Second) -> bool
     requires bounded { IsBoundedLine line }
     requires short { k ≤ 16384 }
     ensures { IsTrue result ↔ IsFalling (line_value line.b line.c (pos k) (pos 1)) line.b }
@@ -65,7 +65,7 @@ fn line_is_later(line: Line, k: Second) -> bool
     line_at(line, k) >= 0 && line.b < 0
 }
 
-fn line_is_sooner(line: Line, k: Second) -> bool
+fn line_is_sooner(line: Linear, k: Second) -> bool
     requires bounded { IsBoundedLine line }
     requires short { k ≤ 16384 }
     ensures { IsTrue result ↔ IsSooner (line_value line.b line.c (pos k) (pos 1)) line.b }
@@ -74,7 +74,7 @@ fn line_is_sooner(line: Line, k: Second) -> bool
 }
 
 /// Whether all three are below 0 at some instant before second k, where they are so at some instant of a stretch that begins before.
-pub(crate) fn begins_before(gap: Quad, over: Line, under: Line, k: Second) -> bool
+pub(crate) fn begins_before(gap: Quad, over: Linear, under: Linear, k: Second) -> bool
     requires gap_bounded { IsBoundedQuad gap }
     requires over_bounded { IsBoundedLine over }
     requires under_bounded { IsBoundedLine under }
@@ -95,7 +95,7 @@ pub(crate) fn begins_before(gap: Quad, over: Line, under: Line, k: Second) -> bo
 }
 
 /// Whether all three are below 0 at some instant of second k or later, where they are so at some instant of a stretch that ends after it.
-pub(crate) fn lasts_until(gap: Quad, over: Line, under: Line, k: Second) -> bool
+pub(crate) fn lasts_until(gap: Quad, over: Linear, under: Linear, k: Second) -> bool
     requires gap_bounded { IsBoundedQuad gap }
     requires over_bounded { IsBoundedLine over }
     requires under_bounded { IsBoundedLine under }
@@ -116,7 +116,7 @@ pub(crate) fn lasts_until(gap: Quad, over: Line, under: Line, k: Second) -> bool
 }
 
 /// Whether the values at both ends tell that at no instant before second `seconds` all three are below 0. Where it says no, nothing is said.
-pub(crate) fn are_quiet(gap: Quad, over: Line, under: Line, seconds: Second) -> bool
+pub(crate) fn are_quiet(gap: Quad, over: Linear, under: Linear, seconds: Second) -> bool
     requires gap_bounded { IsBoundedQuad gap }
     requires over_bounded { IsBoundedLine over }
     requires under_bounded { IsBoundedLine under }

@@ -6,25 +6,25 @@ ghost use Rattle.mt_pair.specs.High.{level_of};
 ghost use Rattle.mt_pair.specs.Private.High.{AreFar, AreLow, IsLow, StaysAbove};
 
 use mt_base::{Row, Rules, Second};
-use mt_frac::Line;
+use mt_frac::Linear;
 
 /// How much the height of `b` above `a` exceeds a vertical minimum with both margins, as a line in the seconds
 /// since the start of the rows' second.
-pub(crate) fn excess(least: &i64, a: &Row, b: &Row) -> Line
+pub(crate) fn excess(least: &i64, a: &Row, b: &Row) -> Linear
     requires least_kept { IsWithin (pos 1) (pos 600000) least.now }
     requires a_kept { IsBoundedRow a.now }
     requires b_kept { IsBoundedRow b.now }
     ensures is { result ≡ excess_of least.now a.now b.now }
     ensures bounded { IsBoundedLine result }
 {
-    Line {
+    Linear {
         b: i128::from(b.vz - a.vz - a.gw - b.gw),
         c: i128::from(b.z - a.z - *least - a.w - b.w),
     }
 }
 
 /// The value of a line that many seconds after the start of the rows' second.
-fn value_after(line: Line, seconds: Second) -> i128
+fn value_after(line: Linear, seconds: Second) -> i128
     requires bounded { IsBoundedLine line }
     ensures { result ≡ line.b *ℤ pos seconds +ℤ line.c }
 {
@@ -32,7 +32,7 @@ fn value_after(line: Line, seconds: Second) -> i128
 }
 
 /// Whether a line is at least 0 both at the start of the rows' second and that many seconds later.
-fn stays_above(line: Line, seconds: Second) -> bool
+fn stays_above(line: Linear, seconds: Second) -> bool
     requires bounded { IsBoundedLine line }
     ensures { IsTrue result ↔ StaysAbove line seconds }
 {
@@ -54,12 +54,12 @@ pub(crate) fn level(approved: bool) -> i64
 }
 
 /// How far that level is above `a`, as a line in the seconds since the start of the row's second.
-pub(crate) fn above(approved: bool, a: &Row) -> Line
+pub(crate) fn above(approved: bool, a: &Row) -> Linear
     requires a_kept { IsBoundedRow a.now }
     ensures is { result ≡ above_of (level_of approved) a.now }
     ensures bounded { IsBoundedLine result }
 {
-    Line {
+    Linear {
         b: i128::from(-a.vz),
         c: i128::from(level(approved) - a.z),
     }

@@ -21,8 +21,8 @@ use Rattle.mt_json.specs.Field.{as_whole}
 use Rattle.mt_read.specs.declared.key.Fault.{Fault}
 use Rattle.mt_read.specs.declared.key.Key.TheVariants as key
 use Rattle.mt_read.specs.declared.request.LineNo.{LineNo}
-use Rattle.mt_read.specs.declared.request.Place.{Place}
-use Rattle.mt_read.specs.declared.request.Place.TheVariants as place
+use Rattle.mt_read.specs.declared.request.Sender.{Sender}
+use Rattle.mt_read.specs.declared.request.Sender.TheVariants as sender
 use Rattle.mt_read.specs.declared.request.Request.{Request}
 use Rattle.mt_read.specs.declared.origin.Origin.{Origin}
 use Rattle.mt_read.specs.declared.origin.Origin.TheVariants.{Line}
@@ -295,11 +295,11 @@ request_bounded rules w ms passed stands = tt
 
 -- ---- through the steps of a line
 
-who_bounded : (p : Place) (ms : Members) (who : ℕ) → judged (who_bounds (Line p) ms) (who_in (Line p) ms) ≡ Ok who → who ≤ 15
-who_bounded place.Replay ms who e =
-    let same : count key.Who ms ≡ who = answer_is (who_bounds (Line place.Replay) ms) (count key.Who ms) who e in
-    let ok : IsOk (judged (who_bounds (Line place.Replay) ms) (count key.Who ms)) = rw e refl in
-    let small : count key.Who ms ≤ 15 = (counted 0 15 (number key.Who ms) (all_passed (who_bounds (Line place.Replay) ms) (count key.Who ms) ok).0).1 in
+who_bounded : (p : Sender) (ms : Members) (who : ℕ) → judged (who_bounds (Line p) ms) (who_in (Line p) ms) ≡ Ok who → who ≤ 15
+who_bounded sender.Replay ms who e =
+    let same : count key.Who ms ≡ who = answer_is (who_bounds (Line sender.Replay) ms) (count key.Who ms) who e in
+    let ok : IsOk (judged (who_bounds (Line sender.Replay) ms) (count key.Who ms)) = rw e refl in
+    let small : count key.Who ms ≤ 15 = (counted 0 15 (number key.Who ms) (all_passed (who_bounds (Line sender.Replay) ms) (count key.Who ms) ok).0).1 in
     rw (← same) small
 who_bounded p ms who e = let same : 0 ≡ who = cc in omega arith
 
@@ -328,7 +328,7 @@ checked_steps origin more row ms a e =
     steps (kinds origin row.fields ms) (kinds origin (who_fields origin) ms) (judged (row.bounds ms) (tt {0}))
     (judged (who_bounds origin ms) (who_in origin ms)) (judged more (tt {0})) (row.asks ms) a e
 
-checked_bounded : (p : Place) (rules : Rules) (w : Word) (ms : Members) (a : ℕ × Request) → checked (Line p) (standing_rules w rules ms) (layout_of w) ms ≡ Ok a → IsBounded rules a
+checked_bounded : (p : Sender) (rules : Rules) (w : Word) (ms : Members) (a : ℕ × Request) → checked (Line p) (standing_rules w rules ms) (layout_of w) ms ≡ Ok a → IsBounded rules a
 checked_bounded p rules w ms a e =
     let was = checked_steps (Line p) (standing_rules w rules ms) (layout_of w) ms a e in
     record { who = who_bounded p ms a.0 was.who_is; request = subst (IsBoundedRequest rules) was.asked_is (request_bounded rules w ms was.bounded_ok was.more_ok) }
@@ -363,16 +363,16 @@ pub value_holds : {A : Type 0} (P : A → Type 0) (reading : Members → Result 
 value_holds P reading None a h e = cc
 value_holds P reading (Some d) a h e = object_holds P reading (as_object d) a h e
 
-word_bounded : (p : Place) (rules : Rules) (ms : Members) (o : Option Word) (a : ℕ × Request) → of_word p rules ms o ≡ Ok a → IsBounded rules a
+word_bounded : (p : Sender) (rules : Rules) (ms : Members) (o : Option Word) (a : ℕ × Request) → of_word p rules ms o ≡ Ok a → IsBounded rules a
 word_bounded p rules ms None a e = cc
 word_bounded p rules ms (Some w) a e = layout_holds (IsBounded rules) (Line p) (standing_rules w rules ms) (layout_of w) ms a (checked_bounded p rules w ms) e
 
 -- a line that is read has its numbers within their bounds
-pub line_bounded : (p : Place) (rules : Rules) (bytes : List ℕ) (a : ℕ × Request) → line p rules bytes ≡ Ok a → IsBounded rules a
+pub line_bounded : (p : Sender) (rules : Rules) (bytes : List ℕ) (a : ℕ × Request) → line p rules bytes ≡ Ok a → IsBounded rules a
 line_bounded p rules bytes a e =
     value_holds (IsBounded rules) (read_members p rules) (decoded bytes) a (λ ms. word_bounded p rules ms (word_in p ms) a) e
 
-pub answer_bounded : (p : Place) (rules : Rules) (bytes : List ℕ) (r : Result (ℕ × Request) LineNo) → GivesReading r (line p rules bytes) → IfOk r (IsBounded rules)
+pub answer_bounded : (p : Sender) (rules : Rules) (bytes : List ℕ) (r : Result (ℕ × Request) LineNo) → GivesReading r (line p rules bytes) → IfOk r (IsBounded rules)
 answer_bounded p rules bytes (Ok a) e = line_bounded p rules bytes a (sym e)
 answer_bounded p rules bytes (Err e) h = tt
 

@@ -9,7 +9,7 @@ use Rattle.mt_read.specs.declared.following.Reading.{Reading}
 use Rattle.mt_read.specs.declared.following.Reading.TheVariants as reading
 use Rattle.mt_read.specs.declared.origin.Origin.TheVariants.{Line}
 use Rattle.mt_read.specs.declared.request.LineNo.{LineNo}
-use Rattle.mt_read.specs.declared.request.Place.TheVariants.{Plain}
+use Rattle.mt_read.specs.declared.request.Sender.TheVariants.{Plain}
 use Rattle.mt_read.specs.declared.request.Request.{Request}
 use Rattle.mt_read.specs.Entry.{as_entry, held_in}
 use Rattle.mt_read.specs.Following.{IsReadyLine, as_asked, as_followed, as_line, feed, feed_members, of_reading, reading_layout, reading_word_of}

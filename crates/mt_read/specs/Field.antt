@@ -45,7 +45,7 @@ as_role d = option_and_then role_of (as_str d)
 
 -- whether an object stands for a line
 abbrev pub is_line : Origin → Bool
-is_line (Line place) = true
+is_line (Line sender) = true
 is_line Entry = false
 
 -- A field of a command: its key, whether it may be absent from a line or an entry, whether it may stand in it, and the values that are of

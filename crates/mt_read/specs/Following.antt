@@ -10,7 +10,7 @@ use Rattle.mt_read.specs.declared.following.Reading.{Reading}
 use Rattle.mt_read.specs.declared.following.Reading.TheVariants as reading
 use Rattle.mt_read.specs.declared.origin.Origin.TheVariants.{Line}
 use Rattle.mt_read.specs.declared.request.LineNo.{LineNo}
-use Rattle.mt_read.specs.declared.request.Place.TheVariants.{Plain}
+use Rattle.mt_read.specs.declared.request.Sender.TheVariants.{Plain}
 use Rattle.mt_read.specs.declared.request.Request.{Request}
 use Rattle.mt_read.specs.declared.request.Request.TheVariants as request
 use Rattle.mt_read.specs.declared.word.Word.TheVariants as word

@@ -15,8 +15,8 @@ use Rattle.mt_read.specs.declared.origin.Origin.{Origin}
 use Rattle.mt_read.specs.declared.origin.Origin.TheVariants.{Line, Entry}
 use Rattle.mt_read.specs.declared.request.LineNo.{LineNo}
 use Rattle.mt_read.specs.declared.request.LineNo.TheVariants.{Json, Form, Range, Memory}
-use Rattle.mt_read.specs.declared.request.Place.{Place}
-use Rattle.mt_read.specs.declared.request.Place.TheVariants as place
+use Rattle.mt_read.specs.declared.request.Sender.{Sender}
+use Rattle.mt_read.specs.declared.request.Sender.TheVariants as sender
 use Rattle.mt_read.specs.declared.request.Request.{Request}
 use Rattle.mt_read.specs.declared.word.Word.{Word}
 use Rattle.mt_read.specs.declared.word.Word.TheVariants as word
@@ -24,7 +24,7 @@ use Rattle.mt_read.specs.Field.{Field, bound, count, kind_check, may, must, numb
 use Rattle.mt_read.specs.Key.{key_text}
 use Rattle.mt_read.specs.Rules.{rule_bounds, rules_with, set_in}
 use Rattle.mt_read.specs.Table.{Layout, layout_of}
-use Rattle.mt_read.specs.Words.{is_allowed_at, word_of}
+use Rattle.mt_read.specs.Words.{may_send, word_of}
 
 infixl 10 ◌>>=◌
 abbrev pub ◌>>=◌ : {A B : Type 0} → Result A Fault → (A → Result B Fault) → Result B Fault
@@ -34,17 +34,17 @@ Err e >>= f = Err e
 -- ---- who asks: in a script a field with a default, in an entry one that must be there, in a session none
 
 abbrev pub who_fields : Origin → List Field
-who_fields (Line place.Replay) = may key.Who as_whole ∷ []
+who_fields (Line sender.Replay) = may key.Who as_whole ∷ []
 who_fields Entry = must key.Who as_whole ∷ []
 who_fields origin = []
 
 abbrev pub who_bounds : Origin → Members → List (Fault × Bool)
-who_bounds (Line place.Replay) ms = bound key.Who (pos 0) (pos 15) (number key.Who ms) ∷ []
+who_bounds (Line sender.Replay) ms = bound key.Who (pos 0) (pos 15) (number key.Who ms) ∷ []
 who_bounds Entry ms = bound key.Who (pos 0) (pos (2 ^ 32 - 1)) (number key.Who ms) ∷ []
 who_bounds origin ms = []
 
 abbrev pub who_in : Origin → Members → ℕ
-who_in (Line place.Replay) ms = count key.Who ms
+who_in (Line sender.Replay) ms = count key.Who ms
 who_in Entry ms = count key.Who ms
 who_in origin ms = 0
 
@@ -110,30 +110,30 @@ decoded bytes = if is_utf8 bytes then read bytes else None
 
 -- ---- lines
 
-abbrev pub allowed_word : Place → Word → Option Word
-allowed_word place word = if is_allowed_at place word then Some word else None
+abbrev pub allowed_word : Sender → Word → Option Word
+allowed_word sender word = if may_send sender word then Some word else None
 
--- the command that the member `do` names, where the place has it
-abbrev pub word_in : Place → Members → Option Word
-word_in place ms = option_and_then (allowed_word place) (option_and_then word_of (word_text ms))
+-- the command that the member `do` names, where the sender has it
+abbrev pub word_in : Sender → Members → Option Word
+word_in sender ms = option_and_then (allowed_word sender) (option_and_then word_of (word_text ms))
 
 -- for a line that sets rules: the rules as they would then stand
 abbrev pub standing_rules : Word → Rules → Members → List (Fault × Bool)
 standing_rules word.Rule rules ms = rule_bounds (rules_with (set_in ms) rules)
 standing_rules w rules ms = []
 
-abbrev pub of_word : Place → Rules → Members → Option Word → Result (ℕ × Request) LineNo
-of_word place rules ms None = Err (Form (codes "do"))
-of_word place rules ms (Some word) = read_layout (Line place) (standing_rules word rules ms) (layout_of word) ms
+abbrev pub of_word : Sender → Rules → Members → Option Word → Result (ℕ × Request) LineNo
+of_word sender rules ms None = Err (Form (codes "do"))
+of_word sender rules ms (Some word) = read_layout (Line sender) (standing_rules word rules ms) (layout_of word) ms
 
 -- what an object's members are read as
-abbrev pub read_members : Place → Rules → Members → Result (ℕ × Request) LineNo
-read_members place rules ms = of_word place rules ms (word_in place ms)
+abbrev pub read_members : Sender → Rules → Members → Result (ℕ × Request) LineNo
+read_members sender rules ms = of_word sender rules ms (word_in sender ms)
 
--- What a line is read as, in a place, the rules being those that stand: first that it is JSON, then that it is an object, then its command,
+-- What a line of a sender is read as, the rules being those that stand: first that it is JSON, then that it is an object, then its command,
 -- then that it has no other key than the command's, then the command's fields.
-abbrev pub line : Place → Rules → List ℕ → Result (ℕ × Request) LineNo
-line place rules bytes = read_value (read_members place rules) (decoded bytes)
+abbrev pub line : Sender → Rules → List ℕ → Result (ℕ × Request) LineNo
+line sender rules bytes = read_value (read_members sender rules) (decoded bytes)
 
 -- the answer is that reading, or that memory is wanting
 abbrev pub GivesReading : {A : Type 0} → Result A LineNo → Result A LineNo → Type 0

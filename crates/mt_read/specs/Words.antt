@@ -1,8 +1,8 @@
 -- Which command a text is the word of, and where it may be given.
 use Rattle.std.specs.Prelude.{ℕ, Bool, true, false, List, [], ◌∷◌, option_map, Option, Some, None, if◌then◌else◌}
 use Rattle.std.specs.Str.{bytes_eq}
-use Rattle.mt_read.specs.declared.request.Place.{Place}
-use Rattle.mt_read.specs.declared.request.Place.TheVariants as place
+use Rattle.mt_read.specs.declared.request.Sender.{Sender}
+use Rattle.mt_read.specs.declared.request.Sender.TheVariants as sender
 use Rattle.mt_read.specs.declared.word.Change.{Change}
 use Rattle.mt_read.specs.declared.word.Change.TheVariants as change
 use Rattle.mt_read.specs.declared.word.EntryWord.{EntryWord}
@@ -48,12 +48,12 @@ unfoldable pub entry_word_of : List ℕ → Option EntryWord
 entry_word_of text = if bytes_eq text (entry_layout entries.Accepted).text then Some entries.Accepted else option_map entries.Change (change_word_of text)
 
 -- A script has every command, a session none that is a script's alone, and the feed's and a position's only in that role.
-abbrev pub may_give : Place → Group → Bool
-may_give place.Replay g = true
-may_give place.Feed group.Feed = true
-may_give place.Position group.Position = true
+abbrev pub may_give : Sender → Group → Bool
+may_give sender.Replay g = true
+may_give sender.Feed group.Feed = true
+may_give sender.Position group.Position = true
 may_give p group.Any = true
 may_give p g = false
 
-abbrev pub is_allowed_at : Place → Word → Bool
-is_allowed_at place w = may_give place (layout_of w).group
+abbrev pub may_send : Sender → Word → Bool
+may_send sender w = may_give sender (layout_of w).group

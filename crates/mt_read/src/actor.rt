@@ -7,7 +7,7 @@ ghost use Rattle.mt_read.specs.Line.{kinds, who_bounds, who_fields, who_in};
 use crate::field::{count_within, whole, whole_or_none};
 use crate::key::{Fault, Key};
 use crate::origin::Origin;
-use crate::request::Place;
+use crate::request::Sender;
 use mt_json::Fields;
 
 /// The actor is a whole number: in a script where it is there, in an entry always.
@@ -15,8 +15,8 @@ pub(crate) fn actor_kind(fields: &Fields, origin: Origin) -> Result<(), Fault>
     ensures { result ≡ kinds origin (who_fields origin) (members fields.now) }
 {
     match origin {
-        Origin::Line(Place::Replay) => whole_or_none(fields, origin, Key::Who),
-        Origin::Line(Place::Feed | Place::Position | Place::Plain) => Ok(()),
+        Origin::Line(Sender::Replay) => whole_or_none(fields, origin, Key::Who),
+        Origin::Line(Sender::Feed | Sender::Position | Sender::Plain) => Ok(()),
         Origin::Entry => whole(fields, Key::Who),
     }
 }
@@ -27,8 +27,8 @@ pub(crate) fn actor(fields: &Fields, origin: Origin) -> Result<u32, Fault>
     ensures { result ≡ judged (who_bounds origin (members fields.now)) (who_in origin (members fields.now)) }
 {
     match origin {
-        Origin::Line(Place::Replay) => count_within(fields, Key::Who, 0, 15),
-        Origin::Line(Place::Feed | Place::Position | Place::Plain) => Ok(0),
+        Origin::Line(Sender::Replay) => count_within(fields, Key::Who, 0, 15),
+        Origin::Line(Sender::Feed | Sender::Position | Sender::Plain) => Ok(0),
         Origin::Entry => count_within(fields, Key::Who, 0, u32::MAX),
     }
 }

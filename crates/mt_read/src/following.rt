@@ -5,14 +5,14 @@ ghost use Rattle.mt_read.specs.Entry.{as_entry, held_in};
 ghost use Rattle.mt_read.specs.Following.{IsReadyLine, as_asked, as_followed, as_line, feed, feed_members, reading_layout, reading_word_of};
 ghost use Rattle.mt_read.specs.Line.{GivesReading, checked, keys_of, read_layout, word_text};
 ghost use Rattle.mt_read.specs.declared.origin.Origin.TheVariants as origin;
-ghost use Rattle.mt_read.specs.declared.request.Place.TheVariants.{Plain};
+ghost use Rattle.mt_read.specs.declared.request.Sender.TheVariants.{Plain};
 
 use crate::entry::held;
 use crate::key::Fault;
 use crate::object::{form, named, no_other, value_of};
 use crate::origin::Origin;
 use crate::plain::{bye_line, check_line, due_line, flight_line, list_line};
-use crate::request::{LineNo, Place, Request};
+use crate::request::{LineNo, Request, Sender};
 use mt_base::Entry;
 use mt_json::{Fields, Scratch};
 use std::alloc::Global;
@@ -75,7 +75,7 @@ fn keys_of(word: Reading) -> &'static str
 fn checked(fields: &Fields, word: Reading) -> Result<(u32, Request), Fault>
     ensures { result ≡ checked (origin.Line Plain) [] (reading_layout word) (members fields.now) }
 {
-    let origin = Origin::Line(Place::Plain);
+    let origin = Origin::Line(Sender::Plain);
     match word {
         Reading::List => list_line(fields, origin),
         Reading::Check => check_line(fields, origin),

@@ -31,4 +31,4 @@ pub use entry::read_entry;
 pub use following::{FeedLine, read_feed};
 pub use line::read_line;
 pub use mt_json::Scratch;
-pub use request::{LineNo, Place, Request, RuleSet};
+pub use request::{LineNo, Request, RuleSet, Sender};

@@ -16,7 +16,7 @@ use crate::plain::{
     advise_line, bye_line, check_line, due_line, flight_line, hello_line, history_line, list_line,
     settle_line, take_line,
 };
-use crate::request::{LineNo, Place, Request};
+use crate::request::{LineNo, Request, Sender};
 use crate::setup::{begin_line, rule_line};
 use crate::stop::Stop;
 use crate::tables::{fix_line, type_line};
@@ -25,13 +25,13 @@ use mt_base::Rules;
 use mt_json::{Fields, Scratch};
 use std::alloc::Global;
 
-// The command that the line names, where the place has it.
-fn word_in(fields: &Fields, place: Place) -> Option<Word>
-    ensures { result ≡ word_in place (members fields.now) }
+// The command that the line names, where the sender has it.
+fn word_in(fields: &Fields, sender: Sender) -> Option<Word>
+    ensures { result ≡ word_in sender (members fields.now) }
 {
     let text = fields.word("do").ok()?;
     let word = word_of(text)?;
-    if is_allowed(place, word) {
+    if is_allowed(sender, word) {
         return Some(word);
     }
     None
@@ -55,13 +55,13 @@ fn change_line(
 fn checked(
     alloc: Global,
     fields: &Fields,
-    place: Place,
+    sender: Sender,
     rules: &Rules,
     word: Word,
 ) -> Result<(u32, Request), Stop>
-    ensures { IsUnlessMemory result (checked (Line place) (standing_rules word rules.now (members fields.now)) (layout_of word) (members fields.now)) }
+    ensures { IsUnlessMemory result (checked (Line sender) (standing_rules word rules.now (members fields.now)) (layout_of word) (members fields.now)) }
 {
-    let origin = Origin::Line(place);
+    let origin = Origin::Line(sender);
     match word {
         Word::Fix => Ok(fix_line(fields, origin)?),
         Word::TypeLine => type_line(alloc, fields, origin),
@@ -89,16 +89,16 @@ fn checked(
 fn read_fields(
     alloc: Global,
     fields: &Fields,
-    place: Place,
+    sender: Sender,
     rules: &Rules,
 ) -> Result<(u32, Request), LineNo>
-    ensures { GivesReading result (read_members place rules.now (members fields.now)) }
+    ensures { GivesReading result (read_members sender rules.now (members fields.now)) }
 {
-    let Some(word) = word_in(fields, place) else {
+    let Some(word) = word_in(fields, sender) else {
         return Err(form(alloc, b"do"));
     };
-    no_other(alloc, fields, keys_of(place, word))?;
-    match checked(alloc, fields, place, rules, word) {
+    no_other(alloc, fields, keys_of(sender, word))?;
+    match checked(alloc, fields, sender, rules, word) {
         Ok(asked) => Ok(asked),
         Err(Stop::Fault(fault)) => Err(named(alloc, fault)),
         Err(Stop::Memory) => Err(LineNo::Memory),
@@ -110,22 +110,22 @@ fn read_bytes(
     alloc: Global,
     scratch: &mut Scratch,
     bytes: &[u8],
-    place: Place,
+    sender: Sender,
     rules: &Rules,
 ) -> Result<(u32, Request), LineNo>
-    ensures { GivesReading result (line place rules.now bytes.now) }
+    ensures { GivesReading result (line sender rules.now bytes.now) }
 {
     let value = value_of(alloc, scratch, bytes)?;
     let Some(fields) = Fields::of(&value) else {
         return Err(form(alloc, b""));
     };
-    read_fields(alloc, &fields, place, rules)
+    read_fields(alloc, &fields, sender, rules)
 }
 
 /// What the line asks for, and who asks; 0 where it doesn't say. The line is without its 0x0A, and `rules` are those that stand.
 ///
 /// The refusal is the first of these, in this order. [`LineNo::Json`] where serde_json reads no value from the bytes. [`LineNo::Form`]
-/// with the empty name where the value isn't an object; with `do` where that member isn't the word of a command that the place has;
+/// with the empty name where the value isn't an object; with `do` where that member isn't the word of a command that the sender has;
 /// with the least key, in byte order, that isn't a field of the command; with the first field that is missing or of another kind.
 /// [`LineNo::Range`] with the first field whose number, or list of bands, is outside its bounds. In a script each line may have the field
 /// `who`, checked after the others' kinds and again after the others' bounds. For `rule`, last, the rules as they would then stand are
@@ -134,11 +134,11 @@ pub fn read_line(
     alloc: Global,
     scratch: &mut Scratch,
     bytes: &[u8],
-    place: Place,
+    sender: Sender,
     rules: &Rules,
 ) -> Result<(u32, Request), LineNo>
-    ensures exact { GivesReading result (line place rules.now bytes.now) }
+    ensures exact { GivesReading result (line sender rules.now bytes.now) }
     ensures bounded { IfOk result (IsBounded rules.now) }
 {
-    read_bytes(alloc, scratch, bytes, place, rules)
+    read_bytes(alloc, scratch, bytes, sender, rules)
 }

@@ -1,13 +1,13 @@
 ghost use Rattle.std.specs.Prelude.{◌≡◌};
 ghost use Rattle.mt_read.specs.Field.{is_line};
 
-use crate::request::Place;
+use crate::request::Sender;
 
 /// What an object that is read stands for.
 #[derive(Clone, Copy)]
 pub(crate) enum Origin {
     /// A line that asks for something.
-    Line(Place),
+    Line(Sender),
     /// An entry of a history.
     Entry,
 }

@@ -151,9 +151,9 @@ pub enum Request {
     Take,
 }
 
-/// Where a line comes from: each place has commands of its own.
+/// Who sends a line: each sender has commands of its own.
 #[derive(Clone, Copy, PartialEq, Eq)]
-pub enum Place {
+pub enum Sender {
     /// A script, in which each line may name its actor.
     Replay,
     /// A session in the role of the feed.

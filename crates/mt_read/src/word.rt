@@ -1,11 +1,11 @@
 ghost use Rattle.std.specs.Prelude.{◌≡◌};
 ghost use Rattle.mt_read.specs.Line.{keys_of};
 ghost use Rattle.mt_read.specs.Table.{change_layout, entry_layout, layout_of};
-ghost use Rattle.mt_read.specs.Words.{change_word_of, entry_word_of, is_allowed_at, own_word_of, word_of};
+ghost use Rattle.mt_read.specs.Words.{change_word_of, entry_word_of, may_send, own_word_of, word_of};
 ghost use Rattle.mt_read.specs.declared.origin.Origin.TheVariants.{Line, Entry};
-ghost use Rattle.mt_read.specs.declared.request.Place.TheVariants.{Replay, Plain};
+ghost use Rattle.mt_read.specs.declared.request.Sender.TheVariants.{Replay, Plain};
 
-use crate::request::Place;
+use crate::request::Sender;
 
 /// The word of a change of the picture that is asked for by itself.
 #[derive(Clone, Copy)]
@@ -170,26 +170,26 @@ fn group_of(word: Word) -> Group
     }
 }
 
-/// Whether a line of the place may give the command.
-pub(crate) fn is_allowed(place: Place, word: Word) -> bool
-    ensures { result ≡ is_allowed_at place word }
+/// Whether a line of the sender may give the command.
+pub(crate) fn is_allowed(sender: Sender, word: Word) -> bool
+    ensures { result ≡ may_send sender word }
 {
-    match (place, group_of(word)) {
-        (Place::Replay, _) => true,
-        (Place::Feed, Group::Feed | Group::Any) => true,
-        (Place::Position, Group::Position | Group::Any) => true,
-        (Place::Plain, Group::Any) => true,
+    match (sender, group_of(word)) {
+        (Sender::Replay, _) => true,
+        (Sender::Feed, Group::Feed | Group::Any) => true,
+        (Sender::Position, Group::Position | Group::Any) => true,
+        (Sender::Plain, Group::Any) => true,
         _ => false,
     }
 }
 
 /// The keys of the command's line, with a space after each.
-pub(crate) fn keys_of(place: Place, word: Word) -> &'static str
-    ensures { result.now ≡ keys_of (Line place) (layout_of word).fields }
+pub(crate) fn keys_of(sender: Sender, word: Word) -> &'static str
+    ensures { result.now ≡ keys_of (Line sender) (layout_of word).fields }
 {
-    match place {
-        Place::Replay => script_keys(word),
-        Place::Feed | Place::Position | Place::Plain => session_keys(word),
+    match sender {
+        Sender::Replay => script_keys(word),
+        Sender::Feed | Sender::Position | Sender::Plain => session_keys(word),
     }
 }
 

@@ -6,7 +6,7 @@ use Rattle.std.proofs.lemmas.List.Elements.{All-push}
 use Rattle.std.specs.declared.option.Option.{Option}
 use Rattle.mt_base.specs.Tables.{Setup}
 use Rattle.mt_desk.specs.Desk.{Desk, IsSeatOfDesk}
-use Rattle.mt_turn.specs.Places.{Place}
+use Rattle.mt_turn.specs.Seats.{SeatNow}
 use Rattle.mt_base.specs.declared.command.Entry.{Entry}
 use Rattle.mt_io.specs.Door.{Count, LosesFront, Gains, gave_one}
 use Rattle.mt_serve.specs.Sitting.{HaveNoChannel, Start, seats_of}
@@ -61,7 +61,7 @@ all_moved P x xs ys all is = all_rest P x xs (subst (All P) is all)
 pub all_front : {A : Type 0} (P : A → Type 0) (x : A) (xs ys : List A) → All P ys → ys ≡ x ∷ xs → P x
 all_front P x xs ys all is = all_first P x xs (subst (All P) is all)
 
-pub accepting_more : {L : Type 0} (desk : Desk) (c d e : Count) (still left now : Option (List L)) (seats rest after : List (Place Entry Setup)) (starts : List (Start L)) (link : L) (seat : Place Entry Setup)
+pub accepting_more : {L : Type 0} (desk : Desk) (c d e : Count) (still left now : Option (List L)) (seats rest after : List (SeatNow Entry Setup)) (starts : List (Start L)) (link : L) (seat : SeatNow Entry Setup)
     (has_channel : Bool) → Accepting desk c d still left seats rest starts → (d.given < d.sessions) × (e ≡ gave_one d) × LosesFront left now (link ∷ []) → rest ≡ seat ∷ after
     → Accepting desk c e still now seats after (starts ++ record { link = link; seat = seat; has_channel = has_channel } ∷ [])
 accepting_more {L} desk c d e still left now seats rest after starts link seat has_channel so gave is =
@@ -77,7 +77,7 @@ accepting_more {L} desk c d e still left now seats rest after starts link seat h
         seats_are = so.begun.seats_are ∙ ap (λ zs. seats_of starts ++ zs) is ∙ sym (append_assoc (seats_of starts) (seat ∷ []) after) ∙ ap (λ zs. zs ++ after) (sym (map_push (λ (z : Start L). z.seat) starts s));
       };
       ready = all_rest (IsSeatOfDesk desk) seat after (subst (λ zs. All (IsSeatOfDesk desk) zs) is so.ready);
-      seated = omega (arith, ap (λ (z : Count). z.given) same, ap (λ (z : Count). z.sessions) same, so.seated, ap (λ (zs : List (Place Entry Setup)). length zs) is);
+      seated = omega (arith, ap (λ (z : Count). z.given) same, ap (λ (z : Count). z.sessions) same, so.seated, ap (λ (zs : List (SeatNow Entry Setup)). length zs) is);
     }
 
 -- where there are no senders none is taken
@@ -96,6 +96,6 @@ channels_more {L} {S} all before after job starts more s so taken is own none =
     (left.1, subst (λ (xs : List (Start L)). HaveNoChannel xs) (sym is) (All-push (λ (x : Start L). x.has_channel ≡ false) starts s was.1 quiet))
 
 -- what holds of the door that the scope gives back holds of the door afterwards
-pub begun_at : {L D : Type 0} (count : D → Count) (still : D → Option (List L)) (c : Count) (all : Option (List L)) (seats rest : List (Place Entry Setup)) (starts : List (Start L)) (d e : D)
+pub begun_at : {L D : Type 0} (count : D → Count) (still : D → Option (List L)) (c : Count) (all : Option (List L)) (seats rest : List (SeatNow Entry Setup)) (starts : List (Start L)) (d e : D)
     → HasSeatedLinks c (count e) all (still e) seats rest starts → d ≡ e → HasSeatedLinks c (count d) all (still d) seats rest starts
 begun_at count still c all seats rest starts d e begun is = subst (λ z. HasSeatedLinks c (count z) all (still z) seats rest starts) (sym is) begun

@@ -8,7 +8,7 @@ use Rattle.mt_io.specs.declared.source.Source as Source
 use Rattle.mt_io.specs.declared.sink.Sink as Sink
 use Rattle.mt_turn.specs.declared.view.View.{View}
 use Rattle.mt_turn.specs.declared.view.Joined.{Joined}
-use Rattle.mt_turn.specs.Places.{Place}
+use Rattle.mt_turn.specs.Seats.{SeatNow}
 use Rattle.mt_turn.specs.Views.{joined_as, first_view, entries_of}
 use Rattle.mt_turn.specs.Lending.{AllJoined, IsJoined, ClosesHistory}
 use Rattle.mt_base.specs.declared.command.Entry.{Entry}
@@ -50,32 +50,32 @@ in_entries h e n c is = contains_filter (λ (x : Entry). number_of x == n) h e c
 
 module _ {L : Type 0} (source : Source.Ghosts L) (sink : Sink.Ghosts L) where
   -- all seats that are joined, by what they know at the end
-  abbrev all_views : List (Met L) → List (Place Entry Setup) → List Worked → List (Place Entry Setup) → List (View Entry Setup)
+  abbrev all_views : List (Met L) → List (SeatNow Entry Setup) → List Worked → List (SeatNow Entry Setup) → List (View Entry Setup)
   all_views mets rest works hands = (views_of (ends_of mets) ++ views_of rest) ++ (views_of (rests_of works) ++ views_of hands)
 
-  in_mets : (mets : List (Met L)) (rest : List (Place Entry Setup)) (works : List Worked) (hands : List (Place Entry Setup)) (m : Met L) → Contains mets m → Contains (all_views mets rest works hands) m.seat.view
+  in_mets : (mets : List (Met L)) (rest : List (SeatNow Entry Setup)) (works : List Worked) (hands : List (SeatNow Entry Setup)) (m : Met L) → Contains mets m → Contains (all_views mets rest works hands) m.seat.view
   in_mets mets rest works hands m c =
-      Contains-append_left _ _ _ (Contains-append_left _ _ _ (Contains-map (λ (s : Place Entry Setup). s.view) (ends_of mets) m.seat (Contains-map (λ (x : Met L). x.seat) mets m c)))
+      Contains-append_left _ _ _ (Contains-append_left _ _ _ (Contains-map (λ (s : SeatNow Entry Setup). s.view) (ends_of mets) m.seat (Contains-map (λ (x : Met L). x.seat) mets m c)))
 
-  in_rest : (mets : List (Met L)) (rest : List (Place Entry Setup)) (works : List Worked) (hands : List (Place Entry Setup)) (s : Place Entry Setup) → Contains rest s → Contains (all_views mets rest works hands) s.view
-  in_rest mets rest works hands s c = Contains-append_left _ _ _ (Contains-append_right (views_of (ends_of mets)) _ _ (Contains-map (λ (s : Place Entry Setup). s.view) rest s c))
+  in_rest : (mets : List (Met L)) (rest : List (SeatNow Entry Setup)) (works : List Worked) (hands : List (SeatNow Entry Setup)) (s : SeatNow Entry Setup) → Contains rest s → Contains (all_views mets rest works hands) s.view
+  in_rest mets rest works hands s c = Contains-append_left _ _ _ (Contains-append_right (views_of (ends_of mets)) _ _ (Contains-map (λ (s : SeatNow Entry Setup). s.view) rest s c))
 
-  in_works : (mets : List (Met L)) (rest : List (Place Entry Setup)) (works : List Worked) (hands : List (Place Entry Setup)) (w : Worked) → Contains works w → Contains (all_views mets rest works hands) w.seat.view
+  in_works : (mets : List (Met L)) (rest : List (SeatNow Entry Setup)) (works : List Worked) (hands : List (SeatNow Entry Setup)) (w : Worked) → Contains works w → Contains (all_views mets rest works hands) w.seat.view
   in_works mets rest works hands w c =
-      Contains-append_right (views_of (ends_of mets) ++ views_of rest) _ _ (Contains-append_left _ _ _ (Contains-map (λ (s : Place Entry Setup). s.view) (rests_of works) w.seat (Contains-map (λ (x : Worked). x.seat) works w c)))
+      Contains-append_right (views_of (ends_of mets) ++ views_of rest) _ _ (Contains-append_left _ _ _ (Contains-map (λ (s : SeatNow Entry Setup). s.view) (rests_of works) w.seat (Contains-map (λ (x : Worked). x.seat) works w c)))
 
-  in_hands : (mets : List (Met L)) (rest : List (Place Entry Setup)) (works : List Worked) (hands : List (Place Entry Setup)) (s : Place Entry Setup) → Contains hands s → Contains (all_views mets rest works hands) s.view
+  in_hands : (mets : List (Met L)) (rest : List (SeatNow Entry Setup)) (works : List Worked) (hands : List (SeatNow Entry Setup)) (s : SeatNow Entry Setup) → Contains hands s → Contains (all_views mets rest works hands) s.view
   in_hands mets rest works hands s c =
-      Contains-append_right (views_of (ends_of mets) ++ views_of rest) _ _ (Contains-append_right (views_of (rests_of works)) _ _ (Contains-map (λ (s : Place Entry Setup). s.view) hands s c))
+      Contains-append_right (views_of (ends_of mets) ++ views_of rest) _ _ (Contains-append_right (views_of (rests_of works)) _ _ (Contains-map (λ (s : SeatNow Entry Setup). s.view) hands s c))
 
   -- What stands when all seats are joined: the first seat knows w
-  pub record AreJoined (desk : Desk) (v w : View Entry Setup) (mets : List (Met L)) (rest : List (Place Entry Setup)) (works : List Worked) (hands : List (Place Entry Setup)) : Type 0 where
+  pub record AreJoined (desk : Desk) (v w : View Entry Setup) (mets : List (Met L)) (rest : List (SeatNow Entry Setup)) (works : List Worked) (hands : List (SeatNow Entry Setup)) : Type 0 where
     pub split : AllSplit desk v (seats_of (starts_of mets) ++ rest) (froms_of works ++ hands)
     pub joined : HasJoined v w (all_views mets rest works hands)
     pub over : AreOver source sink mets
     pub worked : All IsRested works
 
-  pub are_joined : (desk : Desk) (v w1 w2 w3 w4 : View Entry Setup) (mets : List (Met L)) (rest : List (Place Entry Setup)) (works : List Worked) (hands : List (Place Entry Setup))
+  pub are_joined : (desk : Desk) (v w1 w2 w3 w4 : View Entry Setup) (mets : List (Met L)) (rest : List (SeatNow Entry Setup)) (works : List Worked) (hands : List (SeatNow Entry Setup))
       → AllSplit desk v (seats_of (starts_of mets) ++ rest) (froms_of works ++ hands)
       → HasJoined v w1 (views_of (ends_of mets)) → HasJoined w1 w2 (views_of rest) → HasJoined w2 w3 (views_of (rests_of works)) → HasJoined w3 w4 (views_of hands)
       → AreOver source sink mets → All IsRested works → AreJoined desk v w4 mets rest works hands
@@ -86,39 +86,39 @@ module _ {L : Type 0} (source : Source.Ghosts L) (sink : Sink.Ghosts L) where
     worked = worked;
   }
 
-  module _ (desk : Desk) (v w : View Entry Setup) (mets : List (Met L)) (rest : List (Place Entry Setup)) (works : List Worked) (hands : List (Place Entry Setup)) (so : AreJoined desk v w mets rest works hands) where
+  module _ (desk : Desk) (v w : View Entry Setup) (mets : List (Met L)) (rest : List (SeatNow Entry Setup)) (works : List Worked) (hands : List (SeatNow Entry Setup)) (so : AreJoined desk v w mets rest works hands) where
     joined_is : w.joined ≡ joined_of (all_views mets rest works hands)
     joined_is = so.joined.joined ∙ ap (λ js. js ++ joined_of (all_views mets rest works hands)) so.split.joined
 
     join_of : (x : View Entry Setup) → Contains (all_views mets rest works hands) x → Contains w.joined (joined_as x)
     join_of x c = subst (λ js. Contains js (joined_as x)) (sym joined_is) (Contains-map joined_as (all_views mets rest works hands) x c)
 
-    seat_joined : (s : Place Entry Setup) → Contains (seats_of (starts_of mets) ++ rest) s → IsJoined w.joined s.view.number
+    seat_joined : (s : SeatNow Entry Setup) → Contains (seats_of (starts_of mets) ++ rest) s → IsJoined w.joined s.view.number
     seat_joined s c = elim (Contains-append_cases (seats_of (starts_of mets)) rest s c) [
       | inl in_starts ↦
           let a = contains_unmap (λ (z : Start L). z.seat) (starts_of mets) s in_starts in
           let b = contains_unmap (λ (z : Met L). z.from) mets a.0 a.1 in
           let served = All-contains (λ (m : Met L). HasServed source sink m.from.link m.from.seat m.from.has_channel m.link m.seat m.outcome) mets b.0 so.over b.1 in
-          (joined_as b.0.seat.view, join_of b.0.seat.view (in_mets mets rest works hands b.0 b.1), served.same.0 ∙ ap (λ (z : Start L). z.seat.view.number) b.2 ∙ ap (λ (z : Place Entry Setup). z.view.number) a.2)
+          (joined_as b.0.seat.view, join_of b.0.seat.view (in_mets mets rest works hands b.0 b.1), served.same.0 ∙ ap (λ (z : Start L). z.seat.view.number) b.2 ∙ ap (λ (z : SeatNow Entry Setup). z.view.number) a.2)
       | inr in_rests ↦ (joined_as s.view, join_of s.view (in_rest mets rest works hands s in_rests), refl)
     ]
 
-    hand_joined : (s : Place Entry Setup) → Contains (froms_of works ++ hands) s → IsJoined w.joined s.view.number
+    hand_joined : (s : SeatNow Entry Setup) → Contains (froms_of works ++ hands) s → IsJoined w.joined s.view.number
     hand_joined s c = elim (Contains-append_cases (froms_of works) hands s c) [
       | inl in_froms ↦
           let a = contains_unmap (λ (z : Worked). z.from) works s in_froms in
           let worked = All-contains IsRested works a.0 so.worked a.1 in
-          (joined_as a.0.seat.view, join_of a.0.seat.view (in_works mets rest works hands a.0 a.1), worked.same.0 ∙ ap (λ (z : Place Entry Setup). z.view.number) a.2)
+          (joined_as a.0.seat.view, join_of a.0.seat.view (in_works mets rest works hands a.0 a.1), worked.same.0 ∙ ap (λ (z : SeatNow Entry Setup). z.view.number) a.2)
       | inr in_rests ↦ (joined_as s.view, join_of s.view (in_hands mets rest works hands s in_rests), refl)
     ]
 
     pub all_joined : AllJoined w
     all_joined n c = elim (Contains-append_cases (numbers_of (seats_of (starts_of mets) ++ rest)) (numbers_of (froms_of works ++ hands)) n (subst (λ ns. Contains ns n) (so.joined.gave ∙ so.split.gave) c)) [
-      | inl in_seats ↦ let a = contains_unmap (λ (z : Place Entry Setup). z.view.number) (seats_of (starts_of mets) ++ rest) n in_seats in subst (IsJoined w.joined) a.2 (seat_joined a.0 a.1)
-      | inr in_works_ ↦ let a = contains_unmap (λ (z : Place Entry Setup). z.view.number) (froms_of works ++ hands) n in_works_ in subst (IsJoined w.joined) a.2 (hand_joined a.0 a.1)
+      | inl in_seats ↦ let a = contains_unmap (λ (z : SeatNow Entry Setup). z.view.number) (seats_of (starts_of mets) ++ rest) n in_seats in subst (IsJoined w.joined) a.2 (seat_joined a.0 a.1)
+      | inr in_works_ ↦ let a = contains_unmap (λ (z : SeatNow Entry Setup). z.view.number) (froms_of works ++ hands) n in_works_ in subst (IsJoined w.joined) a.2 (hand_joined a.0 a.1)
     ]
 
-    fresh_of : (s : Place Entry Setup) → Contains ((seats_of (starts_of mets) ++ rest) ++ (froms_of works ++ hands)) s → IsNewSeat desk (first_view desk.fixed) s
+    fresh_of : (s : SeatNow Entry Setup) → Contains ((seats_of (starts_of mets) ++ rest) ++ (froms_of works ++ hands)) s → IsNewSeat desk (first_view desk.fixed) s
     fresh_of s c = All-contains (IsNewSeat desk (first_view desk.fixed)) _ s so.split.fresh c
 
     module _ (h : List Entry) (closes : ClosesHistory number_of w h) where
@@ -146,32 +146,32 @@ module _ {L : Type 0} (source : Source.Ghosts L) (sink : Sink.Ghosts L) where
             mine = mine_of m.seat.view at;
           }
 
-      idle_has_none : (e : Entry) (s : Place Entry Setup) → Contains h e → Contains (all_views mets rest works hands) s.view → s.view.number ≡ e.who → IsNewSeat desk (first_view desk.fixed) s → ⊥
+      idle_has_none : (e : Entry) (s : SeatNow Entry Setup) → Contains h e → Contains (all_views mets rest works hands) s.view → s.view.number ≡ e.who → IsNewSeat desk (first_view desk.fixed) s → ⊥
       idle_has_none e s ce cs is fresh = Contains-none e (subst (λ es. Contains es e) fresh.mine (in_mine e s.view ce cs is))
 
       other : (e : Entry) → Contains h e → (x : View Entry Setup) → Contains (all_views mets rest works hands) x → x.number ≡ e.who → IsSessions mets e.who ⊎ IsRenewal e
       other e ce x cx is = elim (Contains-append_cases (views_of (ends_of mets) ++ views_of rest) (views_of (rests_of works) ++ views_of hands) x cx) [
         | inl left ↦ elim (Contains-append_cases (views_of (ends_of mets)) (views_of rest) x left) [
           | inl of_ends ↦
-              let a = contains_unmap (λ (z : Place Entry Setup). z.view) (ends_of mets) x of_ends in
+              let a = contains_unmap (λ (z : SeatNow Entry Setup). z.view) (ends_of mets) x of_ends in
               let b = contains_unmap (λ (z : Met L). z.seat) mets a.0 a.1 in
-              inl (b.0, b.1, ap (λ (z : Place Entry Setup). z.view.number) b.2 ∙ ap (λ (z : View Entry Setup). z.number) a.2 ∙ is)
+              inl (b.0, b.1, ap (λ (z : SeatNow Entry Setup). z.view.number) b.2 ∙ ap (λ (z : View Entry Setup). z.number) a.2 ∙ is)
           | inr of_rest ↦
-              let a = contains_unmap (λ (z : Place Entry Setup). z.view) rest x of_rest in
+              let a = contains_unmap (λ (z : SeatNow Entry Setup). z.view) rest x of_rest in
               absurd (idle_has_none e a.0 ce (in_rest mets rest works hands a.0 a.1) (ap (λ (z : View Entry Setup). z.number) a.2 ∙ is) (fresh_of a.0 (Contains-append_left _ _ _ (Contains-append_right (seats_of (starts_of mets)) _ _ a.1))))
         ]
         | inr right ↦ elim (Contains-append_cases (views_of (rests_of works)) (views_of hands) x right) [
           | inl of_works ↦
-              let a = contains_unmap (λ (z : Place Entry Setup). z.view) (rests_of works) x of_works in
+              let a = contains_unmap (λ (z : SeatNow Entry Setup). z.view) (rests_of works) x of_works in
               let b = contains_unmap (λ (z : Worked). z.seat) works a.0 a.1 in
               let worked = All-contains IsRested works b.0 so.worked b.1 in
-              let number : b.0.seat.view.number ≡ e.who = ap (λ (z : Place Entry Setup). z.view.number) b.2 ∙ ap (λ (z : View Entry Setup). z.number) a.2 ∙ is in
+              let number : b.0.seat.view.number ≡ e.who = ap (λ (z : SeatNow Entry Setup). z.view.number) b.2 ∙ ap (λ (z : View Entry Setup). z.number) a.2 ∙ is in
               let fresh = fresh_of b.0.from (Contains-append_right (seats_of (starts_of mets) ++ rest) _ _ (Contains-append_left _ _ _ (Contains-map (λ (z : Worked). z.from) works b.0 b.1))) in
               let mine : b.0.seat.view.mine ≡ worked.added = worked.mine ∙ ap (λ es. es ++ worked.added) fresh.mine in
               let at = in_mine e b.0.seat.view ce (in_works mets rest works hands b.0 b.1) number in
               inr (All-contains IsRenewal worked.added e worked.renewals (subst (λ es. Contains es e) mine at))
           | inr of_hands ↦
-              let a = contains_unmap (λ (z : Place Entry Setup). z.view) hands x of_hands in
+              let a = contains_unmap (λ (z : SeatNow Entry Setup). z.view) hands x of_hands in
               absurd (idle_has_none e a.0 ce (in_hands mets rest works hands a.0 a.1) (ap (λ (z : View Entry Setup). z.number) a.2 ∙ is) (fresh_of a.0 (Contains-append_right (seats_of (starts_of mets) ++ rest) _ _ (Contains-append_right (froms_of works) _ _ a.1))))
         ]
       ]
@@ -187,14 +187,14 @@ module _ {L : Type 0} (source : Source.Ghosts L) (sink : Sink.Ghosts L) where
       pub tied : IsTied source sink desk.fixed h mets
       tied = record {
         numbers =
-            let both = sym (map_both (λ (z : Place Entry Setup). z.view.number) (seats_of (starts_of mets)) rest) ∙ so.split.numbers in
-            let many : length (numbers_of (seats_of (starts_of mets))) ≡ length mets = omega (arith, length_map (λ (z : Place Entry Setup). z.view.number) (seats_of (starts_of mets)), length_map (λ (z : Start L). z.seat) (starts_of mets), length_map (λ (z : Met L). z.from) mets) in
+            let both = sym (map_both (λ (z : SeatNow Entry Setup). z.view.number) (seats_of (starts_of mets)) rest) ∙ so.split.numbers in
+            let many : length (numbers_of (seats_of (starts_of mets))) ≡ length mets = omega (arith, length_map (λ (z : SeatNow Entry Setup). z.view.number) (seats_of (starts_of mets)), length_map (λ (z : Start L). z.seat) (starts_of mets), length_map (λ (z : Met L). z.from) mets) in
             range_front (numbers_of (seats_of (starts_of mets))) (numbers_of rest) 1 _ both ∙ ap (λ n. range_with_len 1 n) many;
         each = All-from_held (IsInHistory source sink desk.fixed h) mets session_in;
         others = others;
       }
 
-pub all_split : (desk : Desk) (v w : View Entry Setup) (seats hands : List (Place Entry Setup)) → HasSplit desk (first_view desk.fixed) v seats → HasSplit desk v w hands → AllSplit desk w seats hands
+pub all_split : (desk : Desk) (v w : View Entry Setup) (seats hands : List (SeatNow Entry Setup)) → HasSplit desk (first_view desk.fixed) v seats → HasSplit desk v w hands → AllSplit desk w seats hands
 all_split desk v w seats hands a b = record {
   number = b.number ∙ a.number;
   mine = b.mine ∙ a.mine;
@@ -207,8 +207,8 @@ all_split desk v w seats hands a b = record {
       (λ k d below. let f = b.fresh k d below in record { ready = f.ready; seen = f.seen ∙ a.seen; mine = f.mine });
 }
 
-module _ {L : Type 0} (desk : Desk) (v : View Entry Setup) (mets : List (Met L)) (rest : List (Place Entry Setup)) (works : List Worked) (hands : List (Place Entry Setup)) (split : AllSplit desk v (seats_of (starts_of mets) ++ rest) (froms_of works ++ hands)) where
-  fresh_at : (s : Place Entry Setup) → Contains ((seats_of (starts_of mets) ++ rest) ++ (froms_of works ++ hands)) s → IsNewSeat desk (first_view desk.fixed) s
+module _ {L : Type 0} (desk : Desk) (v : View Entry Setup) (mets : List (Met L)) (rest : List (SeatNow Entry Setup)) (works : List Worked) (hands : List (SeatNow Entry Setup)) (split : AllSplit desk v (seats_of (starts_of mets) ++ rest) (froms_of works ++ hands)) where
+  fresh_at : (s : SeatNow Entry Setup) → Contains ((seats_of (starts_of mets) ++ rest) ++ (froms_of works ++ hands)) s → IsNewSeat desk (first_view desk.fixed) s
   fresh_at s c = All-contains (IsNewSeat desk (first_view desk.fixed)) _ s split.fresh c
 
   pub ready_mets : All (λ (m : Met L). IsSeatOfDesk desk m.from.seat) mets

@@ -7,7 +7,7 @@ use Rattle.mt_io.specs.declared.source.Source as Source
 use Rattle.mt_io.specs.declared.sink.Sink as Sink
 use Rattle.mt_turn.specs.declared.view.Phase.TheVariants.{Idle}
 use Rattle.mt_turn.specs.declared.view.View.{View}
-use Rattle.mt_turn.specs.Places.{Place}
+use Rattle.mt_turn.specs.Seats.{SeatNow}
 use Rattle.mt_turn.specs.Views.{taker}
 use Rattle.mt_base.specs.declared.command.Entry.{Entry}
 use Rattle.mt_io.specs.Door.{Count, Gains, took_one}
@@ -26,12 +26,12 @@ use Rattle.mt_serve.specs.Private.Joining.{JoinsSeats, JoinsWorkers, JoinsSessio
 use Rattle.mt_serve.proofs.Accepts.{map_push, length_push, moved_on, all_moved, gains_none, gains_on}
 use Rattle.mt_serve.proofs.Seats.{joined_none, joined_more}
 
-pub seats_more : (desk : Desk) (v w w' : View Entry Setup) (all rest rest' : List (Place Entry Setup)) (x : Place Entry Setup)
+pub seats_more : (desk : Desk) (v w w' : View Entry Setup) (all rest rest' : List (SeatNow Entry Setup)) (x : SeatNow Entry Setup)
     → JoinsSeats desk v w all rest → rest ≡ x ∷ rest' → w' ≡ taker w x.view → JoinsSeats desk v w' all rest'
 seats_more desk v w w' all rest rest' x so front takes = record {
   past = so.past ++ x ∷ [];
   parts = moved_on all so.past rest (so.past ++ x ∷ []) rest' x x so.parts front refl refl;
-  joined = subst (HasJoined v w') (sym (map_push (λ (s : Place Entry Setup). s.view) so.past x)) (joined_more v w w' (views_of so.past) x.view so.joined takes);
+  joined = subst (HasJoined v w') (sym (map_push (λ (s : SeatNow Entry Setup). s.view) so.past x)) (joined_more v w w' (views_of so.past) x.view so.joined takes);
   ready = all_moved (IsSeatOfDesk desk) x rest' rest so.ready front;
 }
 
@@ -42,7 +42,7 @@ workers_more desk v w w' all rest rest' x y so front same takes worked = record 
   parts = moved_on all so.past rest (so.past ++ x ∷ []) rest' y x so.parts front refl same;
   joined =
       subst (HasJoined v w')
-      (sym (ap views_of (map_push (λ (z : Worked). z.seat) so.past x) ∙ map_push (λ (s : Place Entry Setup). s.view) (rests_of so.past) x.seat))
+      (sym (ap views_of (map_push (λ (z : Worked). z.seat) so.past x) ∙ map_push (λ (s : SeatNow Entry Setup). s.view) (rests_of so.past) x.seat))
       (joined_more v w w' (views_of (rests_of so.past)) x.seat.view so.joined takes);
   ready = all_moved (λ (z : Worked). IsSeatOfDesk desk z.from) y rest' rest so.ready front;
   worked = All-push IsRested so.past x so.worked worked;
@@ -71,7 +71,7 @@ module _ {L : Type 0} (source : Source.Ghosts L) (sink : Sink.Ghosts L) where
     parts = moved_on all so.past rest (so.past ++ x ∷ []) rest' y x so.parts front refl same;
     joined =
         subst (HasJoined v w')
-        (sym (ap views_of (map_push (λ (z : Met L). z.seat) so.past x) ∙ map_push (λ (s : Place Entry Setup). s.view) (ends_of so.past) x.seat))
+        (sym (ap views_of (map_push (λ (z : Met L). z.seat) so.past x) ∙ map_push (λ (s : SeatNow Entry Setup). s.view) (ends_of so.past) x.seat))
         (joined_more v w w' (views_of (ends_of so.past)) x.seat.view so.joined takes);
     ready = all_moved (λ (z : Met L). IsSeatOfDesk desk z.from.seat) y rest' rest so.ready front;
     served = All-push (λ (m : Met L). HasServed source sink m.from.link m.from.seat m.from.has_channel m.link m.seat m.outcome) so.past x so.served served;
@@ -100,7 +100,7 @@ module _ {L : Type 0} (source : Source.Ghosts L) (sink : Sink.Ghosts L) where
       omega (arith, count, parts, few)
 
   -- a session that is over leaves a seat of the desk that it got one of
-  pub done_ready : (desk : Desk) (a : L) (before : Place Entry Setup) (has_channel : Bool) (b : L) (after : Place Entry Setup) (outcome : Outcome)
+  pub done_ready : (desk : Desk) (a : L) (before : SeatNow Entry Setup) (has_channel : Bool) (b : L) (after : SeatNow Entry Setup) (outcome : Outcome)
       → HasServed source sink a before has_channel b after outcome → IsSeatOfDesk desk before → IsSeatOfDesk desk after
   done_ready desk a before has_channel b after outcome served ready = record {
     home_is = served.home ∙ ready.home_is;

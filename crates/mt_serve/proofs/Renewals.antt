@@ -16,7 +16,7 @@ use Rattle.mt_board.specs.Settling.{AreRenewalsAsked}
 use Rattle.mt_desk.specs.Desk.{Desk, Hand, IsSeatOfDesk, seat_of_hand, seat_of}
 use Rattle.mt_desk.specs.declared.home.Home.{Home}
 use Rattle.mt_turn.specs.declared.view.View.{View}
-use Rattle.mt_turn.specs.Places.{Place}
+use Rattle.mt_turn.specs.Seats.{SeatNow}
 use Rattle.mt_workers.specs.Work.{HasWorkedAll}
 use Rattle.mt_serve.specs.Working.{IsRenewal}
 use Rattle.mt_serve.specs.Private.Working.{HasWorkedInSeat}
@@ -52,13 +52,13 @@ renews s t [] (result ∷ results) is = absurd is
 renews s t (call ∷ calls) [] is = absurd is
 
 -- what a worker's hand did, by its seat
-pub worked_as : (desk : Desk) (before after : Place Entry Setup) (hand back : Hand) (left : Option (List (List ℕ))) → IsSeatOfDesk desk before
+pub worked_as : (desk : Desk) (before after : SeatNow Entry Setup) (hand back : Hand) (left : Option (List (List ℕ))) → IsSeatOfDesk desk before
     → hand ≡ record { desk = desk; view = before.view } → after ≡ seat_of_hand back → IsSeatOfDesk back.desk after
     → HasWorkedAll left (seat_of hand.desk.fixed hand.view) (seat_of back.desk.fixed back.view)
     → IsSameBoardSeat (seat_of hand.desk.fixed hand.view) (seat_of back.desk.fixed back.view) × GoesOn hand.view.seen back.view.seen
     → home_of back ≡ home_of hand → HasWorkedInSeat before after
 worked_as desk before after hand back left ready is after_is ready_after worked on home =
-    let view : after.view ≡ back.view = ap (λ (p : Place Entry Setup). p.view) after_is in
+    let view : after.view ≡ back.view = ap (λ (p : SeatNow Entry Setup). p.view) after_is in
     let from : hand.view ≡ before.view = ap (λ (h : Hand). h.view) is in
     let desk_is : hand.desk ≡ desk = ap (λ (h : Hand). h.desk) is in
     let added = renews (seat_of hand.desk.fixed hand.view) (seat_of back.desk.fixed back.view) worked.calls worked.results worked.renewed in

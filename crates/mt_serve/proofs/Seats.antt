@@ -7,7 +7,7 @@ use Rattle.mt_desk.specs.Desk.{Desk, IsSeatOfDesk}
 use Rattle.mt_turn.specs.declared.view.Phase.TheVariants.{Idle}
 use Rattle.mt_turn.specs.declared.view.View.{View}
 use Rattle.mt_turn.specs.declared.view.Joined.{Joined}
-use Rattle.mt_turn.specs.Places.{Place}
+use Rattle.mt_turn.specs.Seats.{SeatNow}
 use Rattle.mt_turn.specs.Views.{giver, newcomer, taker, joined_as}
 use Rattle.mt_base.specs.declared.command.Entry.{Entry}
 use Rattle.mt_serve.specs.Seating.{numbers_of}
@@ -28,14 +28,14 @@ pub length_both : {A : Type 0} (xs ys : List A) → length (xs ++ ys) ≡ length
 length_both [] ys = omega arith
 length_both (x ∷ xs) ys = omega (arith, length_both xs ys)
 
-pub split_more : (desk : Desk) (v w w' : View Entry Setup) (seats : List (Place Entry Setup)) (s : Place Entry Setup) → HasSplit desk v w seats
+pub split_more : (desk : Desk) (v w w' : View Entry Setup) (seats : List (SeatNow Entry Setup)) (s : SeatNow Entry Setup) → HasSplit desk v w seats
     → w' ≡ giver w → s.view ≡ newcomer w → IsSeatOfDesk desk s → HasSplit desk v w' (seats ++ s ∷ [])
 split_more desk v w w' seats s so gives comes own =
     let number : s.view.number ≡ length w.gave + 1 = ap (λ (z : View Entry Setup). z.number) comes in
-    let many : length w.gave ≡ length v.gave + length seats = omega (arith, ap (λ (ns : List ℕ). length ns) so.gave, length_both v.gave (numbers_of seats), length_map (λ (z : Place Entry Setup). z.view.number) seats) in
+    let many : length w.gave ≡ length v.gave + length seats = omega (arith, ap (λ (ns : List ℕ). length ns) so.gave, length_both v.gave (numbers_of seats), length_map (λ (z : SeatNow Entry Setup). z.view.number) seats) in
     let next : s.view.number ≡ length v.gave + 1 + length seats = omega (arith, number, many) in
     let pushed : length (seats ++ s ∷ []) ≡ suc (length seats) = omega (arith, length_push seats s) in
-    let numbers : numbers_of (seats ++ s ∷ []) ≡ numbers_of seats ++ s.view.number ∷ [] = map_push (λ (z : Place Entry Setup). z.view.number) seats s in
+    let numbers : numbers_of (seats ++ s ∷ []) ≡ numbers_of seats ++ s.view.number ∷ [] = map_push (λ (z : SeatNow Entry Setup). z.view.number) seats s in
     record {
       number = ap (λ (z : View Entry Setup). z.number) gives ∙ so.number;
       seen = ap (λ (z : View Entry Setup). z.seen) gives ∙ so.seen;

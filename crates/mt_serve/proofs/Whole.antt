@@ -12,7 +12,7 @@ use Rattle.mt_io.specs.Causes.{Rose}
 use Rattle.mt_io.specs.declared.source.Source as Source
 use Rattle.mt_io.specs.declared.sink.Sink as Sink
 use Rattle.mt_turn.specs.declared.view.View.{View}
-use Rattle.mt_turn.specs.Places.{Place}
+use Rattle.mt_turn.specs.Seats.{SeatNow}
 use Rattle.mt_turn.specs.Views.{first_view}
 use Rattle.mt_base.specs.declared.command.Entry.{Entry}
 use Rattle.mt_io.specs.Door.{Count, LosesFront, Gains, listened}
@@ -25,21 +25,21 @@ use Rattle.mt_serve.proofs.Accepts.{loses_none}
 use Rattle.mt_serve.proofs.Seats.{length_map}
 use Rattle.mt_serve.proofs.Binding.{all_split}
 
-pub split_as : (desk : Desk) (f v w : View Entry Setup) (seats hands seats' hands' : List (Place Entry Setup)) → f ≡ first_view desk.fixed → HasSplit desk f v seats → HasSplit desk v w hands
+pub split_as : (desk : Desk) (f v w : View Entry Setup) (seats hands seats' hands' : List (SeatNow Entry Setup)) → f ≡ first_view desk.fixed → HasSplit desk f v seats → HasSplit desk v w hands
     → seats ≡ seats' → hands ≡ hands' → AllSplit desk w seats' hands'
 split_as desk f v w seats hands seats' hands' new a b is is' =
     subst (λ s. AllSplit desk w s hands') is
     (subst (AllSplit desk w seats) is' (all_split desk v w seats hands (subst (λ z. HasSplit desk z v seats) new a) b))
 
-pub ready_of : (desk : Desk) (v : View Entry Setup) (seats : List (Place Entry Setup)) → All (IsNewSeat desk v) seats → All (IsSeatOfDesk desk) seats
+pub ready_of : (desk : Desk) (v : View Entry Setup) (seats : List (SeatNow Entry Setup)) → All (IsNewSeat desk v) seats → All (IsSeatOfDesk desk) seats
 ready_of desk v seats fresh k d below = (fresh k d below).ready
 
 -- there are no more sessions than seats for them
-pub few_met : {L : Type 0} (sessions workers : ℕ) (old new : Count) (still left : Option (List L)) (seats rest : List (Place Entry Setup)) (mets : List (Met L))
+pub few_met : {L : Type 0} (sessions workers : ℕ) (old new : Count) (still left : Option (List L)) (seats rest : List (SeatNow Entry Setup)) (mets : List (Met L))
     → HasSeatedLinks old new still left seats rest (starts_of mets) → length seats ≡ sessions → sessions + workers ≤ 2 ^ 31 → length mets ≤ 2 ^ 31
 few_met {L} sessions workers old new still left seats rest mets begun many few =
     let parts : length seats ≡ length (seats_of (starts_of mets)) + length rest =
-    ap (λ (xs : List (Place Entry Setup)). length xs) begun.seats_are ∙ length-append (seats_of (starts_of mets)) rest in
+    ap (λ (xs : List (SeatNow Entry Setup)). length xs) begun.seats_are ∙ length-append (seats_of (starts_of mets)) rest in
     omega (arith, parts, length_map (λ (s : Start L). s.seat) (starts_of mets), length_map (λ (m : Met L). m.from) mets, many, few)
 
 over_cause : (b : Bool) (c : Count) (f f' : ℕ) → IsDoorOver b c f f' → b ≡ true → Rose f f'
@@ -59,7 +59,7 @@ count_is c port sessions given back a b d e =
     ∙ ap (λ n. record { port = port; sessions = sessions; given = given; back = n }) e
 
 module _ {L : Type 0} (source : Source.Ghosts L) (sink : Sink.Ghosts L) where
-  pub served_all : (setup : Setup) (port sessions workers staff : ℕ) (c0 c1 c2 c3 : Count) (s0 s1 s2 s3 b0 b1 b2 b3 : Option (List L)) (f0 f1 f2 f3 : ℕ) (faulted : Bool) (h : List Entry) (mets : List (Met L)) (seats rest : List (Place Entry Setup))
+  pub served_all : (setup : Setup) (port sessions workers staff : ℕ) (c0 c1 c2 c3 : Count) (s0 s1 s2 s3 b0 b1 b2 b3 : Option (List L)) (f0 f1 f2 f3 : ℕ) (faulted : Bool) (h : List Entry) (mets : List (Met L)) (seats rest : List (SeatNow Entry Setup))
       → c1 ≡ listened port sessions → s1 ≡ s0 → b1 ≡ b0 → f0 ≤ f1
       → HasSeatedLinks c1 c2 s1 s2 seats rest (starts_of mets) → b2 ≡ b1 → f1 ≤ f2 → IsDoorOver faulted c2 f1 f2
       → IsTied source sink setup h mets → c3 ≡ gave_back c2 (length mets) → s3 ≡ s2 → Gains b2 b3 (backs_of mets) → f2 ≤ f3

@@ -2,7 +2,7 @@
 use Rattle.std.specs.Prelude.{ℕ, List, [], map}
 use Rattle.mt_base.specs.declared.command.Entry.{Entry}
 use Rattle.mt_base.specs.Tables.{Setup}
-use Rattle.mt_turn.specs.Places.{Place}
+use Rattle.mt_turn.specs.Seats.{SeatNow}
 
-abbrev pub numbers_of : List (Place Entry Setup) → List ℕ
-numbers_of seats = map (λ (s : Place Entry Setup). s.view.number) seats
+abbrev pub numbers_of : List (SeatNow Entry Setup) → List ℕ
+numbers_of seats = map (λ (s : SeatNow Entry Setup). s.view.number) seats

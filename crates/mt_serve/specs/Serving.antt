@@ -9,7 +9,7 @@ use Rattle.mt_session.specs.declared.outcome.Outcome.{Outcome}
 use Rattle.mt_session.specs.Run.{IsSession, Link}
 use Rattle.mt_turn.specs.declared.view.Phase.TheVariants.{Idle}
 use Rattle.mt_turn.specs.Lending.{AreViewsOfOneSeat}
-use Rattle.mt_turn.specs.Places.{Place}
+use Rattle.mt_turn.specs.Seats.{SeatNow}
 use Rattle.mt_workers.specs.Jobs.{Jobs}
 
 -- the outbox of a session: with a channel one that tells nothing of its jobs, and none without
@@ -24,7 +24,7 @@ module _ {L : Type 0} (source : Source.Ghosts L) (sink : Sink.Ghosts L) where
 
   -- A session of the link a by the seat `before`, with a channel or without, left the link b and the seat `after`, which is the same seat of the
   -- same turn and doesn't hold it. Its lines and replies are those of a session by what the seat knew and knows.
-  pub record HasServed (a : L) (before : Place Entry Setup) (has_channel : Bool) (b : L) (after : Place Entry Setup) (outcome : Outcome) : Type 0 where
+  pub record HasServed (a : L) (before : SeatNow Entry Setup) (has_channel : Bool) (b : L) (after : SeatNow Entry Setup) (outcome : Outcome) : Type 0 where
     pub home : after.home ≡ before.home
     pub idle : after.view.phase ≡ Idle
     pub same : AreViewsOfOneSeat before.view after.view

@@ -3,25 +3,25 @@ use Rattle.std.specs.Prelude.{◌≡◌, Bool, false, List, [], map, All}
 use Rattle.mt_base.specs.declared.command.Entry.{Entry}
 use Rattle.mt_base.specs.Tables.{Setup}
 use Rattle.mt_session.specs.declared.outcome.Outcome.{Outcome}
-use Rattle.mt_turn.specs.Places.{Place}
+use Rattle.mt_turn.specs.Seats.{SeatNow}
 
 -- what a session is given: a link, a seat, and a channel for its jobs or none
 pub record Start (L : Type 0) : Type 0 where
   pub link : L
-  pub seat : Place Entry Setup
+  pub seat : SeatNow Entry Setup
   pub has_channel : Bool
 
 -- what it was given, and what it gave back
 pub record Met (L : Type 0) : Type 0 where
   pub from : Start L
   pub link : L
-  pub seat : Place Entry Setup
+  pub seat : SeatNow Entry Setup
   pub outcome : Outcome
 
 abbrev pub links_of : {L : Type 0} → List (Start L) → List L
 links_of {L} starts = map (λ (s : Start L). s.link) starts
 
-abbrev pub seats_of : {L : Type 0} → List (Start L) → List (Place Entry Setup)
+abbrev pub seats_of : {L : Type 0} → List (Start L) → List (SeatNow Entry Setup)
 seats_of {L} starts = map (λ (s : Start L). s.seat) starts
 
 abbrev pub starts_of : {L : Type 0} → List (Met L) → List (Start L)

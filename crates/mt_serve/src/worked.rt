@@ -34,10 +34,10 @@ impl Model for Working {
     ghost use Rattle.std.specs.Prelude.{◌≡◌, MatchResult};
     ghost use Rattle.mt_base.specs.declared.command.Entry.{Entry};
     ghost use Rattle.mt_base.specs.Tables.{Setup};
-    ghost use Rattle.mt_turn.specs.Places.{Place};
+    ghost use Rattle.mt_turn.specs.Seats.{SeatNow};
     ghost use Rattle.mt_serve.specs.Private.Working.{HasWorkedInSeat};
 
-    ghost Value = { Place Entry Setup };
+    ghost Value = { SeatNow Entry Setup };
 
     ghost view = { λ s. s.given.seat.value };
 

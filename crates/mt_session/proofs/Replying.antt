@@ -32,7 +32,7 @@ use Rattle.mt_session.specs.Following.{IsRenewalDone, Standing, job_if, job_of}
 use Rattle.mt_session.specs.Served.{IsAcceptanceAnswered, IsAskAnswered, IsCommanded, IsReplyGiven, IsSessionLeft, IsRepliedTo, IsServedInSession, IsStarvedOf, IsReadAnswered, IsTrialInSession, board_reply, is_none_listed}
 use Rattle.mt_session.specs.Private.Served.{ask_of}
 use Rattle.mt_wire.specs.Refused.{or_reply}
-use Rattle.mt_session.specs.Session.{Session, asked_in_role, role_place, with_seat}
+use Rattle.mt_session.specs.Session.{Session, asked_in_role, role_sender, with_seat}
 
 -- nothing but what was seen has changed
 abbrev pub IsIdle : Session → Session → Type 0
@@ -169,7 +169,7 @@ told_served s (requests.History from to) ask reply next is told = rw (same_ask i
 told_served s request ask reply next is told = cc
 
 -- what a line that isn't too long asks for
-asked_as : (s : Session) (line : List ℕ) (a : Result (ℕ × Request) LineNo) → length line ≤ 65536 → a ≡ read_as (role_place s.role) usual_rules line
+asked_as : (s : Session) (line : List ℕ) (a : Result (ℕ × Request) LineNo) → length line ≤ 65536 → a ≡ read_as (role_sender s.role) usual_rules line
     → asked_in_role s.role line ≡ or_reply a
 asked_as s line a short is =
     let fits : nat_lt 65536 (length line) ≡ false = grind (arith, nat_tests) in
@@ -177,12 +177,12 @@ asked_as s line a short is =
 
 -- a line that was refused
 refused_replied : (s : Session) (line : List ℕ) (a : Result (ℕ × Request) LineNo) (reply : Reply) → length line ≤ 65536
-    → a ≡ read_as (role_place s.role) usual_rules line → Err reply ≡ or_reply a → IsRepliedTo s line reply s
+    → a ≡ read_as (role_sender s.role) usual_rules line → Err reply ≡ or_reply a → IsRepliedTo s line reply s
 refused_replied s line a reply short is refusal =
     inl (rw (asked_as s line a short is, ← refusal) (record { reply_is = refl; next_is = refl }))
 
 pub unread_replied : (s : Session) (line : List ℕ) (refusal : LineNo) (reply : Reply) → length line ≤ 65536
-    → GivesReading {A = ℕ × Request} (Err refusal) (read_as (role_place s.role) usual_rules line) → Err reply ≡ or_reply {A = ℕ × Request} (Err refusal) → IsRepliedTo s line reply s
+    → GivesReading {A = ℕ × Request} (Err refusal) (read_as (role_sender s.role) usual_rules line) → Err reply ≡ or_reply {A = ℕ × Request} (Err refusal) → IsRepliedTo s line reply s
 unread_replied s line nos.Memory reply short is refusal =
     let memory : reply ≡ replies.Memory = cc in
     rw memory (inr (short, idle_starved s (asked_in_role s.role line) s (s.seat, looked_itself s.seat, refl)))

@@ -7,8 +7,8 @@ use Rattle.mt_board.specs.Probing.{Probe}
 use Rattle.mt_board.specs.Seat.{Seat}
 use Rattle.mt_machine.specs.Book.{Book, empty_book}
 use Rattle.mt_read.specs.Line.{line as read_as}
-use Rattle.mt_read.specs.declared.request.Place.{Place}
-use Rattle.mt_read.specs.declared.request.Place.TheVariants as places
+use Rattle.mt_read.specs.declared.request.Sender.{Sender}
+use Rattle.mt_read.specs.declared.request.Sender.TheVariants as senders
 use Rattle.mt_read.specs.declared.request.Request.{Request}
 use Rattle.mt_write.specs.declared.reply.Reply.{Reply}
 use Rattle.mt_write.specs.declared.reply.Reply.TheVariants as replies
@@ -29,11 +29,11 @@ abbrev pub with_seat : Session → Seat → Session
 with_seat s seat = record s { seat = seat }
 
 -- where the lines of a role come from
-abbrev pub role_place : Option Role → Place
-role_place None = places.Plain
-role_place (Some Feed) = places.Feed
-role_place (Some Position) = places.Position
+abbrev pub role_sender : Option Role → Sender
+role_sender None = senders.Plain
+role_sender (Some Feed) = senders.Feed
+role_sender (Some Position) = senders.Position
 
 -- What a line asks for in a role, or its refusal. (No line of a session sets rules, so none is read by the rules that stand.)
 abbrev pub asked_in_role : Option Role → List ℕ → Result (ℕ × Request) Reply
-asked_in_role role line = if nat_lt 65536 (length line) then Err replies.Long else or_reply (read_as (role_place role) usual_rules line)
+asked_in_role role line = if nat_lt 65536 (length line) then Err replies.Long else or_reply (read_as (role_sender role) usual_rules line)

@@ -13,7 +13,7 @@ ghost use Rattle.mt_session.specs.Private.Keeping.{StaysOn};
 ghost use Rattle.mt_session.specs.Served.{IsCommanded, IsNotOfSessions, IsLooked, IsRepliedTo, IsServedInSession, IsStarvedInSession};
 ghost use Rattle.mt_session.specs.Private.Served.{IsNoChange, ask_of};
 ghost use Rattle.mt_wire.specs.Refused.{or_reply};
-ghost use Rattle.mt_session.specs.Session.{Session, asked_in_role, role_place};
+ghost use Rattle.mt_session.specs.Session.{Session, asked_in_role, role_sender};
 
 use crate::following::{due_if, reported};
 use crate::serving::Serving;
@@ -21,7 +21,7 @@ use crate::telling::refused;
 use mt_base::{Callsign, Command, Memory, Role, Rules};
 use mt_board::{Ask, Board};
 use mt_io::Gate;
-use mt_wire::{DoneWord, FieldName, LineNo, Place, Reply, Request, Scratch, read_line};
+use mt_wire::{DoneWord, FieldName, LineNo, Reply, Request, Scratch, Sender, read_line};
 use std::alloc::Global;
 use std::sync::Wait;
 use std::thread::Threads;
@@ -72,13 +72,13 @@ fn ask_of(request: &Request) -> Option<Ask>
 
 impl<B: Board> Serving<B> {
     // Where its lines come from.
-    fn place(&self) -> Place
-        ensures { result ≡ role_place self.now.session.role }
+    fn sender(&self) -> Sender
+        ensures { result ≡ role_sender self.now.session.role }
     {
         match self.role {
-            None => Place::Plain,
-            Some(Role::Feed) => Place::Feed,
-            Some(Role::Position) => Place::Position,
+            None => Sender::Plain,
+            Some(Role::Feed) => Sender::Feed,
+            Some(Role::Position) => Sender::Position,
         }
     }
 
@@ -98,7 +98,7 @@ impl<B: Board> Serving<B> {
         ensures on { StaysOn self.old self.new }
         ensures fit { IsFit result.0 }
     {
-        match read_line(alloc, scratch, line, self.place(), &Rules::usual()) {
+        match read_line(alloc, scratch, line, self.sender(), &Rules::usual()) {
             Ok((_, request)) => self.serve(rt, alloc, request, gate),
             Err(no) => (unread(no), None),
         }

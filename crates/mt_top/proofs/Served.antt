@@ -2,7 +2,7 @@
 use Rattle.std.proofs.Common.{◌≡◌, ◌⊎◌, inl, inr, ⊎_elim, ℕ, ◌≤◌, List, length, Ok, refl, false, arith}
 use Rattle.std.proofs.lemmas.Bool.Decides.{nat_tests}
 use Rattle.std.specs.Prelude.{nat_lt}
-use Rattle.mt_read.specs.declared.request.Place.TheVariants.{Replay}
+use Rattle.mt_read.specs.declared.request.Sender.TheVariants.{Replay}
 use Rattle.mt_read.specs.declared.request.Request.{Request}
 use Rattle.mt_read.specs.Line.{line as read_as}
 use Rattle.mt_write.specs.declared.reply.Reply.{Reply}

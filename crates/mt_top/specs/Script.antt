@@ -3,7 +3,7 @@ use Rattle.std.specs.Prelude.{◌≡◌, ◌≤◌, ℕ, ◌⊎◌, List, length
 use Rattle.mt_write.specs.declared.reply.Reply.{Reply}
 use Rattle.mt_write.specs.declared.reply.Reply.TheVariants as replies
 use Rattle.mt_read.specs.declared.request.Request.{Request}
-use Rattle.mt_read.specs.declared.request.Place.TheVariants.{Replay}
+use Rattle.mt_read.specs.declared.request.Sender.TheVariants.{Replay}
 use Rattle.mt_read.specs.Line.{line as read_as}
 use Rattle.mt_world.specs.World.{World, IsWorldLeft, IsRefused, IsServed}
 use Rattle.mt_wire.specs.Refused.{or_reply}

@@ -11,7 +11,7 @@ ghost use Rattle.mt_world.specs.World.{World, opening_world};
 
 use mt_base::Memory;
 use mt_script::Script;
-use mt_wire::{LineNo, Place, Reply, Scratch, read_line};
+use mt_wire::{LineNo, Reply, Scratch, Sender, read_line};
 use std::alloc::Global;
 use std::thread::Threads;
 
@@ -91,7 +91,7 @@ pub(crate) fn answer<R: Threads + Sync>(
     ensures fit { IsFit result }
     ensures begins { script.old.begun ≡ false → (script.new.begun ≡ is_begin result) × (script.new.history ≡ []) }
 {
-    match read_line(alloc, scratch, line, Place::Replay, &script.rules()) {
+    match read_line(alloc, scratch, line, Sender::Replay, &script.rules()) {
         Ok((who, request)) => script.serve(rt, alloc, who, &request),
         Err(LineNo::Json) => Reply::Json,
         Err(LineNo::Form(name)) => Reply::Form(name),

@@ -2,11 +2,11 @@
 use Rattle.std.specs.Prelude.{◌≡◌}
 use Rattle.mt_base.specs.declared.command.Entry.{Entry}
 use Rattle.mt_base.specs.Tables.{Setup}
-use Rattle.mt_turn.specs.Places.{Place}
+use Rattle.mt_turn.specs.Seats.{SeatNow}
 use Rattle.mt_desk.specs.Desk.{Hand}
 
 -- the same seat, of which nothing was split off and into which nothing was joined
-pub record IsSamePlace (p q : Place Entry Setup) : Type 0 where
+pub record IsSameSeatNow (p q : SeatNow Entry Setup) : Type 0 where
   pub number : q.view.number ≡ p.view.number
   pub gave : q.view.gave ≡ p.view.gave
   pub joined : q.view.joined ≡ p.view.joined

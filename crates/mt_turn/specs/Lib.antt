@@ -1,4 +1,4 @@
 pub mod Lending
-pub mod Places
+pub mod Seats
 pub mod Private
 pub mod Views

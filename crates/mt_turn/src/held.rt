@@ -21,7 +21,7 @@ pub struct Held<T: Recorded> {
 
 impl<T: Recorded> Model for Held<T> {
     ghost use Rattle.std.specs.Prelude.{◌≡◌, length};
-    ghost use Rattle.mt_turn.specs.Places.{Loan};
+    ghost use Rattle.mt_turn.specs.Seats.{Loan};
 
     ghost Value = { Loan T };
 

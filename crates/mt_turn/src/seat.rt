@@ -8,7 +8,7 @@ use std::marker::Model;
 
 /// A seat of a turn. Each thread that is to have the turn has one of its own.
 ///
-/// Contracts see it as a `Place`: the turn that it is of, its `home`, and what it knows, its `view`.
+/// Contracts see it as a `SeatNow`: the turn that it is of, its `home`, and what it knows, its `view`.
 /// Outside of a turn its phase is `Idle`. A seat that is dropped while it has the turn stops all others.
 pub struct Seat<T: Recorded> {
     pub(crate) token: Token<T>,
@@ -17,10 +17,10 @@ pub struct Seat<T: Recorded> {
 
 impl<T: Recorded> Model for Seat<T> {
     ghost use Rattle.std.specs.Prelude.{◌≡◌};
-    ghost use Rattle.mt_turn.specs.Places.{Place};
+    ghost use Rattle.mt_turn.specs.Seats.{SeatNow};
     ghost use Rattle.mt_turn.specs.Private.Views.{carried_of};
 
-    ghost Value = { Place T.Entry T.Fixed };
+    ghost Value = { SeatNow T.Entry T.Fixed };
 
     ghost view = { λ s. record { home = s.token.table_id; view = s.token.me.0 } };
 

@@ -2,7 +2,7 @@
 use Rattle.std.proofs.Common.{◌≡◌, ◌≤◌, ℕ, ◌+◌, true, false, List, Option, Result, Ok, refl, arith, suc}
 use Rattle.tungstenite.specs.Socket.{Socket, Reads, has_kind}
 use Rattle.tungstenite.specs.declared.message.CloseFrame.{CloseFrame}
-use Rattle.tungstenite.specs.declared.message.Message.TheVariants as Kind
+use Rattle.tungstenite.specs.declared.message.Message.TheVariants as MessageKind
 use Rattle.tungstenite.specs.declared.message.Message.{Message}
 use Rattle.tungstenite.specs.declared.error.Error.{Error}
 use Rattle.mt_ws.specs.Messages.{is_beat, IsData}
@@ -21,15 +21,15 @@ answers_by remaining contents n old middle new result few passed read = record {
 
 -- neither a close nor a ping nor a pong
 pub is_data : (m : Message) → is_beat m ≡ false → has_kind 4 m ≡ false → IsData m
-is_data (Kind.Text bytes) no_beat no_close = tt
-is_data (Kind.Binary bytes) no_beat no_close = tt
-is_data (Kind.Ping bytes) no_beat no_close = cc
-is_data (Kind.Pong bytes) no_beat no_close = cc
-is_data (Kind.Close frame) no_beat no_close = cc
+is_data (MessageKind.Text bytes) no_beat no_close = tt
+is_data (MessageKind.Binary bytes) no_beat no_close = tt
+is_data (MessageKind.Ping bytes) no_beat no_close = cc
+is_data (MessageKind.Pong bytes) no_beat no_close = cc
+is_data (MessageKind.Close frame) no_beat no_close = cc
 
-pub close_is : (m : Message) → has_kind 4 m ≡ true → (frame : Option CloseFrame) × (m ≡ Kind.Close frame)
-close_is (Kind.Text bytes) is = cc
-close_is (Kind.Binary bytes) is = cc
-close_is (Kind.Ping bytes) is = cc
-close_is (Kind.Pong bytes) is = cc
-close_is (Kind.Close frame) is = (frame, refl)
+pub close_is : (m : Message) → has_kind 4 m ≡ true → (frame : Option CloseFrame) × (m ≡ MessageKind.Close frame)
+close_is (MessageKind.Text bytes) is = cc
+close_is (MessageKind.Binary bytes) is = cc
+close_is (MessageKind.Ping bytes) is = cc
+close_is (MessageKind.Pong bytes) is = cc
+close_is (MessageKind.Close frame) is = (frame, refl)

@@ -25,31 +25,31 @@ module _ {S : Type 0} (remaining contents : S → Option (List ℕ)) where
   -- a message is begun: the front of its bytes was given
   pub record GivesRest (old new : WsLink S) (bytes : List ℕ) : Type 0 where
     pub some : 0 < length bytes
-    pub bytes_are : old.unread ≡ bytes ++ new.unread
+    pub bytes_are : old.ungiven ≡ bytes ++ new.ungiven
     pub socket : new.socket ≡ old.socket
     pub ended : new.ended ≡ old.ended
 
   -- none was begun: the next one was read, and the front of its bytes was given
   pub record GivesNext (old new : WsLink S) (bytes : List ℕ) : Type 0 where
-    pub none : old.unread ≡ []
+    pub none : old.ungiven ≡ []
     pub going : (old.ended ≡ false) × (new.ended ≡ false)
     pub message : Message
     pub is_data : IsData message
     pub answers : AnswersAfterPings remaining contents old.socket new.socket (Ok message)
     pub some : 0 < length bytes
-    pub bytes_are : with_ending (payload_of message) ≡ bytes ++ new.unread
+    pub bytes_are : with_ending (payload_of message) ≡ bytes ++ new.ungiven
 
   -- the end: met before, or in this call
   pub record GivesEnd (old new : WsLink S) (bytes : List ℕ) : Type 0 where
     pub no_bytes : bytes ≡ []
-    pub none : (old.unread ≡ []) × (new.unread ≡ [])
+    pub none : (old.ungiven ≡ []) × (new.ungiven ≡ [])
     pub ended : new.ended ≡ true
     pub met :
         ((old.ended ≡ true) × (new.socket ≡ old.socket))
         ⊎ ((old.ended ≡ false) × ((failure : Option Error) × ClosesSocket remaining contents failure old.socket new.socket))
 
   pub record GivesFault (old new : WsLink S) : Type 0 where
-    pub none : (old.unread ≡ []) × (new.unread ≡ [])
+    pub none : (old.ungiven ≡ []) × (new.ungiven ≡ [])
     pub going : (old.ended ≡ false) × (new.ended ≡ false)
     pub cause : WsCause
     pub kept : new.cause ≡ Some cause
@@ -112,7 +112,7 @@ module _ {S : Type 0} (remaining contents : S → Option (List ℕ)) where
 -- a link over this socket that has read and written nothing
 pub record IsNew {S : Type 0} (socket : Socket S) (link : WsLink S) : Type 0 where
   pub over : link.socket ≡ socket
-  pub none : link.unread ≡ []
+  pub none : link.ungiven ≡ []
   pub going : link.ended ≡ false
   pub empty : link.line ≡ []
   pub no_cause : link.cause ≡ None

@@ -3,29 +3,29 @@ use Rattle.std.specs.Prelude.{⊤, ℕ, ◌==◌, ◌-◌, Bool, true, false, no
 use Rattle.std.specs.Str.{is_utf8}
 use Rattle.tungstenite.specs.Content.{Content, text, binary}
 use Rattle.tungstenite.specs.declared.message.Message.{Message}
-use Rattle.tungstenite.specs.declared.message.Message.TheVariants as Kind
+use Rattle.tungstenite.specs.declared.message.Message.TheVariants as MessageKind
 use Rattle.tungstenite.specs.declared.error.Error.{Error}
 use Rattle.tungstenite.specs.declared.error.Error.TheVariants.{ConnectionClosed, OutOfMemory}
 use Rattle.mt_io.specs.Gathering.{ending_of}
 
 -- a text or binary message's bytes
 abbrev pub payload_of : Message → List ℕ
-payload_of (Kind.Text bytes) = bytes
-payload_of (Kind.Binary bytes) = bytes
-payload_of (Kind.Ping bytes) = []
-payload_of (Kind.Pong bytes) = []
-payload_of (Kind.Close frame) = []
+payload_of (MessageKind.Text bytes) = bytes
+payload_of (MessageKind.Binary bytes) = bytes
+payload_of (MessageKind.Ping bytes) = []
+payload_of (MessageKind.Pong bytes) = []
+payload_of (MessageKind.Close frame) = []
 
 abbrev pub IsData : Message → Type 0
-IsData (Kind.Text bytes) = ⊤
-IsData (Kind.Binary bytes) = ⊤
-IsData (Kind.Ping bytes) = ⊥
-IsData (Kind.Pong bytes) = ⊥
-IsData (Kind.Close frame) = ⊥
+IsData (MessageKind.Text bytes) = ⊤
+IsData (MessageKind.Binary bytes) = ⊤
+IsData (MessageKind.Ping bytes) = ⊥
+IsData (MessageKind.Pong bytes) = ⊥
+IsData (MessageKind.Close frame) = ⊥
 
 abbrev pub is_beat : Message → Bool
-is_beat (Kind.Ping bytes) = true
-is_beat (Kind.Pong bytes) = true
+is_beat (MessageKind.Ping bytes) = true
+is_beat (MessageKind.Pong bytes) = true
 is_beat m = false
 
 -- no 0x0A stands at the end

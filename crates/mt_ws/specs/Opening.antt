@@ -3,8 +3,8 @@ use Rattle.std.specs.Prelude.{◌≡◌, ◌≢◌, ⊤, ℕ, List, [], ◌∷�
 use Rattle.std.specs.Io.KnownBytes.{Consumes, IsAtEnd, ReadConsumes, WriteAppends}
 use Rattle.mt_io.specs.declared.source.Failed.{Failed}
 use Rattle.mt_ws.specs.declared.front.Front.{Front}
-use Rattle.mt_ws.specs.declared.opening.Kind.{Kind}
-use Rattle.mt_ws.specs.declared.opening.Kind.TheVariants.{Lines, Web, Over, Broken}
+use Rattle.mt_ws.specs.declared.opening.LinkKind.{LinkKind}
+use Rattle.mt_ws.specs.declared.opening.LinkKind.TheVariants.{Lines, Web, Over, Broken}
 use Rattle.mt_ws.specs.declared.opening.Opening.{Opening}
 use Rattle.mt_ws.specs.declared.ws_link.WsLink.{WsLink}
 use Rattle.mt_ws.specs.Fronts.{put_back}
@@ -17,7 +17,7 @@ IsStreamUnread stream opening = (opening.fresh ≡ Some stream) × (opening.kind
 
 module _ {S : Type 0} (remaining contents : S → Option (List ℕ)) where
   -- A stream was opened. A line session still has the byte that was read; of a WebSocket's handshake nothing is told.
-  abbrev pub BeginsLink : S → Kind S → Type 0
+  abbrev pub BeginsLink : S → LinkKind S → Type 0
   BeginsLink stream (Lines front) = (first : ℕ) × (first ≢ 71) × (front.first ≡ Some first) × Consumes (remaining stream) (remaining front.stream) (first ∷ [])
   BeginsLink stream (Web link) = ((rest : Option (List ℕ)) × Consumes (remaining stream) rest (71 ∷ [])) × IsFromHandshake link
   BeginsLink stream Over = IsAtEnd (remaining stream)
@@ -28,7 +28,7 @@ module _ {S : Type 0} (remaining contents : S → Option (List ℕ)) where
   Opens old new = MatchOption old.fresh (new ≡ old) (λ stream. (new.fresh ≡ None) × BeginsLink stream new.kind)
 
   -- what a read does
-  abbrev pub ReadsKind : Kind S → Kind S → List ℕ → Result ℕ Failed → Type 0
+  abbrev pub ReadsKind : LinkKind S → LinkKind S → List ℕ → Result ℕ Failed → Type 0
   ReadsKind (Lines front) new buf result =
       (after : Front S) × (new ≡ Lines after) × ReadConsumes (put_back front.first (remaining front.stream)) (put_back after.first (remaining after.stream)) result buf
   ReadsKind (Web link) new buf result =
@@ -44,7 +44,7 @@ module _ {S : Type 0} (remaining contents : S → Option (List ℕ)) where
     pub reads : ReadsKind middle.kind new.kind buf result
 
   -- what a write does
-  abbrev pub WritesKind : Kind S → Kind S → List ℕ → Result ℕ Failed → Type 0
+  abbrev pub WritesKind : LinkKind S → LinkKind S → List ℕ → Result ℕ Failed → Type 0
   WritesKind (Lines front) new piece result =
       (after : Front S) × (new ≡ Lines after) × (after.first ≡ front.first) × WriteAppends (contents front.stream) (contents after.stream) result piece
   WritesKind (Web link) new piece result =

@@ -10,7 +10,7 @@ mod opening;
 mod origin;
 mod pull;
 mod sending;
-mod unread;
+mod ungiven;
 mod unsent;
 mod ws_link;
 

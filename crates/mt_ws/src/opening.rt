@@ -13,7 +13,7 @@ use std::net::TcpStream;
 
 /// What a link is once its first byte was read.
 #[derive(Drop)]
-pub enum Kind<S> {
+pub enum LinkKind<S> {
     /// A line session.
     Lines(Front<S>),
     /// A WebSocket.
@@ -30,7 +30,7 @@ pub enum Kind<S> {
 pub struct Opening<S> {
     alloc: Global,
     fresh: Option<S>,
-    kind: Kind<S>,
+    kind: LinkKind<S>,
 }
 
 impl<S: Read + Write + Drop> Opening<S> {
@@ -41,7 +41,7 @@ impl<S: Read + Write + Drop> Opening<S> {
         Opening {
             alloc,
             fresh: Some(stream),
-            kind: Kind::Broken,
+            kind: LinkKind::Broken,
         }
     }
 
@@ -77,7 +77,7 @@ impl<S: Read + Write + Drop> Opening<S> {
 impl Opening<TcpStream> {
     /// Sends a close over a WebSocket, if the connection takes it at once. It waits for no peer, and no more is claimed of it.
     pub fn close(&mut self) {
-        if let Kind::Web(link) = &mut self.kind {
+        if let LinkKind::Web(link) = &mut self.kind {
             if link.stream().stream().set_nonblocking(true).is_ok() {
                 link.close();
             }
@@ -86,61 +86,64 @@ impl Opening<TcpStream> {
 }
 
 // Reads the first byte, and makes the handshake where that says so.
-fn begin<S: Read + Write + Drop>(alloc: Global, mut stream: S) -> Kind<S>
+fn begin<S: Read + Write + Drop>(alloc: Global, mut stream: S) -> LinkKind<S>
     ensures { BeginsLink S.remaining S.contents stream result }
 {
     let mut first = [0; 1];
     match read_on(&mut stream, &mut first) {
-        Ok(0) => Kind::Over,
+        Ok(0) => LinkKind::Over,
         Ok(_) => kind_by(alloc, first[0], stream),
-        Err(_) => Kind::Broken,
+        Err(_) => LinkKind::Broken,
     }
 }
 
 // What the first byte says: `G` is a WebSocket's request, and no line of JSON begins with it.
-fn kind_by<S: Read + Write + Drop>(alloc: Global, first: u8, stream: S) -> Kind<S>
+fn kind_by<S: Read + Write + Drop>(alloc: Global, first: u8, stream: S) -> LinkKind<S>
     ensures { IsKindBy first stream result }
 {
     if first != b'G' {
-        return Kind::Lines(Front::of(first, stream));
+        return LinkKind::Lines(Front::of(first, stream));
     }
     match WsLink::accept(alloc, Front::of(first, stream)) {
-        Ok(link) => Kind::Web(link),
-        Err(_) => Kind::Broken,
+        Ok(link) => LinkKind::Web(link),
+        Err(_) => LinkKind::Broken,
     }
 }
 
 // Reads some bytes of what was opened.
-fn read_kind<S: Read + Write + Drop>(kind: &mut Kind<S>, buf: &mut [u8]) -> Result<usize, Failed>
+fn read_kind<S: Read + Write + Drop>(
+    kind: &mut LinkKind<S>,
+    buf: &mut [u8],
+) -> Result<usize, Failed>
     requires { 0 < length buf.old }
     ensures bound { ReadsAtMost result buf.new }
     ensures reads { ReadsKind S.remaining S.contents kind.old kind.new buf.new result }
 {
     match kind {
-        Kind::Lines(stream) => match stream.read(buf) {
+        LinkKind::Lines(stream) => match stream.read(buf) {
             Ok(count) => Ok(count),
             Err(_) => Err(Failed),
         },
-        Kind::Web(link) => link.read_some(buf),
-        Kind::Over => Ok(0),
-        Kind::Broken => Err(Failed),
+        LinkKind::Web(link) => link.read_some(buf),
+        LinkKind::Over => Ok(0),
+        LinkKind::Broken => Err(Failed),
     }
 }
 
 // Takes some bytes of a piece.
-fn write_kind<S: Read + Write + Drop>(kind: &mut Kind<S>, piece: &[u8]) -> Result<usize, Failed>
+fn write_kind<S: Read + Write + Drop>(kind: &mut LinkKind<S>, piece: &[u8]) -> Result<usize, Failed>
     requires { 0 < length piece.now }
     ensures bound { IfOk result (λ count. (0 < count) × (count ≤ length piece.now)) }
     ensures writes { WritesKind S.remaining S.contents kind.old kind.new piece.now result }
 {
     match kind {
-        Kind::Lines(stream) => match stream.write_some(piece) {
+        LinkKind::Lines(stream) => match stream.write_some(piece) {
             Ok(0) => Err(Failed),
             Ok(count) => Ok(count),
             Err(_) => Err(Failed),
         },
-        Kind::Web(link) => link.write_some(piece),
-        Kind::Over => Err(Failed),
-        Kind::Broken => Err(Failed),
+        LinkKind::Web(link) => link.write_some(piece),
+        LinkKind::Over => Err(Failed),
+        LinkKind::Broken => Err(Failed),
     }
 }

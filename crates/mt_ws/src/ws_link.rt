@@ -11,7 +11,7 @@ use crate::cause::{WsCause, WsNo};
 use crate::origin::LocalPages;
 use crate::pull::{Pulled, pull};
 use crate::sending::{cut, send_line};
-use crate::unread::Unread;
+use crate::ungiven::Ungiven;
 use crate::unsent::{LONGEST_LINE, Unsent};
 use mt_io::{Duplex, Failed, Sink, Source};
 use mt_memory::Memory;
@@ -34,7 +34,7 @@ const LONGEST_MESSAGE: usize = 131_072;
 pub struct WsLink<S> {
     alloc: Global,
     socket: WebSocket<S, NoMask>,
-    unread: Unread,
+    ungiven: Ungiven,
     ended: bool,
     line: Unsent,
     cause: Option<WsCause>,
@@ -51,7 +51,7 @@ impl<S: Read + Write + Drop> WsLink<S> {
         Ok(WsLink {
             alloc,
             socket,
-            unread: Unread::none(),
+            ungiven: Ungiven::none(),
             ended: false,
             line: Unsent::make(alloc)?,
             cause: None,
@@ -154,16 +154,16 @@ impl<S: Read + Write + Drop> Source for WsLink<S> {
         ensures kept { (self.new.write_faults ≡ self.old.write_faults) × (self.new.line ≡ self.old.line) }
         ensures reads { ReadsLink S.remaining S.contents self.old self.new buf.new result }
     {
-        if !self.unread.is_empty() {
-            return Ok(self.unread.give(buf));
+        if !self.ungiven.is_empty() {
+            return Ok(self.ungiven.give(buf));
         }
         if self.ended {
             return Ok(0);
         }
         match pull(&mut self.socket) {
             Pulled::Data(message) => {
-                self.unread = Unread::of(message);
-                Ok(self.unread.give(buf))
+                self.ungiven = Ungiven::of(message);
+                Ok(self.ungiven.give(buf))
             }
             Pulled::End(failure) => {
                 self.end(failure);
@@ -183,7 +183,7 @@ impl<S: Read + Write + Drop> Sink for WsLink<S> {
 
     ghost faults = { λ l. l.write_faults };
 
-    ghost writes_to = { λ a b. (b.read_faults ≡ a.read_faults) × (b.unread ≡ a.unread) × (b.ended ≡ a.ended) };
+    ghost writes_to = { λ a b. (b.read_faults ≡ a.read_faults) × (b.ungiven ≡ a.ungiven) × (b.ended ≡ a.ended) };
 
     fn write_faults(&self) -> u64 {
         self.write_faults
@@ -194,7 +194,7 @@ impl<S: Read + Write + Drop> Sink for WsLink<S> {
         ensures bound { IfOk result (λ count. (0 < count) × (count ≤ length piece.now)) }
         ensures bytes { WriteAppends None None result piece.now }
         ensures cause { HasCause self.old.write_faults self.new.write_faults result }
-        ensures kept { (self.new.read_faults ≡ self.old.read_faults) × (self.new.unread ≡ self.old.unread) × (self.new.ended ≡ self.old.ended) }
+        ensures kept { (self.new.read_faults ≡ self.old.read_faults) × (self.new.ungiven ≡ self.old.ungiven) × (self.new.ended ≡ self.old.ended) }
         ensures writes { WritesLink S.remaining S.contents self.old self.new piece.now result }
     {
         let (part, whole) = cut(piece);

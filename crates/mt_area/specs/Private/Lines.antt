@@ -5,22 +5,22 @@ use Rattle.mt_base.specs.declared.area.Area.{Area}
 use Rattle.mt_base.specs.declared.row.Row.{Row}
 use Rattle.mt_base.specs.Area.{IsInsideAt, LiesLeft, corner, cross, place_after}
 use Rattle.mt_base.specs.Instant.{value_at}
-use Rattle.mt_frac.specs.declared.linear.Line.{Line}
+use Rattle.mt_frac.specs.declared.linear.Linear.{Linear}
 use Rattle.mt_frac.specs.Meeting.{AreBelow, IsBoundedSide}
 use Rattle.mt_frac.specs.Polynomials.{line_value}
 
 -- how far the position is to the right of the way from one corner to another, times that way's length
-abbrev pub side_of : Row → ℤ × ℤ → ℤ × ℤ → Line
+abbrev pub side_of : Row → ℤ × ℤ → ℤ × ℤ → Linear
 side_of row i j = record {
   b = cross row.vx row.vy (j.0 -ℤ i.0) (j.1 -ℤ i.1);
   c = cross (row.x -ℤ i.0) (row.y -ℤ i.1) (j.0 -ℤ i.0) (j.1 -ℤ i.1);
 }
 
 -- how far the height is below a level, and above one
-abbrev pub floor_of : Row → ℕ → Line
+abbrev pub floor_of : Row → ℕ → Linear
 floor_of row level = record { b = neg_ℤ row.vz; c = pos (6000 * level) -ℤ row.z }
 
-abbrev pub line_to_ceiling : Row → ℕ → Line
+abbrev pub line_to_ceiling : Row → ℕ → Linear
 line_to_ceiling row level = record { b = row.vz; c = row.z -ℤ pos (6000 * level) }
 
 -- What the place of a line among the eighteen says of the instant n/d: that the position is to the left of the side of that number, that it
@@ -32,7 +32,7 @@ pub record Says (area : Area) (row : Row) (i : ℕ) (n d : ℤ) : Type 0 where
   pub below : i ≡ 17 → value_at row.z row.vz n d <ℤ (pos (6000 * area.top) *ℤ d)
 
 -- the line is below 0 exactly where that holds
-abbrev pub IsLineOf : Area → Row → ℕ → Line → Type 0
+abbrev pub IsLineOf : Area → Row → ℕ → Linear → Type 0
 IsLineOf area row i line = (n d : ℤ) → pos 0 <ℤ d → (line_value line.b line.c n d <ℤ pos 0) ↔ Says area row i n d
 
 -- n/d is an instant of the first so many seconds, or their end
@@ -42,16 +42,16 @@ pub record IsDuringOrAtEnd (seconds : ℕ) (n d : ℤ) : Type 0 where
   pub within : n ≤ℤ (pos seconds *ℤ d)
 
 -- a line is below 0 at both ends of that time, or at neither
-abbrev pub value_after : Line → ℕ → ℤ
+abbrev pub value_after : Linear → ℕ → ℤ
 value_after line seconds = line.b *ℤ pos seconds +ℤ line.c
 
-abbrev pub StaysBelow : Line → ℕ → Type 0
+abbrev pub StaysBelow : Linear → ℕ → Type 0
 StaysBelow line seconds = (line.c <ℤ pos 0) × (value_after line seconds <ℤ pos 0)
 
-abbrev pub StaysAboveLine : Line → ℕ → Type 0
+abbrev pub StaysAboveLine : Linear → ℕ → Type 0
 StaysAboveLine line seconds = (pos 0 ≤ℤ line.c) × (pos 0 ≤ℤ value_after line seconds)
 
 -- these lines are all below 0 exactly where the position is inside, during that time
-pub record AreCrossed (area : Area) (row : Row) (seconds : ℕ) (lines : List Line) : Type 0 where
+pub record AreCrossed (area : Area) (row : Row) (seconds : ℕ) (lines : List Linear) : Type 0 where
   pub bounded : All IsBoundedSide lines
   pub inside : (n d : ℤ) → IsDuringOrAtEnd seconds n d → AreBelow lines n d ↔ IsInsideAt area row n d

@@ -4,7 +4,7 @@
 use super::texts::is_refused;
 use crate::cases::{Check, assert_part, check_each, columns};
 use mt_base::{Command, Rules};
-use mt_wire::{Place, Request, Scratch, read_line};
+use mt_wire::{Request, Scratch, Sender, read_line};
 use std::process::Abort;
 
 /// Lines, each with what it is read as of the feed, of a position, and without a role: a command, by actor 0, or a refusal.
@@ -62,9 +62,9 @@ fn is_word_of(request: Request, wanted: &str) -> bool {
 }
 
 // Whether a line is read so.
-fn is_read(rt: &(impl Abort + AllocGlobal), line: &[u8], place: Place, wanted: &str) -> bool {
+fn is_read(rt: &(impl Abort + AllocGlobal), line: &[u8], sender: Sender, wanted: &str) -> bool {
     let mut scratch = Scratch::new(rt.alloc());
-    match read_line(rt.alloc(), &mut scratch, line, place, &Rules::usual()) {
+    match read_line(rt.alloc(), &mut scratch, line, sender, &Rules::usual()) {
         Ok((who, request)) => is_word_of(request, wanted) && who == 0,
         Err(no) => is_refused(no, wanted),
     }
@@ -79,14 +79,14 @@ impl Check for Sessions {
         let (feed, rest) = columns(rt, rest);
         let (position, plain) = columns(rt, rest);
         let line = line.as_bytes();
-        assert_part(rt, is_read(rt, line, Place::Feed, feed), "feed", case);
+        assert_part(rt, is_read(rt, line, Sender::Feed, feed), "feed", case);
         assert_part(
             rt,
-            is_read(rt, line, Place::Position, position),
+            is_read(rt, line, Sender::Position, position),
             "position",
             case,
         );
-        assert_part(rt, is_read(rt, line, Place::Plain, plain), "plain", case);
+        assert_part(rt, is_read(rt, line, Sender::Plain, plain), "plain", case);
     }
 }
 
@@ -98,5 +98,5 @@ fn lines_of_sessions(rt: HostRuntime) {
 #[test]
 fn blanks_of_each_kind(rt: HostRuntime) {
     let line = b" \t\r\n{\t\"do\"\r:\n \"list\"\t}\n\r\t ";
-    assert!(rt; is_read(&rt, line, Place::Replay, "list"));
+    assert!(rt; is_read(&rt, line, Sender::Replay, "list"));
 }

@@ -3,8 +3,8 @@
 use Rattle.std.specs.Prelude.{pos, neg_ℤ, ◌≤ℤ◌}
 use Rattle.mt_base.specs.Bounds.{IsWithin}
 use Rattle.mt_track.specs.Layer.{IsLayerKept}
-use Rattle.mt_cover.specs.declared.area.Area.{Area}
-use Rattle.mt_cover.specs.declared.area.Extent.{Extent}
+use Rattle.mt_cover.specs.declared.bounding_box.BoundingBox.{BoundingBox}
+use Rattle.mt_cover.specs.declared.bounding_box.Extent.{Extent}
 
 -- both ends are in the plane, and in order
 pub record IsExtentInPlane (e : Extent) : Type 0 where
@@ -13,7 +13,7 @@ pub record IsExtentInPlane (e : Extent) : Type 0 where
   pub ordered : e.low ≤ℤ e.high
 
 -- the box of some rows of a trajectory
-pub record IsAreaInPlane (a : Area) : Type 0 where
+pub record IsBoxInPlane (a : BoundingBox) : Type 0 where
   pub x : IsExtentInPlane a.x
   pub y : IsExtentInPlane a.y
   pub margin : IsWithin (pos 0) (pos 72000) a.margin

@@ -1,7 +1,7 @@
 -- No public contract names these: they are of private steps and of proofs.
 use Rattle.std.specs.Prelude.{ℤ, pos, ◌*ℤ◌, ◌≤ℤ◌, ◌<ℤ◌, ◌↔◌, Some, None}
 use Rattle.std.specs.declared.option.Option.{Option}
-use Rattle.mt_frac.specs.declared.linear.Line.{Line}
+use Rattle.mt_frac.specs.declared.linear.Linear.{Linear}
 use Rattle.mt_frac.specs.declared.end.End.{End}
 use Rattle.mt_frac.specs.Polynomials.{line_value}
 
@@ -16,6 +16,6 @@ pub record IsCut (b c m e x y l f h g : ℤ) : Type 0 where
   pub exact : (n d : ℤ) → pos 0 <ℤ d → Lies l f h g n d ↔ (Lies m e x y n d × (line_value b c n d <ℤ pos 0))
 
 -- the part between two ends on which the line is below 0, or none where it is 0 or above everywhere between them
-abbrev pub CutsTo : Line → End → End → Option (End × End) → Type 0
+abbrev pub CutsTo : Linear → End → End → Option (End × End) → Type 0
 CutsTo line low high None = (n d : ℤ) → pos 0 <ℤ d → Lies low.num low.den high.num high.den n d → pos 0 ≤ℤ line_value line.b line.c n d
 CutsTo line low high (Some part) = IsCut line.b line.c low.num low.den high.num high.den part.0.num part.0.den part.1.num part.1.den

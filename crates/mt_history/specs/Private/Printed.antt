@@ -2,10 +2,10 @@
 use Rattle.std.specs.Prelude.{◌≡◌, ℕ, List, Err, ⊤}
 use Rattle.mt_read.specs.declared.request.LineNo.{LineNo}
 use Rattle.mt_read.specs.Entry.{entry}
-use Rattle.mt_history.specs.declared.reading.Bad.{Bad}
-use Rattle.mt_history.specs.declared.reading.Bad.TheVariants.{Line, Memory}
+use Rattle.mt_history.specs.declared.reading.BadHistory.{BadHistory}
+use Rattle.mt_history.specs.declared.reading.BadHistory.TheVariants.{Line, Memory}
 
 -- why the line at a place is not read
-abbrev pub IsBadLine : List ℕ → ℕ → Bad → Type 0
+abbrev pub IsBadLine : List ℕ → ℕ → BadHistory → Type 0
 IsBadLine line place (Line named) = (named ≡ place) × ((refusal : LineNo) × (entry line ≡ Err refusal))
 IsBadLine line place Memory = ⊤

@@ -5,7 +5,7 @@ use Rattle.std.specs.Prelude.{ℕ, ℤ, pos, neg_ℤ, ◌+ℤ◌, ◌-ℤ◌, �
 use Rattle.mt_base.specs.Bounds.{IsWithin}
 use Rattle.mt_base.specs.declared.row.Row.{Row}
 use Rattle.mt_base.specs.declared.rules.Rules.{Rules}
-use Rattle.mt_frac.specs.declared.linear.Line.{Line}
+use Rattle.mt_frac.specs.declared.linear.Linear.{Linear}
 use Rattle.mt_frac.specs.declared.quadratic.Quad.{Quad}
 use Rattle.mt_pair.specs.declared.horizontal.Offset.{Offset}
 
@@ -35,9 +35,9 @@ abbrev pub gap_of : Rules → Row → Row → Quad
 gap_of rules a b = square_over_time (offset_of rules a b) (gain_of a b)
 
 -- the height of b above a less a vertical minimum with both margins, over time
-abbrev pub excess_of : ℤ → Row → Row → Line
+abbrev pub excess_of : ℤ → Row → Row → Linear
 excess_of least a b = record { b = b.vz -ℤ a.vz -ℤ a.gw -ℤ b.gw; c = b.z -ℤ a.z -ℤ least -ℤ a.w -ℤ b.w }
 
 -- a level less the height of a, over time
-abbrev pub above_of : ℤ → Row → Line
+abbrev pub above_of : ℤ → Row → Linear
 above_of level a = record { b = neg_ℤ a.vz; c = level -ℤ a.z }

@@ -2,7 +2,7 @@
 use Rattle.std.specs.Prelude.{ℕ, ℤ, pos, ◌+ℤ◌, ◌*ℤ◌, ◌<ℤ◌, ◌≤ℤ◌, ◌⊎◌}
 use Rattle.mt_base.specs.declared.row.Row.{Row}
 use Rattle.mt_base.specs.declared.rules.Rules.{Rules}
-use Rattle.mt_frac.specs.declared.linear.Line.{Line}
+use Rattle.mt_frac.specs.declared.linear.Linear.{Linear}
 use Rattle.mt_pair.specs.Private.Gap.{excess_of}
 use Rattle.mt_base.specs.Loss.{IsNearAt, IsOneAboveAt, apart_x, apart_y, width}
 
@@ -13,7 +13,7 @@ pub record LosesAbove (rules : Rules) (level : ℤ) (a b : Row) (n d : ℤ) : Ty
   pub vertical : IsNearAt rules.sv a b n d ⊎ (IsNearAt rules.sv2 a b n d × IsOneAboveAt level a b n d)
 
 -- a line is at least 0 at the start, and that many seconds later
-pub record StaysAbove (line : Line) (seconds : ℕ) : Type 0 where
+pub record StaysAbove (line : Linear) (seconds : ℕ) : Type 0 where
   pub start : pos 0 ≤ℤ line.c
   pub end : pos 0 ≤ℤ (line.b *ℤ pos seconds +ℤ line.c)
 

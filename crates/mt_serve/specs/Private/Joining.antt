@@ -8,7 +8,7 @@ use Rattle.mt_io.specs.Door.{Count, Gains}
 use Rattle.mt_io.specs.declared.source.Source as Source
 use Rattle.mt_io.specs.declared.sink.Sink as Sink
 use Rattle.mt_turn.specs.declared.view.View.{View}
-use Rattle.mt_turn.specs.Places.{Place}
+use Rattle.mt_turn.specs.Seats.{SeatNow}
 use Rattle.mt_serve.specs.Private.Seating.{HasJoined, views_of}
 use Rattle.mt_serve.specs.Sitting.{Met}
 use Rattle.mt_serve.specs.declared.counts.Counts.{Counts}
@@ -18,8 +18,8 @@ use Rattle.mt_serve.specs.Private.Tied.{AreOver, ends_of, gave_back}
 use Rattle.mt_serve.specs.Private.Working.{IsRested, Worked, rests_of}
 
 -- the first seats of a list are joined, and others are left
-pub record JoinsSeats (desk : Desk) (v w : View Entry Setup) (all rest : List (Place Entry Setup)) : Type 0 where
-  pub past : List (Place Entry Setup)
+pub record JoinsSeats (desk : Desk) (v w : View Entry Setup) (all rest : List (SeatNow Entry Setup)) : Type 0 where
+  pub past : List (SeatNow Entry Setup)
   pub parts : all ≡ past ++ rest
   pub joined : HasJoined v w (views_of past)
   pub ready : All (IsSeatOfDesk desk) rest

@@ -7,21 +7,21 @@ use Rattle.mt_desk.specs.Desk.{Desk, IsSeatOfDesk}
 use Rattle.mt_turn.specs.declared.view.Phase.TheVariants.{Idle}
 use Rattle.mt_turn.specs.declared.view.View.{View}
 use Rattle.mt_turn.specs.declared.view.Joined.{Joined}
-use Rattle.mt_turn.specs.Places.{Place}
+use Rattle.mt_turn.specs.Seats.{SeatNow}
 use Rattle.mt_turn.specs.Views.{joined_as, first_view}
 use Rattle.mt_serve.specs.Seating.{numbers_of}
 
 -- a seat that was split off a first seat which knew v, and that did nothing yet
-pub record IsNewSeat (desk : Desk) (v : View Entry Setup) (s : Place Entry Setup) : Type 0 where
+pub record IsNewSeat (desk : Desk) (v : View Entry Setup) (s : SeatNow Entry Setup) : Type 0 where
   pub ready : IsSeatOfDesk desk s
   pub seen : s.view.seen ≡ v.seen
   pub mine : s.view.mine ≡ []
 
-abbrev pub views_of : List (Place Entry Setup) → List (View Entry Setup)
-views_of seats = map (λ (s : Place Entry Setup). s.view) seats
+abbrev pub views_of : List (SeatNow Entry Setup) → List (View Entry Setup)
+views_of seats = map (λ (s : SeatNow Entry Setup). s.view) seats
 
 -- These seats were split off the first one, which knew v and knows w now. Their numbers follow those that it gave before.
-pub record HasSplit (desk : Desk) (v w : View Entry Setup) (seats : List (Place Entry Setup)) : Type 0 where
+pub record HasSplit (desk : Desk) (v w : View Entry Setup) (seats : List (SeatNow Entry Setup)) : Type 0 where
   pub number : w.number ≡ v.number
   pub seen : w.seen ≡ v.seen
   pub mine : w.mine ≡ v.mine
@@ -44,7 +44,7 @@ pub record HasJoined (v w : View Entry Setup) (views : List (View Entry Setup)) 
 
 -- All seats are split off a new first seat, which knows w and has joined none: those for sessions have the numbers from 1 on, and those for
 -- workers come after them.
-pub record AllSplit (desk : Desk) (w : View Entry Setup) (seats hands : List (Place Entry Setup)) : Type 0 where
+pub record AllSplit (desk : Desk) (w : View Entry Setup) (seats hands : List (SeatNow Entry Setup)) : Type 0 where
   pub number : w.number ≡ 0
   pub mine : w.mine ≡ []
   pub joined : w.joined ≡ []

@@ -5,11 +5,11 @@ use Rattle.mt_base.specs.Tables.{Setup}
 use Rattle.mt_desk.specs.Desk.{Desk, IsSeatOfDesk}
 use Rattle.mt_io.specs.Causes.{Rose}
 use Rattle.mt_io.specs.Door.{Count, LosesFront}
-use Rattle.mt_turn.specs.Places.{Place}
+use Rattle.mt_turn.specs.Seats.{SeatNow}
 use Rattle.mt_serve.specs.Sitting.{Met, Start, links_of, seats_of}
 
 -- The door gave these links, and each went with the next seat.
-pub record HasSeatedLinks {L : Type 0} (old new : Count) (still left : Option (List L)) (seats rest : List (Place Entry Setup)) (starts : List (Start L)) : Type 0 where
+pub record HasSeatedLinks {L : Type 0} (old new : Count) (still left : Option (List L)) (seats rest : List (SeatNow Entry Setup)) (starts : List (Start L)) : Type 0 where
   pub port : new.port ≡ old.port
   pub sessions : new.sessions ≡ old.sessions
   pub given : new.given ≡ old.given + length starts
@@ -18,7 +18,7 @@ pub record HasSeatedLinks {L : Type 0} (old new : Count) (still left : Option (L
   pub seats_are : seats ≡ seats_of starts ++ rest
 
 -- there is a seat for each link that is still to come
-abbrev pub IsSeated : Count → List (Place Entry Setup) → Type 0
+abbrev pub IsSeated : Count → List (SeatNow Entry Setup) → Type 0
 IsSeated count seats = count.given + length seats ≡ count.sessions
 
 -- the door gave as many links as it was asked for, or it failed while some were to come
@@ -26,7 +26,7 @@ abbrev pub IsDoorOver : Bool → Count → ℕ → ℕ → Type 0
 IsDoorOver faulted count before now = MatchBool faulted (Rose before now × (count.given < count.sessions)) (count.given ≡ count.sessions)
 
 -- What it takes to serve links: a seat of this desk for each, and room for so many sessions that run and so many that have ended.
-pub record IsReadyToServe {L : Type 0} (desk : Desk) (count : Count) (seats : List (Place Entry Setup)) (many running ended : ℕ)
+pub record IsReadyToServe {L : Type 0} (desk : Desk) (count : Count) (seats : List (SeatNow Entry Setup)) (many running ended : ℕ)
     (sittings : List (Start L)) (dones : List (Met L)) : Type 0 where
   pub ready : All (IsSeatOfDesk desk) seats
   pub seated : IsSeated count seats

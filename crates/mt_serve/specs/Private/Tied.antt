@@ -5,11 +5,11 @@ use Rattle.mt_base.specs.Tables.{Setup}
 use Rattle.mt_io.specs.Door.{Count}
 use Rattle.mt_io.specs.declared.source.Source as Source
 use Rattle.mt_io.specs.declared.sink.Sink as Sink
-use Rattle.mt_turn.specs.Places.{Place}
+use Rattle.mt_turn.specs.Seats.{SeatNow}
 use Rattle.mt_serve.specs.Serving.{HasServed}
 use Rattle.mt_serve.specs.Sitting.{Met}
 
-abbrev pub ends_of : {L : Type 0} → List (Met L) → List (Place Entry Setup)
+abbrev pub ends_of : {L : Type 0} → List (Met L) → List (SeatNow Entry Setup)
 ends_of {L} mets = map (λ (m : Met L). m.seat) mets
 
 -- with so many links back more

@@ -6,12 +6,12 @@ use Rattle.mt_board.specs.Seat.{GoesOn}
 use Rattle.mt_desk.specs.Desk.{Desk, IsSeatOfDesk}
 use Rattle.mt_turn.specs.declared.view.Phase.TheVariants.{Idle}
 use Rattle.mt_turn.specs.Lending.{AreViewsOfOneSeat}
-use Rattle.mt_turn.specs.Places.{Place}
+use Rattle.mt_turn.specs.Seats.{SeatNow}
 use Rattle.mt_serve.specs.Working.{IsRenewal}
 
 -- A worker with the seat `before` gave back `after`, the same seat of the same turn, which doesn't hold it. Each entry that it made is a
 -- renewal.
-pub record HasWorkedInSeat (before after : Place Entry Setup) : Type 0 where
+pub record HasWorkedInSeat (before after : SeatNow Entry Setup) : Type 0 where
   pub home : after.home ≡ before.home
   pub idle : after.view.phase ≡ Idle
   pub same : AreViewsOfOneSeat before.view after.view
@@ -22,20 +22,20 @@ pub record HasWorkedInSeat (before after : Place Entry Setup) : Type 0 where
 
 -- the seat that a worker was given, and the one that it gave back
 pub record Worked : Type 0 where
-  pub from : Place Entry Setup
-  pub seat : Place Entry Setup
+  pub from : SeatNow Entry Setup
+  pub seat : SeatNow Entry Setup
 
-abbrev pub froms_of : List Worked → List (Place Entry Setup)
+abbrev pub froms_of : List Worked → List (SeatNow Entry Setup)
 froms_of works = map (λ (w : Worked). w.from) works
 
-abbrev pub rests_of : List Worked → List (Place Entry Setup)
+abbrev pub rests_of : List Worked → List (SeatNow Entry Setup)
 rests_of works = map (λ (w : Worked). w.seat) works
 
 abbrev pub IsRested : Worked → Type 0
 IsRested w = HasWorkedInSeat w.from w.seat
 
 -- What it takes to start workers: seats of this desk, and room for so many that work and so many that have ended.
-pub record IsStaffed (desk : Desk) (seats : List (Place Entry Setup)) (many working ended : ℕ) (workings : List (Place Entry Setup)) (resteds : List Worked) : Type 0 where
+pub record IsStaffed (desk : Desk) (seats : List (SeatNow Entry Setup)) (many working ended : ℕ) (workings : List (SeatNow Entry Setup)) (resteds : List Worked) : Type 0 where
   pub ready : All (IsSeatOfDesk desk) seats
   pub first : many ≤ working
   pub second : many ≤ ended

@@ -2,7 +2,7 @@
 ghost use Rattle.std.specs.Prelude.{◌≡◌, ◌<◌, [], ◌∷◌};
 ghost use Rattle.std.specs.Thread.{IsSync};
 ghost use Rattle.mt_desk.specs.Desk.{IsSeatOfDesk};
-ghost use Rattle.mt_top_checks.specs.Same.{IsSameHand, IsSamePlace};
+ghost use Rattle.mt_top_checks.specs.Same.{IsSameHand, IsSameSeatNow};
 
 use super::opening::{entered, opened, outer};
 use mt_base::{Callsign, Command, Conflicts, Tally};
@@ -58,7 +58,7 @@ fn file<R: Threads + Wait + Sync + Abort>(rt: &R, desk: &Desk, seat: Seat) -> Se
     requires sync { IsSync R.row }
     requires ready { IsSeatOfDesk desk.now seat }
     ensures ready { IsSeatOfDesk desk.now result }
-    ensures same { IsSamePlace seat result }
+    ensures same { IsSameSeatNow seat result }
 {
     let mut hand = desk.hand(seat);
     for number in 0..FLIGHTS {
@@ -77,7 +77,7 @@ fn file_both<R: Threads + Wait + Sync + Abort>(
     requires sync { IsSync R.row }
     requires ready { IsSeatOfDesk desk.now first × IsSeatOfDesk desk.now second }
     ensures ready { IsSeatOfDesk desk.now result.0 × IsSeatOfDesk desk.now result.1 }
-    ensures same { IsSamePlace first result.0 × IsSamePlace second result.1 }
+    ensures same { IsSameSeatNow first result.0 × IsSameSeatNow second result.1 }
 {
     join(
         rt,

@@ -6,7 +6,7 @@ ghost use Rattle.mt_history.specs.Rebuilt.{IsReadyToDecide};
 use crate::commands::shared_tables;
 use crate::conflicts::{conflict, hit};
 use mt_base::{Conflict, Entries, Kind, Refusal, Rules};
-use mt_history::{Bad, Wrong, print, read_all, rebuild};
+use mt_history::{BadHistory, Wrong, print, read_all, rebuild};
 use mt_picture::Picture;
 use std::alloc::Global;
 use std::process::Abort;
@@ -124,7 +124,7 @@ fn check_wrong(rt: &(impl Abort + Threads + Sync), alloc: Global, last: &str, wa
 // What is bad where an empty line is after the marks.
 fn check_gap(rt: &impl Abort, alloc: Global) {
     let gap = joined(rt, alloc, MARKED, "\n");
-    assert!(rt; read_all(alloc, &gap).err() == Some(Bad::Line(4)));
+    assert!(rt; read_all(alloc, &gap).err() == Some(BadHistory::Line(4)));
 }
 
 #[test]

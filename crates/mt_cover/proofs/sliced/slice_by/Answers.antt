@@ -5,8 +5,8 @@ use Rattle.mt_cover.proofs.sliced.slice_by.Goals as goal
 
 pub returns-clause-is : goal.returns-clause-is
 returns-clause-is c =
-    let by : in_64 (in_64 c.args.area.margin +ℤ in_64 c.half.result) ≡ c.args.area.margin +ℤ half c.args.rules.now =
-    sum_is c.args.area.margin c.half.result c.requires.kept.margin c.half.ensures.kept ∙ ap (λ (z : ℤ). c.args.area.margin +ℤ z) c.half.ensures.is in
-    let x = c.wider.ensures.is ∙ ap (wider c.args.area.x) by in
-    let y = c.wider-2.ensures.is ∙ ap (wider c.args.area.y) by in
-    λ i. record { x = x i; y = y i; layer = c.args.area.layer }
+    let by : in_64 (in_64 c.args.bounds.margin +ℤ in_64 c.half.result) ≡ c.args.bounds.margin +ℤ half c.args.rules.now =
+    sum_is c.args.bounds.margin c.half.result c.requires.kept.margin c.half.ensures.kept ∙ ap (λ (z : ℤ). c.args.bounds.margin +ℤ z) c.half.ensures.is in
+    let x = c.wider.ensures.is ∙ ap (wider c.args.bounds.x) by in
+    let y = c.wider-2.ensures.is ∙ ap (wider c.args.bounds.y) by in
+    λ i. record { x = x i; y = y i; layer = c.args.bounds.layer }

@@ -15,7 +15,7 @@ loop-slice-preserved c =
     let some : c.start-start.result + 256 * c.loop-slice.slice < c.end-end.result = omega (arith, c.div_ceil-slice-end.ensures) in
     let whole = rw start at c.gather-gathered.ensures.is in
     let slice = slice_is c.args.rules.now c.args.strand.now _ c.loop-slice.slice c.end-end.result (c.args.strand.now.start + 256 * c.loop-slice.slice) c.min-to.result
-    c.gather-gathered.result.area rows end refl (rw start at c.min-to.ensures) (omega (arith, from, some)) whole in
+    c.gather-gathered.result.bounds rows end refl (rw start at c.min-to.ensures) (omega (arith, from, some)) whole in
     let next : c.min-to.result ≡ min c.end-end.result (c.start-start.result + 256 * (c.loop-slice.slice + 1)) = omega (arith, c.min-to.ensures) in
     let added = rw start at c.in_ok-add.ensures in
     record {

@@ -1,6 +1,6 @@
 use Rattle.std.proofs.Common.{◌≡◌, ◌<◌, arith}
 use Rattle.mt_track.proofs.Straight.{IsBoundedRow-row_after}
-use Rattle.mt_cover.proofs.Stand.{IsBoundedOver-front, at_element, first_area, gathered_on, goes, here_or, stands_past, stands_still, stands_within}
+use Rattle.mt_cover.proofs.Stand.{IsBoundedOver-front, at_element, first_box, gathered_on, goes, here_or, stands_past, stands_still, stands_within}
 use Rattle.mt_cover.proofs.walk.gather.Goals as goal
 
 pub bounds-segments-index : goal.bounds-segments-index
@@ -17,8 +17,8 @@ later-first-requires c =
     let h = here_or _ _ _ _ _ _ c.requires.laid c.requires.stands (omega (arith, c.requires.some, c.requires.within)) in
     IsBoundedOver-front _ _ _ (omega (arith, h.begun, h.ahead)) h.bounded
 
-pub area_of-area-requires : goal.area_of-area-requires
-area_of-area-requires c =
+pub box_of-bounds-requires : goal.box_of-bounds-requires
+box_of-bounds-requires c =
     let h = here_or _ _ _ _ _ _ c.requires.laid c.requires.stands (omega (arith, c.requires.some, c.requires.within)) in
     rw c.later-first.ensures (IsBoundedRow-row_after _ _ _ (omega (arith, h.begun, h.ahead)) h.bounded)
 
@@ -26,9 +26,9 @@ pub loop-at-init : goal.loop-at-init
 loop-at-init c =
     let early : c.args.from < c.args.end = omega (arith, c.requires.some, c.requires.within) in
     record {
-      is = λ row at. first_area _ _ _ _ _ _ row _ _ _ c.requires.laid c.requires.stands early
-          (at_element _ _ _ _ _ _ c.requires.laid c.requires.stands early) (omega arith) c.later-first.ensures c.area_of-area.ensures.is at;
-      kept = c.area_of-area.ensures.kept;
+      is = λ row at. first_box _ _ _ _ _ _ row _ _ _ c.requires.laid c.requires.stands early
+          (at_element _ _ _ _ _ _ c.requires.laid c.requires.stands early) (omega arith) c.later-first.ensures c.box_of-bounds.ensures.is at;
+      kept = c.box_of-bounds.ensures.kept;
       begun = omega arith;
       within = omega (arith, c.requires.some);
       stands = c.requires.stands;
@@ -38,16 +38,16 @@ pub bounds-segments-index-in-loop-at : goal.bounds-segments-index-in-loop-at
 bounds-segments-index-in-loop-at c =
     stands_within _ _ _ _ _ c.requires.laid c.loop-at.invariant.stands (omega (arith, c.requires.within))
 
-pub with_part-area-requires-clause-bounded : goal.with_part-area-requires-clause-bounded
-with_part-area-requires-clause-bounded c =
+pub with_part-bounds-requires-clause-bounded : goal.with_part-bounds-requires-clause-bounded
+with_part-bounds-requires-clause-bounded c =
     (here_or _ _ _ _ _ _ c.requires.laid c.loop-at.invariant.stands (omega (arith, c.requires.within))).bounded
 
-pub with_part-area-requires-clause-begun : goal.with_part-area-requires-clause-begun
-with_part-area-requires-clause-begun c =
+pub with_part-bounds-requires-clause-begun : goal.with_part-bounds-requires-clause-begun
+with_part-bounds-requires-clause-begun c =
     (here_or _ _ _ _ _ _ c.requires.laid c.loop-at.invariant.stands (omega (arith, c.requires.within))).begun
 
-pub with_part-area-requires-clause-some : goal.with_part-area-requires-clause-some
-with_part-area-requires-clause-some c =
+pub with_part-bounds-requires-clause-some : goal.with_part-bounds-requires-clause-some
+with_part-bounds-requires-clause-some c =
     let h = goes _ _ _ _ _ _ _ _ c.requires.laid c.loop-at.invariant.stands (omega (arith, c.requires.within)) c.loop-at-test.true c.min-until.ensures in
     omega (arith, h.on, h.within)
 
@@ -64,8 +64,8 @@ loop-at-preserved-then-segment-to c =
     let is = at_element _ _ _ _ _ _ c.requires.laid stands early in
     record {
       is = λ row at. gathered_on _ _ _ _ _ _ _ _ row _ _ c.requires.laid stands early is c.requires.begun c.loop-at.invariant.begun
-          (omega (arith, h.on)) (omega (arith, c.min-until.ensures)) (c.loop-at.invariant.is row at) c.with_part-area.ensures.is;
-      kept = c.with_part-area.ensures.kept;
+          (omega (arith, h.on)) (omega (arith, c.min-until.ensures)) (c.loop-at.invariant.is row at) c.with_part-bounds.ensures.is;
+      kept = c.with_part-bounds.ensures.kept;
       begun = omega (arith, h.on, c.loop-at.invariant.begun);
       within = h.within;
       stands = stands_past _ _ _ _ _ _ _ _ c.requires.laid stands early is c.min-until.ensures c.if-segment-to.true;
@@ -79,8 +79,8 @@ loop-at-preserved c =
     let is = at_element _ _ _ _ _ _ c.requires.laid stands early in
     record {
       is = λ row at. gathered_on _ _ _ _ _ _ _ _ row _ _ c.requires.laid stands early is c.requires.begun c.loop-at.invariant.begun
-          (omega (arith, h.on)) (omega (arith, c.min-until.ensures)) (c.loop-at.invariant.is row at) c.with_part-area.ensures.is;
-      kept = c.with_part-area.ensures.kept;
+          (omega (arith, h.on)) (omega (arith, c.min-until.ensures)) (c.loop-at.invariant.is row at) c.with_part-bounds.ensures.is;
+      kept = c.with_part-bounds.ensures.kept;
       begun = omega (arith, h.on, c.loop-at.invariant.begun);
       within = h.within;
       stands = stands_still _ _ _ _ _ _ _ _ c.requires.laid stands early is c.loop-at-test.true c.min-until.ensures c.if-segment-to.false;

@@ -20,7 +20,7 @@ loop-slice-preserved c =
     let some : c.start-start.result + 256 * c.loop-slice.slice < c.end-end.result = omega (arith, c.div_ceil-slice-end.ensures) in
     let whole = rw start at c.gather-gathered.ensures.is in
     let box = box_is c.args.rules.now c.args.strand.now _ c.loop-slice.slice c.end-end.result (c.args.strand.now.start + 256 * c.loop-slice.slice) c.min-until.result
-    c.gather-gathered.result.area rows end refl (rw start at c.min-until.ensures) (omega (arith, from, some)) whole in
+    c.gather-gathered.result.bounds rows end refl (rw start at c.min-until.ensures) (omega (arith, from, some)) whole in
     let next : c.min-until.result ≡ min c.end-end.result (c.start-start.result + 256 * (c.loop-slice.slice + 1)) = omega (arith, c.min-until.ensures) in
     let cut = slice_in c.args.rules.now c.args.strand.now in
     let own : c.slice_by-own.result ≡ cut c.loop-slice.slice = c.slice_by-own.ensures.is ∙ sym box in

@@ -19,4 +19,4 @@ grown-requires-2-clause-row_kept c =
 
 pub returns-clause-is : goal.returns-clause-is
 returns-clause-is c = rw (c.grown-2.ensures.is, c.grown.ensures.is, c.later-first.ensures, c.later-last.ensures)
-    (grown_by-ends c.args.area c.args.segment.now.first c.args.segment.now.from c.args.from c.args.to c.requires.begun c.requires.some)
+    (grown_by-ends c.args.bounds c.args.segment.now.first c.args.segment.now.from c.args.from c.args.to c.requires.begun c.requires.some)

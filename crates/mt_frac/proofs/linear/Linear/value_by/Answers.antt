@@ -1,0 +1,10 @@
+use Rattle.std.proofs.Common.{arith}
+use Rattle.std.proofs.lemmas.Int.{to_z-of_z}
+use Rattle.mt_frac.proofs.Overflow.{side_fits}
+use Rattle.mt_frac.proofs.linear.Linear.value_by.Goals as goal
+
+pub overflow_add-result : goal.overflow_add-result
+overflow_add-result c = let fits = side_fits c.args.self c.args.at c.requires.bounded in grind (arith, to_z-of_z)
+
+pub returns : goal.returns
+returns c = let fits = side_fits c.args.self c.args.at c.requires.bounded in grind (arith, to_z-of_z)
