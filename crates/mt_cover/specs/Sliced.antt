@@ -67,6 +67,22 @@ pub record TouchBoth (a b : Slice) : Type 0 where
   pub x : Touch a.x b.x
   pub y : Touch a.y b.y
 
+-- an extent reaches as far as another one on both sides
+pub record Reaches (a b : Extent) : Type 0 where
+  pub low : a.low ≤ℤ b.low
+  pub high : b.high ≤ℤ a.high
+
+-- a slice holds all positions and heights of another one
+pub record Holds (a b : Slice) : Type 0 where
+  pub x : Reaches a.x b.x
+  pub y : Reaches a.y b.y
+  pub low : a.layer.low ≤ℤ b.layer.low
+  pub high : b.layer.high ≤ℤ a.layer.high
+
+-- a slice holds those of all seconds of a window, which is 1,024 seconds of the clock
+abbrev pub HoldsWindow : Sliced → ℕ → Slice → Type 0
+HoldsWindow s window wide = (k : ℕ) → Have s k → k / 1024 ≡ window → Holds wide (slice_at s k)
+
 -- What has slices with a position in common is near: in a second in which two trajectories have such slices, their covers share a cell.
 abbrev pub TouchingIsNear : Type 0
 TouchingIsNear = (rules : Rules) (a b : Trajectory) (k : ℕ) → AreWithinBounds rules → IsStrand a → IsStrand b → Have (slices_of rules a) k

@@ -8,6 +8,7 @@ mod laws;
 mod sliced;
 mod stays;
 mod walk;
+mod wide;
 
 pub use bounding_box::Extent;
 pub use laws::{misses_none_law, touching_is_near_law};

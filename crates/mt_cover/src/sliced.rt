@@ -2,9 +2,10 @@ ghost use Rattle.std.specs.Prelude.{◌≡◌, ◌+◌, ◌-◌, ◌*◌, ◌/�
 ghost use Rattle.mt_base.specs.Bounds.{AreWithinBounds};
 ghost use Rattle.mt_track.specs.Layer.{IsLayerKept};
 ghost use Rattle.mt_cover.specs.Private.InPlane.{IsBoxInPlane};
-ghost use Rattle.mt_cover.specs.Sliced.{AreSlices, Have, layer_over, slice_at, slice_by};
+ghost use Rattle.mt_cover.specs.Sliced.{AreSlices, Have, HoldsWindow, layer_over, slice_at, slice_by};
 
 use crate::bounding_box::{BoundingBox, Extent, half, wider};
+use crate::wide::WINDOW;
 use mt_base::{Rules, Second};
 use mt_track::Layer;
 use std::marker::Model;
@@ -24,7 +25,8 @@ pub struct Slice {
 /// How many seconds a slice has, but the last one, which may be shorter.
 pub(crate) const SLICE: Second = 256;
 
-/// The slices of a trajectory, one for each 256 seconds from its start, the last of which may be shorter.
+/// The slices of a trajectory, one for each 256 seconds from its start, the last of which may be shorter; and for each window of 1,024 seconds of
+/// the clock that has some of its seconds a slice that holds those of them all, to be compared first.
 #[derive(Drop)]
 pub struct Slices {
     pub(crate) from: Second,
@@ -32,17 +34,20 @@ pub struct Slices {
     pub(crate) rvsm: bool,
     pub(crate) layer: Layer,
     pub(crate) list: Vec<Slice>,
+    pub(crate) wide: Vec<Slice>,
 }
 
 impl Model for Slices {
     ghost use Rattle.std.specs.Prelude.{◌≡◌};
     ghost use Rattle.mt_cover.specs.Sliced.{AreSlices, Sliced, layer_over};
+    ghost use Rattle.mt_cover.specs.Private.Wide.{AreWide};
 
     ghost Value = { Sliced };
 
     ghost view = { λ s. record { from = s.from; to = s.to; rvsm = s.rvsm; list = s.list.items } };
 
-    ghost invariant = { λ s. AreSlices (record { from = s.from; to = s.to; rvsm = s.rvsm; list = s.list.items }) × (s.layer ≡ layer_over s.list.items) };
+    ghost invariant = { λ s. AreSlices (record { from = s.from; to = s.to; rvsm = s.rvsm; list = s.list.items }) × (s.layer ≡ layer_over s.list.items)
+        × AreWide s.from s.to s.list.items s.wide.items };
 }
 
 impl Slices {
@@ -90,6 +95,15 @@ impl Slices {
         ensures kept { IsLayerKept result.now.layer }
     {
         &self.list[((k - self.from) / SLICE) as usize]
+    }
+
+    /// A slice that holds those of all seconds in the window of a second: in those 1,024 of the clock's seconds among which it is.
+    pub fn wide_at(&self, k: Second) -> &Slice
+        requires { Have self.now k }
+        ensures holds { HoldsWindow self.now (k / 1024) result.now }
+        ensures kept { IsLayerKept result.now.layer }
+    {
+        &self.wide[(k / WINDOW - self.from / WINDOW) as usize]
     }
 
     /// The second after the slice of a second.

@@ -16,6 +16,7 @@ use crate::bounding_box::{BoundingBox, box_of, grown};
 use crate::heights::{both, no_layer};
 use crate::sliced::{SLICE, Slices, slice_by};
 use crate::stays::Cover;
+use crate::wide::wide;
 use mt_base::{Memory, Rules, Second};
 use mt_track::{Segment, Strand, later};
 use std::alloc::Global;
@@ -120,11 +121,13 @@ pub fn slices(alloc: Global, strand: &Strand, rules: &Rules) -> Result<Slices, M
         list.push(own)?;
         index = gathered.index;
     }
+    let wide = wide(alloc, start, end, &list)?;
     Ok(Slices {
         from: start,
         to: end,
         rvsm: strand.rvsm(),
         layer,
         list,
+        wide,
     })
 }

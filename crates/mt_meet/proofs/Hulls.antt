@@ -5,7 +5,7 @@ use Rattle.mt_base.specs.declared.rules.Rules.{Rules}
 use Rattle.mt_cover.specs.declared.sliced.Slice.{Slice}
 use Rattle.mt_cover.specs.Sliced.{Sliced, no_slice, slice_at}
 use Rattle.mt_meet.specs.Meeting.{IsHull, MeetAt, SlicesMeet}
-use Rattle.mt_meet.specs.Private.Meeting.{hull_on}
+use Rattle.mt_meet.specs.Private.Meeting.{Before, hull_on}
 
 -- a second of one slice
 pub same_slice : (s : Sliced) (at k : ℕ) → s.from ≤ at → at ≤ k → k < s.from + 256 * ((at - s.from) / 256 + 1) → slice_at s k ≡ slice_at s at
@@ -57,12 +57,8 @@ module _ (minima : Rules) (a b : Sliced) (approved : Bool) (x y : Slice) (met : 
       not_true (subst IsTrue is (meeting.1 (rw (same_a k late early, same_b k late early, ← approved_is) at meet.meet)))
 
 module _ (P : ℕ → Type 0) where
-  -- before a second
-  abbrev pub Before : ℕ → ℕ → Type 0
-  Before at k = (k < at) × P k
-
   pub hull_step : (at until : ℕ) (met : Bool) (hull : Option (ℕ × ℕ)) → at < until → (met ≡ true → (k : ℕ) → at ≤ k → k < until → P k)
-      → (met ≡ false → (k : ℕ) → at ≤ k → k < until → ¬ P k) → IsHull (Before at) hull → IsHull (Before until) (hull_on hull met at (until - 1))
+      → (met ≡ false → (k : ℕ) → at ≤ k → k < until → ¬ P k) → IsHull (Before P at) hull → IsHull (Before P until) (hull_on hull met at (until - 1))
   hull_step at until false None some in_all in_none before = λ k h. ⊎_elim
       (λ early. before k (early, h.1)) (λ late. in_none refl k late h.0 h.1) (cases_lt k at)
   hull_step at until false (Some span) some in_all in_none before = record {
@@ -85,8 +81,14 @@ module _ (P : ℕ → Type 0) where
         (λ late. (omega (arith, late, before.first_is.0), omega (arith, h.0))) (cases_lt k at);
   }
 
+  -- where none of them has it
+  pub hull_stay : (at until : ℕ) (hull : Option (ℕ × ℕ)) → at < until → ((k : ℕ) → at ≤ k → k < until → ¬ P k) → IsHull (Before P at) hull
+      → IsHull (Before P until) hull
+  hull_stay at until None some none before = hull_step at until false None some (λ no. absurd (cc)) (λ is. none) before
+  hull_stay at until (Some span) some none before = hull_step at until false (Some span) some (λ no. absurd (cc)) (λ is. none) before
+
   -- before a second after all of them is at any
-  pub hull_all : (at : ℕ) (hull : Option (ℕ × ℕ)) → ((k : ℕ) → P k → k < at) → IsHull (Before at) hull → IsHull P hull
+  pub hull_all : (at : ℕ) (hull : Option (ℕ × ℕ)) → ((k : ℕ) → P k → k < at) → IsHull (Before P at) hull → IsHull P hull
   hull_all at None all before = λ k h. before k (all k h, h)
   hull_all at (Some span) all before = record {
     first_is = before.first_is.1;

@@ -2,3 +2,4 @@ pub mod Hulls
 pub mod Kept
 pub mod Listing
 pub mod Meetings
+pub mod Windows

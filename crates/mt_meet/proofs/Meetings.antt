@@ -16,7 +16,7 @@ use Rattle.mt_pair.specs.High.{level_of}
 use Rattle.mt_pair.proofs.Layers.{lying_apart}
 use Rattle.mt_meet.specs.Meeting.{IsMetAt, LosingMeet, MeetAt, MeetingIsNear, MeetNone}
 use Rattle.mt_meet.specs.declared.reach.Reach.{Reach}
-use Rattle.mt_meet.specs.Private.Reaching.{AreClose, AreReachesOn, AreSlicesIn, AreReachesKept, IsReachOf, nowhere, page_of, reach_in, reach_of}
+use Rattle.mt_meet.specs.Private.Reaching.{AreClose, AreReachesOn, AreSlicesIn, AreReachesKept, IsGuard, IsReachOf, LiesBeyond, nowhere, page_of, reach_in, reach_of}
 use Rattle.mt_meet.proofs.Kept.{same}
 
 pub losing_meet : LosingMeet
@@ -54,7 +54,7 @@ apart_within : (least : ℤ) (a b c d : Layer) → IsWider a c → IsWider b d �
 apart_within least a b c d left right apart = ⊎_elim
     (λ h. inl (omega (arith, ints, h, left.high, right.low))) (λ h. inr (omega (arith, ints, h, left.low, right.high))) apart
 
-lie_within : (rules : Rules) (level : ℤ) (a b c d : Layer) → IsWider a c → IsWider b d → LieApart rules level c d → LieApart rules level a b
+pub lie_within : (rules : Rules) (level : ℤ) (a b c d : Layer) → IsWider a c → IsWider b d → LieApart rules level c d → LieApart rules level a b
 lie_within rules level a b c d left right apart = ⊎_elim
     (λ most. inl (apart_within rules.sv2 a b c d left right most))
     (λ lesser. inr (
@@ -94,6 +94,11 @@ far_apart rules mine table i own r mine_kept own_is of far theirs k there meet =
     let here : r ≡ reach_of theirs = of.is ∙ ap reach_in there in
     let theirs_kept : AreSlices theirs = subst AreSlicesIn there of.slices in
     far (rw (own_is, here) (close_by_meeting rules mine theirs k mine_kept theirs_kept meet))
+
+-- what has no height within the guard lies apart, and isn't close
+pub beyond_apart : (rules : Rules) (own r : Reach) (guard : Layer) → IsGuard rules own.layer guard → LiesBeyond guard r.layer → ¬ AreClose rules own r
+beyond_apart rules own r guard is beyond close = close.heights (inl (⊎_elim
+    (λ above. inl (omega (arith, ints, is.high, above))) (λ below. inr (omega (arith, ints, is.low, below))) beyond))
 
 -- nothing is close to that of no slices
 nothing_close : (rules : Rules) (own r : Reach) → r ≡ nowhere → ¬ AreClose rules own r

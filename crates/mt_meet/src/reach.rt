@@ -3,7 +3,7 @@ ghost use Rattle.std.specs.Prelude.{◌≡◌, ◌↔◌, IsTrue};
 ghost use Rattle.mt_base.specs.Bounds.{AreWithinBounds};
 ghost use Rattle.mt_track.specs.Layer.{IsLayerKept};
 ghost use Rattle.mt_cover.specs.Sliced.{AreSlices};
-ghost use Rattle.mt_meet.specs.Private.Reaching.{AreClose, reach_of, nowhere};
+ghost use Rattle.mt_meet.specs.Private.Reaching.{AreClose, IsGuard, LiesBeyond, reach_of, nowhere};
 
 use mt_base::{Rules, Second};
 use mt_cover::Slices;
@@ -61,4 +61,23 @@ pub(crate) fn are_close(rules: &Rules, a: &Reach, b: &Reach) -> bool
     ensures { IsTrue result ↔ AreClose rules.now a.now b.now }
 {
     a.from < b.to && b.from < a.to && !lie_apart(rules, a.rvsm && b.rvsm, &a.layer, &b.layer)
+}
+
+/// The heights of a trajectory, wider by the greater vertical minimum: what has none between them lies apart from it.
+pub(crate) fn guarded(rules: &Rules, layer: &Layer) -> Layer
+    requires rules { AreWithinBounds rules.now }
+    requires kept { IsLayerKept layer.now }
+    ensures { IsGuard rules.now layer.now result }
+{
+    Layer {
+        low: layer.low - rules.sv2,
+        high: layer.high + rules.sv2,
+    }
+}
+
+/// Whether heights lie above or below others.
+pub(crate) fn lies_beyond(guard: &Layer, layer: &Layer) -> bool
+    ensures { IsTrue result → LiesBeyond guard.now layer.now }
+{
+    layer.low >= guard.high || layer.high <= guard.low
 }

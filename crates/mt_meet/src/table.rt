@@ -3,14 +3,15 @@ ghost use Rattle.std.specs.Prelude.{◌≡◌, ◌<◌, ◌+◌, ◌*◌, None, 
 ghost use Rattle.std.specs.Arc.{arc_value};
 ghost use Rattle.mt_base.specs.Bounds.{AreWithinBounds};
 ghost use Rattle.mt_meet.specs.Meeting.{AreMet, IsMetAt, IsNextMet};
-ghost use Rattle.mt_meet.specs.Private.Reaching.{AreReachesOn, AreSlicesIn, IsNextOn, IsReachOf, reach_in, reach_of};
+ghost use Rattle.mt_meet.specs.Private.Reaching.{AreReachesOn, AreSlicesIn, IsGuard, IsNextOn, IsReachOf, reach_in, reach_of};
 
 use crate::meeting::meet;
-use crate::reach::{Reach, are_close, nowhere, reach_of};
+use crate::reach::{Reach, are_close, guarded, lies_beyond, nowhere, reach_of};
 use crate::reaches::{ITEMS, ReachPage, with_reach};
 use mt_base::{Memory, Rules, Second};
 use mt_cover::Slices;
 use mt_paged::Paged;
+use mt_track::Layer;
 use std::alloc::Global;
 use std::marker::Model;
 use std::sync::Arc;
@@ -93,21 +94,27 @@ impl SliceTable {
         })
     }
 
-    // The seconds in which the slices of an item meet some, where there is one. `own` is what is compared first, with that of the item.
+    // The seconds in which the slices of an item meet some, where there is one. `own` is what is compared first, with that of the item;
+    // and before it the item's heights with `guard`.
     fn met_at(
         &self,
         item: u32,
         reach: &Reach,
         own: &Reach,
+        guard: &Layer,
         mine: &Slices,
         rules: &Rules,
     ) -> Option<Met>
         requires rules { AreWithinBounds rules.now }
         requires reach { IsReachOf (get_or self.now item None) reach.now }
         requires own { own.now ≡ reach_of mine.now }
+        requires guard { IsGuard rules.now own.now.layer guard.now }
         ensures { IsMetAt rules.now mine.now self.now item result }
     {
         mine.keeps();
+        if lies_beyond(guard, &reach.layer) {
+            return None;
+        }
         if !are_close(rules, own, reach) {
             return None;
         }
@@ -123,6 +130,7 @@ impl SliceTable {
         number: u32,
         from: u32,
         own: &Reach,
+        guard: &Layer,
         mine: &Slices,
         rules: &Rules,
     ) -> Option<Met>
@@ -130,12 +138,13 @@ impl SliceTable {
         requires few { number < 67108864 }
         requires page { AreReachesOn self.now number page.now }
         requires own { own.now ≡ reach_of mine.now }
+        requires guard { IsGuard rules.now own.now.layer guard.now }
         ensures { IsNextOn rules.now mine.now self.now number from result }
     {
         let list = page.list();
         for place in from..ITEMS {
             let reach = &list[place as usize];
-            if let Some(met) = self.met_at(number * ITEMS + place, reach, own, mine, rules) {
+            if let Some(met) = self.met_at(number * ITEMS + place, reach, own, guard, mine, rules) {
                 return Some(met);
             }
         }
@@ -149,12 +158,13 @@ impl SliceTable {
         ensures { IsNextMet rules.now mine.now self.now from result }
     {
         let own = reach_of(mine);
+        let guard = guarded(rules, &own.layer);
         for number in from / ITEMS..self.count.div_ceil(ITEMS) {
             let place = from.saturating_sub(number * ITEMS);
             let Some(page) = self.pages.get(number) else {
                 continue;
             };
-            if let Some(met) = self.next_on(page, number, place, &own, mine, rules) {
+            if let Some(met) = self.next_on(page, number, place, &own, &guard, mine, rules) {
                 return Some(met);
             }
         }

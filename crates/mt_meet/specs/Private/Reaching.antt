@@ -1,7 +1,8 @@
 -- No public contract names these: they are of private steps and of proofs.
 -- What is compared first of two trajectories.
-use Rattle.std.specs.Prelude.{◌≡◌, ◌≤◌, ◌<◌, ◌+◌, ◌*◌, ◌/◌, ◌%◌, ◌^◌, ◌&&◌, false, ℕ, List, Option, Some, None, All, length, get_or, replicate, ⊤}
+use Rattle.std.specs.Prelude.{◌≡◌, ◌≤◌, ◌<◌, ◌+◌, ◌*◌, ◌/◌, ◌%◌, ◌^◌, ◌&&◌, ◌+ℤ◌, ◌-ℤ◌, ◌≤ℤ◌, ◌⊎◌, false, ℕ, List, Option, Some, None, All, length, get_or, replicate, ⊤}
 use Rattle.mt_base.specs.declared.rules.Rules.{Rules}
+use Rattle.mt_track.specs.declared.layer.Layer.{Layer}
 use Rattle.mt_cover.specs.Sliced.{AreSlices, Sliced, layer_over, no_layer}
 use Rattle.mt_pair.specs.Heights.{LieApart}
 use Rattle.mt_pair.specs.High.{level_of}
@@ -25,6 +26,14 @@ pub record AreClose (rules : Rules) (a b : Reach) : Type 0 where
   pub left : a.from < b.to
   pub right : b.from < a.to
   pub heights : ¬ LieApart rules (level_of (a.rvsm && b.rvsm)) a.layer b.layer
+
+-- heights that are wider by the greater vertical minimum, and what lies above or below them
+pub record IsGuard (rules : Rules) (layer guard : Layer) : Type 0 where
+  pub low : guard.low ≡ layer.low -ℤ rules.sv2
+  pub high : guard.high ≡ layer.high +ℤ rules.sv2
+
+abbrev pub LiesBeyond : Layer → Layer → Type 0
+LiesBeyond guard layer = (guard.high ≤ℤ layer.low) ⊎ (layer.high ≤ℤ guard.low)
 
 -- what is kept of an item are slices
 abbrev pub AreSlicesIn : Option Sliced → Type 0

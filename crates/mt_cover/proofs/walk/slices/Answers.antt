@@ -36,6 +36,13 @@ loop-slice-preserved c =
       kept = c.both-layer.ensures.kept;
     }
 
+pub wide-requires-clause-number : goal.wide-requires-clause-number
+wide-requires-clause-number c =
+    let cut = slice_in c.args.rules.now c.args.strand.now in
+    let all : c.loop-slice.slice ≡ c.div_ceil-slice-end.result = omega (arith, c.loop-slice.auto.slice-end, c.loop-slice-test.false) in
+    let number : length c.loop-slice.list.items ≡ c.loop-slice.slice = ap length c.loop-slice.invariant.is ∙ length-map-range_with_len cut 0 c.loop-slice.slice in
+    rw c.deref.ensures.value (number ∙ all ∙ c.div_ceil-slice-end.ensures)
+
 pub invariant_of-result : goal.invariant_of-result
 invariant_of-result c =
     let cut = slice_in c.args.rules.now c.args.strand.now in
@@ -49,4 +56,5 @@ invariant_of-result c =
         layer = subst IsLayerKept c.loop-slice.invariant.layer c.loop-slice.invariant.kept;
       },
       c.loop-slice.invariant.layer,
+      rw c.deref.ensures.value at c.in_ok-wide.ensures,
     )

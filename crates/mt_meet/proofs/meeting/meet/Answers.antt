@@ -1,6 +1,7 @@
-use Rattle.std.proofs.Common.{arith}
+use Rattle.std.proofs.Common.{◌<◌, false, refl, arith}
 use Rattle.mt_meet.specs.Meeting.{MeetAt}
-use Rattle.mt_meet.proofs.Hulls.{apart_on, goes, hull_all, hull_step, meet_on}
+use Rattle.mt_meet.proofs.Hulls.{hull_all, hull_stay}
+use Rattle.mt_meet.proofs.Windows.{window_apart}
 use Rattle.mt_meet.proofs.meeting.meet.Goals as goal
 
 pub loop-at-init : goal.loop-at-init
@@ -11,30 +12,20 @@ loop-at-init c = record {
       omega (arith, h.0, left, right, c.max-at.ensures, c.from.ensures.from, c.from-2.ensures.from);
 }
 
-pub loop-at-smaller : goal.loop-at-smaller
-loop-at-smaller c =
-    let g = goes c.args.a.now c.args.b.now c.loop-at.at c.min-end.result _ _ _ c.min-until.result c.loop-at.invariant.left c.loop-at.invariant.right c.loop-at-test.true
-    c.until.ensures c.until-in-loop-at.ensures c.min.ensures c.min-until.ensures in
-    omega (arith, g.on, c.loop-at-test.true)
-
 pub loop-at-preserved : goal.loop-at-preserved
 loop-at-preserved c =
     let a = c.args.a.now in
     let b = c.args.b.now in
-    let left = c.loop-at.invariant.left in
-    let right = c.loop-at.invariant.right in
-    let g = goes a b c.loop-at.at c.min-end.result _ _ _ c.min-until.result left right c.loop-at-test.true c.until.ensures c.until-in-loop-at.ensures c.min.ensures
-    c.min-until.ensures in
+    let at = c.loop-at.at in
+    let until = c.min-until.result in
+    let on : at < until = omega (arith, c.min-until.ensures, c.loop-at-test.true) in
     record {
-      left = omega (arith, left, g.on);
-      right = omega (arith, right, g.on);
-      hull = rw c.hull_on-hull.ensures (hull_step (MeetAt c.args.rules.now a b) c.loop-at.at c.min-until.result c.slices_meet-met.result c.loop-at.hull g.on
-          (meet_on c.args.rules.now a b c.are_approved-approved.result c.at.result.now c.at-in-loop-at.result.now c.slices_meet-met.result c.loop-at.at c.min-until.result c.min-end.result
-          c.are_approved-approved.ensures c.at.ensures.is c.at-in-loop-at.ensures.is c.slices_meet-met.ensures g left right
-          (omega (arith, c.min-end.ensures, c.to.ensures)) (omega (arith, c.min-end.ensures, c.to-2.ensures)))
-          (apart_on c.args.rules.now a b c.are_approved-approved.result c.at.result.now c.at-in-loop-at.result.now c.slices_meet-met.result c.loop-at.at c.min-until.result c.min-end.result
-          c.are_approved-approved.ensures c.at.ensures.is c.at-in-loop-at.ensures.is c.slices_meet-met.ensures g left right)
-          c.loop-at.invariant.hull);
+      left = omega (arith, c.loop-at.invariant.left, on);
+      right = omega (arith, c.loop-at.invariant.right, on);
+      hull = hull_stay (MeetAt c.args.rules.now a b) at until c.loop-at.hull on
+          (window_apart c.args.rules.now a b c.are_approved-approved.result c.wide_at.result.now c.wide_at-in-loop-at.result.now false at until
+          c.are_approved-approved.ensures c.wide_at.ensures.holds c.wide_at-in-loop-at.ensures.holds c.if-slices_meet.ensures
+          (omega (arith, c.min-until.ensures)) refl) c.loop-at.invariant.hull;
     }
 
 pub returns : goal.returns

@@ -1,6 +1,6 @@
 use Rattle.std.proofs.Common.{◌≤◌, ◌-◌}
 use Rattle.mt_meet.specs.Meeting.{IsHull, MeetAt}
-use Rattle.mt_meet.proofs.Hulls.{Before}
+use Rattle.mt_meet.specs.Private.Meeting.{Before}
 use Rattle.mt_meet.proofs.meeting.meet.Given as goal
 
 abbrev pub invariant-loop-at : goal.invariant-loop-at
