@@ -102,7 +102,7 @@ record IsRead (m : ℕ) (v z : ℤ) : Type 0 where
 read_128 : {m : ℕ} (v z : ℤ) → v ≡ z → Abs m z → m < 2 ^ 127 → IsRead m v z
 read_128 {m} v z e size small = record { is = rw e (to_z-of_z w128 z (fits_128 size small)); size = size }
 
-abbrev IsInside64 : ℤ → Type 0
+abbrev pub IsInside64 : ℤ → Type 0
 IsInside64 z = IsWithin (neg_ℤ (pos 3686400)) (pos 3686400) z
 
 pub plane_size : (z : ℤ) → IsInside64 z → Abs 3686400 z
@@ -118,6 +118,19 @@ speed : (v a : ℤ) → IsWithin (neg_ℤ (pos 1000)) (pos 1000) a → v ≡ in_
 speed v a kept e =
     let k : Abs 1000 a = record { low = kept.least; high = kept.most } in
     read_128 v a (e ∙ read_64 a k (lit< tt)) k (lit< tt)
+
+-- what is in the plane, or a difference of such, is so by its bits
+pub inside_64 : (z : ℤ) → IsInside64 z → IsInside64 (in_64 z)
+inside_64 z kept = rw (read_64 z (plane_size z kept) (lit< tt)) kept
+
+pub plain_128 : (z : ℤ) → IsPlain z → IsPlain (in_128 z)
+plain_128 z kept = rw (to_z-of_z w128 z (fits_128 (size_of z kept) (lit< tt))) kept
+
+pub plain_speed : (v a : ℤ) → IsWithin (neg_ℤ (pos 1000)) (pos 1000) a → v ≡ in_64 a → IsPlain (in_128 v)
+plain_speed v a kept e =
+    let low = kept.least in
+    let high = kept.most in
+    rw (speed v a kept e).is (record { least = omega (arith, ints); most = omega (arith, ints) })
 
 cross_size : {m n : ℕ} (x y u v : ℤ) → Abs m x → Abs m y → Abs n u → Abs n v → Abs (m * n + m * n) (cross x y u v)
 cross_size {m} {n} x y u v kx ky ku kv = abs_sub (abs_mul kx kv) (abs_mul ky ku)

@@ -16,7 +16,7 @@ use Rattle.mt_picture.specs.Story.{IsEntered, IsCommandRefused, Story}
 use Rattle.mt_turn.specs.declared.view.Phase.{Phase}
 use Rattle.mt_turn.specs.declared.view.Phase.TheVariants.{Holds}
 use Rattle.mt_turn.specs.declared.view.View.{View}
-use Rattle.mt_turn.specs.Lending.{Grows, HasTurn, Left}
+use Rattle.mt_turn.specs.Lending.{AreViewsOfOneSeat, Grows, HasTurn, Left}
 use Rattle.mt_turn.specs.Views.{with_phase}
 use Rattle.mt_desk.specs.Desk.{seat_of}
 use Rattle.mt_desk.specs.Private.Taken.{IsLegalStory}
@@ -108,3 +108,11 @@ pub changes : (fixed : Setup) (v w : View Entry Setup) (h : Phase Entry) (p q : 
     → IsChanged (seat_of fixed v) c result (seat_of fixed w)
 changes fixed v w h p q c (Ok entered) is begins ok err same kept tied l = enters fixed v w h p q c entered is begins ok kept l
 changes fixed v w h p q c (Err denied) is begins ok err same kept tied l = denies fixed v w h p c denied is err (rw same at kept) tied (rw same at l)
+
+-- What one call keeps of a seat, and then another.
+pub same_views : (u v w : View Entry Setup) → AreViewsOfOneSeat u v → AreViewsOfOneSeat v w → AreViewsOfOneSeat u w
+same_views u v w a b = (b.0 ∙ a.0, b.1 ∙ a.1, b.2 ∙ a.2, b.3 ∙ a.3)
+
+-- What a turn keeps of the seat that had it.
+pub same_turn : (v u w : View Entry Setup) (lent : List Entry) → (t : ℕ) × (u ≡ with_phase v (Holds t lent)) → AreViewsOfOneSeat u w → AreViewsOfOneSeat v w
+same_turn v u w lent (t, is) same = subst (λ (z : View Entry Setup). AreViewsOfOneSeat z w) is same

@@ -1,5 +1,7 @@
 -- The order of fractions, over plain numbers: m/e is before n/d where m d < n e, with denominators above 0.
 use Rattle.std.proofs.Common.{ℤ, pos, ◌-ℤ◌, ◌*ℤ◌, ◌≤ℤ◌, ◌<ℤ◌, arith}
+use Rattle.std.proofs.lemmas.Int.{ints}
+use Rattle.mt_frac.specs.declared.fraction.Frac.{Frac}
 use Rattle.mt_ring.proofs.Ring.{lin, spread}
 use Rattle.mt_ring.proofs.Signs.{mul_nonneg, mul_pos, weaken, below_cancel}
 
@@ -26,3 +28,7 @@ trans_at_most m e n d x y e+ d+ y+ l r =
     let p2 = mul_nonneg (x *ℤ d -ℤ n *ℤ y) e (omega (arith, lin)) (weaken e+) in
     let q = below_cancel d (m *ℤ y -ℤ x *ℤ e) d+ (simp spread (omega (arith, lin, simp spread at p1, simp spread at p2))) in
     omega (arith, lin)
+
+-- a denominator is above 0
+pub positive : (f : Frac) → pos 0 <ℤ f.den
+positive f = let h = f.den_positive in omega (arith, ints)

@@ -29,6 +29,10 @@ all_last P xs i d below all =
     let one : i < i + 1 = omega arith in
     rw (get_or-take (i + 1) xs i d one) at (all i d (omega arith))
 
+-- before the first of them
+pub none_yet : (lines : List Linear) (m e x y : ℤ) (n d : ℤ) → pos 0 <ℤ d → Lies m e x y n d ↔ FirstAreBelow lines 0 m e x y n d
+none_yet lines m e x y n d d+ = ((λ part. (part, λ k d below. absurd (omega arith))), (λ all. all.0))
+
 pub one_more : (lines : List Linear) (i : ℕ) (dflt : Linear) (m e x y l f h g s t u v : ℤ) → i < length lines
     → ((n d : ℤ) → pos 0 <ℤ d → Lies l f h g n d ↔ FirstAreBelow lines i m e x y n d)
     → IsCut (slice_index_or lines i dflt).b (slice_index_or lines i dflt).c l f h g s t u v

@@ -1,5 +1,5 @@
 -- The sums and products of each function fit 128 bits.
-use Rattle.std.proofs.Common.{ℕ, ◌<◌, ◌^◌, ℤ, pos, ◌+ℤ◌, ◌-ℤ◌, ◌*ℤ◌, ◌≤ℤ◌, ◌<ℤ◌, unsigned_abs, FitsSigned, arith, lit<}
+use Rattle.std.proofs.Common.{◌≡◌, ℕ, ◌+◌, ◌<◌, ◌^◌, ℤ, pos, ◌+ℤ◌, ◌-ℤ◌, ◌*ℤ◌, ◌≤ℤ◌, ◌<ℤ◌, unsigned_abs, FitsSigned, arith, lit<}
 use Rattle.std.proofs.lemmas.Int.{ints}
 use mir.Syntax.{w128}
 use Rattle.mt_frac.specs.declared.fraction.Frac.{Frac}
@@ -7,8 +7,10 @@ use Rattle.mt_frac.specs.declared.quadratic.Quad.{Quad}
 use Rattle.mt_frac.specs.declared.linear.Linear.{Linear}
 use Rattle.mt_frac.specs.declared.end.End.{End}
 use Rattle.mt_frac.specs.Meeting.{IsBoundedSide}
+use Rattle.mt_frac.specs.Polynomials.{line_value}
 use Rattle.mt_frac.specs.Signs.{IsBoundedQuad, IsBoundedLine}
-use Rattle.mt_ring.proofs.Sizes.{Abs, abs_from, abs_lit, abs_add, abs_sub, abs_mul, fits_128}
+use Rattle.mt_ring.proofs.Ring.{lin, spread}
+use Rattle.mt_ring.proofs.Sizes.{Abs, abs_from, abs_to, abs_lit, abs_add, abs_sub, abs_mul, fits_128}
 
 -- a positive number below m is at most m in size
 within : (m : ℕ) (d : ℤ) → pos 1 ≤ℤ d → d <ℤ pos m → Abs m d
@@ -180,3 +182,27 @@ cross_fits f g =
       fits_md = fits_128 (abs_mul km kd) (lit< tt);
       fits_ne = fits_128 (abs_mul kn ke) (lit< tt);
     }
+
+-- a number and its negation
+pub record NegationFits (z : ℤ) : Type 0 where
+  pub fits_z : FitsSigned w128 z
+  pub fits_minus : FitsSigned w128 (pos 0 -ℤ z)
+
+pub negation_fits : (z : ℤ) → unsigned_abs z < 2 ^ 50 → NegationFits z
+negation_fits z bounded =
+    let k = at_most (2 ^ 50) z bounded in
+    record { fits_z = fits_128 k (lit< tt); fits_minus = fits_128 (abs_sub (abs_lit 0) k) (lit< tt) }
+
+-- a negation is as great in size
+pub minus_bounded : (m : ℕ) (z : ℤ) → unsigned_abs z < m → unsigned_abs (pos 0 -ℤ z) < m
+minus_bounded m z bounded =
+    let k = abs_from (unsigned_abs z) z (omega arith) in
+    let size = abs_to (0 + unsigned_abs z) (pos 0 -ℤ z) (abs_sub (abs_lit 0) k) in
+    omega arith
+
+-- a line is 0 at each of the two forms of its root
+pub root_above : (b c : ℤ) → line_value b c (pos 0 -ℤ c) b ≡ pos 0
+root_above b c = simp spread (omega (arith, lin))
+
+pub root_below : (b c : ℤ) → line_value b c c (pos 0 -ℤ b) ≡ pos 0
+root_below b c = simp spread (omega (arith, lin))

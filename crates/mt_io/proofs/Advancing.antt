@@ -1,12 +1,14 @@
 -- A line that was gathered is given and counted.
-use Rattle.std.proofs.Common.{◌≡◌, ◌<◌, ◌≤◌, ℕ, ◌+◌, ◌^◌, Bool, true, false, List, [], ◌∷◌, ◌++◌, length, None, Ok, refl, sym, ap, inl, inr, subst, arith, length-append}
+use Rattle.std.proofs.Common.{◌≡◌, ◌<◌, ◌≤◌, ℕ, ◌+◌, ◌^◌, Bool, true, false, List, [], ◌∷◌, ◌++◌, length, None, Ok, Err, refl, sym, ap, inl, inr, subst, arith, append-nil, length-append}
 use Rattle.std.specs.declared.option.Option.{Option}
 use Rattle.mt_io.specs.Reading.{Store, PassesBytes, Ends, TakesLine, IsAllGiven}
 use Rattle.mt_io.specs.Private.Reading.{IsReaderSound}
 use Rattle.mt_io.specs.Gathering.{ending_of}
-use Rattle.mt_io.specs.Private.Gathering.{Gathers, IsGathered, CountsLine, Advances, reading}
+use Rattle.mt_io.specs.Private.Gathering.{Gathers, IsGathered, CountsLine, Advances, StopsLine, reading}
+use Rattle.mt_io.specs.declared.line.LineFault.{LineFault}
 use Rattle.mt_io.specs.declared.line.Step.{Step}
 use Rattle.mt_io.specs.declared.line.Step.TheVariants.{Short, Skipped, Finished}
+use Rattle.mt_io.proofs.Known.{consumes_none}
 
 -- what went was taken, and so was what is ahead
 weighed : (old new : Store) (before after : Option (List ℕ)) (front : List ℕ) (given : ℕ) → given + length old.ahead ≤ old.taken
@@ -104,3 +106,47 @@ advanced old new before after text kept is_long whole given given_now Finished s
       step = done old new before after text kept is_long whole given given_now going g count.0 count.1 count.2;
       sound = sound_after old new before after kept is_long whole given given_now sound g (omega (arith, count.0));
     }
+
+-- at the end nothing is read
+pub none_left : (store : Store) (before : Option (List ℕ)) (text : List ℕ) (given : ℕ) → IsReaderSound store given None → store.ended ≡ true
+    → Advances store store given given text text before before (Ok Finished)
+none_left store before text given sound ended =
+    let over = sound.over ended in
+    record {
+      step = record {
+        was_sound = refl;
+        sound = refl;
+        same = refl;
+        ended = ended;
+        empty = over.0;
+        few = over.1;
+        passes = record { read = []; from = consumes_none before; count = omega arith; bytes = append-nil store.ahead; limit = sound.limit };
+        met = λ going. cc;
+        still = λ _. refl;
+      };
+      sound = sound;
+    }
+
+-- a fault was met
+pub stopped_at : (old new : Store) (before after : Option (List ℕ)) (text kept : List ℕ) (given : ℕ) (fault : LineFault) → IsReaderSound old given None
+    → old.ended ≡ false → StopsLine old new before after fault → Advances old new given given text kept before after (Err fault)
+stopped_at old new before after text kept given fault sound going s = record {
+  step = record {
+    kept = refl;
+    same = refl;
+    place = s.place;
+    again = λ earlier is. cc;
+    part = s.part;
+    is_part = s.is_part;
+    passes = s.passes;
+    empty = s.empty;
+    going = going;
+    not_ended = s.going;
+  };
+  sound = record {
+    counted = omega (arith, sound.counted, s.passes.count, ap length s.empty);
+    limit = s.passes.limit;
+    over = λ ended. let going_on = s.going in cc;
+    stopped = (s.place, s.empty, s.going);
+  };
+}

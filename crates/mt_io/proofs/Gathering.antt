@@ -1,17 +1,48 @@
 -- Reading more, and moving pieces, one after another.
-use Rattle.std.proofs.Common.{◌≡◌, ◌<◌, ℕ, Bool, true, false, List, [], ◌∷◌, ◌++◌, length, refl, sym, ◌∙◌, ap, subst, arith, append_assoc, append-nil, length-append}
+use Rattle.std.proofs.Common.{◌≡◌, ◌<◌, ◌≤◌, ℕ, ◌+◌, ◌-◌, ◌^◌, Bool, true, false, List, [], ◌∷◌, ◌++◌, length, take, slice_range, refl, sym, ◌∙◌, ap, subst, arith, append_assoc, append-nil, length-append}
 use Rattle.std.proofs.Common.{inl, inr, Ok}
 use Rattle.std.proofs.lemmas.Bool.{cases_eq}
-use Rattle.std.proofs.lemmas.List.{nil_from_length}
+use Rattle.std.proofs.lemmas.List.{nil_from_length, get_or-take, length-take-le, take-append-le, take-take}
 use Rattle.std.specs.declared.result.Result.{Result}
 use Rattle.std.specs.declared.option.Option.{Option}
 use Rattle.std.specs.Io.KnownBytes.{Consumes}
 use Rattle.mt_io.specs.Lines.{IsPart}
 use Rattle.mt_io.specs.Reading.{Store, PassesBytes}
-use Rattle.mt_io.specs.Private.Gathering.{Fills, StopsFill, Moves, IsGathered, Gathers, StopsLine, IsUnread}
+use Rattle.mt_io.specs.Private.Gathering.{EndsWhole, Fills, StopsFill, Moves, IsGathered, Gathers, StopsLine, IsUnread}
 use Rattle.mt_io.specs.declared.line.LineFault.{LineFault}
 use Rattle.mt_io.specs.declared.line.LineFault.TheVariants.{ReadFault, Spent}
 use Rattle.mt_io.proofs.Known.{consumes_none, consumes_kept, consumes_on}
+
+-- where nothing is ahead no 0x0A is
+pub ends_none : (bytes : List ℕ) → EndsWhole bytes 0 0 0
+ends_none bytes = record { within = omega arith; last = λ lt. absurd (omega arith); none = λ k from to. absurd (omega arith) }
+
+-- of the front of a buffer, all of which is ahead
+pub ends_front : (bytes : List ℕ) (count whole : ℕ) → count ≤ length bytes → EndsWhole (take count bytes) 0 whole (length (take count bytes)) → EndsWhole bytes 0 whole count
+ends_front bytes count whole le e =
+    let size : length (take count bytes) ≡ count = length-take-le count bytes le in
+    record {
+      within = omega (arith, size, e.within);
+      last = λ some. sym (get_or-take count bytes (whole - 1) 0 (omega (arith, some, size, e.within))) ∙ e.last some;
+      none = λ k from to. rw (get_or-take count bytes k 0 to) at (e.none k from (omega (arith, size)));
+    }
+
+-- what was read stands at the front of the buffer, and is ahead
+pub fills_read : (old : Store) (before after : Option (List ℕ)) (bytes buf rest : List ℕ) (len count taken : ℕ) (ended : Bool) → bytes ≡ take len (buf ++ rest)
+    → count ≤ len → count ≤ length buf → taken ≡ old.taken → ended ≡ false → taken + count ≤ 2 ^ 32 → 0 < count → Consumes before after (take count buf)
+    → Fills old (record { ahead = slice_range bytes 0 count; taken = taken + count; ended = ended }) before after true
+fills_read old before after bytes buf rest len count taken ended is within room same going limit some read =
+    let all : count - 0 ≡ count = omega arith in
+    let front : slice_range bytes 0 count ≡ take count buf =
+    ap (λ n. take n bytes) all ∙ ap (λ xs. take count xs) is ∙ take-take count len (buf ++ rest) within ∙ take-append-le count buf rest room in
+    let size : length (slice_range bytes 0 count) ≡ count = ap length front ∙ length-take-le count buf room in
+    record {
+      from = rw front read;
+      count = omega (arith, size, same);
+      limit = limit;
+      some = λ more. (omega (arith, size), going);
+      none = λ over. cc;
+    }
 
 -- what holds of a reader between two pieces: some bytes went, and they are a part of a line, which is gathered
 pub record IsGathering (old now : Store) (before mid : Option (List ℕ)) (kept : List ℕ) (is_long : Bool) : Type 0 where

@@ -7,6 +7,7 @@ pub mod Gathering
 pub mod Joining
 pub mod Again
 pub mod Costs
+pub mod Exits
 pub mod InOrder
 pub mod Shown
 pub mod Merged

@@ -1,5 +1,5 @@
 -- What is published of the open pairs.
-use Rattle.std.proofs.Common.{◌≡◌, ◌≢◌, ℕ, zero, suc, ◌<◌, ◌≤◌, ◌⊎◌, inl, inr, ⊎_elim, ◌↔◌, false, true≢false, List, [], ◌∷◌, ◌++◌, map, get_or, Contains, Option, Some, None, refl, sym, ◌∙◌, ap, subst, arith}
+use Rattle.std.proofs.Common.{◌≡◌, ◌≢◌, ℕ, zero, suc, ◌<◌, ◌≤◌, ◌⊎◌, inl, inr, ⊎_elim, ◌↔◌, false, true≢false, List, [], ◌∷◌, ◌++◌, map, get_or, length, Contains, Option, Some, None, refl, sym, ◌∙◌, ap, subst, arith}
 use Rattle.std.proofs.lemmas.Bool.{cases_order}
 use Rattle.std.proofs.lemmas.Cmp.{nat_list_cmp_total}
 use Rattle.std.specs.FinMap.{slice_cmp-IsAntisymmetric, nat_cmp-IsAntisymmetric}
@@ -182,6 +182,20 @@ pub at_seen : (places : List (Option Item)) (i : ℕ) (r : Option Item) (item : 
 at_seen [] i r item t e is some = cc
 at_seen (x ∷ xs) zero r item t e is some = let f : seen x ≡ Some (named item) = ap seen (sym is ∙ some) in cc
 at_seen (x ∷ xs) (suc i) r item t e is some = at_seen xs i r item t e is some
+
+-- it is a place of theirs, and isn't empty
+pub seen_inside : (places : List (Option Item)) (i : ℕ) (t : NamedTrajectory) → at (map seen places) i ≡ Some t → i < length places
+seen_inside [] i t e = absurd (cc)
+seen_inside (x ∷ xs) zero t e = omega arith
+seen_inside (x ∷ xs) (suc i) t e = let below = seen_inside xs i t e in omega arith
+
+pub not_beyond : (places : List (Option Item)) (i : ℕ) (t : NamedTrajectory) → at (map seen places) i ≡ Some t → length places ≤ i → ⊥
+not_beyond places i t e all = let below = seen_inside places i t e in omega arith
+
+pub none_seen : (places : List (Option Item)) (i : ℕ) (r : Option Item) (t : NamedTrajectory) → at (map seen places) i ≡ Some t → r ≡ get_or places i r → r ≡ None → ⊥
+none_seen [] i r t e is none = cc
+none_seen (x ∷ xs) zero r t e is none = let f : seen x ≡ None = ap seen (sym is ∙ none) in cc
+none_seen (x ∷ xs) (suc i) r t e is none = none_seen xs i r t e is none
 
 -- a conflict in order, of the span in the window
 pub found_pair : (rules : Rules) (now : ℕ) (left right : NamedTrajectory) (span : ℕ × ℕ) (c : Conflict)

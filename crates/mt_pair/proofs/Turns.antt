@@ -1,6 +1,8 @@
 -- Where a convex quadratic or a line is not below 0 at an instant, it is below 0 only on the side to which it falls. So where all are below 0 at
 -- some instant, their values at one other instant tell on which side of that the first and the last such instant lie.
-use Rattle.std.proofs.Common.{◌≡◌, ℕ, zero, suc, ◌<◌, ◌≤◌, ℤ, pos, neg_ℤ, ◌+ℤ◌, ◌-ℤ◌, ◌*ℤ◌, ◌≤ℤ◌, ◌<ℤ◌, ◌⊎◌, ⊎_elim, inl, inr, arith, subst, le_refl}
+use borrow.Author.Differences.{true_is_le, true_is_lt}
+use lib.Signed.{le_z, lt_z}
+use Rattle.std.proofs.Common.{◌≡◌, ◌↔◌, IsTrue, true, false, sym, true≢false, ◌∙◌, ℕ, zero, suc, ◌<◌, ◌≤◌, ℤ, pos, neg_ℤ, ◌+ℤ◌, ◌-ℤ◌, ◌*ℤ◌, ◌≤ℤ◌, ◌<ℤ◌, ◌⊎◌, ⊎_elim, inl, inr, arith, subst, le_refl}
 use Rattle.std.proofs.lemmas.Bool.{cases_lt}
 use Rattle.std.proofs.lemmas.Int.{ints}
 use Rattle.mt_ring.proofs.Ring.{lin, spread}
@@ -190,3 +192,22 @@ some_since gap over under low high m convex less none some = ⊎_elim
     record { k = m; begun = le_refl m; ahead = less; holds = in_second gap over under m (record { gap_is = g; over_is = o; under_is = u }) })
     (λ later. record { k = some.k; begun = later; ahead = some.ahead; holds = some.holds })
     (cases_lt some.k m)
+
+-- what the tests of a value and of a slope tell
+pub sooner_by : (value slope : ℤ) → le_z (pos 0) value ≡ true → IsTrue (le_z (pos 0) slope) ↔ IsSooner value slope
+sooner_by value slope here = (
+  (λ t. record { here = omega (arith, ints, here); rises = omega (arith, ints, t) }),
+  (λ at. sym (true_is_le (pos 0) slope (let rises = at.rises in omega (arith, ints)))),
+)
+
+pub falling_by : (value slope : ℤ) → le_z (pos 0) value ≡ true → IsTrue (lt_z slope (pos 0)) ↔ IsFalling value slope
+falling_by value slope here = (
+  (λ t. record { here = omega (arith, ints, here); falls = omega (arith, ints, t) }),
+  (λ at. sym (true_is_lt slope (pos 0) (let falls = at.falls in omega (arith, ints)))),
+)
+
+pub not_sooner : (value slope : ℤ) → le_z (pos 0) value ≡ false → IsTrue (le_z (pos 0) value) ↔ IsSooner value slope
+not_sooner value slope below = ((λ t. absurd (true≢false (sym t ∙ below))), (λ at. absurd (let here = at.here in omega (arith, ints, below))))
+
+pub not_falling : (value slope : ℤ) → le_z (pos 0) value ≡ false → IsTrue (le_z (pos 0) value) ↔ IsFalling value slope
+not_falling value slope below = ((λ t. absurd (true≢false (sym t ∙ below))), (λ at. absurd (let here = at.here in omega (arith, ints, below))))

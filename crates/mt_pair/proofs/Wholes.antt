@@ -1,5 +1,5 @@
 -- The sizes of a quadratic and a line at whole seconds, in 64 bits.
-use Rattle.std.proofs.Common.{◌≡◌, ℕ, ◌≤◌, ℤ, pos, ◌+ℤ◌, ◌*ℤ◌, FitsSigned, arith, w64, to_z, of_z, ap, ◌∙◌, lit<}
+use Rattle.std.proofs.Common.{◌≡◌, ℕ, ◌^◌, ◌<◌, ◌≤◌, ℤ, pos, ◌+ℤ◌, ◌*ℤ◌, FitsSigned, arith, w64, to_z, of_z, ap, ◌∙◌, lit<}
 use Rattle.std.proofs.lemmas.Int.{to_z-of_z}
 use mir.Syntax.{w128}
 use Rattle.mt_ring.proofs.Ring.{lin, spread}
@@ -92,3 +92,25 @@ pub wide_fits : (gap : Quad) → IsBoundedQuad gap → FitsSigned w128 gap.a
 wide_fits gap bounded =
     let a : Abs 67108864 gap.a = abs_from _ gap.a (omega (arith, bounded.a_bounded)) in
     fits_128 a (lit< tt)
+
+-- the value of a line any number of seconds later, in 128 bits
+pub record AfterFits (line : Linear) (n : ℕ) : Type 0 where
+  pub fits_b : FitsSigned w128 line.b
+  pub fits_c : FitsSigned w128 line.c
+  pub fits_n : FitsSigned w128 (pos n)
+  pub fits_gain : FitsSigned w128 (line.b *ℤ pos n)
+  pub fits_all : FitsSigned w128 (line.b *ℤ pos n +ℤ line.c)
+
+pub after_fits : (line : Linear) (n : ℕ) → IsBoundedLine line → n < 2 ^ 32 → AfterFits line n
+after_fits line n bounded few =
+    let b : Abs 262144 line.b = abs_from _ line.b (omega (arith, bounded.b_bounded)) in
+    let c : Abs 4294967296 line.c = abs_from _ line.c (omega (arith, bounded.c_bounded)) in
+    let s : Abs 4294967296 (pos n) = abs_weaken (abs_lit n) (omega (arith, few)) in
+    let gain = abs_mul b s in
+    record {
+      fits_b = fits_128 b (lit< tt);
+      fits_c = fits_128 c (lit< tt);
+      fits_n = fits_128 s (lit< tt);
+      fits_gain = fits_128 gain (lit< tt);
+      fits_all = fits_128 (abs_add gain c) (lit< tt);
+    }

@@ -6,6 +6,7 @@ pub mod Choosing
 pub mod Completed
 pub mod Counted
 pub mod Entered
+pub mod Exits
 pub mod FirstHit
 pub mod Following
 pub mod Given

@@ -1,5 +1,5 @@
 -- The least number of seconds of a leg.
-use Rattle.std.proofs.Common.{◌≡◌, ℕ, zero, suc, ◌+◌, ◌*◌, ◌/◌, ◌%◌, ◌<◌, ◌≤◌, ⊎_elim, Bool, true, false, ℤ, pos, negsuc, unsigned_abs, nat_le, min, ap, sym, arith, refl, mul-le-mul, le_refl, Fits, w32, if◌then◌else◌}
+use Rattle.std.proofs.Common.{◌≡◌, ℕ, zero, suc, ◌+◌, ◌*◌, ◌/◌, ◌%◌, ◌<◌, ◌≤◌, ⊎_elim, Bool, true, false, ℤ, pos, negsuc, unsigned_abs, nat_le, min, ap, sym, arith, refl, mul-le-mul, le_refl, Fits, w32, w64, ◌^◌, if◌then◌else◌}
 use Rattle.std.specs.Int.{div_ceil}
 use Rattle.std.proofs.lemmas.Bool.{cases_lt}
 use Rattle.std.proofs.lemmas.Int.{ints}
@@ -75,6 +75,16 @@ seconds_is dx dy e n g s east north fast enough least =
 
     short : (t : ℕ) → t * g < s → t * t * g * g < e * e + n * n
     short t below = let h = least (t * g) below in omega (arith, h, regroup t g)
+
+-- the squares of a leg's sides are small
+pub square_fits : (e : ℕ) → e ≤ 7372800 → Fits w64 (e * e)
+square_fits e small = omega (arith, mul-le-mul small small)
+
+pub squares_fit : (e n : ℕ) → e ≤ 7372800 → n ≤ 7372800 → Fits w64 (e * e + n * n)
+squares_fit e n east north = omega (arith, mul-le-mul east east, mul-le-mul north north)
+
+pub squares_small : (e n : ℕ) → e ≤ 7372800 → n ≤ 7372800 → e * e + n * n < 2 ^ 47
+squares_small e n east north = omega (arith, mul-le-mul east east, mul-le-mul north north)
 
 -- a root of the square of a leg is small
 pub root_small : (e n s : ℕ) → e ≤ 7372800 → n ≤ 7372800 → ((t : ℕ) → t < s → t * t < e * e + n * n) → s ≤ 16777216

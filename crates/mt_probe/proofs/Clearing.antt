@@ -1,8 +1,10 @@
 -- A new trajectory has a hit, or is clear of all places.
 use Rattle.std.proofs.Common.{◌≡◌, ◌≢◌, ◌<◌, ◌+◌, ◌*◌, ◌/◌, ⊎_elim, true, false, ℕ, List, [], Option, Some, None, length, option_map, refl, sym, ◌∙◌, ap, subst, arith}
 use Rattle.std.proofs.lemmas.Bool.{cases_lt}
+use Rattle.std.proofs.lemmas.Slice.Eq.{bytes_eq-Decides}
 use Rattle.std.specs.Arc.{arc_value}
 use Rattle.std.specs.Prelude.{is_some, option_and_then}
+use Rattle.std.specs.Str.{bytes_eq}
 use Rattle.mt_base.specs.declared.conflict.Kind.TheVariants.{Actual}
 use Rattle.mt_base.specs.declared.flight.Record.{Record}
 use Rattle.mt_base.specs.Conflict.{IsConflict}
@@ -117,3 +119,20 @@ module _ (shot : Shot) (call : List ℕ) (t : Trajectory) where
       let first = subst (λ (r : Record). IsConflict shot.setup.rules t (trajectory_of shot.setup r.path) shot.now (window_end shot.now) None) it.card_is quiet in
       let ends = span.inside in
       first has.hit.first ends.0 (omega (arith, ends.1, ends.2)) span.first_is
+
+-- a place is empty, has the flight itself, or its flight has no trajectory, so none is there that could be another's
+pub no_flight : (at : Option Flight) (f : Flight) → None ≡ option_map (λ f. f.card) at → ¬ (at ≡ Some f)
+no_flight None f none is = absurd (cc)
+no_flight (Some g) f none is = absurd (cc)
+
+pub own_flight : (at : Option Flight) (card : Record) (f : Flight) (call : List ℕ) → Some card ≡ option_map (λ f. f.card) at → bytes_eq card.call call ≡ true
+    → at ≡ Some f → f.card.call ≡ call
+own_flight None card f call there own is = absurd (cc)
+own_flight (Some g) card f call there own is =
+    let same : card ≡ g.card = cc in
+    let one : g ≡ f = cc in
+    sym (ap (λ (r : Record). r.call) same ∙ ap (λ (x : Flight). x.card.call) one) ∙ (bytes_eq-Decides card.call call).0 own
+
+pub no_path : (at : Option Flight) (f : Flight) → None ≡ option_and_then (path_of Actual) at → ¬ (at ≡ Some f)
+no_path None f none is = absurd (cc)
+no_path (Some g) f none is = absurd (cc)

@@ -131,6 +131,40 @@ near_by_loss shot t other item k rules mine theirs loss stays =
       };
     }
 
+-- an item of an empty place names none, nor does one of the flight itself, nor one of a trajectory that isn't there
+pub other_nowhere : (slots : List (Option Flight)) (call : List ℕ) (item : ℕ) → None ≡ option_map (λ f. f.card) (get_or slots (item / 2) None)
+    → other_at call slots item ≡ []
+other_nowhere slots call item is = by_flight (get_or slots (item / 2) None) is where
+  by_flight : (at : Option Flight) → None ≡ option_map (λ f. f.card) at → other_of call (kind_at item) at ≡ []
+  by_flight None is = refl
+  by_flight (Some f) is = absurd (cc)
+
+pub other_own : (slots : List (Option Flight)) (call : List ℕ) (item : ℕ) (card : Record)
+    → Some card ≡ option_map (λ f. f.card) (get_or slots (item / 2) None) → bytes_eq card.call call ≡ true → other_at call slots item ≡ []
+other_own slots call item card is own = by_flight (get_or slots (item / 2) None) is where
+  by_flight : (at : Option Flight) → Some card ≡ option_map (λ f. f.card) at → other_of call (kind_at item) at ≡ []
+  by_flight None is = refl
+  by_flight (Some f) is =
+      let same : card ≡ f.card = cc in
+      let test : bytes_eq f.card.call call ≡ true = subst (λ (r : Record). bytes_eq r.call call ≡ true) same own in
+      rw test refl
+
+pub other_pathless : (slots : List (Option Flight)) (call : List ℕ) (item : ℕ) (kind : Kind) → kind ≡ kind_at item
+    → None ≡ option_and_then (path_of kind) (get_or slots (item / 2) None) → other_at call slots item ≡ []
+other_pathless slots call item kind kind_is is =
+    ap (λ (k : Kind). other_of call k (get_or slots (item / 2) None)) (sym kind_is) ∙ by_flight (get_or slots (item / 2) None) is where
+      by_test : (others : List NamedTrajectory) (b : Bool) → others ≡ [] → (if b then [] else others) ≡ []
+      by_test others true none = refl
+      by_test others false none = none
+
+      by_path : (f : Flight) (found : Option Trajectory) → None ≡ found → (if bytes_eq f.card.call call then [] else made_named f.card.call kind found) ≡ []
+      by_path f None is = by_test [] (bytes_eq f.card.call call) refl
+      by_path f (Some t) is = absurd (cc)
+
+      by_flight : (at : Option Flight) → None ≡ option_and_then (path_of kind) at → other_of call kind at ≡ []
+      by_flight None is = refl
+      by_flight (Some f) is = by_path f (path_of kind f) is
+
 -- an item of another flight names one trajectory
 pub other_one : (slots : List (Option Flight)) (call : List ℕ) (item : ℕ) (kind : Kind) (card : Record) (path : Trajectory) → kind ≡ kind_at item
     → Some card ≡ option_map (λ f. f.card) (get_or slots (item / 2) None) → bytes_eq card.call call ≡ false

@@ -1,5 +1,7 @@
 pub mod BoundedLines
+pub mod CheckedSteps
 pub mod Decoding
+pub mod EachRead
 pub mod EntryReading
 pub mod FeedEntries
 pub mod FeedReading

@@ -8,3 +8,4 @@ pub mod Stood
 pub mod SummedUp
 pub mod Turning
 pub mod WordLemmas
+pub mod Endings

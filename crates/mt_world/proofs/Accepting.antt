@@ -1,11 +1,11 @@
 -- The acceptance of a probe of an actor's book.
-use Rattle.std.proofs.Common.{◌≡◌, ◌⊎◌, inl, inr, ℕ, ◌<◌, Bool, true, false, List, [], ◌∷◌, length, map, get_or, Option, Some, Result, Ok, Err, IfOk, refl, sym, ◌∙◌, ap, subst, ◌==◌, arith}
+use Rattle.std.proofs.Common.{◌≡◌, ◌⊎◌, inl, inr, ℕ, ◌<◌, Bool, true, false, List, [], ◌∷◌, length, map, get_or, Option, None, Some, Result, Ok, Err, IfOk, refl, sym, ◌∙◌, ap, subst, ◌==◌, arith}
 use Rattle.std.specs.Option.{option_map}
 use Rattle.std.specs.Prelude.{IfErr, MatchBool, OnErr}
 use Rattle.mt_base.specs.declared.command.Command.{Command}
 use Rattle.mt_base.specs.declared.command.Command.TheVariants.{Accept}
 use Rattle.mt_base.specs.declared.command.Entered.{Entered}
-use Rattle.mt_base.specs.declared.command.Refusal.TheVariants.{NotFree}
+use Rattle.mt_base.specs.declared.command.Refusal.TheVariants.{NoProbe, NotFree}
 use Rattle.mt_base.specs.declared.hit.Hit.{Hit}
 use Rattle.mt_base.specs.Bounds.{AreWithinBounds, IsBoundedCommand}
 use Rattle.mt_base.specs.History.{IsInTime, WasFree}
@@ -104,3 +104,18 @@ published_is story after actors who c result entered denied unchanged = changed_
       seen_unchanged : (r : Result Entered No) → OnErr r (after ≡ story) → OnErr r (seen after actors ≡ seen story actors)
       seen_unchanged (Ok entered) u = tt
       seen_unchanged (Err denied) u = ap (λ (s : Story). seen s actors) u
+
+-- what isn't some is none
+pub not_some : {A : Type 0} (o : Option A) → ((x : A) → o ≡ Some x → ⊥) → o ≡ None
+not_some None never = refl
+not_some (Some x) never = absurd (never x refl)
+
+-- the book has no probe of the number
+pub no_probe : (story : Story) (actors : List Actor) (who : ℕ) (a : Actor) → IsSoundWorld story actors → who < 16 → a ≡ get_or actors who a → (number : ℕ)
+    → probe_at a.book number ≡ None → (reply : Reply) → reply ≡ replies.Refused NoProbe (length story.history)
+    → IsAccepted (seen story actors) who number reply (seen story actors)
+no_probe story actors who a sound below is number none reply refused =
+    let within : who < length actors = rw sound.sixteen below in
+    let told : probe_at (actor_of (seen story actors) who).book number ≡ None =
+    ap (λ (b : world.Actor). probe_at b.book number) (actor_is actors who a within is) ∙ told_at told_of a.book number ∙ ap (option_map told_of) none in
+    subst (λ (o : Option Probe). IsAcceptedOf (seen story actors) who o reply (seen story actors)) (sym told) (record { reply_is = refused; same = refl })

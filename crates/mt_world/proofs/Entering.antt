@@ -62,3 +62,8 @@ changed_is w next who c (Err (nos.Refused refusal version)) kept is denied uncha
   outcome = record { reply_is = ap (replies.Refused refusal) denied.1; same = unchanged };
 })
 changed_is w next who c (Err nos.Memory) kept is denied unchanged = inr (record { reply_is = refl; same = unchanged })
+
+-- what follows from a fact of an error holds of it
+pub on_err : {T E : Type 0} (result : Result T E) (P Q : Type 0) → (P → Q) → OnErr result P → OnErr result Q
+on_err (Ok done) P Q more is = tt
+on_err (Err error) P Q more is = more is

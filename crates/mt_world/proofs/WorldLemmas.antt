@@ -15,7 +15,10 @@ use Rattle.mt_probe.specs.Shot.{Shot}
 use Rattle.mt_probe.specs.Shot.{state_in_shot as state_in}
 use Rattle.mt_world.specs.declared.actor.Actor.{Actor}
 use Rattle.mt_world.specs.Private.Sound.{IsKeptOf, IsSoundActor, IsSoundWorld, IsTakenOf, actor_shown}
-use Rattle.mt_world.specs.World.{new_actor}
+use Rattle.mt_read.specs.declared.request.Request.{Request}
+use Rattle.mt_write.specs.declared.reply.Reply.{Reply}
+use Rattle.mt_write.specs.declared.reply.Reply.TheVariants as replies
+use Rattle.mt_world.specs.World.{IsRefused, IsServed, IsStarved, IsWorldLeft, World, new_actor}
 use Rattle.mt_world.specs.World as world
 
 pub on_true : (b : Bool) (P Q : Type 0) → b ≡ true → P → MatchBool b P Q
@@ -152,3 +155,10 @@ sound_first setup h shot actors legal setup_is none state sixteen all = record {
 -- an empty history is legal
 pub legal_none : (setup : Setup) → IsLegal setup []
 legal_none setup = record { replayable = λ i e is. absurd (cc); free = λ i e is. absurd (cc) }
+
+-- ---- what a request is answered
+
+pub served_or : (w next : World) (who : ℕ) (request : Request) (reply : Reply) → (next ≡ w → IsWorldLeft w who request next)
+    → IsServed w who request reply next ⊎ IsRefused w replies.Memory reply next → IsServed w who request reply next ⊎ IsStarved w who request reply next
+served_or w next who request reply left (inl served) = inl served
+served_or w next who request reply left (inr starved) = inr (record { reply_is = starved.reply_is; left = left starved.same })

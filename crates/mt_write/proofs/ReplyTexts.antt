@@ -5,7 +5,7 @@ use Rattle.json.proofs.OnLiterals.{json_on_literals}
 use Rattle.json.specs.Print.{escape}
 use Rattle.serde_json.specs.Data.{string, Members, no_members, member}
 use Rattle.serde_json.specs.Written.{compact_text, items_text, members_text}
-use Rattle.mt_base.specs.declared.command.Refusal.TheVariants.{UnknownCall, UnknownType, UnknownFix, RouteTwice, TentativeHeld, Stale}
+use Rattle.mt_base.specs.declared.command.Refusal.TheVariants.{UnknownCall, UnknownType, UnknownFix, RouteTwice, TentativeHeld, Stale, HeldCall, Full, HistoryFull, Backward, Old, Future, Ended, NotAhead, Ceiling, NoTentative, NotOwner, NoProbe, NotFree, NotDue, Fixed}
 use Rattle.mt_base.specs.declared.hit.Hit.{Hit}
 use Rattle.mt_base.specs.declared.verdict.Verdict.{Verdict}
 use Rattle.mt_write.specs.declared.reply.AdviceItem.{AdviceItem}
@@ -152,3 +152,73 @@ unfolding json_on_literals
 judged_text version v =
     ap (λ text. (codes "{\"entered\":" ++ (decimal version ++ codes ",\"verdict\":[")) ++ (text ++ codes "}\n")) (verdict_is v)
     ∙ flat (codes "{\"entered\":") (decimal version) (codes ",\"verdict\":[") (items_text false (values string (holding (flags v)))) (codes "}") (10 ∷ [])
+
+-- ---- a text whose last value is a version
+
+pub held_call_refused_text : (version : ℕ) → codes "{\"no\":\"held-call\",\"version\":" ++ (decimal version ++ codes "}\n") ≡ reply_text (reply.Refused HeldCall version)
+unfolding json_on_literals
+held_call_refused_text version = simp append_assoc
+
+pub full_refused_text : (version : ℕ) → codes "{\"no\":\"full\",\"version\":" ++ (decimal version ++ codes "}\n") ≡ reply_text (reply.Refused Full version)
+unfolding json_on_literals
+full_refused_text version = simp append_assoc
+
+pub history_full_refused_text : (version : ℕ) → codes "{\"no\":\"history-full\",\"version\":" ++ (decimal version ++ codes "}\n") ≡ reply_text (reply.Refused HistoryFull version)
+unfolding json_on_literals
+history_full_refused_text version = simp append_assoc
+
+pub backward_refused_text : (version : ℕ) → codes "{\"no\":\"backward\",\"version\":" ++ (decimal version ++ codes "}\n") ≡ reply_text (reply.Refused Backward version)
+unfolding json_on_literals
+backward_refused_text version = simp append_assoc
+
+pub old_refused_text : (version : ℕ) → codes "{\"no\":\"old\",\"version\":" ++ (decimal version ++ codes "}\n") ≡ reply_text (reply.Refused Old version)
+unfolding json_on_literals
+old_refused_text version = simp append_assoc
+
+pub future_refused_text : (version : ℕ) → codes "{\"no\":\"future\",\"version\":" ++ (decimal version ++ codes "}\n") ≡ reply_text (reply.Refused Future version)
+unfolding json_on_literals
+future_refused_text version = simp append_assoc
+
+pub ended_refused_text : (version : ℕ) → codes "{\"no\":\"ended\",\"version\":" ++ (decimal version ++ codes "}\n") ≡ reply_text (reply.Refused Ended version)
+unfolding json_on_literals
+ended_refused_text version = simp append_assoc
+
+pub not_ahead_refused_text : (version : ℕ) → codes "{\"no\":\"not-ahead\",\"version\":" ++ (decimal version ++ codes "}\n") ≡ reply_text (reply.Refused NotAhead version)
+unfolding json_on_literals
+not_ahead_refused_text version = simp append_assoc
+
+pub ceiling_refused_text : (version : ℕ) → codes "{\"no\":\"ceiling\",\"version\":" ++ (decimal version ++ codes "}\n") ≡ reply_text (reply.Refused Ceiling version)
+unfolding json_on_literals
+ceiling_refused_text version = simp append_assoc
+
+pub no_tentative_refused_text : (version : ℕ) → codes "{\"no\":\"no-tentative\",\"version\":" ++ (decimal version ++ codes "}\n") ≡ reply_text (reply.Refused NoTentative version)
+unfolding json_on_literals
+no_tentative_refused_text version = simp append_assoc
+
+pub not_owner_refused_text : (version : ℕ) → codes "{\"no\":\"not-owner\",\"version\":" ++ (decimal version ++ codes "}\n") ≡ reply_text (reply.Refused NotOwner version)
+unfolding json_on_literals
+not_owner_refused_text version = simp append_assoc
+
+pub no_probe_refused_text : (version : ℕ) → codes "{\"no\":\"no-probe\",\"version\":" ++ (decimal version ++ codes "}\n") ≡ reply_text (reply.Refused NoProbe version)
+unfolding json_on_literals
+no_probe_refused_text version = simp append_assoc
+
+pub not_free_refused_text : (version : ℕ) → codes "{\"no\":\"not-free\",\"version\":" ++ (decimal version ++ codes "}\n") ≡ reply_text (reply.Refused NotFree version)
+unfolding json_on_literals
+not_free_refused_text version = simp append_assoc
+
+pub not_due_refused_text : (version : ℕ) → codes "{\"no\":\"not-due\",\"version\":" ++ (decimal version ++ codes "}\n") ≡ reply_text (reply.Refused NotDue version)
+unfolding json_on_literals
+not_due_refused_text version = simp append_assoc
+
+pub fixed_refused_text : (version : ℕ) → codes "{\"no\":\"fixed\",\"version\":" ++ (decimal version ++ codes "}\n") ≡ reply_text (reply.Refused Fixed version)
+unfolding json_on_literals
+fixed_refused_text version = simp append_assoc
+
+pub taken_text : (version : ℕ) → codes "{\"taken\":" ++ (decimal version ++ codes "}\n") ≡ reply_text (reply.Taken version)
+unfolding json_on_literals
+taken_text version = simp append_assoc
+
+pub late_text : (version : ℕ) → codes "{\"no\":\"late\",\"version\":" ++ (decimal version ++ codes "}\n") ≡ reply_text (reply.Late version)
+unfolding json_on_literals
+late_text version = simp append_assoc

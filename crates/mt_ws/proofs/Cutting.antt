@@ -1,5 +1,5 @@
 -- What a line is cut from, and which message it is.
-use Rattle.std.proofs.Common.{◌≡◌, ◌≢◌, ◌<◌, ℕ, ◌+◌, Bool, true, false, List, [], ◌∷◌, length, take, drop, refl, sym, ◌∙◌, arith, append-nil, get_or, IsUtf8}
+use Rattle.std.proofs.Common.{◌≡◌, ◌≢◌, ◌<◌, ◌≤◌, ℕ, ◌+◌, Bool, true, false, List, [], ◌∷◌, length, take, drop, refl, sym, ◌∙◌, ap, arith, append-nil, length-append, get_or, IsUtf8}
 use Rattle.std.proofs.lemmas.List.{append_assoc}
 use Rattle.std.specs.Str.{is_utf8}
 use Rattle.std.proofs.lemmas.Str.{IsUtf8-from_is_utf8, is_utf8-from_IsUtf8}
@@ -24,6 +24,14 @@ cuts_none piece none = record {
   piece_is = sym (append-nil piece);
   all = λ e. refl;
 }
+
+-- a part in which no line ends is the whole piece
+pub cut_none : (piece part : List ℕ) → Cuts piece part false → length part ≡ length piece
+cut_none piece part cut = omega (arith, ap length cut.piece_is, ap length (cut.all refl), length-append part cut.rest)
+
+-- the 0x0A of a line is one of the piece's bytes
+pub cut_one : (piece part : List ℕ) → Cuts piece part true → length part + 1 ≤ length piece
+cut_one piece part cut = omega (arith, ap length cut.piece_is, length-append part (10 ∷ cut.rest))
 
 -- the message of a line
 pub text_line : (bytes : List ℕ) → IsUtf8 bytes → line_content bytes ≡ text bytes

@@ -3,6 +3,7 @@ use Rattle.std.proofs.Common.{◌≡◌, ◌<◌, ◌≤◌, ℕ, ◌+◌, ◌-�
 use Rattle.std.proofs.Math.Seq.{take-append_seam, take-length}
 use Rattle.std.proofs.lemmas.List.{take-append-drop, drop-drop, append_assoc, length-take-le, length-drop, drop_all, length-take}
 use Rattle.mt_io.specs.Gathering.{ending_of}
+use Rattle.mt_ws.specs.Messages.{with_ending}
 
 pub take-append-eq : (n : ℕ) (xs ys : List ℕ) → length xs ≡ n → take n (xs ++ ys) ≡ xs
 take-append-eq n xs ys e = rw (← e) (take-append_seam xs ys)
@@ -46,3 +47,13 @@ none_left xs at le =
       (λ e. rw (append-nil (drop at xs)) (drop_all at xs (omega arith))),
       (λ e. let e2 : length (drop at xs) ≡ 0 = ap length (sym (append-nil (drop at xs)) ∙ e) in omega arith),
     )
+
+-- a message with its ending has a byte
+pub some_ended : (bytes : List ℕ) → 0 < length (with_ending bytes)
+some_ended [] = omega arith
+some_ended (b ∷ bytes) = omega arith
+
+pub takes_some : (n : ℕ) (xs : List ℕ) → (0 < n) × (n ≤ length xs) → 0 < length (take n xs)
+takes_some n xs fits =
+    let size : length (take n xs) ≡ n = length-take-le n xs fits.1 in
+    omega arith

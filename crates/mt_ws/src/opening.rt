@@ -9,6 +9,7 @@ use crate::ws_link::WsLink;
 use mt_io::{Failed, Sink, Source};
 use std::alloc::Global;
 use std::io::{Read, Write};
+use std::mem::replace;
 use std::net::TcpStream;
 
 /// What a link is once its first byte was read.
@@ -69,7 +70,7 @@ impl<S: Read + Write + Drop> Opening<S> {
         ensures { Opens S.remaining S.contents self.old self.new }
     {
         if let Some(stream) = self.fresh.take() {
-            self.kind = begin(self.alloc, stream);
+            drop(replace(&mut self.kind, begin(self.alloc, stream)));
         }
     }
 }

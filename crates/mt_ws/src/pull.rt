@@ -32,8 +32,10 @@ pub fn pull<S: Read + Write + Drop>(socket: &mut WebSocket<S, NoMask>) -> Pulled
             Ok(message) => message,
             Err(error) => {
                 return if is_closed(&error) {
+                    drop(error);
                     Pulled::End(None)
                 } else if is_memory(&error) {
+                    drop(error);
                     Pulled::Fault(WsCause::Memory)
                 } else {
                     Pulled::Fault(WsCause::Read(error))
@@ -41,12 +43,14 @@ pub fn pull<S: Read + Write + Drop>(socket: &mut WebSocket<S, NoMask>) -> Pulled
             }
         };
         if message.is_close() {
+            drop(message);
             // The reply to a close waits until then. The end is met whether or not it gets there.
             return Pulled::End(send_waiting(socket));
         }
         if !is_beat(&message) {
             return Pulled::Data(message);
         }
+        drop(message);
     }
     Pulled::Fault(WsCause::Pings)
 }

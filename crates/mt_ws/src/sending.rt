@@ -55,10 +55,12 @@ pub fn send_line<S: Read + Write + Drop>(
     };
     match socket.send(message) {
         Ok(()) => Ok(()),
-        Err(error) => Err(if is_memory(&error) {
-            WsCause::Memory
-        } else {
-            WsCause::Send(error)
-        }),
+        Err(error) => {
+            if is_memory(&error) {
+                drop(error);
+                return Err(WsCause::Memory);
+            }
+            Err(WsCause::Send(error))
+        }
     }
 }

@@ -17,6 +17,7 @@ use mt_io::{Duplex, Failed, Sink, Source};
 use mt_memory::Memory;
 use std::alloc::Global;
 use std::io::{Read, Write};
+use std::mem::replace;
 use tungstenite::handshake::HandshakeError;
 use tungstenite::handshake::server::start;
 use tungstenite::{Error, NoMask, WebSocket, WebSocketConfig};
@@ -48,16 +49,22 @@ impl<S: Read + Write + Drop> WsLink<S> {
     pub fn over(alloc: Global, socket: WebSocket<S, NoMask>) -> Result<WsLink<S>, Memory>
         ensures { IfOk result (IsNew socket) }
     {
-        Ok(WsLink {
-            alloc,
-            socket,
-            ungiven: Ungiven::none(),
-            ended: false,
-            line: Unsent::make(alloc)?,
-            cause: None,
-            read_faults: 0,
-            write_faults: 0,
-        })
+        match Unsent::make(alloc) {
+            Ok(line) => Ok(WsLink {
+                alloc,
+                socket,
+                ungiven: Ungiven::none(),
+                ended: false,
+                line,
+                cause: None,
+                read_faults: 0,
+                write_faults: 0,
+            }),
+            Err(Memory) => {
+                drop(socket);
+                Err(Memory)
+            }
+        }
     }
 
     /// A link over a stream, on which a client asks for a WebSocket now: makes the handshake, and waits for it. The request of a page from
@@ -75,8 +82,15 @@ impl<S: Read + Write + Drop> WsLink<S> {
                 Ok(link) => Ok(link),
                 Err(_) => Err(WsNo::Memory),
             },
-            Err(HandshakeError::Failure(Error::OutOfMemory)) => Err(WsNo::Memory),
-            Err(_) => Err(WsNo::Handshake),
+            Err(error) => {
+                let starved = matches!(error, HandshakeError::Failure(Error::OutOfMemory));
+                drop(error);
+                Err(if starved {
+                    WsNo::Memory
+                } else {
+                    WsNo::Handshake
+                })
+            }
         }
     }
 
@@ -91,7 +105,17 @@ impl<S: Read + Write + Drop> WsLink<S> {
     pub fn into_socket(self) -> WebSocket<S, NoMask>
         ensures { result ≡ self.socket }
     {
-        self.socket
+        let WsLink {
+            socket,
+            ungiven,
+            line,
+            cause,
+            ..
+        } = self;
+        drop(ungiven);
+        drop(line);
+        drop(cause);
+        socket
     }
 
     /// Sends a close, if the stream takes it. No more is claimed of it.
@@ -120,7 +144,7 @@ impl<S: Read + Write + Drop> WsLink<S> {
         ensures count { (self.old.read_faults ≤ self.new.read_faults) × Rose self.old.read_faults self.new.read_faults }
     {
         self.read_faults = self.read_faults.saturating_add(1);
-        self.cause = Some(cause);
+        drop(self.cause.replace(cause));
         Failed
     }
 
@@ -130,7 +154,7 @@ impl<S: Read + Write + Drop> WsLink<S> {
         ensures count { (self.old.write_faults ≤ self.new.write_faults) × Rose self.old.write_faults self.new.write_faults }
     {
         self.write_faults = self.write_faults.saturating_add(1);
-        self.cause = Some(cause);
+        drop(self.cause.replace(cause));
         Failed
     }
 }
@@ -162,7 +186,7 @@ impl<S: Read + Write + Drop> Source for WsLink<S> {
         }
         match pull(&mut self.socket) {
             Pulled::Data(message) => {
-                self.ungiven = Ungiven::of(message);
+                drop(replace(&mut self.ungiven, Ungiven::of(message)));
                 Ok(self.ungiven.give(buf))
             }
             Pulled::End(failure) => {

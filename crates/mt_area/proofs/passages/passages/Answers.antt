@@ -7,6 +7,7 @@ use Rattle.mt_base.specs.Area.{IsBoundedArea}
 use Rattle.mt_area.proofs.Reaching.{none_pierced}
 use Rattle.mt_area.proofs.Tellings.{Adds-more, Adds-none, from_nothing, none_told, one_area_more}
 use Rattle.mt_base.proofs.Members.{take_push}
+use Rattle.std.proofs.lemmas.Result.{IfOk-from_err}
 use Rattle.mt_area.proofs.passages.passages.Goals as goal
 
 pub loop-area-preserved-then-lie_apart : goal.loop-area-preserved-then-lie_apart
@@ -31,3 +32,12 @@ returns c =
     from_nothing (IsPiercedByOne c.args.now c.args.areas.now (named c.args.item.now)) c.loop-area.found
     (subst (λ (areas : List Area). AddsPierced (IsPiercedByOne c.args.now areas (named c.args.item.now)) [] c.loop-area.found)
     (take_all _ c.args.areas.now c.loop-area-test.false) c.loop-area.invariant)
+
+pub lie_apart-requires : goal.lie_apart-requires
+lie_apart-requires c = subst IsBoundedArea (sym c.area-item.is) (c.requires.kept c.loop-area.area-index c.area-item.result c.loop-area-test.true)
+
+pub add_passage-requires-clause-kept : goal.add_passage-requires-clause-kept
+add_passage-requires-clause-kept c = subst IsBoundedArea (sym c.area-item.is) (c.requires.kept c.loop-area.area-index c.area-item.result c.loop-area-test.true)
+
+pub returns-in_err-add_passage : goal.returns-in_err-add_passage
+returns-in_err-add_passage c = IfOk-from_err c.from_residual-in_err-add_passage.result _ c.from_residual-in_err-add_passage.ensures.0

@@ -41,3 +41,27 @@ returns-in-Err-clause-gathers g c =
 
 pub returns-in-Err-clause-kept : goal.returns-in-Err-clause-kept
 returns-in-Err-clause-kept g c = g.met.S.Source.reads_on _ _ _ c.pieces.invariant.kept c.fill.ensures.kept
+
+pub returns-then-move_piece-clause-cause : goal.returns-then-move_piece-clause-cause
+returns-then-move_piece-clause-cause g c = λ is. cc
+
+pub returns-then-move_piece-clause-later : goal.returns-then-move_piece-clause-later
+returns-then-move_piece-clause-later g c = omega (arith, c.pieces.invariant.later, c.fill.ensures.later)
+
+pub returns-then-move_piece-clause-kept : goal.returns-then-move_piece-clause-kept
+returns-then-move_piece-clause-kept g c = g.met.S.Source.reads_on _ _ _ c.pieces.invariant.kept c.fill.ensures.kept
+
+pub returns-in-Ok-false-clause-cause : goal.returns-in-Ok-false-clause-cause
+returns-in-Ok-false-clause-cause g c = λ is. cc
+
+pub returns-in-Ok-false-clause-later : goal.returns-in-Ok-false-clause-later
+returns-in-Ok-false-clause-later g c = omega (arith, c.pieces.invariant.later, c.fill.ensures.later)
+
+pub returns-in-Ok-false-clause-kept : goal.returns-in-Ok-false-clause-kept
+returns-in-Ok-false-clause-kept g c = g.met.S.Source.reads_on _ _ _ c.pieces.invariant.kept c.fill.ensures.kept
+
+pub returns-in-Err-clause-cause : goal.returns-in-Err-clause-cause
+returns-in-Err-clause-cause g c = λ is. omega (arith, c.pieces.invariant.later, c.in-Err.ensures.cause is)
+
+pub returns-in-Err-clause-later : goal.returns-in-Err-clause-later
+returns-in-Err-clause-later g c = omega (arith, c.pieces.invariant.later, c.fill.ensures.later)

@@ -4,6 +4,27 @@ use Rattle.mt_pair.proofs.Gaps.{square_bounded, square_is, twice_fits}
 use Rattle.mt_pair.proofs.Sizes.{IsOffsetWithin-weaken}
 use Rattle.mt_pair.proofs.horizontal.gap.Goals as goal
 
+pub offset_gain-gain-requires-clause-a_kept : goal.offset_gain-gain-requires-clause-a_kept
+offset_gain-gain-requires-clause-a_kept c = c.requires.a_kept
+
+pub offset_gain-gain-requires-clause-b_kept : goal.offset_gain-gain-requires-clause-b_kept
+offset_gain-gain-requires-clause-b_kept c = c.requires.b_kept
+
+pub product-requires-clause-p_kept : goal.product-requires-clause-p_kept
+product-requires-clause-p_kept c = IsOffsetWithin-weaken 2000 7372800 _ (omega arith) c.offset_gain-gain.ensures.kept
+
+pub product-requires-clause-q_kept : goal.product-requires-clause-q_kept
+product-requires-clause-q_kept c = IsOffsetWithin-weaken 2000 7372800 _ (omega arith) c.offset_gain-gain.ensures.kept
+
+pub product-requires-2-clause-p_kept : goal.product-requires-2-clause-p_kept
+product-requires-2-clause-p_kept c = c.offset_at_start-offset.ensures.kept
+
+pub product-requires-3-clause-p_kept : goal.product-requires-3-clause-p_kept
+product-requires-3-clause-p_kept c = c.offset_at_start-offset.ensures.kept
+
+pub product-requires-3-clause-q_kept : goal.product-requires-3-clause-q_kept
+product-requires-3-clause-q_kept c = c.offset_at_start-offset.ensures.kept
+
 pub product-requires-2-clause-q_kept : goal.product-requires-2-clause-q_kept
 product-requires-2-clause-q_kept c = IsOffsetWithin-weaken 2000 7372800 _ (omega arith) c.offset_gain-gain.ensures.kept
 

@@ -5,6 +5,30 @@ use Rattle.mt_base.proofs.Spans.{IsSpan-same}
 use Rattle.mt_pair.proofs.Spans.{loses_after}
 use Rattle.mt_pair.proofs.overlap.overlap.Goals as goal
 
+pub later-a-requires : goal.later-a-requires
+later-a-requires c = c.requires.s_kept
+
+pub later-b-requires : goal.later-b-requires
+later-b-requires c = c.requires.t_kept
+
+pub span_from-requires-clause-rules_kept : goal.span_from-requires-clause-rules_kept
+span_from-requires-clause-rules_kept c = c.requires.rules_kept
+
+pub span_from-requires-clause-a_kept : goal.span_from-requires-clause-a_kept
+span_from-requires-clause-a_kept c = rw c.later-a.ensures c.requires.s_bounded
+
+pub span_from-requires-clause-b_kept : goal.span_from-requires-clause-b_kept
+span_from-requires-clause-b_kept c = rw c.later-b.ensures c.requires.t_bounded
+
+pub span_from-requires-clause-some : goal.span_from-requires-clause-some
+span_from-requires-clause-some c = c.requires.some
+
+pub span_from-requires-clause-short : goal.span_from-requires-clause-short
+span_from-requires-clause-short c = c.requires.short
+
+pub returns-clause-counted : goal.returns-clause-counted
+returns-clause-counted c = c.span_from.ensures.counted
+
 pub returns-clause-span : goal.returns-clause-span
 returns-clause-span c =
     let rules = c.args.rules.now in

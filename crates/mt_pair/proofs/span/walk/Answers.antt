@@ -3,6 +3,15 @@ use Rattle.mt_base.specs.Conflict.{IsConflict}
 use Rattle.mt_pair.proofs.Walks.{HasBegun-covers, IsConflict-joined}
 use Rattle.mt_pair.proofs.span.walk.Goals as goal
 
+pub holding-s-requires-clause-begun : goal.holding-s-requires-clause-begun
+holding-s-requires-clause-begun c = c.loop-k.invariant.a_begun
+
+pub holding-t-requires-clause-begun : goal.holding-t-requires-clause-begun
+holding-t-requires-clause-begun c = c.loop-k.invariant.b_begun
+
+pub stretch-more-requires-clause-rules_kept : goal.stretch-more-requires-clause-rules_kept
+stretch-more-requires-clause-rules_kept c = c.requires.rules_kept
+
 pub loop-k-preserved : goal.loop-k-preserved
 loop-k-preserved c =
     let inv = c.loop-k.invariant in

@@ -1,5 +1,7 @@
 use Rattle.std.proofs.Common.{ap, length, sym, ◌∙◌, refl, inl, arith}
+use Rattle.std.proofs.lemmas.Result.{IfOk-from_err}
 use Rattle.mt_kept.specs.Places.{seen}
+use Rattle.mt_picture.proofs.Exits.{first_fits, second_fits}
 use Rattle.mt_picture.proofs.Following.{first_call, inside_places, joined_slot, second_stays}
 use Rattle.mt_picture.proofs.change.change_actual.Goals as goal
 
@@ -49,3 +51,36 @@ returns-in_err-others-clause-counted c = c.in_ok-finds.ensures.counted _ c.in_ok
 
 pub returns-clause-counted : goal.returns-clause-counted
 returns-clause-counted c = c.in_ok-finds.ensures.counted _ c.in_ok-first.ensures
+
+pub new_finds-requires-clause-setup : goal.new_finds-requires-clause-setup
+new_finds-requires-clause-setup c = c.requires.setup_is
+
+pub new_finds-requires-clause-stood : goal.new_finds-requires-clause-stood
+new_finds-requires-clause-stood c = c.requires.stood
+
+pub overflow_mul-slot : goal.overflow_mul-slot
+overflow_mul-slot c = first_fits c.args.slot _ _ c.requires.inside c.keeps.ensures.sound.places c.keeps.ensures.sound.rules.flights
+
+pub overflow_mul-slot-2 : goal.overflow_mul-slot-2
+overflow_mul-slot-2 c = first_fits c.args.slot _ _ c.requires.inside c.keeps.ensures.sound.places c.keeps.ensures.sound.rules.flights
+
+pub overflow_add-slot : goal.overflow_add-slot
+overflow_add-slot c = second_fits c.args.slot _ _ c.requires.inside c.keeps.ensures.sound.places c.keeps.ensures.sound.rules.flights
+
+pub returns-in_err-first-clause-change : goal.returns-in_err-first-clause-change
+returns-in_err-first-clause-change c = IfOk-from_err c.from_residual.result _ c.from_residual.ensures.0
+
+pub returns-in_err-second-clause-change : goal.returns-in_err-second-clause-change
+returns-in_err-second-clause-change c = IfOk-from_err c.from_residual-in_err-second.result _ c.from_residual-in_err-second.ensures.0
+
+pub returns-in_err-finds-clause-change : goal.returns-in_err-finds-clause-change
+returns-in_err-finds-clause-change c = IfOk-from_err c.from_residual-in_err-finds.result _ c.from_residual-in_err-finds.ensures.0
+
+pub returns-in_err-others-clause-change : goal.returns-in_err-others-clause-change
+returns-in_err-others-clause-change c = IfOk-from_err c.from_residual-in_err-others.result _ c.from_residual-in_err-others.ensures.0
+
+pub returns-in_err-add_pairs-clause-change : goal.returns-in_err-add_pairs-clause-change
+returns-in_err-add_pairs-clause-change c = IfOk-from_err c.from_residual-in_err-add_pairs.result _ c.from_residual-in_err-add_pairs.ensures.0
+
+pub returns-in_err-add_pairs-clause-counted : goal.returns-in_err-add_pairs-clause-counted
+returns-in_err-add_pairs-clause-counted c = c.in_ok-finds.ensures.counted _ c.in_ok-first.ensures

@@ -1,5 +1,6 @@
 use Rattle.std.proofs.Common.{ap, length, sym, ◌∙◌, arith}
 use Rattle.mt_kept.specs.Places.{seen}
+use Rattle.mt_picture.proofs.Exits.{first_fits}
 use Rattle.mt_picture.proofs.Following.{first_stays, inside_places, nothing_behind}
 use Rattle.mt_picture.proofs.change.change_bare.Goals as goal
 
@@ -25,3 +26,6 @@ returns c =
       finds_are = rw places (nothing_behind c.args.held.now.snapshot.slots c.args.slot c.args.flight.now c.requires.slot c.requires.was c.requires.bare k.rules k.moment
           c.in_ok-finds.finds.items finds);
     }
+
+pub overflow_mul-slot : goal.overflow_mul-slot
+overflow_mul-slot c = first_fits c.args.slot _ _ c.requires.slot c.keeps.ensures.sound.places c.keeps.ensures.sound.rules.flights

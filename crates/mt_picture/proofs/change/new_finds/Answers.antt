@@ -1,4 +1,4 @@
-use Rattle.std.proofs.Common.{◌≡◌, ap, ◌∙◌, sym, refl, inl, inr, subst}
+use Rattle.std.proofs.Common.{ap, ◌∙◌, sym, refl, inl, inr, subst}
 use Rattle.std.proofs.lemmas.Result.{IfOk-weaker}
 use Rattle.mt_base.specs.Picture.{NamedTrajectory}
 use Rattle.mt_base.specs.Tables.{Setup}
@@ -6,6 +6,7 @@ use Rattle.mt_picture.specs.Private.Asking.{WasAsked}
 use Rattle.mt_track.specs.Named.{named}
 use Rattle.mt_kept.specs.Places.{seen}
 use Rattle.mt_picture.proofs.Knowing.{candidates_right}
+use Rattle.std.proofs.lemmas.Option.{none-some, same_Some}
 use Rattle.mt_picture.proofs.change.new_finds.Goals as goal
 
 pub candidates-requires-clause-preps : goal.candidates-requires-clause-preps
@@ -32,7 +33,7 @@ returns-clause-finds c =
     IfOk-weaker c.gather.result _ _ (λ finds found after at_is agree. found after (agree mine is)) (rw c.kept.ensures at c.gather.ensures.finds)
 
 pub returns-in_default-clause-counted : goal.returns-in_default-clause-counted
-returns-in_default-clause-counted c = λ m is. absurd (let e = ap seen c.in_default.is in let both = sym e ∙ is in cc)
+returns-in_default-clause-counted c = λ m is. absurd (none-some m (sym (ap seen c.in_default.is) ∙ is))
 
 pub returns-in_err-candidates-clause-counted : goal.returns-in_err-candidates-clause-counted
 returns-in_err-candidates-clause-counted c = λ m is. inl refl
@@ -40,7 +41,7 @@ returns-in_err-candidates-clause-counted c = λ m is. inl refl
 pub returns-clause-counted : goal.returns-clause-counted
 returns-clause-counted c = λ m is.
     let s = c.args.held.now.snapshot in
-    let own : named c.in-Some.item ≡ m = (let both = sym (ap seen c.in-Some.is) ∙ is in cc) in
+    let own = same_Some (named c.in-Some.item) m (sym (ap seen c.in-Some.is) ∙ is) in
     let near = rw (c.deref.ensures, c.snapshot-snapshot.ensures.value) at c.in_ok-candidates.ensures in
     let rose = rw (c.kept.ensures, c.keeps.ensures.picture.places_are, c.keeps.ensures.picture.moment_is, c.deref-2.ensures.value) at c.gather.ensures.counted in
     subst (λ (u : NamedTrajectory). WasAsked s c.args.prep.now c.args.known c.args.place u c.args.tests.now c.gather.new.tests) own

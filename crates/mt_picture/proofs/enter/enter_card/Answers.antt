@@ -30,3 +30,21 @@ withdraw-requires-clause-counted c =
 
 pub withdraw-requires-clause-withdraws : goal.withdraw-requires-clause-withdraws
 withdraw-requires-clause-withdraws c = withdraws c.args.command.now c.requires.alters (λ reports. (let t = c.is_report.ensures.1 reports in let f = c.if-is_report.false in cc))
+
+pub report-requires-clause-there : goal.report-requires-clause-there
+report-requires-clause-there c = c.slot_of-slot.ensures
+
+pub report-requires-clause-reports : goal.report-requires-clause-reports
+report-requires-clause-reports c = c.is_report.ensures.0 c.if-is_report.true
+
+pub withdraw-requires-clause-there : goal.withdraw-requires-clause-there
+withdraw-requires-clause-there c = c.slot_of-slot.ensures
+
+pub slot_of-slot-requires-clause-left : goal.slot_of-slot-requires-clause-left
+slot_of-slot-requires-clause-left c = rw c.snapshot.ensures.value at c.in_ok-card.ensures
+
+pub report-requires-clause-left : goal.report-requires-clause-left
+report-requires-clause-left c = rw c.snapshot.ensures.value at c.in_ok-card.ensures
+
+pub withdraw-requires-clause-left : goal.withdraw-requires-clause-left
+withdraw-requires-clause-left c = rw c.snapshot.ensures.value at c.in_ok-card.ensures

@@ -12,6 +12,7 @@ use Rattle.mt_probe.specs.Prepared.{named_trajectory, path_made}
 use Rattle.mt_picture.proofs.Bounding.{made_known}
 use Rattle.mt_picture.proofs.FirstHit.{enters_or_stops, filing_unprobed, no_first}
 use Rattle.mt_picture.proofs.Making.{filing_kind}
+use Rattle.std.proofs.lemmas.Option.{none-some, same_Some}
 use Rattle.mt_picture.proofs.entering.file.Goals as goal
 
 pub put_made-requires-clause-put : goal.put_made-requires-clause-put
@@ -38,11 +39,11 @@ put_made-requires-clause-new c =
     } in
     record {
       inside = c.requires.slot;
-      was = λ g is. absurd (let both = sym c.requires.free ∙ is in cc);
+      was = λ g is. absurd (none-some g (sym c.requires.free ∙ is));
       setup_is = c.requires.prepared.setup_is;
       call_is = sym c.requires.prepared.call_is;
-      new = λ m is known. (let e : made_of_kind f Actual f.actual ≡ m = cc in ap (λ (u : NamedTrajectory). u.path) (sym e) ∙ c.in_ok-strand.ensures.known known);
-      other = λ m is. absurd (cc);
+      new = λ m is known. ap (λ (u : NamedTrajectory). u.path) (sym (same_Some (made_of_kind f Actual f.actual) m is)) ∙ c.in_ok-strand.ensures.known known;
+      other = λ m is. absurd (none-some m is);
       stood = c.requires.prepared.stood;
     }
 
@@ -67,3 +68,21 @@ returns-clause-counted c = λ mine made.
     let one = made_known shot.setup (state_in shot) c.args.who c.args.command.now c.args.card t mine c.requires.prepared.left
     (subst (λ (k : Kind). path_made shot.setup c.args.card k ≡ Some t) (sym kind) c.in_ok-strand.ensures.made) made in
     c.put_made.ensures.counted mine (ap (λ (k : Kind). Some (named_trajectory c.args.card k t)) (sym kind) ∙ ap Some one)
+
+pub strand_for-requires-clause-setup : goal.strand_for-requires-clause-setup
+strand_for-requires-clause-setup c = c.requires.prepared.setup_is
+
+pub strand_for-requires-clause-known : goal.strand_for-requires-clause-known
+strand_for-requires-clause-known c = c.requires.prepared.card_is
+
+pub entry_of-requires : goal.entry_of-requires
+entry_of-requires c = c.requires.bounded
+
+pub put_made-requires-clause-counted : goal.put_made-requires-clause-counted
+put_made-requires-clause-counted c = c.requires.counted
+
+pub put_made-requires-clause-complete : goal.put_made-requires-clause-complete
+put_made-requires-clause-complete c = c.in_ok-entry.ensures.complete
+
+pub strand_for-requires-clause-sound : goal.strand_for-requires-clause-sound
+strand_for-requires-clause-sound c = c.requires.prepared.left.sound

@@ -1,4 +1,5 @@
-use Rattle.std.proofs.Common.{◌≡◌, Some, None}
+use Rattle.std.proofs.Common.{◌≡◌, Some, None, refl}
+use Rattle.std.proofs.lemmas.Result.{IfOk-from_err, MatchResult-from_err}
 use Rattle.mt_picture.proofs.FirstHit.{first_here, none_is}
 use Rattle.mt_picture.proofs.Slotted.{places_set}
 use Rattle.mt_picture.proofs.entering.put_made.Goals as goal
@@ -30,3 +31,70 @@ returns-clause-hits c = λ probed.
 
 pub returns-then-is_some-clause-free : goal.returns-then-is_some-clause-free
 returns-then-is_some-clause-free c = c.in_ok-first.ensures.free
+
+pub change_for-requires : goal.change_for-requires
+change_for-requires c = c.requires.new
+
+pub put_change-requires-clause-counted : goal.put_change-requires-clause-counted
+put_change-requires-clause-counted c = c.requires.counted
+
+pub put_change-requires-clause-put : goal.put_change-requires-clause-put
+put_change-requires-clause-put c = c.requires.put
+
+pub put_change-requires-clause-complete : goal.put_change-requires-clause-complete
+put_change-requires-clause-complete c = c.requires.complete
+
+pub put_change-requires-clause-change : goal.put_change-requires-clause-change
+put_change-requires-clause-change c = c.in_ok-change.ensures.change
+
+pub returns-in_err-change-clause-entered : goal.returns-in_err-change-clause-entered
+returns-in_err-change-clause-entered c = MatchResult-from_err c.from_residual.result _ _ c.from_residual.ensures.0 (λ err. refl)
+
+pub returns-in_err-change-clause-counted : goal.returns-in_err-change-clause-counted
+returns-in_err-change-clause-counted c = c.in_err-change.ensures.counted
+
+pub returns-in_err-first-clause-entered : goal.returns-in_err-first-clause-entered
+returns-in_err-first-clause-entered c =
+    MatchResult-from_err c.from_residual-in_err-first.result _ _ c.from_residual-in_err-first.ensures.0
+    (λ err. refl)
+
+pub returns-in_err-first-clause-counted : goal.returns-in_err-first-clause-counted
+returns-in_err-first-clause-counted c = c.in_ok-change.ensures.counted
+
+pub returns-in_err-put_change-clause-entered : goal.returns-in_err-put_change-clause-entered
+returns-in_err-put_change-clause-entered c =
+    MatchResult-from_err c.from_residual-in_err-put_change.result _ _ c.from_residual-in_err-put_change.ensures.0
+    (λ err. c.in_err-put_change.ensures)
+
+pub returns-in_err-put_change-clause-counted : goal.returns-in_err-put_change-clause-counted
+returns-in_err-put_change-clause-counted c = c.in_ok-change.ensures.counted
+
+pub returns-then-is_some-clause-counted : goal.returns-then-is_some-clause-counted
+returns-then-is_some-clause-counted c = c.in_ok-change.ensures.counted
+
+pub returns-clause-entered : goal.returns-clause-entered
+returns-clause-entered c = c.in_ok-put_change.ensures
+
+pub returns-clause-free : goal.returns-clause-free
+returns-clause-free c = λ unprobed. refl
+
+pub returns-clause-counted : goal.returns-clause-counted
+returns-clause-counted c = c.in_ok-change.ensures.counted
+
+pub returns-in_err-change-clause-hits : goal.returns-in_err-change-clause-hits
+returns-in_err-change-clause-hits c = IfOk-from_err c.from_residual.result _ c.from_residual.ensures.0
+
+pub returns-in_err-change-clause-free : goal.returns-in_err-change-clause-free
+returns-in_err-change-clause-free c = IfOk-from_err c.from_residual.result _ c.from_residual.ensures.0
+
+pub returns-in_err-first-clause-hits : goal.returns-in_err-first-clause-hits
+returns-in_err-first-clause-hits c = IfOk-from_err c.from_residual-in_err-first.result _ c.from_residual-in_err-first.ensures.0
+
+pub returns-in_err-first-clause-free : goal.returns-in_err-first-clause-free
+returns-in_err-first-clause-free c = IfOk-from_err c.from_residual-in_err-first.result _ c.from_residual-in_err-first.ensures.0
+
+pub returns-in_err-put_change-clause-hits : goal.returns-in_err-put_change-clause-hits
+returns-in_err-put_change-clause-hits c = IfOk-from_err c.from_residual-in_err-put_change.result _ c.from_residual-in_err-put_change.ensures.0
+
+pub returns-in_err-put_change-clause-free : goal.returns-in_err-put_change-clause-free
+returns-in_err-put_change-clause-free c = IfOk-from_err c.from_residual-in_err-put_change.result _ c.from_residual-in_err-put_change.ensures.0

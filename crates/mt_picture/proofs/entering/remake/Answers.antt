@@ -70,3 +70,6 @@ returns-clause-counted c = λ mine made.
     c.put_made.ensures.counted mine
     (new_stands (flight_at shot c.args.slot) (shot.version + 1) c.args.command.now c.args.card t c.in_ok-flight.flight c.kind_made-kind.result kind c.in_ok-flight.ensures
     ∙ ap (λ (k : Kind). Some (named_trajectory c.args.card k t)) kind ∙ ap Some one)
+
+pub strand_for-requires-clause-sound : goal.strand_for-requires-clause-sound
+strand_for-requires-clause-sound c = c.requires.prepared.left.sound

@@ -1,4 +1,4 @@
-use Rattle.std.proofs.Common.{◌≡◌, ◌≢◌, ◌+◌, ℕ, get_or, length, take, sym, ◌∙◌, arith}
+use Rattle.std.proofs.Common.{◌≡◌, ◌≢◌, ◌+◌, ℕ, get_or, length, take, sym, ◌∙◌, true≢false, arith}
 use Rattle.std.proofs.lemmas.Bool.Decides.{nat_tests}
 use Rattle.std.proofs.lemmas.List.{take_all, take_more}
 use Rattle.mt_base.proofs.Members.{distinct_take}
@@ -25,7 +25,7 @@ loop-place-preserved c =
       | then-branch+in_ok-push w ↦ rw (w.near-is, w.in_ok-push.ensures.items)
           (near_more shot cover (take i places) c.loop-place.near.items it c.loop-place.invariant (is.0 w.if-branch.true) (rw more at apart))
       | else-branch w ↦ rw w.near-is (near_same shot cover (take i places) c.loop-place.near.items it c.loop-place.invariant
-          (λ near. let here = is.1 near in let not = w.if-branch.false in cc))
+          (λ near. true≢false (sym (is.1 near) ∙ w.if-branch.false)))
     ])
 
 pub returns : goal.returns

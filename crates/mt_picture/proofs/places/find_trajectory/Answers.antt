@@ -1,9 +1,10 @@
-use Rattle.std.proofs.Common.{ℕ, Some, ap₂, arith}
-use Rattle.std.proofs.lemmas.Int.{ints}
+use Rattle.std.proofs.Common.{ℕ, Some, ap₂, sym, ◌∙◌}
+use Rattle.std.proofs.lemmas.Option.{none-some}
 use Rattle.mt_probe.specs.Shot.{flight_at, records_in}
 use Rattle.mt_probe.proofs.Placed.{filled_inside}
 use Rattle.mt_picture.specs.declared.places.Standing.{Standing}
 use Rattle.mt_picture.proofs.Entered.{there}
+use Rattle.mt_picture.proofs.Exits.{few_slots}
 use Rattle.mt_picture.proofs.Standings.{call_found, flight_listed, one_standing, stamp_listed, stands_found}
 use Rattle.mt_picture.proofs.places.find_trajectory.Goals as goal
 
@@ -14,9 +15,7 @@ place_of-place-requires c =
     let called = call_found (records_in shot.slots) c.args.call (flight_at shot slot) c.in_ok-slot.ensures.there c.in_ok-slot.ensures.flight in
     let it = there (flight_at shot slot) c.args.call called in
     let inside = filled_inside shot.slots slot it.flight it.at_is in
-    let many = c.keeps.ensures.sound.places in
-    let few = c.keeps.ensures.sound.rules.flights in
-    omega (arith, ints)
+    few_slots slot _ _ inside c.keeps.ensures.sound.places c.keeps.ensures.sound.rules.flights
 
 pub returns-clause-there : goal.returns-clause-there
 returns-clause-there c =
@@ -39,13 +38,12 @@ returns-clause-only c = λ place stamp stands.
 
 pub returns-in_err-slot-clause-only : goal.returns-in_err-slot-clause-only
 returns-in_err-slot-clause-only c = λ place stamp stands.
-    absurd (let found = flight_listed c.args.snapshot.now c.keeps.ensures.sound c.args.call c.args.kind place stamp stands in
-    let none = c.in_err-slot.ensures.flight in cc)
+    absurd (none-some stands.flight.card (sym c.in_err-slot.ensures.flight
+    ∙ flight_listed c.args.snapshot.now c.keeps.ensures.sound c.args.call c.args.kind place stamp stands))
 
 pub returns-in_err-stamp-clause-only : goal.returns-in_err-stamp-clause-only
 returns-in_err-stamp-clause-only c = λ place stamp stands.
     let shot = c.args.snapshot.now in
     let slot = c.in_ok-slot.slot in
     let called = call_found (records_in shot.slots) c.args.call (flight_at shot slot) c.in_ok-slot.ensures.there c.in_ok-slot.ensures.flight in
-    absurd (let some = stamp_listed shot c.keeps.ensures.sound c.args.call c.args.kind slot place stamp called stands in
-    let none = c.in_err-stamp.ensures in cc)
+    absurd (none-some stamp (c.in_err-stamp.ensures ∙ stamp_listed shot c.keeps.ensures.sound c.args.call c.args.kind slot place stamp called stands))

@@ -1,7 +1,8 @@
-use Rattle.std.proofs.Common.{◌≡◌, ℕ, List, sym, ◌∙◌, ap, subst}
+use Rattle.std.proofs.Common.{ℕ, List, sym, ◌∙◌, ap, subst}
 use Rattle.mt_base.specs.History.{filled}
 use Rattle.mt_base.specs.Picture.{State}
 use Rattle.mt_picture.specs.Story.{IsNamedAfter}
+use Rattle.std.proofs.lemmas.Option.{same_Some}
 use Rattle.mt_picture.proofs.usable.is_usable.Goals as goal
 
 -- an entry after the prep names the flight
@@ -16,7 +17,7 @@ returns-clause-usable c = λ same.
     let unnamed = rw c.version.ensures.version at (rw c.history-history.ensures at (c.is_named_after.ensures.unnamed c.if-is_named_after.false)) in
     record {
       same_flight = λ call is.
-          let own : c.in-Some.call ≡ call = (let both = c.in-Some.ensures ∙ is in cc) in
+          let own = same_Some c.in-Some.call call (c.in-Some.ensures ∙ is) in
           subst (λ (k : List ℕ). ¬ IsNamedAfter c.args.held.now.history c.args.prep.now.state.version k) own unnamed;
       same_moment = rw c.snapshot.ensures.value at (c.is_same_moment.ensures.same same) ∙ ap (λ (s : State). filled s.now c.args.command.now) c.snapshot.ensures.stands;
     }

@@ -1,4 +1,5 @@
 use Rattle.std.proofs.Common.{◌-◌, length, refl, arith, rules}
+use Rattle.std.proofs.lemmas.Result.{IfOk-from_err}
 use Rattle.mt_predict.specs.Manners.{manner}
 use Rattle.mt_predict.proofs.Legs.{IsNext, first_bounded, margin_within, place_flown, rows_flown, stretch_bounded, stretch_flown, stretch_follows}
 use Rattle.mt_predict.proofs.fly.fly_leg.Goals as goal
@@ -57,3 +58,33 @@ pub returns-clause-place : goal.returns-clause-place
 returns-clause-place c = λ more.
     place_flown (14400 - length c.args.strand.now.rows) c.loop-left.invariant (omega (arith, c.loop-left-test.false)) (omega (arith, c.end.ensures.kept.short))
     (omega (arith, c.min.ensures, c.start.ensures, c.end.ensures.end)) more
+
+pub returns-in_err-push-clause-rows : goal.returns-in_err-push-clause-rows
+returns-in_err-push-clause-rows c = IfOk-from_err _ _ c.from_residual.ensures.0
+
+pub returns-in_err-push-clause-at : goal.returns-in_err-push-clause-at
+returns-in_err-push-clause-at c = IfOk-from_err _ _ c.from_residual.ensures.0
+
+pub returns-in_err-push-clause-place : goal.returns-in_err-push-clause-place
+returns-in_err-push-clause-place c = IfOk-from_err _ _ c.from_residual.ensures.0
+
+pub row_on-row-requires-clause-manner_kept : goal.row_on-row-requires-clause-manner_kept
+row_on-row-requires-clause-manner_kept c = c.requires.manner_kept
+
+pub row_on-row-requires-clause-leg_kept : goal.row_on-row-requires-clause-leg_kept
+row_on-row-requires-clause-leg_kept c = c.requires.leg_kept
+
+pub steady-seconds-requires-clause-leg_kept : goal.steady-seconds-requires-clause-leg_kept
+steady-seconds-requires-clause-leg_kept c = c.requires.leg_kept
+
+pub steady-seconds-requires-clause-rules_kept : goal.steady-seconds-requires-clause-rules_kept
+steady-seconds-requires-clause-rules_kept c = c.requires.manner_kept.rules
+
+pub returns-clause-at : goal.returns-clause-at
+returns-clause-at c = c.loop-left.invariant.at
+
+pub returns-clause-start : goal.returns-clause-start
+returns-clause-start c = c.loop-left.invariant.start
+
+pub returns-clause-rvsm : goal.returns-clause-rvsm
+returns-clause-rvsm c = c.loop-left.invariant.rvsm

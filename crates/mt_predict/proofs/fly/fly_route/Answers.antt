@@ -1,4 +1,5 @@
 use Rattle.std.proofs.Common.{pos, get_or, arith}
+use Rattle.std.proofs.lemmas.Result.{IfOk-from_err}
 use Rattle.mt_base.specs.declared.place.Point.{Point}
 use Rattle.mt_predict.specs.Manners.{manner}
 use Rattle.mt_predict.proofs.Aboard.{leg_bounded, leg_rows_kept}
@@ -52,3 +53,15 @@ returns-then-end-at-eq-MOST-clause-rows c =
 
 pub returns-clause-rows : goal.returns-clause-rows
 returns-clause-rows c = over_last c.loop-number.invariant c.loop-number-test.false
+
+pub returns-in_err-place-clause-start : goal.returns-in_err-place-clause-start
+returns-in_err-place-clause-start c = IfOk-from_err _ _ c.from_residual.ensures.0
+
+pub returns-in_err-place-clause-rvsm : goal.returns-in_err-place-clause-rvsm
+returns-in_err-place-clause-rvsm c = IfOk-from_err _ _ c.from_residual.ensures.0
+
+pub returns-in_err-place-clause-rows : goal.returns-in_err-place-clause-rows
+returns-in_err-place-clause-rows c = IfOk-from_err _ _ c.from_residual.ensures.0
+
+pub fly_leg-requires-clause-manner_kept : goal.fly_leg-requires-clause-manner_kept
+fly_leg-requires-clause-manner_kept c = c.requires.manner_kept

@@ -1,4 +1,5 @@
 use Rattle.std.proofs.Common.{Option, Some, None, pos, refl, rules, tests}
+use Rattle.std.proofs.lemmas.Result.{IfOk-from_err}
 use Rattle.std.specs.Prelude.{IfSome, unwrap_or}
 use Rattle.std.proofs.lemmas.List.{map-append, take_more}
 use Rattle.std.proofs.lemmas.List.Elements.{All-push}
@@ -27,3 +28,9 @@ loop-name-preserved c = record {
   plane = rw c.in_ok-push.ensures.items (All-push (λ (q : Point). IsInPlane q.x q.y) c.loop-name.points.items c.unwrap_or-point.result
       c.loop-name.invariant.plane (rw c.unwrap_or-point.ensures (placed c.fix.result c.fix.ensures.plane)));
 }
+
+pub returns-in_err-push-clause-points : goal.returns-in_err-push-clause-points
+returns-in_err-push-clause-points c = IfOk-from_err _ _ c.from_residual.ensures.0
+
+pub returns-in_err-push-clause-plane : goal.returns-in_err-push-clause-plane
+returns-in_err-push-clause-plane c = IfOk-from_err _ _ c.from_residual.ensures.0

@@ -4,10 +4,10 @@ use Rattle.mt_base.specs.Conflict.{IsConflict}
 use Rattle.mt_base.specs.Picture.{NamedTrajectory}
 use Rattle.mt_probe.specs.Private.Finds.{FindsMore}
 use Rattle.mt_base.specs.Trajectory.{horizon}
-use Rattle.mt_probe.proofs.Gathered.{one_more, quiet_more}
+use Rattle.mt_probe.proofs.Gathered.{none_more, one_more, quiet_more}
 use Rattle.mt_base.proofs.Members.{Contains-head}
 use Rattle.mt_probe.proofs.Candidates.{early, lost_within}
-use Rattle.mt_probe.proofs.Nearby.{other_one}
+use Rattle.mt_probe.proofs.Nearby.{other_nowhere, other_one, other_own, other_pathless}
 use Rattle.mt_probe.proofs.finding.find_met.Goals as goal
 
 pub find_one-found-requires-clause-ends : goal.find_one-found-requires-clause-ends
@@ -45,6 +45,37 @@ returns-in-Some-whole-clause-found c =
 
 pub returns-in-Some-whole-clause-counted : goal.returns-in-Some-whole-clause-counted
 returns-in-Some-whole-clause-counted c =
+    let shot = c.args.snapshot.now in
+    let one = ap length (other_one shot.slots c.args.call c.args.met.item c.kind_of-kind.result c.in-Some.card.now c.in-Some-path.other.now c.kind_of-kind.ensures
+    c.in-Some.ensures (sym c.eq.ensures ∙ c.if-eq.false) c.in-Some-path.ensures) in
+    omega (arith, one, c.find_one-found.ensures.counted)
+
+pub returns-in_default-clause-found : goal.returns-in_default-clause-found
+returns-in_default-clause-found c =
+    let shot = c.args.snapshot.now in
+    subst (λ (others : List NamedTrajectory). FindsMore shot.setup.rules shot.now c.args.strand.now others c.args.finds.now c.args.finds.now)
+    (sym (other_nowhere shot.slots c.args.call c.args.met.item c.in_default.ensures)) (none_more shot.setup.rules shot.now c.args.strand.now c.args.finds.now)
+
+pub returns-then-eq-clause-found : goal.returns-then-eq-clause-found
+returns-then-eq-clause-found c =
+    let shot = c.args.snapshot.now in
+    subst (λ (others : List NamedTrajectory). FindsMore shot.setup.rules shot.now c.args.strand.now others c.args.finds.now c.args.finds.now)
+    (sym (other_own shot.slots c.args.call c.args.met.item c.in-Some.card.now c.in-Some.ensures (sym c.eq.ensures ∙ c.if-eq.true))) (none_more shot.setup.rules shot.now c.args.strand.now c.args.finds.now)
+
+pub returns-in_default-path-clause-found : goal.returns-in_default-path-clause-found
+returns-in_default-path-clause-found c =
+    let shot = c.args.snapshot.now in
+    subst (λ (others : List NamedTrajectory). FindsMore shot.setup.rules shot.now c.args.strand.now others c.args.finds.now c.args.finds.now)
+    (sym (other_pathless shot.slots c.args.call c.args.met.item c.kind_of-kind.result c.kind_of-kind.ensures c.in_default-path.ensures)) (none_more shot.setup.rules shot.now c.args.strand.now c.args.finds.now)
+
+pub find_one-found-requires-clause-rules : goal.find_one-found-requires-clause-rules
+find_one-found-requires-clause-rules c = c.rules-rules.ensures.kept
+
+pub find_one-found-requires-clause-early : goal.find_one-found-requires-clause-early
+find_one-found-requires-clause-early c = c.now-now.ensures.early
+
+pub returns-in-None-clause-counted : goal.returns-in-None-clause-counted
+returns-in-None-clause-counted c =
     let shot = c.args.snapshot.now in
     let one = ap length (other_one shot.slots c.args.call c.args.met.item c.kind_of-kind.result c.in-Some.card.now c.in-Some-path.other.now c.kind_of-kind.ensures
     c.in-Some.ensures (sym c.eq.ensures ∙ c.if-eq.false) c.in-Some-path.ensures) in

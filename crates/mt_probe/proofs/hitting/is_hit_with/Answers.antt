@@ -4,7 +4,7 @@ use Rattle.mt_base.specs.declared.conflict.Kind.TheVariants.{Actual}
 use Rattle.mt_base.specs.Picture.{NamedTrajectory}
 use Rattle.mt_base.proofs.Members.{Contains-head}
 use Rattle.mt_probe.proofs.Candidates.{early, lost_within}
-use Rattle.mt_probe.proofs.Clearing.{clear_by, hit_there}
+use Rattle.mt_probe.proofs.Clearing.{clear_by, hit_there, no_flight, no_path, own_flight}
 use Rattle.mt_probe.proofs.Nearby.{other_one}
 use Rattle.mt_probe.proofs.hitting.is_hit_with.Goals as goal
 
@@ -37,3 +37,34 @@ returns-clause-clear c =
     let conflict = rw (c.rules-rules.ensures.rules, c.now-now.ensures.now) at c.met_in_window.ensures in
     λ none flown. clear_by shot c.args.call c.args.strand.now _ c.in-Some.card.now c.in-Some-path.other.now c.met_in_window.result c.keeps.ensures.sound
     c.in-Some.ensures c.in-Some-path.ensures conflict (sym c.is_some.ensures ∙ none)
+
+pub returns-in_default-clause-hit : goal.returns-in_default-clause-hit
+returns-in_default-clause-hit c = λ t. absurd (true≢false (sym t))
+
+pub returns-in_default-clause-clear : goal.returns-in_default-clause-clear
+returns-in_default-clause-clear c = λ _ flown. absurd (c.in_default.not-Actual (c.kind_of-kind.ensures ∙ flown))
+
+pub returns-in_default-flight-clause-hit : goal.returns-in_default-flight-clause-hit
+returns-in_default-flight-clause-hit c = λ t. absurd (true≢false (sym t))
+
+pub returns-in_default-flight-clause-clear : goal.returns-in_default-flight-clause-clear
+returns-in_default-flight-clause-clear c = λ _ _ f at. absurd (no_flight _ f c.in_default-flight.ensures at)
+
+pub returns-then-eq-clause-hit : goal.returns-then-eq-clause-hit
+returns-then-eq-clause-hit c = λ t. absurd (true≢false (sym t))
+
+pub returns-then-eq-clause-clear : goal.returns-then-eq-clause-clear
+returns-then-eq-clause-clear c = λ _ _ f at apart.
+    absurd (apart (own_flight _ c.in-Some.card.now f c.args.call c.in-Some.ensures (sym c.eq.ensures ∙ c.if-eq.true) at))
+
+pub returns-in_default-path-clause-hit : goal.returns-in_default-path-clause-hit
+returns-in_default-path-clause-hit c = λ t. absurd (true≢false (sym t))
+
+pub returns-in_default-path-clause-clear : goal.returns-in_default-path-clause-clear
+returns-in_default-path-clause-clear c = λ _ _ f at. absurd (no_path _ f c.in_default-path.ensures at)
+
+pub met_in_window-requires-clause-rules : goal.met_in_window-requires-clause-rules
+met_in_window-requires-clause-rules c = c.rules-rules.ensures.kept
+
+pub met_in_window-requires-clause-early : goal.met_in_window-requires-clause-early
+met_in_window-requires-clause-early c = c.now-now.ensures.early

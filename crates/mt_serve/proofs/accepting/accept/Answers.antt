@@ -1,6 +1,7 @@
 use Rattle.std.proofs.Common.{◌∷◌, ◌++◌, [], sym, refl, ap, ◌∙◌, subst, rules, arith}
 use Rattle.mt_serve.specs.Private.Accepting.{Accepting}
-use Rattle.mt_serve.proofs.Accepts.{accepting_more, at_some, channels_more}
+use Rattle.mt_desk.specs.Desk.{IsSeatOfDesk}
+use Rattle.mt_serve.proofs.Accepts.{accepting_more, all_front, at_some, channels_more}
 use Rattle.mt_serve.proofs.accepting.accept.Goals as goal
 
 pub loop-preserved : goal.loop-preserved
@@ -15,3 +16,7 @@ loop-preserved g c =
       channels_more c.args.senders.now.items c.loop.senders.items c.pop_front-jobs.new.self.items c.pop_front-jobs.result c.loop.sittings.items _ _
           was.4 c.pop_front-jobs.ensures.items items refl,
     )
+
+pub begin-sitting-requires-clause-ready : goal.begin-sitting-requires-clause-ready
+begin-sitting-requires-clause-ready g c κs within =
+    all_front (IsSeatOfDesk c.args.desk.now) c.in-Some-pop_front.seat c.pop_front.new.self.items c.loop.seats.items c.loop.invariant.0.ready c.in-Some-pop_front.ensures.items

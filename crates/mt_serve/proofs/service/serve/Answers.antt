@@ -1,10 +1,15 @@
-use Rattle.std.proofs.Common.{◌++◌, sym, ap, ◌∙◌, arith}
+use Rattle.std.proofs.Common.{◌++◌, ℕ, List, length, sym, ap, ◌∙◌, arith}
 use Rattle.mt_io.specs.Door.{Count}
+use Rattle.mt_turn.specs.declared.view.View.{View}
+use Rattle.mt_turn.specs.Seats.{SeatNow}
 use Rattle.mt_turn.specs.Views.{first_view}
+use Rattle.mt_serve.specs.Seating.{numbers_of}
+use Rattle.mt_base.specs.declared.command.Entry.{Entry}
 use Rattle.mt_base.specs.Tables.{Setup}
-use Rattle.mt_serve.specs.Sitting.{seats_of, starts_of}
+use Rattle.mt_serve.specs.Sitting.{Met, seats_of, starts_of}
 use Rattle.mt_serve.specs.Private.Working.{froms_of}
 use Rattle.mt_serve.proofs.Whole.{few_met, not_listened, ready_of, served_all, split_as, whole}
+use Rattle.mt_serve.proofs.Seats.{length_both, length_map}
 use Rattle.mt_serve.proofs.service.serve.Goals as goal
 
 pub settle-requires-clause-split : goal.settle-requires-clause-split
@@ -64,3 +69,60 @@ returns-clause-served g c =
     c.settle-2.ensures.tied c.settle-2.ensures.count c.settle-2.ensures.still c.settle-2.ensures.returned c.settle-2.ensures.faults
     (omega (arith, c.serve_beside-left.ensures.staffed, c.split_all-2.ensures.many.1)) c.serve_beside-left.ensures.channels)
     c.settle-2.ensures.counted
+
+-- the seats
+pub split_all-requires-clause-ready : goal.split_all-requires-clause-ready
+split_all-requires-clause-ready g c = c.in-Ok.ensures.ready
+
+pub split_all-requires-clause-first : goal.split_all-requires-clause-first
+split_all-requires-clause-first g c = ap (λ (v : View Entry Setup). v.number) c.in-Ok.ensures.first
+
+pub split_all-requires-clause-few : goal.split_all-requires-clause-few
+split_all-requires-clause-few g c = omega (arith, ap (λ (v : View Entry Setup). length v.gave) c.in-Ok.ensures.first, c.requires.few)
+
+pub split_all-requires-2-clause-ready : goal.split_all-requires-2-clause-ready
+split_all-requires-2-clause-ready g c = c.split_all.ensures.ready
+
+pub split_all-requires-2-clause-first : goal.split_all-requires-2-clause-first
+split_all-requires-2-clause-first g c = c.split_all.ensures.split.number ∙ ap (λ (v : View Entry Setup). v.number) c.in-Ok.ensures.first
+
+pub split_all-requires-2-clause-few : goal.split_all-requires-2-clause-few
+split_all-requires-2-clause-few g c =
+    omega (
+      arith,
+      ap (λ (ns : List ℕ). length ns) c.split_all.ensures.split.gave,
+      length_both c.in-Ok.first.view.gave (numbers_of c.split_all.new.seats.items),
+      length_map (λ (z : SeatNow Entry Setup). z.view.number) c.split_all.new.seats.items,
+      ap (λ (v : View Entry Setup). length v.gave) c.in-Ok.ensures.first,
+      c.split_all.ensures.many.0,
+      c.requires.few,
+    )
+
+pub split_all-requires-clause-room : goal.split_all-requires-clause-room
+split_all-requires-clause-room g c = c.in_ok-seats.ensures.capacity
+
+pub split_all-requires-2-clause-room : goal.split_all-requires-2-clause-room
+split_all-requires-2-clause-room g c = c.in_ok-hands.ensures.capacity
+
+pub settle-requires-clause-ready : goal.settle-requires-clause-ready
+settle-requires-clause-ready g c κs within = c.split_all-2.ensures.ready
+
+pub settle-requires-clause-given : goal.settle-requires-clause-given
+settle-requires-clause-given g c κs within = omega (arith, ap (λ (ds : List (Met g.row.D-Link.Denot)). length ds) c.in_ok-room.ensures.empty.1)
+
+pub settle-requires-clause-few : goal.settle-requires-clause-few
+settle-requires-clause-few g c κs within = omega (arith, ap (λ (ds : List (Met g.row.D-Link.Denot)). length ds) c.in_ok-room.ensures.empty.1)
+
+pub settle-requires-2-clause-ready : goal.settle-requires-2-clause-ready
+settle-requires-2-clause-ready g c κs within = c.split_all-2.ensures.ready
+
+pub settle-requires-2-clause-given : goal.settle-requires-2-clause-given
+settle-requires-2-clause-given g c κs within =
+    omega (
+      arith,
+      c.serve_beside-left.ensures.begun.given,
+      c.serve_beside-left.ensures.begun.back,
+      ap (λ (z : Count). z.given) c.in-Ok-listen.ensures.count,
+      ap (λ (z : Count). z.back) c.in-Ok-listen.ensures.count,
+      length_map (λ (m : Met g.row.D-Link.Denot). m.from) c.serve_beside-left.result.dones.items,
+    )

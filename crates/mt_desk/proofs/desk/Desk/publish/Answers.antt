@@ -5,8 +5,9 @@ use Rattle.mt_base.specs.declared.command.Entry.{Entry}
 use Rattle.mt_turn.specs.declared.view.Phase.TheVariants.{Holds}
 use Rattle.mt_turn.specs.declared.view.View.{View}
 use Rattle.mt_turn.specs.Lending.{Left}
-use Rattle.mt_desk.proofs.Histories.{free_on}
-use Rattle.mt_desk.proofs.Turning.{changes, grows, has_turn, who_of}
+use Rattle.mt_desk.specs.Desk.{Desk}
+use Rattle.mt_desk.proofs.Histories.{free_on, in_time_on}
+use Rattle.mt_desk.proofs.Turning.{changes, grows, has_turn, same_turn, who_of}
 use Rattle.mt_desk.proofs.desk.Desk.publish.Goals as goal
 
 pub publish-result-requires-clause-free : goal.publish-result-requires-clause-free
@@ -44,3 +45,24 @@ returns-clause-changed g c =
     c.args.command.now c.publish-result.result (rw c.value_mut.ensures.value fixed) (rw c.value_mut.ensures.value (begins.0, begins.1))
     (rw who at c.publish-result.ensures.entered) (rw who at c.publish-result.ensures.refused) c.publish-result.ensures.unchanged (rw c.value.ensures at c.keeps.ensures)
     c.enter-held.ensures.lent.mine_seen (rw was left)
+
+pub publish-result-requires-clause-in_time : goal.publish-result-requires-clause-in_time
+publish-result-requires-clause-in_time g c =
+    let begins = c.enter-held.ensures.lent.begins in
+    rw c.value_mut.ensures.value (in_time_on c.args.seat.now.view.seen c.enter-held.result.value.history c.args.command.now (begins.0, begins.1) c.requires.in_time)
+
+pub publish-result-requires-clause-bounded : goal.publish-result-requires-clause-bounded
+publish-result-requires-clause-bounded g c = c.requires.bounded
+
+pub returns-clause-ready : goal.returns-clause-ready
+returns-clause-ready g c =
+    let same = same_turn c.args.seat.now.view c.enter-held.new.seat.view c.leave.new.seat.view c.enter-held.result.lent.history c.enter-held.ensures.holds c.leave.ensures.left.same in
+    record {
+      home_is = c.leave.ensures.own ∙ ap (λ (d : Desk). d.home) c.self.view_is;
+      idle = c.leave.ensures.idle;
+      fixed_is = same.3 ∙ c.requires.ready.fixed_is;
+    }
+
+pub returns-clause-same : goal.returns-clause-same
+returns-clause-same g c =
+    same_turn c.args.seat.now.view c.enter-held.new.seat.view c.leave.new.seat.view c.enter-held.result.lent.history c.enter-held.ensures.holds c.leave.ensures.left.same

@@ -1,7 +1,8 @@
-use Rattle.std.proofs.Common.{arith, pos, ◌<ℤ◌, ◌≤ℤ◌}
-use Rattle.std.proofs.lemmas.Int.{ints}
+use Rattle.mt_ring.proofs.Signs.{weaken}
 use Rattle.mt_frac.specs.Polynomials.{line_value}
-use Rattle.mt_frac.proofs.Fractions.{at_most_trans, trans_at_most}
+use Rattle.mt_frac.proofs.Comparisons.{ge_no, ge_yes, le_no, le_yes, not_0_above, not_0_below}
+use Rattle.mt_frac.proofs.Fractions.{at_most_trans, positive, trans_at_most}
+use Rattle.mt_frac.proofs.Overflow.{line_fits}
 use Rattle.mt_frac.proofs.Parts.{both_above, both_below, falls, rises, below_after, after_below, below_before, before_below, root_at_least, root_at_most}
 use Rattle.mt_frac.proofs.linear.Linear.below_in.Goals as goal
 
@@ -10,15 +11,17 @@ returns-then-at_hi-ge0 c =
     let line = c.args.self in
     let lo = c.args.lo in
     let hi = c.args.hi in
-    λ n d d+ between. both_above line.b line.c n d lo.num lo.den hi.num hi.den d+ (omega (arith, ints)) (omega (arith, ints)) between.after between.until (omega (arith, ints)) (omega (arith, ints))
+    λ n d d+ between. both_above line.b line.c n d lo.num lo.den hi.num hi.den d+ (positive lo) (positive hi) between.after between.until
+    (ge_yes _ (line_value line.b line.c lo.num lo.den) c.value_at-at_lo.ensures (line_fits line lo c.requires.coefficients).fits_all c.if-at_lo-ge0.true) (ge_yes _ (line_value line.b line.c hi.num hi.den) c.value_at-at_hi.ensures (line_fits line hi c.requires.coefficients).fits_all c.if-at_hi-ge0.true)
 
 pub root-requires-clause-inclined : goal.root-requires-clause-inclined
 root-requires-clause-inclined c =
     let line = c.args.self in
     let lo = c.args.lo in
     let hi = c.args.hi in
-    let b- = falls line.b line.c lo.num lo.den hi.num hi.den (omega (arith, ints)) (omega (arith, ints)) c.requires.ordered (omega (arith, ints)) (omega (arith, ints)) in
-    λ zero. omega (arith, ints, b-, zero)
+    let b- = falls line.b line.c lo.num lo.den hi.num hi.den (positive lo) (positive hi) c.requires.ordered
+    (ge_yes _ (line_value line.b line.c lo.num lo.den) c.value_at-at_lo.ensures (line_fits line lo c.requires.coefficients).fits_all c.if-at_lo-ge0.true) (ge_no _ (line_value line.b line.c hi.num hi.den) c.value_at-at_hi.ensures (line_fits line hi c.requires.coefficients).fits_all c.if-at_hi-ge0.false) in
+    λ zero. not_0_below line.b b- zero
 
 -- it falls: the part is from the root to hi
 pub returns-then-at_lo-ge0 : goal.returns-then-at_lo-ge0
@@ -27,11 +30,11 @@ returns-then-at_lo-ge0 c =
     let lo = c.args.lo in
     let hi = c.args.hi in
     let root = c.root.result in
-    let lo+ : pos 0 <ℤ lo.den = omega (arith, ints) in
-    let hi+ : pos 0 <ℤ hi.den = omega (arith, ints) in
-    let root+ : pos 0 <ℤ root.den = omega (arith, ints) in
-    let low : pos 0 ≤ℤ line_value line.b line.c lo.num lo.den = omega (arith, ints) in
-    let high : line_value line.b line.c hi.num hi.den <ℤ pos 0 = omega (arith, ints) in
+    let lo+ = positive lo in
+    let hi+ = positive hi in
+    let root+ = positive root in
+    let low = ge_yes _ (line_value line.b line.c lo.num lo.den) c.value_at-at_lo.ensures (line_fits line lo c.requires.coefficients).fits_all c.if-at_lo-ge0.true in
+    let high = ge_no _ (line_value line.b line.c hi.num hi.den) c.value_at-at_hi.ensures (line_fits line hi c.requires.coefficients).fits_all c.if-at_hi-ge0.false in
     let b- = falls line.b line.c lo.num lo.den hi.num hi.den lo+ hi+ c.requires.ordered low high in
     let begins = root_at_least line.b line.c root.num root.den lo.num lo.den root+ b- c.root.ensures low in
     record {
@@ -57,10 +60,10 @@ returns-then-at_hi-le0 c =
     let line = c.args.self in
     let lo = c.args.lo in
     let hi = c.args.hi in
-    let lo+ : pos 0 <ℤ lo.den = omega (arith, ints) in
-    let hi+ : pos 0 <ℤ hi.den = omega (arith, ints) in
-    let low : line_value line.b line.c lo.num lo.den <ℤ pos 0 = omega (arith, ints) in
-    let high : line_value line.b line.c hi.num hi.den ≤ℤ pos 0 = omega (arith, ints) in
+    let lo+ = positive lo in
+    let hi+ = positive hi in
+    let low = ge_no _ (line_value line.b line.c lo.num lo.den) c.value_at-at_lo.ensures (line_fits line lo c.requires.coefficients).fits_all c.if-at_lo-ge0.false in
+    let high = le_yes _ (line_value line.b line.c hi.num hi.den) c.value_at-at_hi.ensures (line_fits line hi c.requires.coefficients).fits_all c.if-at_hi-le0.true in
     record {
       ordered = c.requires.ordered;
       exact = λ n d d+. (
@@ -77,8 +80,9 @@ root-requires-2-clause-inclined c =
     let line = c.args.self in
     let lo = c.args.lo in
     let hi = c.args.hi in
-    let b+ = rises line.b line.c lo.num lo.den hi.num hi.den (omega (arith, ints)) (omega (arith, ints)) c.requires.ordered (omega (arith, ints)) (omega (arith, ints)) in
-    λ zero. omega (arith, ints, b+, zero)
+    let b+ = rises line.b line.c lo.num lo.den hi.num hi.den (positive lo) (positive hi) c.requires.ordered
+    (ge_no _ (line_value line.b line.c lo.num lo.den) c.value_at-at_lo.ensures (line_fits line lo c.requires.coefficients).fits_all c.if-at_lo-ge0.false) (weaken (le_no _ (line_value line.b line.c hi.num hi.den) c.value_at-at_hi.ensures (line_fits line hi c.requires.coefficients).fits_all c.if-at_hi-le0.false)) in
+    λ zero. not_0_above line.b b+ zero
 
 -- it rises: the part is from lo to the root
 pub returns : goal.returns
@@ -87,11 +91,11 @@ returns c =
     let lo = c.args.lo in
     let hi = c.args.hi in
     let root = c.root-2.result in
-    let lo+ : pos 0 <ℤ lo.den = omega (arith, ints) in
-    let hi+ : pos 0 <ℤ hi.den = omega (arith, ints) in
-    let root+ : pos 0 <ℤ root.den = omega (arith, ints) in
-    let low : line_value line.b line.c lo.num lo.den <ℤ pos 0 = omega (arith, ints) in
-    let high : pos 0 ≤ℤ line_value line.b line.c hi.num hi.den = omega (arith, ints) in
+    let lo+ = positive lo in
+    let hi+ = positive hi in
+    let root+ = positive root in
+    let low = ge_no _ (line_value line.b line.c lo.num lo.den) c.value_at-at_lo.ensures (line_fits line lo c.requires.coefficients).fits_all c.if-at_lo-ge0.false in
+    let high = weaken (le_no _ (line_value line.b line.c hi.num hi.den) c.value_at-at_hi.ensures (line_fits line hi c.requires.coefficients).fits_all c.if-at_hi-le0.false) in
     let b+ = rises line.b line.c lo.num lo.den hi.num hi.den lo+ hi+ c.requires.ordered low high in
     let ends = root_at_most line.b line.c root.num root.den hi.num hi.den root+ b+ c.root-2.ensures high in
     record {

@@ -3,6 +3,9 @@ use Rattle.std.proofs.lemmas.Int.{to_z-of_z}
 use Rattle.mt_frac.proofs.Overflow.{value_fits}
 use Rattle.mt_frac.proofs.quadratic.Quad.sign_at.Goals as goal
 
+pub overflow_mul-square : goal.overflow_mul-square
+overflow_mul-square c = let fits = value_fits c.args.self c.args.at c.requires.coefficients in grind (arith, to_z-of_z)
+
 pub overflow_mul-square-2 : goal.overflow_mul-square-2
 overflow_mul-square-2 c = let fits = value_fits c.args.self c.args.at c.requires.coefficients in grind (arith, to_z-of_z)
 

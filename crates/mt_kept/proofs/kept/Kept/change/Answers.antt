@@ -1,4 +1,4 @@
-use Rattle.std.proofs.Common.{◌≡◌, ◌↔◌, ◌++◌, Contains, true, arith, map, sym, ◌∙◌}
+use Rattle.std.proofs.Common.{◌≡◌, ◌↔◌, ◌++◌, Contains, true, ap, arith, map, refl, sym, ◌∙◌}
 use Rattle.std.specs.List.{filter}
 use Rattle.std.specs.Result.{is_ok}
 use Rattle.mt_base.specs.declared.conflict.Conflict.{Conflict}
@@ -9,6 +9,12 @@ use Rattle.mt_kept.specs.Private.Window.{Shows}
 use Rattle.mt_kept.proofs.Keeping.{kept_put, length_slot, map_slot, open_put}
 use Rattle.mt_kept.proofs.Replacing.{finds_sound, were_steps}
 use Rattle.mt_kept.proofs.Shown.{shown_all, shown_put}
+use Rattle.std.proofs.lemmas.Result.{MatchResult-from_err}
+use Rattle.mt_base.proofs.Members.{All-from_held}
+use Rattle.mt_kept.specs.declared.open_pair.OpenPair.{OpenPair}
+use Rattle.mt_kept.specs.Kept.{Watched}
+use Rattle.mt_kept.specs.Losing.{TouchesSlot}
+use Rattle.mt_kept.proofs.Exits.{at_most, first_fits, first_inside, none_dropped, second_fits, second_inside}
 use Rattle.mt_kept.proofs.kept.Kept.change.Goals as goal
 
 pub replace_pairs-requires-clause-sound : goal.replace_pairs-requires-clause-sound
@@ -50,7 +56,7 @@ invariant_of-self-2 c =
     rw (map_slot c.self.inside.places.items c.args.slot c.args.first c.args.second) (record {
       bounds = k.bounds;
       early = k.early;
-      few = let long = length_slot places c.args.slot first second in let was = k.few in omega arith;
+      few = rw (length_slot places c.args.slot first second) k.few;
       all = c.replace_pairs.ensures.ends ∙ c.in_ok-reserve.ensures.ends ∙ k.all ∙ sym (length_slot places c.args.slot first second);
       kept = kept_put c.self.inside.rules places now c.args.slot first second c.self.inside.pairs.edges c.replace_pairs.new.pairs.edges c.args.finds.now
           k.kept finds replaced c.replace_pairs.ensures.once;
@@ -70,3 +76,102 @@ returns-clause-steps c =
     let dropped : WereDropped c.args.slot c.self.inside.pairs.edges c.args.steps.now c.replace_pairs.new.steps = rw c.in_ok-reserve.ensures.edges at c.replace_pairs.ensures.steps in
     rw (← c.self.view_is) (were_steps c.self.inside.rules (map seen c.self.inside.places.items) c.args.slot c.self.inside.pairs.edges c.args.steps.now c.replace_pairs.new.steps
     c.self.invariant.kept dropped)
+
+pub returns-in_err-fresh-clause-err : goal.returns-in_err-fresh-clause-err
+returns-in_err-fresh-clause-err c = MatchResult-from_err c.from_residual.result _ _ c.from_residual.ensures.0 (λ err. refl)
+
+pub returns-in_err-fresh-clause-steps : goal.returns-in_err-fresh-clause-steps
+returns-in_err-fresh-clause-steps c = none_dropped _ _ _ _
+
+pub returns-in_err-shown-clause-err : goal.returns-in_err-shown-clause-err
+returns-in_err-shown-clause-err c = MatchResult-from_err c.from_residual-in_err-shown.result _ _ c.from_residual-in_err-shown.ensures.0 (λ err. refl)
+
+pub returns-in_err-shown-clause-steps : goal.returns-in_err-shown-clause-steps
+returns-in_err-shown-clause-steps c = none_dropped _ _ _ _
+
+pub returns-in_err-reserve-clause-err : goal.returns-in_err-reserve-clause-err
+returns-in_err-reserve-clause-err c =
+    MatchResult-from_err c.from_residual-in_err-reserve.result _ _ c.from_residual-in_err-reserve.ensures.0
+    (λ err. c.self.view_is)
+
+pub returns-in_err-reserve-clause-steps : goal.returns-in_err-reserve-clause-steps
+returns-in_err-reserve-clause-steps c = none_dropped _ _ _ _
+
+pub returns-in_err-reserve-clause-rules : goal.returns-in_err-reserve-clause-rules
+returns-in_err-reserve-clause-rules c = ap (λ (k : Watched). k.rules) c.self.view_is
+
+pub returns-in_err-reserve-clause-moment : goal.returns-in_err-reserve-clause-moment
+returns-in_err-reserve-clause-moment c = ap (λ (k : Watched). k.moment) c.self.view_is
+
+pub returns-in_err-reserve-2-clause-err : goal.returns-in_err-reserve-2-clause-err
+returns-in_err-reserve-2-clause-err c =
+    MatchResult-from_err c.from_residual-in_err-reserve-2.result _ _ c.from_residual-in_err-reserve-2.ensures.0
+    (λ err. c.self.view_is)
+
+pub returns-in_err-reserve-2-clause-steps : goal.returns-in_err-reserve-2-clause-steps
+returns-in_err-reserve-2-clause-steps c = none_dropped _ _ _ _
+
+pub returns-in_err-reserve-2-clause-rules : goal.returns-in_err-reserve-2-clause-rules
+returns-in_err-reserve-2-clause-rules c = ap (λ (k : Watched). k.rules) c.self.view_is
+
+pub returns-in_err-reserve-2-clause-moment : goal.returns-in_err-reserve-2-clause-moment
+returns-in_err-reserve-2-clause-moment c = ap (λ (k : Watched). k.moment) c.self.view_is
+
+pub returns-in_err-reserve-3-clause-err : goal.returns-in_err-reserve-3-clause-err
+returns-in_err-reserve-3-clause-err c =
+    MatchResult-from_err c.from_residual-in_err-reserve-3.result _ _ c.from_residual-in_err-reserve-3.ensures.0
+    (λ err. rw c.in_err-reserve-3.ensures.same c.self.view_is)
+
+pub returns-in_err-reserve-3-clause-steps : goal.returns-in_err-reserve-3-clause-steps
+returns-in_err-reserve-3-clause-steps c = none_dropped _ _ _ _
+
+pub returns-in_err-reserve-3-clause-rules : goal.returns-in_err-reserve-3-clause-rules
+returns-in_err-reserve-3-clause-rules c = ap (λ (k : Watched). k.rules) c.self.view_is
+
+pub returns-in_err-reserve-3-clause-moment : goal.returns-in_err-reserve-3-clause-moment
+returns-in_err-reserve-3-clause-moment c = ap (λ (k : Watched). k.moment) c.self.view_is
+
+pub returns-in_default-clause-steps : goal.returns-in_default-clause-steps
+returns-in_default-clause-steps c = none_dropped _ _ _ _
+
+pub returns-clause-rules : goal.returns-clause-rules
+returns-clause-rules c = ap (λ (k : Watched). k.rules) c.self.view_is
+
+pub returns-clause-moment : goal.returns-clause-moment
+returns-clause-moment c = ap (λ (k : Watched). k.moment) c.self.view_is
+
+pub replace_pairs-requires-clause-slot : goal.replace_pairs-requires-clause-slot
+replace_pairs-requires-clause-slot c = rw (c.in_ok-reserve.ensures.ends, c.self.invariant.all) (rw (← c.self.view_is) at c.requires.slot)
+
+pub replace_pairs-requires-clause-few : goal.replace_pairs-requires-clause-few
+replace_pairs-requires-clause-few c = rw (c.in_ok-reserve.ensures.ends, c.self.invariant.all) (at_most _ c.self.invariant.few)
+
+pub replace_pairs-requires-clause-touching : goal.replace_pairs-requires-clause-touching
+replace_pairs-requires-clause-touching c = All-from_held (λ (o : OpenPair). TouchesSlot c.args.slot o.edge) c.args.finds.now (λ o held. (c.requires.finds.sound o held).0)
+
+pub replace_pairs-requires-clause-distinct : goal.replace_pairs-requires-clause-distinct
+replace_pairs-requires-clause-distinct c = c.requires.finds.distinct
+
+pub invariant_of-self : goal.invariant_of-self
+invariant_of-self c = rw (c.in_err-reserve.ensures.edges, c.in_err-reserve.ensures.ends) c.self.invariant
+
+pub invariant_of-self-in_err-reserve-2 : goal.invariant_of-self-in_err-reserve-2
+invariant_of-self-in_err-reserve-2 c = rw (c.in_ok-reserve.ensures.edges, c.in_ok-reserve.ensures.ends, c.in_err-reserve-2.ensures.items) c.self.invariant
+
+pub invariant_of-self-in_err-reserve-3 : goal.invariant_of-self-in_err-reserve-3
+invariant_of-self-in_err-reserve-3 c = rw (c.in_ok-reserve.ensures.edges, c.in_ok-reserve.ensures.ends, c.in_ok-reserve-2.ensures.items, c.in_err-reserve-3.ensures.same) c.self.invariant
+
+pub overflow_mul-slot : goal.overflow_mul-slot
+overflow_mul-slot c = first_fits c.args.slot c.ranges.slot.fits
+
+pub overflow_mul-slot-2 : goal.overflow_mul-slot-2
+overflow_mul-slot-2 c = first_fits c.args.slot c.ranges.slot.fits
+
+pub overflow_add-slot : goal.overflow_add-slot
+overflow_add-slot c = second_fits c.args.slot c.ranges.slot.fits
+
+pub index_mut-requires : goal.index_mut-requires
+index_mut-requires c = first_inside c.args.slot _ c.self.inside.places.items (rw (← c.self.view_is) at c.requires.slot) c.self.inside.places.ok.0
+
+pub index_mut-requires-2 : goal.index_mut-requires-2
+index_mut-requires-2 c = second_inside c.args.slot _ c.self.inside.places.items (rw (← c.self.view_is) at c.requires.slot) c.self.inside.places.ok.0

@@ -1,8 +1,11 @@
-use Rattle.std.proofs.Common.{map, ◌∙◌, ◌≤◌}
+use Rattle.std.proofs.Common.{ap, map, refl, ◌∙◌, ◌≤◌}
 use Rattle.std.specs.List.{All}
 use Rattle.mt_kept.specs.Places.{seen}
 use Rattle.mt_kept.specs.Window.{ShowsInWindow}
 use Rattle.mt_kept.proofs.Moving.{listed, open_moved, reaching_pairs, tested_once}
+use Rattle.std.proofs.lemmas.Result.{MatchResult-from_err}
+use Rattle.mt_kept.specs.Kept.{Watched}
+use Rattle.mt_kept.proofs.Exits.{none_tested}
 use Rattle.mt_kept.proofs.kept.Kept.move_to.Goals as goal
 
 pub opened-requires-clause-pairs : goal.opened-requires-clause-pairs
@@ -75,3 +78,45 @@ invariant_of-self c =
       exact = rw c.deref-5.ensures.value at c.in_ok-listed.ensures;
       own = k.own;
     }
+
+pub returns-in_err-edges-clause-err : goal.returns-in_err-edges-clause-err
+returns-in_err-edges-clause-err c = MatchResult-from_err c.from_residual.result _ _ c.from_residual.ensures.0 (λ err. refl)
+
+pub returns-in_err-edges-clause-counted : goal.returns-in_err-edges-clause-counted
+returns-in_err-edges-clause-counted c = none_tested _ _ _ _
+
+pub returns-in_err-due-clause-err : goal.returns-in_err-due-clause-err
+returns-in_err-due-clause-err c = MatchResult-from_err c.from_residual-in_err-due.result _ _ c.from_residual-in_err-due.ensures.0 (λ err. refl)
+
+pub returns-in_err-due-clause-counted : goal.returns-in_err-due-clause-counted
+returns-in_err-due-clause-counted c = none_tested _ _ _ _
+
+pub returns-in_err-add_lasting-clause-err : goal.returns-in_err-add_lasting-clause-err
+returns-in_err-add_lasting-clause-err c =
+    MatchResult-from_err c.from_residual-in_err-add_lasting.result _ _ c.from_residual-in_err-add_lasting.ensures.0
+    (λ err. refl)
+
+pub returns-in_err-add_lasting-clause-counted : goal.returns-in_err-add_lasting-clause-counted
+returns-in_err-add_lasting-clause-counted c = none_tested _ _ _ _
+
+pub returns-in_err-opened_pairs-clause-err : goal.returns-in_err-opened_pairs-clause-err
+returns-in_err-opened_pairs-clause-err c =
+    MatchResult-from_err c.from_residual-in_err-opened_pairs.result _ _ c.from_residual-in_err-opened_pairs.ensures.0
+    (λ err. refl)
+
+pub returns-in_err-listed-clause-err : goal.returns-in_err-listed-clause-err
+returns-in_err-listed-clause-err c =
+    MatchResult-from_err c.from_residual-in_err-listed.result _ _ c.from_residual-in_err-listed.ensures.0
+    (λ err. refl)
+
+pub opened-requires-clause-rules_kept : goal.opened-requires-clause-rules_kept
+opened-requires-clause-rules_kept c = c.self.invariant.bounds
+
+pub opened-requires-clause-early : goal.opened-requires-clause-early
+opened-requires-clause-early c = c.requires.early
+
+pub returns-clause-rules : goal.returns-clause-rules
+returns-clause-rules c = ap (λ (k : Watched). k.rules) c.self.view_is
+
+pub returns-clause-places : goal.returns-clause-places
+returns-clause-places c = ap (λ (k : Watched). k.places) c.self.view_is

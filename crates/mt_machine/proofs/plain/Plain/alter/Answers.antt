@@ -1,4 +1,4 @@
-use Rattle.std.proofs.Common.{◌≡◌, ℕ, List, length, map, option_copied, sym, ap, subst, ◌∙◌}
+use Rattle.std.proofs.Common.{◌≡◌, ℕ, List, length, map, option_copied, refl, sym, ap, subst, ◌∙◌}
 use Rattle.std.proofs.lemmas.List.{with_items_is}
 use Rattle.std.specs.Prelude.{option_and_then}
 use Rattle.std.specs.Vec.{with_items}
@@ -13,6 +13,7 @@ use Rattle.mt_change.proofs.Alterations.{can_alter, records_are}
 use Rattle.mt_change.proofs.Changed.{changed_alike, changed_state}
 use Rattle.mt_change.proofs.Filling.{bounded_besides}
 use Rattle.mt_machine.proofs.Clearances.{sound_path}
+use Rattle.std.proofs.lemmas.Result.{MatchResult-from_err}
 use Rattle.mt_machine.proofs.plain.Plain.alter.Goals as goal
 use Rattle.mt_machine.proofs.plain.Plain.alter.Goals.{After-drop-strand-inside}
 
@@ -72,3 +73,6 @@ alteration_by-alteration-requires-clause-strand c = c.in_ok-strand.ensures.rows
 
 pub alteration_by-alteration-requires-clause-early : goal.alteration_by-alteration-requires-clause-early
 alteration_by-alteration-requires-clause-early c = rw (ap (λ (s : State). s.now) c.self.view_is) c.requires.sound.early
+
+pub returns-in_err-strand-clause-err : goal.returns-in_err-strand-clause-err
+returns-in_err-strand-clause-err c = MatchResult-from_err c.from_residual.result _ _ c.from_residual.ensures.0 (λ err. refl)

@@ -1,9 +1,10 @@
-use Rattle.std.proofs.Common.{rules, not, List, ap}
+use Rattle.std.proofs.Common.{rules, not, List, ap, refl}
 use Rattle.std.proofs.lemmas.Fn.{filter_same}
 use Rattle.std.specs.Str.{bytes_eq}
 use Rattle.mt_base.specs.declared.flight.Record.{Record}
 use Rattle.mt_base.specs.Tables.{setup_with}
 use Rattle.mt_machine.proofs.Effects.{sound_drop, sound_external, sound_plan}
+use Rattle.std.proofs.lemmas.Result.{MatchResult-from_err}
 use Rattle.mt_machine.proofs.plain.Plain.change.Goals as goal
 
 pub returns-in_ok-file-in-Plan-clause-sound : goal.returns-in_ok-file-in-Plan-clause-sound
@@ -31,3 +32,33 @@ returns-in-Drop-clause-ok c = rw (c.in-Drop.is, ← c.self-in-Drop.view_is)
 pub returns-in-Drop-clause-sound : goal.returns-in-Drop-clause-sound
 returns-in-Drop-clause-sound c = rw (returns-in-Drop-clause-ok c, c.in-Drop.is)
     (sound_drop (setup_with c.args.rules.now c.args.tables.now) c.args.self.now c.in-Drop.call c.requires.sound)
+
+pub returns-in_ok-file-in-Plan-clause-ok : goal.returns-in_ok-file-in-Plan-clause-ok
+returns-in_ok-file-in-Plan-clause-ok c = rw (c.in-Plan.is, c.in_ok-file-in-Plan.ensures.ok, c.in_ok-course-in-Plan.ensures.course) refl
+
+pub returns-in_ok-file-in-Plan-clause-verdict : goal.returns-in_ok-file-in-Plan-clause-verdict
+returns-in_ok-file-in-Plan-clause-verdict c = rw c.in-Plan.is refl
+
+pub returns-in_ok-file-in-External-clause-ok : goal.returns-in_ok-file-in-External-clause-ok
+returns-in_ok-file-in-External-clause-ok c = rw (c.in-External.is, c.in_ok-file-in-External.ensures.ok) refl
+
+pub returns-in_ok-file-in-External-clause-verdict : goal.returns-in_ok-file-in-External-clause-verdict
+returns-in_ok-file-in-External-clause-verdict c = rw c.in-External.is refl
+
+pub returns-in-Drop-clause-verdict : goal.returns-in-Drop-clause-verdict
+returns-in-Drop-clause-verdict c = rw c.in-Drop.is refl
+
+pub returns-in-Tick-clause-ok : goal.returns-in-Tick-clause-ok
+returns-in-Tick-clause-ok c = rw (c.in-Tick.is, ← c.self-in-Tick.view_is) refl
+
+pub returns-in-Tick-clause-verdict : goal.returns-in-Tick-clause-verdict
+returns-in-Tick-clause-verdict c = rw c.in-Tick.is refl
+
+pub returns-in_err-course-in-Plan-clause-err : goal.returns-in_err-course-in-Plan-clause-err
+returns-in_err-course-in-Plan-clause-err c = MatchResult-from_err c.from_residual.result _ _ c.from_residual.ensures.0 (λ err. refl)
+
+pub returns-in_err-file-in-Plan-clause-err : goal.returns-in_err-file-in-Plan-clause-err
+returns-in_err-file-in-Plan-clause-err c = MatchResult-from_err c.from_residual-in_err-file-in-Plan.result _ _ c.from_residual-in_err-file-in-Plan.ensures.0 (λ err. c.in_err-file-in-Plan.ensures.err)
+
+pub returns-in_err-file-in-External-clause-err : goal.returns-in_err-file-in-External-clause-err
+returns-in_err-file-in-External-clause-err c = MatchResult-from_err c.from_residual-in_err-file-in-External.result _ _ c.from_residual-in_err-file-in-External.ensures.0 (λ err. c.in_err-file-in-External.ensures.err)

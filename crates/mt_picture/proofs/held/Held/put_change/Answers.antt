@@ -1,4 +1,4 @@
-use Rattle.std.proofs.Common.{◌≡◌, ◌++◌, ◌∷◌, [], Some, ap, length, List, set, subst, sym, arith}
+use Rattle.std.proofs.Common.{Some, ap, length, List, refl, set, subst, sym, arith}
 use Rattle.mt_base.specs.declared.command.Entry.{Entry}
 use Rattle.mt_kept.specs.Places.{HaveOwnSlots}
 use Rattle.mt_probe.specs.Shot.{Shot}
@@ -7,6 +7,8 @@ use Rattle.mt_picture.specs.Private.Stamps.{IsPicture}
 use Rattle.mt_picture.proofs.Owning.{own_slots}
 use Rattle.mt_picture.proofs.Slotted.{length_places, places_set}
 use Rattle.mt_picture.proofs.Standing.{picture_put}
+use Rattle.std.proofs.lemmas.Result.{MatchResult-from_err}
+use Rattle.mt_picture.proofs.Exits.{has_room, pushed_on, told, told_same}
 use Rattle.mt_picture.proofs.held.Held.put_change.Goals as goal
 
 pub change-requires-clause-slot : goal.change-requires-clause-slot
@@ -37,7 +39,7 @@ invariant_of-self-2 c =
     let p = c.self.inside in
     let e : Entry = c.args.entry in
     let put = rw (← c.self.view_is) at c.requires.put in
-    let entered : c.push_reserved.new.self.items ≡ p.history.items ++ e ∷ [] = cc in
+    let entered = pushed_on _ _ p.history.items e c.push_reserved.ensures.items c.in_ok-reserve.ensures.items in
     let places = rw (
       c.self.invariant.places_are,
       c.requires.change.first_is,
@@ -48,3 +50,44 @@ invariant_of-self-2 c =
     (picture_put p.snapshot c.in_ok-snapshot.snapshot p.history.items e c.args.slot c.args.flight c.self.invariant.stands put c.in_ok-snapshot.ensures.value
     c.in_ok-snapshot.ensures.records p.kept c.change.new.self c.self.invariant c.requires.complete c.keeps-2.ensures.sound
     c.in_ok-change.ensures.rules c.in_ok-change.ensures.moment places)
+
+pub put-requires-clause-counted : goal.put-requires-clause-counted
+put-requires-clause-counted c = rw (← c.self.view_is) at c.requires.counted
+
+pub put-requires-clause-place : goal.put-requires-clause-place
+put-requires-clause-place c = (rw (← c.self.view_is) at c.requires.put).inside
+
+pub put-requires-clause-fits : goal.put-requires-clause-fits
+put-requires-clause-fits c = (rw (← c.self.view_is) at c.requires.put).fits
+
+pub change-requires-clause-finds : goal.change-requires-clause-finds
+change-requires-clause-finds c =
+    let change = rw (← c.self.view_is) at c.requires.change in
+    rw (c.deref.ensures.value, change.first_is, change.second_is) change.finds_are
+
+pub push_reserved-requires : goal.push_reserved-requires
+push_reserved-requires c = has_room _ _ c.in_ok-reserve.ensures.ok
+
+pub invariant_of-self : goal.invariant_of-self
+invariant_of-self c = rw c.in_err-reserve.ensures.items c.self.invariant
+
+pub returns-in_err-snapshot : goal.returns-in_err-snapshot
+returns-in_err-snapshot c = MatchResult-from_err c.from_residual.result _ _ c.from_residual.ensures.0 (λ err. refl)
+
+pub returns-in_err-reserve : goal.returns-in_err-reserve
+returns-in_err-reserve c =
+    MatchResult-from_err c.from_residual-in_err-reserve.result _ _ c.from_residual-in_err-reserve.ensures.0
+    (λ err. rw (← c.self.view_is) (ap (told c.self.inside.snapshot.setup) c.in_err-reserve.ensures.items))
+
+pub returns-in_err-change : goal.returns-in_err-change
+returns-in_err-change c =
+    MatchResult-from_err c.from_residual-in_err-change.result _ _ c.from_residual-in_err-change.ensures.0
+    (λ err. rw (← c.self.view_is) (ap (told c.self.inside.snapshot.setup) c.in_ok-reserve.ensures.items))
+
+pub returns : goal.returns
+returns c =
+    rw (← c.self.view_is) (told_same _ c.self.inside.snapshot.setup _ _ (ap (λ (s : Shot). s.setup) c.in_ok-snapshot.ensures.value)
+    (pushed_on _ _ c.self.inside.history.items c.args.entry c.push_reserved.ensures.items c.in_ok-reserve.ensures.items))
+
+pub invariant_of-self-in_err-change : goal.invariant_of-self-in_err-change
+invariant_of-self-in_err-change c = rw (c.in_ok-reserve.ensures.items, c.in_err-change.ensures.err) c.self.invariant

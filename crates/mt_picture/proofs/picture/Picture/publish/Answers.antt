@@ -52,3 +52,18 @@ returns-clause-legal c =
     (entered_now c.self.inside.held c.enter.new.held c.args.who c.args.command.now c.version.result c.verdict_on-verdict.result
     c.snapshot-snapshot.ensures.stands (sym (rw value at c.decide.ensures) ∙ c.in_default.is) entered c.snapshot.ensures.stands
     (rw c.snapshot.ensures.value at c.version.ensures.version) (rw value at c.verdict_on-verdict.ensures)))
+
+pub verdict_on-verdict-requires : goal.verdict_on-verdict-requires
+verdict_on-verdict-requires c = c.requires.bounded
+
+pub enter-requires-clause-bounded : goal.enter-requires-clause-bounded
+enter-requires-clause-bounded c = c.requires.bounded
+
+pub enter-requires-clause-prepared : goal.enter-requires-clause-prepared
+enter-requires-clause-prepared c = rw (← c.self.view_is) at c.requires.prepared
+
+pub enter-requires-clause-passed : goal.enter-requires-clause-passed
+enter-requires-clause-passed c = sym (rw c.snapshot-snapshot.ensures.value at c.decide.ensures) ∙ c.in_default.is
+
+pub returns-in-Some-clause-counted : goal.returns-in-Some-clause-counted
+returns-in-Some-clause-counted c = rw (← c.self.view_is) c.in_ok-hit.ensures.counted

@@ -1,4 +1,5 @@
 use Rattle.std.proofs.Common.{◌≡◌, ◌∙◌, ◌+◌, ◌-◌, ℕ, ap, get_or, sym, subst, List, Option, None, arith, is_some, option_copied}
+use Rattle.std.proofs.lemmas.Result.{IfOk-from_err}
 use Rattle.std.specs.Arc.{arc_value}
 use Rattle.mt_names.specs.Naming.{IsRenaming}
 use Rattle.mt_probe.specs.declared.flight.Flight.{Flight}
@@ -48,3 +49,15 @@ returns c =
     (subst (λ (s : Indexed). IsRenaming s.names c.args.slot c.call_of-was.result c.call_of-call.result after.names) c.self.view_is c.in_ok-renamed.ensures)) in
     put_index slots index after c.args.slot new inside c.requires.indexed c.requires.can renamed (omega (arith, held, before, left, more, some))
     (c.filled_after.ensures new (called_some new ∙ sym comes))
+
+pub returns-in_err-renamed : goal.returns-in_err-renamed
+returns-in_err-renamed c = IfOk-from_err _ _ c.from_residual.ensures.0
+
+pub filled_after-requires-clause-filled : goal.filled_after-requires-clause-filled
+filled_after-requires-clause-filled c = c.requires.indexed.filled
+
+pub filled_after-requires-clause-count : goal.filled_after-requires-clause-count
+filled_after-requires-clause-count c = c.requires.count
+
+pub filled_after-requires-clause-place : goal.filled_after-requires-clause-place
+filled_after-requires-clause-place c = inside_calls c.args.slots.now c.args.slot c.requires.can.inside

@@ -33,3 +33,18 @@ pub returns-clause-on : goal.returns-clause-on
 returns-clause-on g c =
     let on = change_goes_on _ _ _ _ c.accept.ensures.changed in
     rw (← c.self.view_is) (record { same = on.0; begins = on.1; home = c.accept.ensures.home })
+
+pub returns-in_default-clause-on : goal.returns-in_default-clause-on
+returns-in_default-clause-on g c = c.refuse_number.ensures.on
+
+pub returns-in_default-clause-fit : goal.returns-in_default-clause-fit
+returns-in_default-clause-fit g c = c.refuse_number.ensures.fit
+
+pub returns-then-not-is_empty-clause-on : goal.returns-then-not-is_empty-clause-on
+returns-then-not-is_empty-clause-on g c = c.refuse_number-then-not-is_empty.ensures.on
+
+pub returns-then-not-is_empty-clause-fit : goal.returns-then-not-is_empty-clause-fit
+returns-then-not-is_empty-clause-fit g c = c.refuse_number-then-not-is_empty.ensures.fit
+
+pub returns-clause-fit : goal.returns-clause-fit
+returns-clause-fit g c = c.changed.ensures.fit

@@ -6,6 +6,7 @@ use Rattle.mt_read.specs.Line.{line as read_as}
 use Rattle.mt_read.specs.declared.request.Request.{Request}
 use Rattle.mt_session.specs.Session.{Session, asked_in_role, role_sender}
 use Rattle.mt_session.proofs.Replying.{unread_replied}
+use Rattle.mt_session.proofs.Stays.{stays_itself}
 use Rattle.mt_session.proofs.serving.Serving.answer.Goals as goal
 
 -- what a line that isn't too long was read as
@@ -27,3 +28,15 @@ returns-in-Ok-clause-job g c =
 
 pub returns-in-Err-clause-replied : goal.returns-in-Err-clause-replied
 returns-in-Err-clause-replied g c = unread_replied c.args.self.now.session c.args.line.now c.in-Err.no _ c.requires.short (rw (c.sender.ensures, c.usual.ensures.value) at c.in-Err.ensures.exact) c.unread.ensures.reply
+
+pub returns-in-Ok-clause-on : goal.returns-in-Ok-clause-on
+returns-in-Ok-clause-on g c = c.serve.ensures.on
+
+pub returns-in-Ok-clause-fit : goal.returns-in-Ok-clause-fit
+returns-in-Ok-clause-fit g c = c.serve.ensures.fit
+
+pub returns-in-Err-clause-on : goal.returns-in-Err-clause-on
+returns-in-Err-clause-on g c = stays_itself _
+
+pub returns-in-Err-clause-fit : goal.returns-in-Err-clause-fit
+returns-in-Err-clause-fit g c = c.unread.ensures.fit

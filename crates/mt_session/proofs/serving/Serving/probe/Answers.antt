@@ -1,4 +1,5 @@
 use Rattle.std.proofs.Common.{inl, inr, refl, Ok, Err}
+use Rattle.mt_session.proofs.Stays.{stays_on}
 use Rattle.mt_session.proofs.serving.Serving.probe.Goals as goal
 
 pub returns-in-Ok-short_hits-clause-probed : goal.returns-in-Ok-short_hits-clause-probed
@@ -37,3 +38,18 @@ returns-in_default-clause-probed g c =
       left = c.in-Ok.ensures.probed.seen.looked;
       given = record { reply_is = refl; next_is = c.in-Ok.ensures.kept };
     })
+
+pub returns-in-Ok-short_hits-clause-on : goal.returns-in-Ok-short_hits-clause-on
+returns-in-Ok-short_hits-clause-on g c = stays_on _ _ _ c.what_if.ensures.on c.keep-number.ensures.on
+
+pub returns-in-Ok-short_hits-clause-fit : goal.returns-in-Ok-short_hits-clause-fit
+returns-in-Ok-short_hits-clause-fit g c = c.in-Ok-short_hits.ensures.brief
+
+pub returns-in_default-clause-on : goal.returns-in_default-clause-on
+returns-in_default-clause-on g c = c.what_if.ensures.on
+
+pub returns-in-Err-clause-on : goal.returns-in-Err-clause-on
+returns-in-Err-clause-on g c = c.what_if.ensures.on
+
+pub returns-in-Err-clause-fit : goal.returns-in-Err-clause-fit
+returns-in-Err-clause-fit g c = c.refused.ensures.fit

@@ -1,5 +1,6 @@
 use Rattle.std.proofs.Common.{inl, refl, sym, ◌∙◌}
 use Rattle.mt_session.proofs.Replying.{told_served}
+use Rattle.mt_session.proofs.Stays.{stays_itself}
 use Rattle.mt_session.proofs.serving.Serving.reply_to.Goals as goal
 
 -- a role is taken, and nothing else changes
@@ -27,3 +28,42 @@ returns-in-Settle-clause-served g c = rw c.in-Settle.is c.settle.ensures.settled
 pub returns-in-Some-clause-served : goal.returns-in-Some-clause-served
 returns-in-Some-clause-served g c =
     inl (told_served c.args.self.now.session c.args.request.now c.in-Some.ask _ _ (sym c.ask_of.ensures ∙ c.in-Some.is) c.tell.ensures.told)
+
+pub returns-in-Probe-clause-on : goal.returns-in-Probe-clause-on
+returns-in-Probe-clause-on g c = c.probe.ensures.on
+
+pub returns-in-Probe-clause-fit : goal.returns-in-Probe-clause-fit
+returns-in-Probe-clause-fit g c = c.probe.ensures.fit
+
+pub returns-in-Accept-clause-on : goal.returns-in-Accept-clause-on
+returns-in-Accept-clause-on g c = c.accept.ensures.on
+
+pub returns-in-Accept-clause-fit : goal.returns-in-Accept-clause-fit
+returns-in-Accept-clause-fit g c = c.accept.ensures.fit
+
+pub returns-in-Advise-clause-on : goal.returns-in-Advise-clause-on
+returns-in-Advise-clause-on g c = c.advise.ensures.on
+
+pub returns-in-Advise-clause-fit : goal.returns-in-Advise-clause-fit
+returns-in-Advise-clause-fit g c = c.advise.ensures.fit
+
+pub returns-in-Settle-clause-on : goal.returns-in-Settle-clause-on
+returns-in-Settle-clause-on g c = c.settle.ensures.on
+
+pub returns-in-Settle-clause-fit : goal.returns-in-Settle-clause-fit
+returns-in-Settle-clause-fit g c = c.settle.ensures.fit
+
+pub returns-in-Some-clause-on : goal.returns-in-Some-clause-on
+returns-in-Some-clause-on g c = c.tell.ensures.on
+
+pub returns-in-Some-clause-fit : goal.returns-in-Some-clause-fit
+returns-in-Some-clause-fit g c = c.tell.ensures.fit
+
+pub returns-in-Bye-clause-on : goal.returns-in-Bye-clause-on
+returns-in-Bye-clause-on g c = stays_itself _
+
+pub returns-in-None-clause-on : goal.returns-in-None-clause-on
+returns-in-None-clause-on g c = stays_itself _
+
+pub returns-in-None-clause-fit : goal.returns-in-None-clause-fit
+returns-in-None-clause-fit g c = c.foreign.ensures.fit

@@ -8,7 +8,7 @@ use Rattle.mt_world.specs.Private.Told.{entered_reply}
 use Rattle.mt_world.specs.World.{IsCommandAnswered, IsRefused}
 use Rattle.mt_picture.specs.Story.{Story}
 use Rattle.mt_base.proofs.Cases.{empty_list}
-use Rattle.mt_world.proofs.Accepting.{accept_bounded, accept_free, accept_given, accept_in_time, accepted, accepting, not_free, published_is}
+use Rattle.mt_world.proofs.Accepting.{accept_bounded, accept_free, accept_given, accept_in_time, accepted, accepting, no_probe, not_free, not_some, published_is}
 use Rattle.mt_world.proofs.Entering.{sound_after}
 use Rattle.mt_world.proofs.Taking.{seen}
 use Rattle.mt_world.proofs.WorldLemmas.{on_true}
@@ -81,3 +81,21 @@ returns-clause-answered c =
     (seen after actors) (entered_reply c.publish.result) none
     (subst (λ (k : Command). IsCommandAnswered (seen story actors) c.args.who k (entered_reply c.publish.result) (seen after actors)
     ⊎ IsRefused (seen story actors) replies.Memory (entered_reply c.publish.result) (seen after actors)) same changed))
+
+pub returns-in_default-clause-fit : goal.returns-in_default-clause-fit
+returns-in_default-clause-fit c = c.refused.ensures.fit
+
+pub returns-then-not-is_empty-clause-fit : goal.returns-then-not-is_empty-clause-fit
+returns-then-not-is_empty-clause-fit c = c.refused-then-not-is_empty.ensures.fit
+
+pub returns-clause-fit : goal.returns-clause-fit
+returns-clause-fit c = c.changed.ensures.fit
+
+pub returns-in_default-clause-answered : goal.returns-in_default-clause-answered
+returns-in_default-clause-answered c =
+    let story : Story = c.self.inside.picture in
+    let below : c.args.who < 16 = omega (arith, c.requires) in
+    let none = sym c.get.ensures.value ∙ ap option_copied (not_some c.get.result c.in_default.not-Some) in
+    inl (on_true c.args.self.now.begun _ _ (rw (← c.self.view_is) refl) (rw (← c.self.view_is)
+    (no_probe story c.self.inside.actors.items c.args.who c.index.result.now c.self.invariant below c.index.ensures c.args.number none
+    c.refused.result (rw (← c.self.view_is) at c.refused.ensures.answered))))

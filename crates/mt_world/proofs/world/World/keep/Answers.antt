@@ -3,7 +3,8 @@ use Rattle.mt_board.specs.Probing.{Probe}
 use Rattle.mt_machine.specs.Book.{Book, with_probe}
 use Rattle.mt_machine.proofs.Books.{all_push, told_push}
 use Rattle.mt_picture.specs.Story.{Story}
-use Rattle.mt_probe.specs.Hits.{told_of}
+use Rattle.mt_base.specs.Tally.{raised}
+use Rattle.mt_probe.specs.Hits.{Trial, told_of}
 use Rattle.mt_world.specs.Private.Sound.{IsKeptOf, actor_shown}
 use Rattle.mt_world.specs.World.{new_actor}
 use Rattle.mt_world.specs.World as world
@@ -36,3 +37,10 @@ returns-clause-kept c =
       actors = (book_view items c.args.who a (with_probe a.book c.args.probe) within c.index_mut.ensures.value
           ∙ ap (λ (b : Book Probe). slice_set (map actor_shown items) c.args.who (record (get_or (map actor_shown items) c.args.who new_actor) { book = b })) book) i;
     })
+
+pub returns-clause-number : goal.returns-clause-number
+returns-clause-number c =
+    let items = c.self.inside.actors.items in
+    let within : c.args.who < length items = rw c.self.invariant.sixteen (omega (arith, c.requires.who)) in
+    let actor = actor_is items c.args.who c.index_mut.result.now within c.index_mut.ensures.value in
+    rw (← c.self.view_is) (c.put.ensures.number ∙ ap (λ (b : Book Trial). b.count) c.put.ensures.kept ∙ ap (λ (b : world.Actor). raised b.book.count) (sym actor))

@@ -1,5 +1,5 @@
 use Rattle.std.proofs.Common.{inl, refl}
-use Rattle.mt_world.proofs.WorldLemmas.{on_true}
+use Rattle.mt_world.proofs.WorldLemmas.{on_true, served_or}
 use Rattle.mt_world.proofs.world.World.step.Goals as goal
 
 pub returns-in-Fix-clause-served : goal.returns-in-Fix-clause-served
@@ -13,3 +13,70 @@ returns-in-Rule-clause-served g c = rw c.in-Rule.is (inl (on_true c.args.self.no
 
 pub returns-in-Begin-clause-served : goal.returns-in-Begin-clause-served
 returns-in-Begin-clause-served g c = rw c.in-Begin.is (inl (on_true c.args.self.now.begun _ _ c.begun-in-Begin.ensures.begun (record { reply_is = c.begun-in-Begin.ensures.reply; same = refl })))
+
+-- the others are answered by what answers them
+pub returns-in-List-clause-served : goal.returns-in-List-clause-served
+returns-in-List-clause-served g c = rw c.in-List.is (served_or _ _ c.args.who _ _ (λ same. same) c.list.ensures.answered)
+
+pub returns-in-Check-clause-served : goal.returns-in-Check-clause-served
+returns-in-Check-clause-served g c = rw c.in-Check.is (served_or _ _ c.args.who _ _ (λ same. same) c.check.ensures.answered)
+
+pub returns-in-Flight-clause-served : goal.returns-in-Flight-clause-served
+returns-in-Flight-clause-served g c = rw c.in-Flight.is (served_or _ _ c.args.who _ _ (λ same. same) c.flight.ensures.answered)
+
+pub returns-in-History-clause-served : goal.returns-in-History-clause-served
+returns-in-History-clause-served g c = rw c.in-History.is (served_or _ _ c.args.who _ _ (λ same. same) c.entries.ensures.answered)
+
+pub returns-in-Change-clause-served : goal.returns-in-Change-clause-served
+returns-in-Change-clause-served g c = rw c.in-Change.is (served_or _ _ c.args.who _ _ (λ same. same) c.change.ensures.answered)
+
+pub returns-in-Take-clause-served : goal.returns-in-Take-clause-served
+returns-in-Take-clause-served g c = rw c.in-Take.is (served_or _ _ c.args.who _ _ (λ same. same) c.take.ensures.answered)
+
+pub returns-in-Probe-clause-served : goal.returns-in-Probe-clause-served
+returns-in-Probe-clause-served g c = rw c.in-Probe.is (served_or _ _ c.args.who _ _ (λ same. same) c.probe.ensures.answered)
+
+pub returns-in-Accept-clause-served : goal.returns-in-Accept-clause-served
+returns-in-Accept-clause-served g c = rw c.in-Accept.is (served_or _ _ c.args.who _ _ (λ same. same) c.accept.ensures.answered)
+
+pub returns-in-Advise-clause-served : goal.returns-in-Advise-clause-served
+returns-in-Advise-clause-served g c = rw c.in-Advise.is (served_or _ _ c.args.who _ _ (λ same. same) c.advise.ensures.answered)
+
+pub returns-in-Due-clause-served : goal.returns-in-Due-clause-served
+returns-in-Due-clause-served g c = rw c.in-Due.is (served_or _ _ c.args.who _ _ (λ same. same) c.due.ensures.answered)
+
+pub returns-in-Settle-clause-served : goal.returns-in-Settle-clause-served
+returns-in-Settle-clause-served g c = rw c.in-Settle.is c.settle.ensures.answered
+
+pub returns-in-List-clause-fit : goal.returns-in-List-clause-fit
+returns-in-List-clause-fit g c = c.list.ensures.fit
+
+pub returns-in-Check-clause-fit : goal.returns-in-Check-clause-fit
+returns-in-Check-clause-fit g c = c.check.ensures.fit
+
+pub returns-in-Flight-clause-fit : goal.returns-in-Flight-clause-fit
+returns-in-Flight-clause-fit g c = c.flight.ensures.fit
+
+pub returns-in-History-clause-fit : goal.returns-in-History-clause-fit
+returns-in-History-clause-fit g c = c.entries.ensures.fit
+
+pub returns-in-Change-clause-fit : goal.returns-in-Change-clause-fit
+returns-in-Change-clause-fit g c = c.change.ensures.fit
+
+pub returns-in-Take-clause-fit : goal.returns-in-Take-clause-fit
+returns-in-Take-clause-fit g c = c.take.ensures.fit
+
+pub returns-in-Probe-clause-fit : goal.returns-in-Probe-clause-fit
+returns-in-Probe-clause-fit g c = c.probe.ensures.fit
+
+pub returns-in-Accept-clause-fit : goal.returns-in-Accept-clause-fit
+returns-in-Accept-clause-fit g c = c.accept.ensures.fit
+
+pub returns-in-Advise-clause-fit : goal.returns-in-Advise-clause-fit
+returns-in-Advise-clause-fit g c = c.advise.ensures.fit
+
+pub returns-in-Due-clause-fit : goal.returns-in-Due-clause-fit
+returns-in-Due-clause-fit g c = c.due.ensures.fit
+
+pub returns-in-Settle-clause-fit : goal.returns-in-Settle-clause-fit
+returns-in-Settle-clause-fit g c = c.settle.ensures.fit
