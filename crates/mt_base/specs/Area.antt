@@ -7,37 +7,38 @@ use Rattle.mt_base.specs.Instant.{value_at}
 use Rattle.mt_base.specs.Span.{IsSpan}
 use Rattle.mt_base.specs.Trajectory.{Trajectory, row_at}
 
--- the cross product of two vectors of the plane: above 0 where the second points to the left of the first
+-- the cross product, above 0 where the second vector points left of the first
 abbrev pub cross : ℤ → ℤ → ℤ → ℤ → ℤ
 cross x y u v = x *ℤ v -ℤ y *ℤ u
 
--- the corner at a place, and the place that follows it: the first follows the last
+-- `corner`, `place_after`: the corner at a place, and the next place. The first corner follows the last.
 abbrev pub corner : List (ℤ × ℤ) → ℕ → ℤ × ℤ
 corner corners i = get_or corners i (pos 0, pos 0)
 
 abbrev pub place_after : List (ℤ × ℤ) → ℕ → ℕ
 place_after corners i = if nat_lt (i + 1) (length corners) then i + 1 else 0
 
--- a point lies to the left of the way from one corner to another; it is given times d
+-- a point lies left of the line from one corner to another. The point's coordinates are given times d.
 abbrev pub LiesLeft : ℤ × ℤ → ℤ × ℤ → ℤ → ℤ → ℤ → Type 0
 LiesLeft i j x y d = pos 0 <ℤ cross (j.0 -ℤ i.0) (j.1 -ℤ i.1) (x -ℤ d *ℤ i.0) (y -ℤ d *ℤ i.1)
 
--- Each corner that is no end of the side that begins at a place lies to the left of it.
+-- all other corners lie left of the side that begins at this place
 abbrev pub HasAllLeft : List (ℤ × ℤ) → ℕ → Type 0
 HasAllLeft corners i = (k : ℕ) → k < length corners → k ≢ i → k ≢ place_after corners i
     → LiesLeft (corner corners i) (corner corners (place_after corners i)) (corner corners k).0 (corner corners k).1 (pos 1)
 
--- So it is for each side. Then the corners go round counterclockwise, and the polygon is strictly convex.
+-- the polygon is strictly convex, with counterclockwise corners
 abbrev pub AreConvex : List (ℤ × ℤ) → Type 0
 AreConvex corners = (i : ℕ) → i < length corners → HasAllLeft corners i
 
--- The shape of an area is right.
+-- an area has its bottom below its top, hours, convex corners
 pub record HasRightShape (area : Area) : Type 0 where
   pub levels : area.bottom < area.top
   pub hours : area.from < area.to
   pub convex : AreConvex area.corners
 
--- The numbers of an area: 3 to 16 corners in the plane, levels up to flight level 600, and hours from by second 10,000,000 to by 10,014,400.
+-- an area's numbers are within bounds. It has 3 to 16 corners in the plane, levels up to flight level 600, and hours that begin by second 10,000,000
+-- and end by 10,014,400.
 pub record IsBoundedArea (area : Area) : Type 0 where
   pub some : 3 ≤ length area.corners
   pub few : length area.corners ≤ 16
@@ -47,14 +48,14 @@ pub record IsBoundedArea (area : Area) : Type 0 where
   pub begins : area.from ≤ 10000000
   pub ends : area.to ≤ 10014400
 
--- At the instant n/d of a row's second its position is strictly inside an area: above the bottom, below the top, and to the left of each side.
+-- at instant n/d the position is strictly inside the area. It is above the bottom, below the top, and to the left of each side.
 pub record IsInsideAt (area : Area) (row : Row) (n d : ℤ) : Type 0 where
   pub above : (pos (6000 * area.bottom) *ℤ d) <ℤ value_at row.z row.vz n d
   pub below : value_at row.z row.vz n d <ℤ (pos (6000 * area.top) *ℤ d)
   pub left : (i : ℕ) → i < length area.corners
       → LiesLeft (corner area.corners i) (corner area.corners (place_after area.corners i)) (value_at row.x row.vx n d) (value_at row.y row.vy n d) d
 
--- At some instant of the second it is.
+-- at some instant of the second it is inside
 pub record IsInside (area : Area) (row : Row) : Type 0 where
   pub n : ℤ
   pub d : ℤ
@@ -62,13 +63,13 @@ pub record IsInside (area : Area) (row : Row) : Type 0 where
   pub within : n <ℤ d
   pub at : IsInsideAt area row n d
 
--- Second k of a trajectory is inside an area: the trajectory covers it, the area's hours hold it, and at some instant of it the position is strictly inside.
+-- a trajectory is inside the area in second k, within its hours. It covers the second, and at some instant of it the position is strictly inside.
 pub record IsInsideSecond (t : Trajectory) (area : Area) (k : ℕ) : Type 0 where
   pub row : Row
   pub row_is : row_at t k ≡ Some row
   pub hours : (area.from ≤ k) × (k < area.to)
   pub inside : IsInside area row
 
--- The pierce of an area by a trajectory in a range of seconds: the first and the last second inside, or none.
+-- the first and last second inside of a range, or none
 abbrev pub IsPierce : Trajectory → Area → ℕ → ℕ → Option (ℕ × ℕ) → Type 0
 IsPierce t area from to span = IsSpan (IsInsideSecond t area) from to span

@@ -26,14 +26,14 @@ pub record IsWithin (low high z : ℤ) : Type 0 where
   pub least : low ≤ℤ z
   pub most : z ≤ℤ high
 
--- A value and its gain, within their bounds; and so is the value after that many seconds of the gain.
+-- a value, its gain, and the value seconds later, within bounds
 pub record IsKeptOver (low high least most z gain : ℤ) (seconds : ℕ) : Type 0 where
   pub value : IsWithin low high z
   pub growth : IsWithin least most gain
   pub end : IsWithin low high (z +ℤ gain *ℤ pos seconds)
 
--- A row keeps within the plane and the greatest rates, for that many seconds of its gains: x and y within 1,024 nautical miles of the
--- origin and 1,000 knots, z from 0 to flight level 600 and 10,000 feet a minute, the margins from 0 to 20 nautical miles and 10,000 feet.
+-- a row stays within bounds for so many seconds. x and y are within 1,024 NM of the origin and 1,000 knots, z from 0 to flight level 600 and 10,000
+-- feet a minute, the margins from 0 to 20 NM and 10,000 feet.
 pub record IsBoundedOver (row : Row) (seconds : ℕ) : Type 0 where
   pub x : IsKeptOver (neg_ℤ (pos 3686400)) (pos 3686400) (neg_ℤ (pos 1000)) (pos 1000) row.x row.vx seconds
   pub y : IsKeptOver (neg_ℤ (pos 3686400)) (pos 3686400) (neg_ℤ (pos 1000)) (pos 1000) row.y row.vy seconds
@@ -41,11 +41,11 @@ pub record IsBoundedOver (row : Row) (seconds : ℕ) : Type 0 where
   pub r : IsKeptOver (pos 0) (pos 72000) (pos 0) (pos 1000) row.r row.gr seconds
   pub w : IsKeptOver (pos 0) (pos 600000) (pos 0) (pos 10000) row.w row.gw seconds
 
--- a row, during its second
+-- a row stays within bounds during its second
 abbrev pub IsBoundedRow : Row → Type 0
 IsBoundedRow row = IsBoundedOver row 1
 
--- A straight stretch of at least one and at most 14,400 seconds that begins by second 10,000,000, keeps within those bounds and flies no leg.
+-- a straight stretch of 1 to 14,400 seconds within bounds. It begins by second 10,000,000, and its row names no leg.
 pub record IsBoundedStretch (stretch : Straight) : Type 0 where
   pub begins : stretch.from ≤ 10000000
   pub some : stretch.from < stretch.to
@@ -53,33 +53,34 @@ pub record IsBoundedStretch (stretch : Straight) : Type 0 where
   pub kept : IsBoundedOver stretch.first (stretch.to - stretch.from)
   pub no_leg : stretch.first.leg ≡ 0
 
--- a position in the plane, and a height up to flight level 600
+-- `IsInPlane`, `IsHeight`: a position within 1,024 NM of the origin; a height from 0 to flight level 600
 abbrev pub IsInPlane : ℤ → ℤ → Type 0
 IsInPlane x y = IsWithin (neg_ℤ (pos 3686400)) (pos 3686400) x × IsWithin (neg_ℤ (pos 3686400)) (pos 3686400) y
 
 abbrev pub IsHeight : ℤ → Type 0
 IsHeight z = IsWithin (pos 0) (pos 3600000) z
 
--- The numbers of a band: a flight level of 1 to 600, 1 to 1,000 knots, and rates of 1 to 10,000 feet a minute.
+-- a band up to flight level 600 with bounded speed and rates. Its top is flight level 1 to 600, its speed 1 to 1,000 knots, its rates 1 to 10,000
+-- feet a minute.
 pub record IsBoundedBand (b : Band) : Type 0 where
   pub top : (1 ≤ b.top) × (b.top ≤ 600)
   pub speed : IsWithin (pos 1) (pos 1000) b.speed
   pub climb : IsWithin (pos 1) (pos 10000) b.climb
   pub descent : IsWithin (pos 1) (pos 10000) b.descent
 
--- Bands of a type: 1 to 8 of them.
+-- 1 to 8 bounded bands
 pub record AreBoundedBands (bands : List Band) : Type 0 where
   pub some : 1 ≤ length bands
   pub few : length bands ≤ 8
   pub each : All IsBoundedBand bands
 
--- each fix of the tables lies in the plane, and each type has bounded bands
+-- fixes in the plane, and types with bounded bands
 pub record AreBoundedTables (tables : Tables) : Type 0 where
   pub fixes : All (λ (fix : List ℕ × Point). IsInPlane fix.1.x fix.1.y) tables.fixes
   pub types : All (λ (kind : List ℕ × List Band). AreBoundedBands kind.1) tables.types
 
--- A base is right for rules and a route of so many names: it begins by second 10,000,000, in the plane, with margins up to the greatest,
--- and flies to a place of the route.
+-- a base fits the rules and a route's length. It begins by second 10,000,000, in the plane, with margins up to the greatest, and flies to a place of
+-- the route.
 pub record IsRightBase (rules : Rules) (names : ℕ) (base : Base) : Type 0 where
   pub early : base.at ≤ 10000000
   pub plane : IsInPlane base.x base.y
@@ -88,6 +89,7 @@ pub record IsRightBase (rules : Rules) (names : ℕ) (base : Base) : Type 0 wher
   pub w : IsWithin (pos 0) rules.wmax base.w
   pub next : base.next < names
 
+-- a tentative clearance has a right base and a level up to 600
 pub record IsRightMark (rules : Rules) (names : ℕ) (mark : Mark) : Type 0 where
   pub base : IsRightBase rules names mark.base
   pub level : mark.level ≤ 600
@@ -98,13 +100,13 @@ pub record IsBoundedReport (report : Report) : Type 0 where
   pub plane : IsInPlane report.x report.y
   pub height : IsHeight report.z
 
--- what a clearance leaves is right
+-- a clearance leaves a right base and a level up to 600
 pub record IsRightAim (rules : Rules) (names : ℕ) (aim : Aim) : Type 0 where
   pub base : IsRightBase rules names aim.base
   pub level : aim.level ≤ 600
 
--- A course is sound for rules and tables: its type and its fixes are known, it has 2 to 64 of them, no two neighbours equal, its level and
--- its base are right, and so is its tentative clearance; it is due only with a report.
+-- a planned course fits rules and tables. Its type and fixes are known; it has 2 to 64 fixes, no two neighbours equal; its level and base are right,
+-- and so is its tentative clearance; it is due only with a report.
 pub record IsSoundCourse (setup : Setup) (course : Course) : Type 0 where
   pub kind : is_some (bands_of setup.tables course.kind) ≡ true
   pub route : judged (route_checks setup.tables course.route) (tt {0}) ≡ Ok (tt {0})
@@ -114,7 +116,7 @@ pub record IsSoundCourse (setup : Setup) (course : Course) : Type 0 where
   pub last : IfSome course.last IsBoundedReport
   pub due : course.due ≡ true → is_some course.last ≡ true
 
--- a path and a flight are sound for rules and tables
+-- `IsSoundPath`, `IsSoundFlight`: a path, and a flight, fits rules and tables
 abbrev pub IsSoundPath : Setup → Path → Type 0
 IsSoundPath setup (Planned course) = IsSoundCourse setup course
 IsSoundPath setup (Outer stretch) = IsBoundedStretch stretch
@@ -122,12 +124,12 @@ IsSoundPath setup (Outer stretch) = IsBoundedStretch stretch
 abbrev pub IsSoundFlight : Setup → Record → Type 0
 IsSoundFlight setup flight = IsSoundPath setup flight.path
 
--- a level up to flight level 600
+-- a level up to flight level 600, or direct to a fix
 abbrev pub IsBoundedClearance : Clearance → Type 0
 IsBoundedClearance (Level level) = level ≤ 600
 IsBoundedClearance (Direct fix) = ⊤
 
--- the numbers of a command are within their bounds
+-- a command's numbers are within bounds
 abbrev pub IsBoundedCommand : Command → Type 0
 IsBoundedCommand (Plan call kind route at from level rvsm) = (at ≤ 10000000) × (from ≤ 600) × (level ≤ 600)
 IsBoundedCommand (External call straight) = IsBoundedStretch straight
@@ -141,12 +143,12 @@ IsBoundedCommand (Tentative call clearance eff) = IsBoundedClearance clearance �
 IsBoundedCommand (Withdraw call force) = Unit {0}
 IsBoundedCommand (Commit call) = Unit {0}
 
--- a command that is asked for by itself; a probe is accepted by its number
+-- any command but an acceptance. A probe is accepted by its number.
 abbrev pub IsAskedFor : Command → Type 0
 IsAskedFor (Accept call clearance eff probed) = ⊥
 IsAskedFor command = ⊤
 
--- Each rule within its bounds.
+-- each rule is within its bounds
 pub record AreWithinBounds (rules : Rules) : Type 0 where
   pub sh : IsWithin (pos 1) (pos 72000) rules.sh
   pub sv : IsWithin (pos 1) (pos 600000) rules.sv

@@ -13,28 +13,29 @@ use Rattle.mt_base.specs.Checks.{judged}
 use Rattle.mt_base.specs.Tables.{Tables, bands_of, ceiling_of, fix_of}
 use Rattle.mt_base.specs.Trajectory.{Trajectory, row_at}
 
--- a base at a second of a trajectory, by its row
+-- the base at a second, from the trajectory's row
 abbrev pub base_by : ℕ → Row → Base
 base_by at row = record { at = at; x = row.x; y = row.y; z = row.z; r = row.r; w = row.w; next = row.leg }
 
--- The base from which a clearance holds from a second on: the flight's own before its trajectory begins, the row of that second within it,
--- and none at or past its end.
+-- the base from which a clearance holds. The flight's own before its trajectory begins, the row of that second within it, and none at or past its
+-- end.
 abbrev pub base_from : Base → Trajectory → ℕ → Option Base
 base_from base t eff = if nat_lt eff t.start then Some base else option_map (base_by eff) (row_at t eff)
 
--- the first place of a route after a place at which a fix stands
+-- the fix's first place further on in the route
 abbrev pub place_further_on : List (List ℕ) → ℕ → List ℕ → Option ℕ
 place_further_on route place fix = option_map (λ i. suc place + i) (position (bytes_eq fix) (drop (suc place) route))
 
--- a level is not above the ceiling of a type
+-- a level is at or below the type's ceiling
 abbrev pub is_below_ceiling : Tables → List ℕ → ℕ → Bool
 is_below_ceiling tables kind level = nat_le level (ceiling_of (unwrap_or (bands_of tables kind) []))
 
--- whether the fix stands ahead of the base from which a clearance holds
+-- a fix lies ahead on the route
 abbrev pub is_ahead : Course → Trajectory → ℕ → List ℕ → Bool
 is_ahead course t eff fix = is_some (option_and_then (λ (base : Base). place_further_on course.route base.next fix) (base_from course.base t eff))
 
--- What is checked of a clearance that holds from second `eff` on, in order: what it leaves, then that it is not above the moment `now`.
+-- `aim_checks`, `clearance_checks`: what is checked of a clearance that holds from second `eff`. In order: what it leaves; then, in
+-- `clearance_checks`, that `eff` is not after the moment `now`.
 abbrev pub aim_checks : Tables → Course → Trajectory → Clearance → ℕ → List (Refusal × Bool)
 aim_checks tables course t (Level level) eff =
     (Ended, is_some (base_from course.base t eff)) ∷ (Ceiling, is_below_ceiling tables course.kind level) ∷ []
@@ -48,12 +49,12 @@ clearance_checks tables course t clearance eff now = aim_checks tables course t 
 abbrev pub direct_to : List (List ℕ) → List ℕ → Base → Base
 direct_to route fix base = record base { next = unwrap_or (place_further_on route base.next fix) base.next }
 
--- What a clearance leaves: the base from which it holds, and the level; a level replaces the level, a fix is flown to next.
+-- the base and level that a clearance leaves. A level replaces the level; a fix is flown to next.
 abbrev pub aim_of : Course → Trajectory → Clearance → ℕ → Aim
 aim_of course t (Level level) eff = record { base = unwrap_or (base_from course.base t eff) course.base; level = level }
 aim_of course t (Direct fix) eff =
     record { base = direct_to course.route fix (unwrap_or (base_from course.base t eff) course.base); level = course.level }
 
--- what a clearance leaves of a course with that trajectory, or the first of its refusals
+-- what a clearance leaves of a course, or its first refusal
 abbrev pub cleared : Tables → Course → Trajectory → Clearance → ℕ → ℕ → Result Aim Refusal
 cleared tables course t clearance eff now = judged (clearance_checks tables course t clearance eff now) (aim_of course t clearance eff)

@@ -8,7 +8,7 @@ use Rattle.mt_base.specs.declared.command.Entry.{Entry}
 use Rattle.mt_base.specs.Bounds.{IsBoundedCommand}
 use Rattle.mt_base.specs.Name.{IsCallsign, IsFixName, IsTypeName}
 
--- a clearance to a level, or direct to what is the name of a fix
+-- a level, or direct to a fix name
 abbrev pub IsNamedClearance : Clearance → Type 0
 IsNamedClearance (Level level) = ⊤
 IsNamedClearance (Direct fix) = IsFixName fix
@@ -33,8 +33,7 @@ IsTimed (command.Clear call clearance eff) = is_some eff ≡ true
 IsTimed (command.Tentative call clearance eff) = is_some eff ≡ true
 IsTimed command = ⊤
 
--- An entry as it is entered: its names are names, its clearance says from when it holds, its numbers are within their bounds, and the number
--- of who asked has 32 bits.
+-- an entry is complete: names, times, bounds, a 32-bit actor
 pub record IsComplete (e : Entry) : Type 0 where
   pub names : HasNames e.command
   pub timed : IsTimed e.command

@@ -5,7 +5,7 @@ use Rattle.mt_base.specs.Loss.{LosesIn}
 use Rattle.mt_base.specs.Span.{IsSpan, IsSpanOf}
 use Rattle.mt_base.specs.Trajectory.{Trajectory, row_at}
 
--- Second k is a loss second of two trajectories: both cover it, and at some instant of it their rows lose separation.
+-- two trajectories lose separation in second k. Both cover it, and at some instant of it their rows lose separation.
 pub record IsLossSecond (rules : Rules) (a b : Trajectory) (k : ℕ) : Type 0 where
   pub left : Row
   pub right : Row
@@ -13,10 +13,10 @@ pub record IsLossSecond (rules : Rules) (a b : Trajectory) (k : ℕ) : Type 0 wh
   pub right_is : row_at b k ≡ Some right
   pub loss : LosesIn rules a.rvsm b.rvsm left right
 
--- Of the seconds from one up to another, `first` is the least loss second and `last` the greatest.
+-- the first and the last loss second of a range
 abbrev pub IsSpanOfLoss : Rules → Trajectory → Trajectory → ℕ → ℕ → ℕ → ℕ → Type 0
 IsSpanOfLoss rules a b = IsSpanOf (IsLossSecond rules a b)
 
--- The conflict of two trajectories in a range of seconds: that span, or none where no second of the range is a loss second.
+-- the conflict of two trajectories in a range, or none
 abbrev pub IsConflict : Rules → Trajectory → Trajectory → ℕ → ℕ → Option (ℕ × ℕ) → Type 0
 IsConflict rules a b = IsSpan (IsLossSecond rules a b)

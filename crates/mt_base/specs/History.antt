@@ -32,7 +32,7 @@ use Rattle.mt_base.specs.Verdict.{is_flagged, verdict_of}
 use Rattle.mt_base.specs.WhatIf.{AreHits, IsWhatIf, course_in, mark_in, what_if_checks}
 use Rattle.mt_base.specs.Tables.{Setup, Tables, bands_of, fix_checks, length_checks}
 
--- What a decision looks at: the moment, how many flights are held, how many entries, and the flight that the command names.
+-- what a decision looks at: the moment, counts, the flight named
 pub record Look : Type 0 where
   pub now : ℕ
   pub held : ℕ
@@ -53,7 +53,7 @@ call_of (Tentative call clearance eff) = Some call
 call_of (Withdraw call force) = Some call
 call_of (Commit call) = Some call
 
--- what a decision of a command looks at in a state
+-- what the decision of a command looks at in a state
 abbrev pub look_at : State → Command → Look
 look_at s command = record {
   now = s.now;
@@ -62,37 +62,36 @@ look_at s command = record {
   flight = option_and_then (flight_of s.records) (call_of command);
 }
 
--- there is room for one more flight, and for one more entry
+-- `has_room`, `has_history`: there is room for one more flight, and for one more entry
 abbrev pub has_room : Rules → Look → Bool
 has_room rules look = int_lt (pos look.held) rules.flights
 
 abbrev pub has_history : Rules → Look → Bool
 has_history rules look = int_lt (pos look.entries) rules.history
 
--- why names are no route, as the refusal of a plan
+-- a route's fault as the refusal of a plan
 abbrev pub refusal_of : RouteNo → Refusal
 refusal_of (route_no.UnknownFix name) = UnknownFix name
 refusal_of route_no.Short = RouteShort
 refusal_of route_no.Long = RouteLong
 refusal_of route_no.Twice = RouteTwice
 
--- what is checked of a route: each of its names, then how many there are and that they differ from their neighbours
+-- what is checked of a route. Each of its names, then how many there are and that they differ from their neighbours.
 abbrev pub route_checks : Tables → List (List ℕ) → List (Refusal × Bool)
 route_checks tables route = map (λ c. (refusal_of c.0, c.1)) (fix_checks tables route ++ length_checks route)
 
--- A report is later than the last one.
+-- a report is later than the last one
 abbrev pub is_later : Option Report → ℕ → Bool
 is_later last at = option_map_or (λ (report : Report). nat_lt report.at at) last true
 
--- who owns a tentative clearance
+-- `owner_of`, `is_owned`: who owns a tentative clearance; whether it is that actor's
 abbrev pub owner_of : Option Mark → ℕ
 owner_of mark = option_map_or (λ (m : Mark). m.owner) mark 0
 
--- a tentative clearance is that actor's
 abbrev pub is_owned : ℕ → Option Mark → Bool
 is_owned who mark = option_map_or (λ (m : Mark). nat_eq m.owner who) mark false
 
--- What is checked of a command, in order.
+-- what is checked of a command, in order
 abbrev pub checks : Setup → Look → ℕ → Command → List (Refusal × Bool)
 checks setup look who (Plan call kind route at from level rvsm) =
     (HeldCall, not (is_some look.flight)) ∷
@@ -137,22 +136,22 @@ checks setup look who (Withdraw call force) =
 checks setup look who (Commit call) =
     (UnknownCall call, is_some look.flight) ∷ (NoTentative, is_some (mark_in look.flight)) ∷ (HistoryFull, has_history setup.rules look) ∷ []
 
--- a command with the second from which it holds, where that is left to the moment
+-- a command with its effective second filled in
 abbrev pub filled : ℕ → Command → Command
 filled now (Clear call clearance eff) = Clear call clearance (Some (unwrap_or eff now))
 filled now (Tentative call clearance eff) = Tentative call clearance (Some (unwrap_or eff now))
 filled now command = command
 
--- the first refusal of an actor's command in a state, but for one that was probed and is no longer free; or its entry
+-- a command's first refusal, staleness aside, or its entry
 abbrev pub judge : Setup → State → ℕ → Command → Result Entry Refusal
 judge setup s who command = judged (checks setup (look_at s command) who command) (record { who = who; command = filled s.now command })
 
--- the hits of a command that was probed, on the state; no other command has any
+-- the hits of an accepted probe in the state. No other command has any.
 abbrev pub HasHits : Setup → State → Command → List Hit → Type 0
 HasHits setup s (Accept call clearance eff probed) hits = AreHits setup s call clearance eff hits
 HasHits setup s command hits = hits ≡ []
 
--- A command that nothing else refuses has hits, and so is refused; the refusal carries the first.
+-- a probed clearance, otherwise allowed, has hits by now. The refusal carries the first of them.
 pub record IsStale (setup : Setup) (s : State) (who : ℕ) (command : Command) (refusal : Refusal) : Type 0 where
   pub entry : Entry
   pub passed : judge setup s who command ≡ Ok entry
@@ -161,13 +160,12 @@ pub record IsStale (setup : Setup) (s : State) (who : ℕ) (command : Command) (
   pub hits : HasHits setup s command (first ∷ others)
   pub refusal_is : refusal ≡ Stale first
 
--- What is decided of an actor's command in a state: its first refusal, the last of which is that it was probed and is no longer free; or
--- its entry.
+-- what is decided of a command: its first refusal, or its entry. The last refusal is that the clearance was probed and is no longer free.
 abbrev pub IsDecided : Setup → State → ℕ → Command → Result Entry Refusal → Type 0
 IsDecided setup s who command (Ok entry) = (judge setup s who command ≡ Ok entry) × HasHits setup s command []
 IsDecided setup s who command (Err refusal) = (judge setup s who command ≡ Err refusal) ⊎ IsStale setup s who command refusal
 
--- Where a plan begins: at its second, over the route's first fix, at its first level, with the first margins, and flying to the next fix.
+-- where a plan begins. At its second, over the route's first fix, at its first level, with the first margins, and flying to the next fix.
 abbrev pub base_of : Rules → Point → ℕ → ℕ → Base
 base_of rules fix at from = record { at = at; x = fix.x; y = fix.y; z = pos (6000 * from); r = rules.r0; w = rules.w0; next = 1 }
 
@@ -189,7 +187,7 @@ course_of setup kind route at from level rvsm = record {
   rvsm = rvsm;
 }
 
--- a course with what a clearance leaves of it
+-- `with_aim`, `cleared_path`: a course, and a path, after a clearance
 abbrev pub with_aim : Course → Aim → Course
 with_aim course aim = record course { base = aim.base; level = aim.level }
 
@@ -197,31 +195,31 @@ abbrev pub cleared_path : Setup → Clearance → ℕ → Path → Path
 cleared_path setup clearance eff (Planned course) = Planned (with_aim course (aim_of course (trajectory_of setup (Planned course)) clearance eff))
 cleared_path setup clearance eff (Outer stretch) = Outer stretch
 
--- a report of a planned flight compared with its trajectory
+-- the verdict on a report of a planned flight
 abbrev pub verdict_on : Setup → Course → Report → Verdict
 verdict_on setup course report = verdict_of setup.rules course.base (trajectory_of setup (Planned course)) report
 
--- A flight, with its path changed where it has that callsign.
+-- a flight, with its path changed where the callsign matches
 abbrev pub changed : List ℕ → (Path → Path) → Record → Record
 changed call change flight = record flight { path = if bytes_eq flight.call call then change flight.path else flight.path }
 
--- What a report leaves: it is the last one, and one with a flag makes the flight due. One without leaves the mark as it is.
+-- a path after a report. The report is the last one, and one with a flag makes the flight due. One without a flag does not clear it.
 abbrev pub reported_path : Setup → Report → Path → Path
 reported_path setup report (Planned course) =
     Planned (record course { last = Some report; due = course.due || is_flagged (verdict_on setup course report) })
 reported_path setup report (Outer stretch) = Outer stretch
 
--- what a renewal leaves: the base at the last report, and no longer due
+-- a path after its renewal. The base is at the last report, and the flight is no longer due.
 abbrev pub renewed_path : Setup → Path → Path
 renewed_path setup (Planned course) =
     Planned (record course { base = unwrap_or (renewed setup.rules course (trajectory_of setup (Planned course))) course.base; due = false })
 renewed_path setup (Outer stretch) = Outer stretch
 
--- a tentative clearance by its owner and what the clearance would leave
+-- a tentative clearance: its owner, base and level
 abbrev pub mark_by : ℕ → Aim → Mark
 mark_by who aim = record { owner = who; base = aim.base; level = aim.level }
 
--- what a tentative clearance, its withdrawal and its commitment leave
+-- `marked_path`, `bare_path`, `committed`, `committed_path`: a path with a tentative clearance, without it, and after its commitment
 abbrev pub marked_path : Setup → ℕ → Clearance → ℕ → Path → Path
 marked_path setup who clearance eff (Planned course) =
     Planned (record course { mark = Some (mark_by who (aim_of course (trajectory_of setup (Planned course)) clearance eff)) })
@@ -239,7 +237,7 @@ abbrev pub committed_path : Path → Path
 committed_path (Planned course) = Planned (committed course course.mark)
 committed_path (Outer stretch) = Outer stretch
 
--- the records and the moment that an entry leaves
+-- `records_after`, `now_after`: the flights and the moment after an entry
 abbrev pub records_after : Setup → ℕ → Command → List Record → List Record
 records_after setup who (Plan call kind route at from level rvsm) flights =
     flights ++ (record { call = call; path = Planned (course_of setup kind route at from level rvsm) }) ∷ []
@@ -258,41 +256,40 @@ abbrev pub now_after : Command → ℕ → ℕ
 now_after (Tick next) now = next
 now_after command now = now
 
--- The effect of an entry: a plan or an external flight is filed after the others, a dropped one is taken out, a tick moves the moment, and
--- any other command changes the path of the flight that it names; and the version rises by one.
+-- the state after an entry; the version rises by one. A plan or an external flight is filed after the others, a dropped one is taken out, a tick
+-- moves the moment, and any other command changes the path of the flight that it names.
 abbrev pub effect : Setup → State → Entry → State
 effect setup s e = record { now = now_after e.command s.now; records = records_after setup e.who e.command s.records; version = s.version + 1 }
 
--- what an entered report is answered beside the version: its verdict in the state before it; no other command has one
+-- an entered report's verdict in the state before it. No other command has one.
 abbrev pub verdict_in : Setup → State → Command → Option Verdict
 verdict_in setup s (commands.Report call report) = option_map (λ course. verdict_on setup course report) (course_in (flight_of s.records call))
 verdict_in setup s command = None
 
--- what an entry is answered: the version with it, and the verdict of a report
+-- the answer to an entry: its version, and a report's verdict
 abbrev pub entered_by : Setup → State → Entry → Entered
 entered_by setup s e = record { version = s.version + 1; verdict = verdict_in setup s e.command }
 
--- The state of a history: the effects of its entries, in order, on the opening state.
+-- the state of a history: its entries' effects in order
 abbrev pub state_of : Setup → List Entry → State
 state_of setup h = fold (effect setup) opening h
 
--- the version that a command was probed at is none that comes after its place
+-- a command was probed at no version after its place
 abbrev pub IsInTime : ℕ → Command → Type 0
 IsInTime place (Accept call clearance eff probed) = probed ≤ place
 IsInTime place command = ⊤
 
--- A history is replayable where each entry is what is decided of its command on the state of the entries before it, and none was probed at a
--- version after its place.
+-- each entry is what is decided on the entries before it. None was probed at a version after its place.
 abbrev pub IsReplayable : Setup → List Entry → Type 0
 IsReplayable setup h = (i : ℕ) (e : Entry) → slice_get h i ≡ Some e
     → IsDecided setup (state_of setup (take i h)) e.who e.command (Ok e) × IsInTime i e.command
 
--- what was probed was free of conflicts on the state of the version that it names
+-- a probed clearance was free at the version probed
 abbrev pub WasFree : Setup → List Entry → Command → Type 0
 WasFree setup h (Accept call clearance eff probed) = IsWhatIf setup (state_of setup (take probed h)) call clearance (Some eff) (Ok [])
 WasFree setup h command = ⊤
 
--- A history is legal where it is replayable, and each clearance that was accepted was free of conflicts when it was probed.
+-- a replayable history, each accepted clearance free when probed
 pub record IsLegal (setup : Setup) (h : List Entry) : Type 0 where
   pub replayable : IsReplayable setup h
   pub free : (i : ℕ) (e : Entry) → slice_get h i ≡ Some e → WasFree setup h e.command

@@ -5,7 +5,7 @@ use Rattle.std.specs.List.{list_all}
 abbrev pub is_letter : ℕ → Bool
 is_letter b = (nat_le 65 b && nat_le b 90) || (nat_le 48 b && nat_le b 57)
 
--- a name of at least `low` and at most `high` of these
+-- `low` to `high` capital letters and digits
 abbrev pub is_name : ℕ → ℕ → List ℕ → Bool
 is_name low high text = nat_le low (length text) && nat_le (length text) high && list_all is_letter text
 
@@ -13,7 +13,7 @@ is_name low high text = nat_le low (length text) && nat_le (length text) high &&
 abbrev pub name_of : ℕ → ℕ → List ℕ → Option (List ℕ)
 name_of low high text = if is_name low high text then Some text else None
 
--- the callsign of a flight, the name of a fix and the name of a type
+-- `IsCallsign`, `IsFixName`, `IsTypeName`: a callsign of 1 to 7, a fix of 2 to 5, a type of 2 to 4
 abbrev pub IsCallsign : List ℕ → Type 0
 IsCallsign text = is_name 1 7 text ≡ true
 

@@ -11,12 +11,12 @@ use Rattle.mt_base.specs.Picture.{NamedTrajectory, State, kind_cmp, trajectories
 use Rattle.mt_base.specs.Span.{IsSpanOf}
 use Rattle.mt_base.specs.Tables.{Setup}
 
--- In the window the trajectory passes through the area so.
+-- within the look-ahead the trajectory pierces this area so
 pub record IsPiercedBy (now : ℕ) (area : Area) (t : NamedTrajectory) (p : Pierced) : Type 0 where
   pub names : (p.area ≡ area.name) × (p.call ≡ t.call) × (p.kind ≡ t.kind)
   pub span : IsSpanOf (IsInsideSecond t.path area) now (window_end now) p.first p.last
 
--- One of these trajectories passes through one of these areas so.
+-- one of these trajectories so pierces one of these areas
 pub record IsPiercedBySome (now : ℕ) (areas : List Area) (all : List NamedTrajectory) (p : Pierced) : Type 0 where
   pub area : Area
   pub of : NamedTrajectory
@@ -24,17 +24,17 @@ pub record IsPiercedBySome (now : ℕ) (areas : List Area) (all : List NamedTraj
   pub of_in : Contains all of
   pub is : IsPiercedBy now area of p
 
--- The order of telling: by the first second, then the callsign, then the kind, then the area's name.
--- (The last second comes last. Where no two areas have one name and no two trajectories one callsign and kind, it decides nothing.)
+-- the order of pierces: first second, callsign, kind, area. The last second comes last; where no two areas have one name and no two trajectories one
+-- callsign and kind, it decides nothing.
 abbrev pub pierced_cmp : Pierced → Pierced → Ordering
 pierced_cmp p q = ordering_then (nat_cmp p.first q.first) (ordering_then (slice_cmp nat_cmp p.call q.call) (ordering_then (kind_cmp p.kind q.kind)
     (ordering_then (slice_cmp nat_cmp p.area q.area) (nat_cmp p.last q.last))))
 
--- What is told of these: each passage of one of the trajectories through one of the areas, and no other, once, in order.
+-- exactly the pierces of these areas, each once, in order
 pub record ArePiercedOf (now : ℕ) (areas : List Area) (all : List NamedTrajectory) (ps : List Pierced) : Type 0 where
   pub exact : (p : Pierced) → Contains ps p ↔ IsPiercedBySome now areas all p
   pub sorted : IsStrictlySortedBy pierced_cmp ps
 
--- what is told of a state
+-- the pierces of a state
 abbrev pub ArePierced : Setup → State → List Area → List Pierced → Type 0
 ArePierced setup s areas ps = ArePiercedOf s.now areas (trajectories setup s) ps

@@ -11,7 +11,7 @@ use Rattle.mt_base.specs.declared.rules.Rules.{Rules}
 use Rattle.mt_base.specs.Tables.{Setup, Tables, bands_of, fix_of}
 use Rattle.mt_base.specs.Trajectory.{Trajectory}
 
--- How a flight flies: the rules, the bands of its type, and the flight level that it is cleared to.
+-- how a flight flies: rules, its type's bands, cleared level
 pub record Manner : Type 0 where
   pub rules : Rules
   pub bands : List Band
@@ -19,13 +19,13 @@ pub record Manner : Type 0 where
 
 -- ---- the leg law
 
--- the band that holds a height: the first whose top is not below it, else the last
+-- the band at a height. The first whose top is not below it, else the last.
 abbrev pub band_at : List Band → ℤ → Band
 band_at [] z = record { top = 0; speed = pos 0; climb = pos 0; descent = pos 0 }
 band_at (b ∷ []) z = b
 band_at (b ∷ c ∷ bs) z = if int_le z (pos (6000 * b.top)) then b else band_at (c ∷ bs) z
 
--- the least number that passes a test, or the bound where none below it does
+-- the least number that passes a test, else the bound
 abbrev pub least_below : ℕ → (ℕ → Bool) → ℕ
 least_below zero test = zero
 least_below (suc n) test = if test zero then zero else suc (least_below n (λ t. test (suc t)))
@@ -34,11 +34,11 @@ least_below (suc n) test = if test zero then zero else suc (least_below n (λ t.
 abbrev pub square_of : ℤ → ℤ → ℕ
 square_of dx dy = unsigned_abs (dx *ℤ dx +ℤ dy *ℤ dy)
 
--- How many seconds a leg lasts at a speed of g: the least T with dx*dx + dy*dy <= T*T*g*g, which is never above dx*dx + dy*dy itself.
+-- the seconds of a leg at speed g. The least T with dx*dx + dy*dy <= T*T*g*g, which is never above dx*dx + dy*dy itself.
 unfoldable pub seconds_of : ℤ → ℤ → ℕ → ℕ
 seconds_of dx dy g = least_below (square_of dx dy) (λ t. nat_le (square_of dx dy) (t * t * g * g))
 
--- the leg from a place to a fix, at the speed of the height there
+-- the leg to a fix, at the speed for this height
 unfoldable pub leg_to : List Band → ℕ → Point → Place → Leg
 leg_to bands number fix a = record {
   number = number;
@@ -47,8 +47,8 @@ leg_to bands number fix a = record {
   seconds = seconds_of (fix.x -ℤ a.x) (fix.y -ℤ a.y) (unsigned_abs (band_at bands a.z).speed);
 }
 
--- A distance of q*T + r, with 0 <= r < T, is flown in T seconds by q in each, and one more in the last r: the gain of a second with n
--- seconds of the leg after it.
+-- the share of a leg flown in one second. A distance of q*T + r, with 0 <= r < T, is flown in T seconds by q in each, and one more in the last r; n
+-- seconds of the leg come after this one.
 unfoldable pub gain_with : ℤ → ℕ → ℕ → ℤ
 gain_with total seconds n =
     if nat_lt n (unsigned_abs (int_rem_euclid total (pos seconds))) then int_div_euclid total (pos seconds) +ℤ pos 1
@@ -56,12 +56,12 @@ gain_with total seconds n =
 
 -- ---- the vertical law and the margins
 
--- what a second climbs: what is left to the cleared height, at most the rate of climb and at least minus the rate of descent of the band
--- that holds its height
+-- the climb or descent of one second. What is left to the cleared height, at most the rate of climb and at least minus the rate of descent of the
+-- band at that height.
 unfoldable pub climb_from : Manner → ℤ → ℤ
 climb_from m z = int_max (int_min (pos (6000 * m.level) -ℤ z) (band_at m.bands z).climb) (neg_ℤ (band_at m.bands z).descent)
 
--- the vertical margin at the start of a second with this climb, and its gain: a level second resets it
+-- `margin_at`, `margin_gain`: the vertical margin of a second, and its gain. A level second resets it.
 abbrev pub margin_at : Rules → ℤ → ℤ → ℤ
 margin_at rules (pos zero) w = rules.w0
 margin_at rules climb w = w
@@ -72,7 +72,7 @@ margin_gain rules climb w = int_min rules.gv (rules.wmax -ℤ w)
 
 -- ---- rows
 
--- the row of a second with n more of its leg after it
+-- the row with n more seconds of its leg ahead
 unfoldable pub row_on : Manner → Leg → ℕ → Place → Row
 row_on m leg n a = record {
   x = a.x;
@@ -102,22 +102,22 @@ abbrev pub end_after : Place → List Row → Place
 end_after a [] = a
 end_after a (r ∷ rs) = end_after (end_of r) rs
 
--- the rows of the whole leg to a fix, which is the number-th of the route
+-- the rows of the whole leg to a fix. The fix is the number-th of the route.
 abbrev pub rows_to : Manner → ℕ → Point → Place → List Row
 rows_to m number fix a = rows_on m (leg_to m.bands number fix a) (leg_to m.bands number fix a).seconds a
 
--- the rows of the leg to each fix in turn; number is the first one's place in the route
+-- the rows of the legs to each fix in turn. `number` is the first one's place in the route.
 abbrev pub rows_along : Manner → ℕ → List Point → Place → List Row
 rows_along m number [] a = []
 rows_along m number (fix ∷ fixes) a = rows_to m number fix a ++ rows_along m (suc number) fixes (end_after a (rows_to m number fix a))
 
--- The rows of a trajectory from a place along the fixes ahead. Those after the first 14,400 are cut off.
+-- the predicted rows, at most 14,400
 abbrev pub predicted : Manner → ℕ → List Point → Place → List Row
 predicted m number fixes a = take 14400 (rows_along m number fixes a)
 
 -- ---- trajectories
 
--- the positions of the fixes of a route
+-- `points_of`, `base_place`: the positions of a route's fixes, and of a base
 abbrev pub points_of : Tables → List (List ℕ) → List Point
 points_of tables route = map (λ name. unwrap_or (fix_of tables name) (record { x = pos 0; y = pos 0 })) route
 
@@ -128,7 +128,7 @@ base_place b = record { x = b.x; y = b.y; z = b.z; r = b.r; w = b.w }
 abbrev pub manner_of : Setup → List ℕ → ℕ → Manner
 manner_of setup kind level = record { rules = setup.rules; bands = unwrap_or (bands_of setup.tables kind) []; level = level }
 
--- The trajectory of a type along a route, from a base and cleared to a level, of an aircraft with that approval.
+-- the trajectory of a type along a route from a base. It is cleared to a level, and the aircraft has that approval.
 abbrev pub flown : Setup → List ℕ → List (List ℕ) → Base → ℕ → Bool → Trajectory
 flown setup kind route base level rvsm = record {
   start = base.at;

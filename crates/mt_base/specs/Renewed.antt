@@ -7,11 +7,11 @@ use Rattle.mt_base.specs.declared.row.Row.{Row}
 use Rattle.mt_base.specs.declared.rules.Rules.{Rules}
 use Rattle.mt_base.specs.Trajectory.{Trajectory, row_at}
 
--- the row that a trajectory has at a second, or its last one where it ended before; none before it begins, or where it has no rows
+-- the row at a second, or the last one before it. None before the trajectory begins, or where it has no rows.
 abbrev pub row_by : Trajectory → ℕ → Option Row
 row_by t k = if nat_lt k t.start then None else if nat_lt (k - t.start) (length t.rows) then row_at t k else slice_get t.rows (length t.rows - 1)
 
--- the base at a report: its second and position, the first margins, and the fix that is flown to by then
+-- the base at a report. Its second and position, the first margins, and the fix that is flown to by then.
 abbrev pub base_at_report : Rules → Base → Trajectory → Report → Base
 base_at_report rules base t report = record {
   at = report.at;
@@ -23,6 +23,6 @@ base_at_report rules base t report = record {
   next = unwrap_or (option_map (λ (row : Row). row.leg) (row_by t report.at)) base.next;
 }
 
--- Where a flight that is due begins anew: at its last report. One that isn't due does not.
+-- the base of a due flight's renewal, at its last report. A flight that isn't due has none.
 abbrev pub renewed : Rules → Course → Trajectory → Option Base
 renewed rules course t = if course.due then option_map (base_at_report rules course.base t) course.last else None

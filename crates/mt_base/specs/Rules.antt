@@ -3,7 +3,7 @@ use Rattle.mt_base.specs.declared.rules.Rules.{Rules}
 use Rattle.mt_base.specs.declared.rules.RuleName.{RuleName}
 use Rattle.mt_base.specs.declared.rules.RuleName.TheVariants.{Sh, Sv, R0, Gh, Rmax, W0, Gv, Wmax, Tc, Ta, Tv, Flights, History, Sv2}
 
--- the rules of a picture for which none was set
+-- the rules where none was set
 abbrev pub usual_rules : Rules
 usual_rules = record {
   sh = pos 18000;
@@ -22,10 +22,11 @@ usual_rules = record {
   sv2 = pos 120000;
 }
 
+-- a number is from low to high
 abbrev pub is_within : ℤ → ℤ → ℤ → Bool
 is_within low high z = int_le low z && int_le z high
 
--- each rule, with whether it is within its bounds
+-- each rule, and whether it is within bounds
 abbrev pub rule_checks : Rules → List (RuleName × Bool)
 rule_checks rules =
     (Sh, is_within (pos 1) (pos 72000) rules.sh) ∷

@@ -10,15 +10,15 @@ use Rattle.mt_base.specs.History.{IsDecided, state_of}
 use Rattle.mt_base.specs.Tables.{Setup}
 use Rattle.mt_base.specs.WhatIf.{course_on}
 
--- a flight for which a new trajectory is due
+-- a flight is due for a new trajectory
 abbrev pub is_due : Record → Bool
 is_due flight = option_map_or (λ (course : Course). course.due) (course_on flight.path) false
 
--- the callsigns of these, in the order of filing
+-- the due flights' callsigns, in filing order
 abbrev pub due_calls : List Record → List (List ℕ)
 due_calls flights = map (λ flight. flight.call) (filter is_due flights)
 
--- A renewal that is entered, and one that is refused.
+-- `IsRenewed`, `IsPassedOver`: a renewal that is entered, and one that is refused
 pub record IsRenewed (setup : Setup) (who : ℕ) (call : List ℕ) (h next : List Entry) : Type 0 where
   pub entry : Entry
   pub decided : IsDecided setup (state_of setup h) who (Renew call) (Ok entry)
@@ -29,17 +29,17 @@ pub record IsPassedOver (setup : Setup) (who : ℕ) (call : List ℕ) (h next : 
   pub decided : IsDecided setup (state_of setup h) who (Renew call) (Err refusal)
   pub next_is : next ≡ h
 
--- one flight after the other is renewed by an actor, each as it is decided on the history so far; one that is refused is passed over
+-- flights are renewed in turn, refused ones passed over. Each renewal is decided on the history so far.
 abbrev pub AreRenewed : Setup → ℕ → List (List ℕ) → List Entry → List Entry → Type 0
 AreRenewed setup who [] h next = next ≡ h
 AreRenewed setup who (call ∷ calls) h next =
     (between : List Entry) × (IsRenewed setup who call h between ⊎ IsPassedOver setup who call h between) × AreRenewed setup who calls between next
 
--- Settling renews the flights that are due at first, in the order of filing, and no others.
+-- exactly the flights due at first are renewed, in filing order
 abbrev pub IsSettled : Setup → ℕ → List Entry → List Entry → Type 0
 IsSettled setup who h next = AreRenewed setup who (due_calls (state_of setup h).records) h next
 
--- Some of them were renewed, in that order, before memory was wanted.
+-- some of them were renewed before memory ran out
 pub record IsSettledInPart (setup : Setup) (who : ℕ) (h next : List Entry) : Type 0 where
   pub done : List (List ℕ)
   pub left : List (List ℕ)

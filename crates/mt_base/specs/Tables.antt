@@ -9,16 +9,16 @@ use Rattle.mt_base.specs.declared.route.RouteNo.{RouteNo}
 use Rattle.mt_base.specs.declared.route.RouteNo.TheVariants.{UnknownFix, Short, Long, Twice}
 use Rattle.mt_base.specs.declared.rules.Rules.{Rules}
 
--- The fixes with their positions and the types with their bands, each name once.
+-- fixes with positions, types with bands, each name once
 pub record Tables : Type 0 where
   pub fixes : List (List ℕ × Point)
   pub types : List (List ℕ × List Band)
 
--- as they are at first
+-- the tables at first
 abbrev pub no_tables : Tables
 no_tables = record { fixes = []; types = [] }
 
--- What the lines before `begin` fix: the rules and the tables.
+-- `Setup`, `setup_with`: the rules and tables, fixed before `begin`
 pub record Setup : Type 0 where
   pub rules : Rules
   pub tables : Tables
@@ -34,7 +34,7 @@ fix_of tables name = lookup (pointwise nat_eq name) tables.fixes
 abbrev pub bands_of : Tables → List ℕ → Option (List Band)
 bands_of tables name = lookup (pointwise nat_eq name) tables.types
 
--- the ceiling of some bands: the last top
+-- the ceiling of some bands, the last top
 abbrev pub ceiling_of : List Band → ℕ
 ceiling_of [] = 0
 ceiling_of (b ∷ []) = b.top
@@ -46,10 +46,10 @@ differ_from_next [] = true
 differ_from_next (n ∷ []) = true
 differ_from_next (n ∷ m ∷ ns) = not (bytes_eq n m) && differ_from_next (m ∷ ns)
 
--- each name of a route is that of a fix
+-- each name of a route is a fix's
 abbrev pub fix_checks : Tables → List (List ℕ) → List (RouteNo × Bool)
 fix_checks tables route = map (λ name. (UnknownFix name, is_some (fix_of tables name))) route
 
--- it has 2 to 64 names, no two neighbours equal
+-- a route has 2 to 64 names, neighbours differ
 abbrev pub length_checks : List (List ℕ) → List (RouteNo × Bool)
 length_checks route = (Short, nat_le 2 (length route)) ∷ (Long, nat_le (length route) 64) ∷ (Twice, differ_from_next route) ∷ []

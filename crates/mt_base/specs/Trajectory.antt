@@ -2,13 +2,13 @@ use Rattle.std.specs.Prelude.{ℕ, zero, suc, ◌-◌, ◌+ℤ◌, Bool, List, [
 use Rattle.mt_base.specs.declared.row.Row.{Row}
 use Rattle.mt_base.specs.declared.flight.Straight.{Straight}
 
--- A trajectory: its first second, a row for each second from there, and whether the aircraft is approved for RVSM.
+-- a first second, a row for each second, RVSM approval
 pub record Trajectory : Type 0 where
   pub start : ℕ
   pub rows : List Row
   pub rvsm : Bool
 
--- The second before which every trajectory ends.
+-- the second before which every trajectory ends
 abbrev pub horizon : ℕ
 horizon = 10014400
 
@@ -16,11 +16,11 @@ horizon = 10014400
 abbrev pub row_at : Trajectory → ℕ → Option Row
 row_at t k = if nat_lt k t.start then None else slice_get t.rows (k - t.start)
 
--- a second later: each value has its gain
+-- the row one second later, with the same gains
 abbrev pub next_row : Row → Row
 next_row a = record a { x = a.x +ℤ a.vx; y = a.y +ℤ a.vy; z = a.z +ℤ a.vz; r = a.r +ℤ a.gr; w = a.w +ℤ a.gw }
 
--- that many seconds with the same gains
+-- so many seconds with the same gains
 abbrev pub straight_rows : Row → ℕ → List Row
 straight_rows a zero = []
 straight_rows a (suc n) = a ∷ straight_rows (next_row a) n

@@ -8,7 +8,7 @@ use Rattle.mt_base.specs.declared.rules.Rules.{Rules}
 use Rattle.mt_base.specs.declared.verdict.Verdict.{Verdict}
 use Rattle.mt_base.specs.Trajectory.{Trajectory, row_at}
 
--- what lies between the row's position and the reported one
+-- `off_x`, `off_y`, `off_z`: the distance from the row's position to the reported one
 abbrev pub off_x : Row → Report → ℤ
 off_x row report = report.x -ℤ row.x
 
@@ -18,25 +18,25 @@ off_y row report = report.y -ℤ row.y
 abbrev pub off_z : Row → Report → ℤ
 off_z row report = report.z -ℤ row.z
 
--- The part of it across the row's velocity and the part along it, each times the speed: the cross and the dot product.
+-- `across`, `along`: the deviation across and along the row's velocity, times the speed. They are the cross and the dot product.
 abbrev pub across : Row → Report → ℤ
 across row report = off_x row report *ℤ row.vy -ℤ off_y row report *ℤ row.vx
 
 abbrev pub along : Row → Report → ℤ
 along row report = off_x row report *ℤ row.vx +ℤ off_y row report *ℤ row.vy
 
--- the squares of the speed and of the distance
+-- `speed_squared`, `distance_squared`: the squares of the speed and of the deviation
 abbrev pub speed_squared : Row → ℤ
 speed_squared row = row.vx *ℤ row.vx +ℤ row.vy *ℤ row.vy
 
 abbrev pub distance_squared : Row → Report → ℤ
 distance_squared row report = off_x row report *ℤ off_x row report +ℤ off_y row report *ℤ off_y row report
 
--- whether the row's position stays
+-- the row's position stays
 abbrev pub is_still : Row → Bool
 is_still row = int_eq row.vx (pos 0) && int_eq row.vy (pos 0)
 
--- Beyond a tolerance across the velocity, in any direction where there is none; and beyond one along it.
+-- `is_lateral`, `is_along`: beyond the tolerance across, and along, the velocity. Across counts in any direction where the row's position stays.
 abbrev pub is_lateral : Rules → Row → Report → Bool
 is_lateral rules row report =
     if is_still row then int_lt (rules.tc *ℤ rules.tc) (distance_squared row report)
@@ -45,7 +45,7 @@ is_lateral rules row report =
 abbrev pub is_along : Rules → Row → Report → Bool
 is_along rules row report = int_lt (rules.ta *ℤ rules.ta *ℤ speed_squared row) (along row report *ℤ along row report)
 
--- beyond a tolerance above or below
+-- beyond the tolerance above or below
 abbrev pub is_vertical : Rules → Row → Report → Bool
 is_vertical rules row report = int_lt rules.tv (off_z row report) || int_lt rules.tv (neg_ℤ (off_z row report))
 
@@ -53,7 +53,7 @@ is_vertical rules row report = int_lt rules.tv (off_z row report) || int_lt rule
 abbrev pub is_aged : Base → Report → Bool
 is_aged base report = nat_le (base.at + 120) report.at
 
--- the verdict by the row of the report's second, or where the trajectory has none
+-- the verdict by the trajectory's row, or without one
 abbrev pub verdict_by : Rules → Base → Report → Option Row → Verdict
 verdict_by rules base report (Some row) = record {
   lateral = is_lateral rules row report;
@@ -64,10 +64,10 @@ verdict_by rules base report (Some row) = record {
 }
 verdict_by rules base report None = record { lateral = false; along = false; vertical = false; aged = is_aged base report; outside = true }
 
--- The verdict on a report of a flight with that base and trajectory.
+-- the verdict on a flight's report
 abbrev pub verdict_of : Rules → Base → Trajectory → Report → Verdict
 verdict_of rules base t report = verdict_by rules base report (row_at t report.at)
 
--- any of its flags
+-- some flag of the verdict is set
 abbrev pub is_flagged : Verdict → Bool
 is_flagged v = v.lateral || v.along || v.vertical || v.aged || v.outside

@@ -10,11 +10,12 @@ use Rattle.mt_base.specs.Picture.{State, trajectory_of}
 use Rattle.mt_base.specs.Tables.{Setup}
 use Rattle.mt_base.specs.Trajectory.{Trajectory, row_at}
 
+-- a tentative clearance as a view shows it
 abbrev pub tent_of : Mark → Tent
 tent_of mark = record { level = mark.level; owner = mark.owner; start = mark.base.at }
 
--- A flight at a second: its trajectory's first second, the one after its last and its row of that second; and of a planned one its level,
--- whether a new trajectory is due, and its tentative clearance.
+-- a flight at a second, as a view shows it. Its trajectory's first second, the one after its last and its row of that second; and of a planned one
+-- its level, whether a new trajectory is due, and its tentative clearance.
 abbrev pub view_of_path : List ℕ → Path → Trajectory → ℕ → ℕ → FlightView
 view_of_path call (Planned course) t k version = record {
   call = call;
@@ -37,7 +38,7 @@ view_of_path call (Outer stretch) t k version = record {
   version = version;
 }
 
--- what is told of a flight of a state at a second, by default the moment
+-- the view of a flight at a second, by default the moment
 abbrev pub view_of : Setup → State → Option ℕ → Record → FlightView
 view_of setup s sec flight =
     view_of_path flight.call flight.path (trajectory_of setup flight.path) (unwrap_or sec s.now) s.version

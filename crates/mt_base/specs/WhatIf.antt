@@ -23,7 +23,7 @@ use Rattle.mt_base.specs.Predictor.{flown}
 use Rattle.mt_base.specs.Tables.{Setup}
 use Rattle.mt_base.specs.Trajectory.{Trajectory}
 
--- the course of a flight that is there and planned
+-- `course_on`, `course_in`: the course of a planned path, and of a planned flight
 abbrev pub course_on : Path → Option Course
 course_on (Planned course) = Some course
 course_on (Outer stretch) = None
@@ -32,7 +32,7 @@ abbrev pub course_in : Option Record → Option Course
 course_in None = None
 course_in (Some flight) = course_on flight.path
 
--- the tentative clearance of a flight that is there and has one
+-- `mark_on`, `mark_in`: the tentative clearance of a path, and of a flight
 abbrev pub mark_on : Path → Option Mark
 mark_on (Planned course) = course.mark
 mark_on (Outer stretch) = None
@@ -41,21 +41,21 @@ abbrev pub mark_in : Option Record → Option Mark
 mark_in None = None
 mark_in (Some flight) = mark_on flight.path
 
--- What is checked before a clearance of a flight is tried at the moment `now`: that it is there, that it is planned, and the clearance.
+-- what is checked before a clearance is tried. In order: the flight is known, it is planned, and the clearance can hold at the moment `now`.
 abbrev pub what_if_checks : Setup → ℕ → Option Record → List ℕ → Clearance → ℕ → List (Refusal × Bool)
 what_if_checks setup now flight call clearance eff =
     (UnknownCall call, is_some flight) ∷
     (Fixed, is_some (course_in flight)) ∷
     option_map_or (λ course. clearance_checks setup.tables course (trajectory_of setup (Planned course)) clearance eff now) (course_in flight) []
 
--- the trajectory that a clearance leaves
+-- `aimed`, `trajectory_cleared`: the trajectory that a clearance would leave
 abbrev pub aimed : Setup → Course → Aim → Trajectory
 aimed setup course aim = flown setup course.kind course.route aim.base aim.level course.rvsm
 
 abbrev pub trajectory_cleared : Setup → Course → Clearance → ℕ → Trajectory
 trajectory_cleared setup course clearance eff = aimed setup course (aim_of course (trajectory_of setup (Planned course)) clearance eff)
 
--- A hit: in the window, the trajectory has this conflict with the one that another flight flies.
+-- a conflict within the look-ahead with another flight's actual trajectory
 pub record IsHit (setup : Setup) (s : State) (call : List ℕ) (t : Trajectory) (hit : Hit) : Type 0 where
   pub flight : Record
   pub flies : Contains s.records flight
@@ -63,26 +63,26 @@ pub record IsHit (setup : Setup) (s : State) (call : List ℕ) (t : Trajectory) 
   pub with_is : hit.with ≡ flight.call
   pub span : IsSpanOfLoss setup.rules t (trajectory_of setup flight.path) s.now (window_end s.now) hit.first hit.last
 
--- The order of hits: by the first second, then the callsign. (The last second decides nothing, as a flight flies one trajectory.)
+-- the order of hits: first second, then callsign. The last second decides nothing, as a flight flies one trajectory.
 abbrev pub hit_cmp : Hit → Hit → Ordering
 hit_cmp h g = ordering_then (nat_cmp h.first g.first) (ordering_then (slice_cmp nat_cmp h.with g.with) (nat_cmp h.last g.last))
 
--- each hit of a trajectory of that flight, and no other, once, in order; tentative trajectories don't count
+-- exactly the hits of a trajectory, each once, in order. Tentative trajectories don't count.
 pub record AreHitsOf (setup : Setup) (s : State) (call : List ℕ) (t : Trajectory) (hits : List Hit) : Type 0 where
   pub exact : (h : Hit) → Contains hits h ↔ IsHit setup s call t h
   pub sorted : IsStrictlySortedBy hit_cmp hits
 
--- it has some hit
+-- a trajectory has some hit
 pub record HasHit (setup : Setup) (s : State) (call : List ℕ) (t : Trajectory) : Type 0 where
   pub hit : Hit
   pub is : IsHit setup s call t hit
 
--- the hits of a clearance of a flight
+-- the hits of a flight's clearance
 abbrev pub AreHits : Setup → State → List ℕ → Clearance → ℕ → List Hit → Type 0
 AreHits setup s call clearance eff hits =
     IfSome (course_in (flight_of s.records call)) (λ course. AreHitsOf setup s call (trajectory_cleared setup course clearance eff) hits)
 
--- What would follow from a clearance of a flight that holds from second `eff` on, by default the moment: its first refusal, or its hits.
+-- a what-if: the clearance's first refusal, or its hits. The clearance holds from second `eff` on, by default the moment.
 abbrev pub IsWhatIf : Setup → State → List ℕ → Clearance → Option ℕ → Result (List Hit) Refusal → Type 0
 IsWhatIf setup s call clearance eff (Err refusal) =
     judged (what_if_checks setup s.now (flight_of s.records call) call clearance (unwrap_or eff s.now)) (tt {0}) ≡ Err refusal
@@ -90,8 +90,7 @@ IsWhatIf setup s call clearance eff (Ok hits) =
     (judged (what_if_checks setup s.now (flight_of s.records call) call clearance (unwrap_or eff s.now)) (tt {0}) ≡ Ok (tt {0}))
     × AreHits setup s call clearance (unwrap_or eff s.now) hits
 
--- Something would follow from a clearance of a flight that holds from second `eff` on, by default the moment: no check refuses it, and the
--- trajectory that it would leave has some hit.
+-- no check refuses the clearance, and it has hits. It holds from second `eff` on, by default the moment.
 abbrev pub IsConflicting : Setup → State → List ℕ → Clearance → Option ℕ → Type 0
 IsConflicting setup s call clearance eff =
     (judged (what_if_checks setup s.now (flight_of s.records call) call clearance (unwrap_or eff s.now)) (tt {0}) ≡ Ok (tt {0}))

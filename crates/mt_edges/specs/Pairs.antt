@@ -2,7 +2,7 @@
 use Rattle.std.specs.Prelude.{◌≡◌, ℕ, Bool, ◌<◌, ◌≤◌, ◌↔◌, ◌||◌, ◌==◌, not, List, ◌∷◌, ◌++◌, length, filter, AllPairs, Contains}
 use Rattle.mt_edges.specs.declared.edge.Edge.{Edge}
 
--- the pairs, how many may be added before the next reserve, and how many ends there are
+-- kept pairs, spare room, and the number of ends. `spare` says how many may be added before the next reserve.
 pub record Pairs : Type 0 where
   pub edges : List Edge
   pub spare : ℕ
@@ -20,7 +20,7 @@ without_end end edges = filter (λ e. not (touches end e)) edges
 abbrev pub degree : ℕ → List Edge → ℕ
 degree end edges = length (filter (touches end) edges)
 
--- what may be kept
+-- a pair that may be kept. Its ends are in order and within range, and its last second is before 10,014,400.
 pub record IsEdge (ends : ℕ) (e : Edge) : Type 0 where
   pub order : e.a < e.b
   pub ends_in : e.b < ends
@@ -31,18 +31,18 @@ pub record IsEdge (ends : ℕ) (e : Edge) : Type 0 where
 abbrev pub HaveSameEnds : Edge → Edge → Type 0
 HaveSameEnds e f = (e.a ≡ f.a) × (e.b ≡ f.b)
 
--- no two pairs of the list have the same ends
+-- no two pairs have the same ends
 abbrev pub AreDistinctPairs : List Edge → Type 0
 AreDistinctPairs edges = AllPairs (λ e f. ¬ HaveSameEnds e f) edges
 
--- the list with a pair more, at some place
+-- the list with one more pair, at some place
 pub record IsWith (old : List Edge) (e : Edge) (new : List Edge) : Type 0 where
   pub front : List Edge
   pub back : List Edge
   pub was : old ≡ front ++ back
   pub is : new ≡ front ++ e ∷ back
 
--- a list holds just those pairs that pass, each once, in no order that is told
+-- exactly the pairs that pass, each once, in any order
 pub record IsEach (P : Edge → Type 0) (edges found : List Edge) : Type 0 where
   pub exact : (e : Edge) → Contains found e ↔ (Contains edges e × P e)
   pub apart : AreDistinctPairs found

@@ -7,18 +7,18 @@ use Rattle.mt_frac.specs.declared.linear.Linear.{Linear}
 use Rattle.mt_frac.specs.FractionOrder.{IsBefore, IsBetween}
 use Rattle.mt_frac.specs.Polynomials.{value, line_value}
 
--- the sizes that the calls of a quadratic ask for
+-- a quadratic's coefficients fit: below 2^26, 2^40 and 2^50
 pub record IsBoundedQuad (quad : Quad) : Type 0 where
   pub a_bounded : unsigned_abs quad.a < 2 ^ 26
   pub b_bounded : unsigned_abs quad.b < 2 ^ 40
   pub c_bounded : unsigned_abs quad.c < 2 ^ 50
 
--- the sizes that `below_in` asks for
+-- a line's coefficients fit: below 2^18 and 2^32
 pub record IsBoundedLine (line : Linear) : Type 0 where
   pub b_bounded : unsigned_abs line.b < 2 ^ 18
   pub c_bounded : unsigned_abs line.c < 2 ^ 32
 
--- there is a fraction n/d strictly between lo and hi at which the quadratic is below 0
+-- the quadratic is below 0 somewhere strictly between
 pub record IsBelowZeroIn (quad : Quad) (lo hi : Frac) : Type 0 where
   pub n : ℤ
   pub d : ℤ
@@ -26,17 +26,17 @@ pub record IsBelowZeroIn (quad : Quad) (lo hi : Frac) : Type 0 where
   pub between : IsBetween lo hi n d
   pub below : value quad.a quad.b quad.c n d <ℤ pos 0
 
--- the fraction n/d lies strictly between lo and hi, and the line is below 0 there
+-- n/d lies strictly between, with the line below 0
 pub record IsBelowAt (line : Linear) (lo hi : Frac) (n d : ℤ) : Type 0 where
   pub between : IsBetween lo hi n d
   pub below : line_value line.b line.c n d <ℤ pos 0
 
--- low and high are in order, and a fraction lies strictly between them exactly where it does between lo and hi with the line below 0
+-- the exact part between lo and hi with the line below 0
 pub record IsExactPart (line : Linear) (lo hi low high : Frac) : Type 0 where
   pub ordered : IsBefore low high
   pub exact : (n d : ℤ) → pos 0 <ℤ d → IsBetween low high n d ↔ IsBelowAt line lo hi n d
 
--- the part on which the line is below 0: none where it is 0 or above at each fraction strictly between lo and hi
+-- the part where the line is below 0, or none
 abbrev pub IsPartBelow : Linear → Frac → Frac → Option (Frac × Frac) → Type 0
 IsPartBelow line lo hi None = (n d : ℤ) → pos 0 <ℤ d → IsBetween lo hi n d → pos 0 ≤ℤ line_value line.b line.c n d
 IsPartBelow line lo hi (Some part) = IsExactPart line lo hi part.0 part.1

@@ -7,6 +7,6 @@ use Rattle.mt_io.specs.declared.mem_door.MemDoor.{MemDoor}
 abbrev pub calls_of : MemDoor → FaultPlan
 calls_of door = door.calls
 
--- a link is to be given next, but the call is to fail, or no link is left
+-- the next link is to fail, or none is left
 abbrev pub RefusesLink : MemDoor → Type 0
 RefusesLink door = (door.given < door.sessions) × (IsNextListed door.calls ⊎ (door.links.items ≡ []))

@@ -9,14 +9,14 @@ use Rattle.mt_io.specs.declared.mem_link.MemLink.{MemLink}
 abbrev pub room_of : MemLink → ℕ
 room_of link = sinks.room_of link.sink
 
--- the reads of it, and the writes
+-- `reads_of`, `writes_of`: the reads and the writes of it
 abbrev pub reads_of : MemLink → FaultPlan
 reads_of link = sources.calls_of link.source
 
 abbrev pub writes_of : MemLink → FaultPlan
 writes_of link = sinks.calls_of link.sink
 
--- how many bytes a read gives at most, and how many a write takes
+-- `most_read`, `most_written`: the most bytes that a read gives, a write takes
 abbrev pub most_read : MemLink → ℕ
 most_read link = sources.most_of link.source
 

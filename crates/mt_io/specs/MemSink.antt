@@ -11,7 +11,7 @@ room_of sink = sink.room
 abbrev pub calls_of : MemSink → FaultPlan
 calls_of sink = sink.calls
 
--- how many bytes a call takes at most
+-- the most bytes that a call takes
 abbrev pub most_of : MemSink → ℕ
 most_of sink = sink.most
 
@@ -19,7 +19,7 @@ most_of sink = sink.most
 abbrev pub IsFull : MemSink → Type 0
 IsFull sink = vec_len sink.bytes ≡ sink.room
 
--- Writes keep the room, what is held and how many bytes a call takes, and while there is room they count no fault where none of them is listed.
+-- writes keep its settings and what it holds. While there is room, they count no fault where none of them is listed.
 pub record HasWritten (old new : MemSink) : Type 0 where
   pub same_room : new.room ≡ old.room
   pub same_most : new.most ≡ old.most

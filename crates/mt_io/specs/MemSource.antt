@@ -7,11 +7,11 @@ use Rattle.mt_io.specs.declared.mem_source.MemSource.{MemSource}
 abbrev pub calls_of : MemSource → FaultPlan
 calls_of source = source.calls
 
--- how many bytes a call gives at most
+-- the most bytes that a call gives
 abbrev pub most_of : MemSource → ℕ
 most_of source = source.most
 
--- Reads keep the bytes and how many a call gives, and count no fault where none of them is listed.
+-- reads keep its bytes and settings. They count no fault where none of them is listed.
 pub record HasGiven (old new : MemSource) : Type 0 where
   pub same_bytes : new.bytes ≡ old.bytes
   pub same_most : new.most ≡ old.most

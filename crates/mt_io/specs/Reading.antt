@@ -10,29 +10,29 @@ use Rattle.mt_io.specs.declared.line.Line.TheVariants.{Text, Long, End}
 use Rattle.mt_io.specs.declared.line.LineFault.{LineFault}
 use Rattle.mt_io.specs.declared.line.LineFault.TheVariants.{ReadFault, Spent}
 
--- the bytes that were read and not yet given, how many bytes were taken in all, and whether the source has ended
+-- a reader's bytes ahead, bytes taken, and whether input ended
 pub record Store : Type 0 where
   pub ahead : List ℕ
   pub taken : ℕ
   pub ended : Bool
 
--- a reader: its store, how many lines it gave, the fault that it met, and the bytes of the line that it read last
+-- a reader: store, lines given, fault met, last line's bytes
 pub record Reading : Type 0 where
   pub store : Store
   pub given : ℕ
   pub fault : Option LineFault
   pub text : List ℕ
 
--- a reader that has taken no byte, given no line and met no fault
+-- a reader before its first byte
 abbrev pub fresh : Reading
 fresh = record { store = record { ahead = []; taken = 0; ended = false }; given = 0; fault = None; text = [] }
 
--- `Spent` comes where 2^32 bytes were taken, and `ReadFault` where fewer were
+-- `Spent` comes at 2^32 bytes taken, `ReadFault` below
 abbrev pub IsFaultAt : LineFault → ℕ → Type 0
 IsFaultAt Spent taken = taken ≡ 2 ^ 32
 IsFaultAt ReadFault taken = taken < 2 ^ 32
 
--- These bytes went, of those that were ahead and then of those that were read now.
+-- the reader passed these bytes. First those that were ahead, then those that were read now.
 pub record PassesBytes (old new : Store) (before after : Option (List ℕ)) (front : List ℕ) : Type 0 where
   pub read : List ℕ
   pub from : Consumes before after read
@@ -40,13 +40,13 @@ pub record PassesBytes (old new : Store) (before after : Option (List ℕ)) (fro
   pub bytes : old.ahead ++ read ≡ front ++ new.ahead
   pub limit : new.taken ≤ 2 ^ 32
 
--- a line ends with its 0x0A, or, where it has a byte, with the source
+-- a line ends with its 0x0A, or the source. With the source only where it has a byte.
 abbrev pub Ends : Store → Option (List ℕ) → List ℕ → List ℕ → Type 0
 Ends new after line ending =
     ((ending ≡ 10 ∷ []) × (new.ended ≡ false))
     ⊎ ((ending ≡ []) × (0 < length line) × (new.ended ≡ true) × (new.ahead ≡ []) × IsAtEnd after × (new.taken < 2 ^ 32))
 
--- One line more was given: its bytes and its end went, and no others.
+-- exactly one more line was taken, with its ending
 pub record TakesLine (old new : Reading) (before after : Option (List ℕ)) (line : List ℕ) : Type 0 where
   pub going : old.store.ended ≡ false
   pub was_sound : old.fault ≡ None
@@ -58,7 +58,7 @@ pub record TakesLine (old new : Reading) (before after : Option (List ℕ)) (lin
   pub ends : Ends new.store after line ending
   pub passes : PassesBytes old.store new.store before after (line ++ ending)
 
--- The source has ended, with fewer than 2^32 bytes taken, and each of them was given.
+-- the source ended, and every byte was given. It has fewer than 2^32 bytes.
 pub record IsAllGiven (old new : Reading) (before after : Option (List ℕ)) : Type 0 where
   pub was_sound : old.fault ≡ None
   pub sound : new.fault ≡ None
@@ -71,7 +71,7 @@ pub record IsAllGiven (old new : Reading) (before after : Option (List ℕ)) : T
   pub met : old.store.ended ≡ false → IsAtEnd after
   pub still : old.store.ended ≡ true → after ≡ before
 
--- A fault: all that was taken went, and held no further line. An earlier fault comes again, and changes nothing.
+-- a fault: no further line stood in the bytes taken. An earlier fault comes again, and changes nothing.
 pub record IsStopped (old new : Reading) (before after : Option (List ℕ)) (fault : LineFault) : Type 0 where
   pub kept : new.fault ≡ Some fault
   pub same : new.given ≡ old.given
@@ -84,7 +84,7 @@ pub record IsStopped (old new : Reading) (before after : Option (List ℕ)) (fau
   pub going : old.store.ended ≡ false
   pub not_ended : new.store.ended ≡ false
 
--- by what is given: a line of at most 65,536 bytes, a longer one, or the end
+-- `GivesLine`, `Next`: a line up to 65,536 bytes, a longer one, the end; or a fault
 abbrev pub GivesLine : Reading → Reading → Option (List ℕ) → Option (List ℕ) → Line → Type 0
 GivesLine old new before after (Text line) = (length line.now ≤ 65536) × TakesLine old new before after line.now
 GivesLine old new before after Long = (line : List ℕ) × (65536 < length line) × TakesLine old new before after line

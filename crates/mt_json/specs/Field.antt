@@ -5,26 +5,26 @@ use Rattle.serde_json.specs.Find.{get_member, as_bool, as_number, as_integer, as
 use Rattle.mt_json.specs.declared.bad.Bad.{Bad}
 use Rattle.mt_json.specs.declared.bad.Bad.TheVariants.{Missing, Kind, Range}
 
--- the value of an `Ok` under f
+-- an `Ok` value under f
 abbrev pub result_map : {A B E : Type 0} → (A → B) → Result A E → Result B E
 result_map f (Ok x) = Ok (f x)
 result_map f (Err e) = Err e
 
--- what was read of a value, or Kind where it is of another kind
+-- a value read, or Kind
 abbrev pub or_kind : {A : Type 0} → Option A → Result A Bad
 or_kind None = Err Kind
 or_kind (Some x) = Ok x
 
--- what `kind` reads of the value that stands, or Missing where none does
+-- the value read, Missing without one, or Kind
 abbrev pub of_kind : {A : Type 0} → (Data → Option A) → Option Data → Result A Bad
 of_kind kind None = Err Missing
 of_kind kind (Some d) = or_kind (kind d)
 
--- a whole number of 64 bits: no number with a point or an exponent, beyond 64 bits, or `-0`
+-- a whole number of 64 bits. No number with a point or an exponent, beyond 64 bits, or `-0`.
 abbrev pub as_whole : Data → Option ℤ
 as_whole d = option_and_then as_integer (as_number d)
 
--- a number that is there is in low..=high
+-- a number from low to high, or Range
 abbrev pub within_bounds : ℤ → ℤ → Result ℤ Bad → Result ℤ Bad
 within_bounds low high (Err bad) = Err bad
 within_bounds low high (Ok n) = if int_le low n && int_le n high then Ok n else Err Range
@@ -37,7 +37,7 @@ word_at key ms = of_kind as_str (get_member key ms)
 abbrev pub flag_at : List ℕ → Members → Result Bool Bad
 flag_at key ms = of_kind as_bool (get_member key ms)
 
--- the whole number at a key, in low..=high
+-- the whole number at a key, within bounds
 abbrev pub whole_at : List ℕ → ℤ → ℤ → Members → Result ℤ Bad
 whole_at key low high ms = within_bounds low high (of_kind as_whole (get_member key ms))
 

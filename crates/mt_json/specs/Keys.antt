@@ -9,24 +9,24 @@ use Rattle.std.specs.declared.cmp.Ordering.TheVariants.{Less}
 use Rattle.mt_json.specs.declared.bad.Extra.{Extra}
 use Rattle.serde_json.specs.Data.{Members, no_members, member}
 
--- the keys of an object, in the order in which its members stand
+-- an object's keys, in order
 abbrev pub keys : Members → List (List ℕ)
 keys no_members = []
 keys (member k d ms) = k ∷ keys ms
 
--- each key is below those after it, byte by byte, so that each stands once
+-- keys rise in byte order, each once
 abbrev pub AreInByteOrder : Members → Type 0
 AreInByteOrder ms = IsStrictlySortedBy (slice_cmp nat_cmp) (keys ms)
 
--- the key is one of the words that stand between the spaces of `allowed`; the empty text is no word
+-- a key is one of the space-separated words allowed. The empty text is no word.
 abbrev pub is_allowed : List ℕ → List ℕ → Bool
 is_allowed allowed key = not (length key == 0) && list_any (λ word. bytes_eq word key) (slice_split (λ b. b == 32) allowed)
 
--- the place, from 0, of the first key that is not allowed
+-- the place of the first key not allowed, from 0
 abbrev pub other_key_at : List ℕ → Members → Option ℕ
 other_key_at allowed ms = position (λ key. not (is_allowed allowed key)) (keys ms)
 
--- the least key, in byte order, that is not allowed
+-- the least key not allowed, in byte order
 abbrev pub other_key : List ℕ → Members → Option (List ℕ)
 other_key allowed ms = option_and_then (slice_get (keys ms)) (other_key_at allowed ms)
 
@@ -35,7 +35,7 @@ abbrev pub shown_other : Result ⊤ Extra → Option (List ℕ)
 shown_other (Ok _) = None
 shown_other (Err extra) = Some extra.key.now
 
--- of the keys that are not allowed, this one is the least, byte by byte
+-- this key is the least not allowed
 pub record IsLeastOther (allowed : List ℕ) (ks : List (List ℕ)) (key : List ℕ) : Type 0 where
   pub place : ℕ
   pub stands : slice_get ks place ≡ Some key

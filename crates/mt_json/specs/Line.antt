@@ -6,11 +6,11 @@ use Rattle.serde_json.specs.Data.{Data, Members, no_members, member, object, dep
 use Rattle.serde_json.specs.Read.{read, max_depth}
 use Rattle.serde_json.specs.Written.{has_float, compact_text, IsInOrder}
 
--- the compact text of an object with no float in it, and 0x0A at its end
+-- an object's compact text and 0x0A. No float stands in it.
 abbrev pub line_of : Members → List ℕ
 line_of ms = compact_text (object ms) ++ 10 ∷ []
 
--- a value of an object whose text is determined and is read back: no float stands in it, and an object can still hold it
+-- a value without floats that fits in an object
 abbrev pub IsPlain : Data → Type 0
 IsPlain d = (has_float d ≡ false) × (depth d < max_depth)
 
@@ -23,14 +23,14 @@ ArePlain (member k d ms) = IsPlain d × ArePlain ms
 abbrev pub IsOneLine : List ℕ → Type 0
 IsOneLine text = All (λ byte. 32 ≤ byte) text
 
--- the line of an object whose values are plain: its compact text, which is one line and is read back as that object, and 0x0A
+-- a plain object's compact line, read back as that object
 pub record IsPlainLine (ms : Members) (bytes : List ℕ) : Type 0 where
   pub exact : bytes ≡ line_of ms
   pub one_line : IsOneLine (compact_text (object ms))
   pub reads_back : read (compact_text (object ms)) ≡ Some (object ms)
 
--- The line of any object: a compact text and 0x0A. The text has the object's pairs, each once and in their order, its whole numbers in decimal,
--- and is read back as that object unless it nests too deep to be read.
+-- any object's compact line. The text has the object's pairs, each once and in their order, its whole numbers in decimal, and is read back as that
+-- object unless it nests too deep to be read.
 pub record IsLine (ms : Members) (bytes : List ℕ) : Type 0 where
   pub text : List ℕ
   pub ends : bytes ≡ text ++ 10 ∷ []

@@ -5,10 +5,10 @@ use Rattle.mt_json.specs.declared.fields.Fields.{Fields}
 use Rattle.mt_json.specs.View as read
 use Rattle.mt_json.specs.declared.builder.Builder.{Builder}
 
--- the members of the object that is looked into
+-- the members of the object looked into
 abbrev pub members : Fields → Members
 members f = read.members_view f.list.now
 
--- the pairs that were put in, by their keys; a key that was put in again has the last value
+-- the pairs put in; the last value of a key stays
 abbrev pub pairs : Builder → Members
 pairs b = members_view b.map.entries

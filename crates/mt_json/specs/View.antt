@@ -6,12 +6,12 @@ use Rattle.serde_json.specs.View.{items_of, number_view}
 use Rattle.mt_json.specs.declared.value.Value.{Value, fold-Value}
 use Rattle.mt_json.specs.declared.value.Value.TheOpen.{Value-F}
 
--- the members put in, one after another, so that the last value of a key stays
+-- members put in one by one; a key's last value stays
 abbrev pub puts : List (Bor (List ℕ) × Data) → Members → Members
 puts [] found = found
 puts (m ∷ ms) found = puts ms (put m.0.now m.1 found)
 
--- one level, with each value inside already seen as its data
+-- one level of a value as data
 abbrev pub view_step : Value-F Data → Data
 view_step Value-F.Null = null
 view_step (Value-F.Bool b) = boolean b
@@ -20,6 +20,7 @@ view_step (Value-F.Text s) = string s.now
 view_step (Value-F.List v) = array (items_of v.items)
 view_step (Value-F.Object v) = object (puts v.items no_members)
 
+-- `view`, `items_view`, `members_view`: a value, a list and an object as data
 abbrev pub view : Value → Data
 view = fold-Value Data view_step
 

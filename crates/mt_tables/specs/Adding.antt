@@ -12,23 +12,23 @@ tops_rise [] = true
 tops_rise (b ∷ []) = true
 tops_rise (b ∷ c ∷ bs) = nat_lt b.top c.top && tops_rise (c ∷ bs)
 
--- What is checked before a fix is added: that its name is new, and that fewer than 20,000 fixes stand.
+-- what is checked before a fix is added: new name, room. Fewer than 20,000 fixes stand.
 abbrev pub fix_adding : Tables → List ℕ → List (AddNo × Bool)
 fix_adding tables name = (Taken, not (is_some (fix_of tables name))) ∷ (Full, nat_lt (length tables.fixes) 20000) ∷ []
 
--- What is checked before a type is added: that its name is new, that its bands rise, and that fewer than 1,000 types stand.
+-- what is checked before a type is added: new name, rising bands, room. Fewer than 1,000 types stand.
 abbrev pub type_adding : Tables → List ℕ → List Band → List (AddNo × Bool)
 type_adding tables name bands =
     (Taken, not (is_some (bands_of tables name))) ∷ (Bands, tops_rise bands) ∷ (Full, nat_lt (length tables.types) 1000) ∷ []
 
--- the tables with one pair more
+-- `with_fix`, `with_type`: the tables with one more fix, and with one more type
 abbrev pub with_fix : Tables → List ℕ → Point → Tables
 with_fix tables name point = record { fixes = tables.fixes ++ (name, point) ∷ []; types = tables.types }
 
 abbrev pub with_type : Tables → List ℕ → List Band → Tables
 with_type tables name bands = record { fixes = tables.fixes; types = tables.types ++ (name, bands) ∷ [] }
 
--- An answer is what the checks say. Want of memory comes only where all of them are passed.
+-- the answer is what the checks say. Want of memory comes only where all of them pass.
 abbrev pub AnswersAsChecked : Result ⊤ AddNo → Result ⊤ AddNo → Type 0
 AnswersAsChecked checked (Ok _) = checked ≡ Ok (tt {0})
 AnswersAsChecked checked (Err Taken) = checked ≡ Err Taken

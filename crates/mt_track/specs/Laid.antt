@@ -10,40 +10,39 @@ use Rattle.mt_track.specs.Rows.{Continues, row_after}
 abbrev pub rows_of : Segment → List Row
 rows_of s = straight_rows s.first (s.to - s.from)
 
--- the rows of some segments, one after another
+-- the rows of segments, one after another
 abbrev pub all_rows : List Segment → List Row
 all_rows segments = flat_map rows_of segments
 
--- Segments lie end to end from one second to another: each begins where the one before it ends, and has at least one second.
+-- segments lie end to end between two seconds. Each begins where the one before it ends, and has at least one second.
 abbrev pub Adjoin : ℕ → List Segment → ℕ → Type 0
 Adjoin from [] to = from ≡ to
 Adjoin from (s ∷ ss) to = (s.from ≡ from) × (s.from < s.to) × Adjoin s.to ss to
 
--- What the rows of every strand keep that begins there: each row within bounds, and continued by the next; at most 14,400 rows; an end by
--- second 10,014,400.
+-- bounded rows, each continued by the next, at most 14,400. They end by second 10,014,400.
 pub record AreStrandRows (start : ℕ) (rows : List Row) : Type 0 where
   pub bounded : All IsBoundedRow rows
   pub continuous : AllAdjacentBelow Continues rows (length rows)
   pub short : length rows ≤ 14400
   pub early : start + length rows ≤ 10014400
 
--- what every strand keeps
+-- a trajectory keeps what every strand keeps
 abbrev pub IsStrand : Trajectory → Type 0
 IsStrand t = AreStrandRows t.start t.rows
 
--- Of two neighbouring segments the second does not go on from the first: the gains or the leg are others, or w does not continue.
+-- no segment goes on from the one before. The gains or the leg are others, or w does not continue.
 abbrev pub AreSeparateSegments : List Segment → Type 0
 AreSeparateSegments [] = ⊤
 AreSeparateSegments (s ∷ []) = ⊤
 AreSeparateSegments (s ∷ t ∷ ts) = ¬ (t.first ≡ row_after s.first (s.to - s.from)) × AreSeparateSegments (t ∷ ts)
 
--- These are the segments of a trajectory. Its rows have only this one such list.
+-- the segments of a trajectory, its only such list
 pub record AreSegmentsOf (t : Trajectory) (segments : List Segment) : Type 0 where
   pub adjoin : Adjoin t.start segments (t.start + length t.rows)
   pub rows : all_rows segments ≡ t.rows
   pub apart : AreSeparateSegments segments
 
--- Segment i of a trajectory covers every second from `from` up to `to`.
+-- segment i covers a range of seconds
 pub record Covers (t : Trajectory) (i from to : ℕ) : Type 0 where
   pub segments : List Segment
   pub segment : Segment
@@ -53,7 +52,7 @@ pub record Covers (t : Trajectory) (i from to : ℕ) : Type 0 where
   pub begun : segment.from ≤ from
   pub ahead : to ≤ segment.to
 
--- A segment can follow a strand: it begins where the strand ends, its first row continues the last one, and it keeps what every strand keeps.
+-- a segment can follow a strand. It begins where the strand ends, its first row continues the last one, and it keeps what every strand keeps.
 pub record Follows (t : Trajectory) (s : Segment) : Type 0 where
   pub adjoins : s.from ≡ t.start + length t.rows
   pub some : s.from < s.to
@@ -62,6 +61,6 @@ pub record Follows (t : Trajectory) (s : Segment) : Type 0 where
   pub short : s.to ≤ t.start + 14400
   pub early : s.to ≤ 10014400
 
--- with the rows of a segment after its own
+-- a trajectory with a segment's rows appended
 abbrev pub extended : Trajectory → Segment → Trajectory
 extended t s = record t { rows = t.rows ++ rows_of s }

@@ -7,7 +7,7 @@ joined None later = later
 joined (Some span) None = Some span
 joined (Some span) (Some later) = Some (span.0, later.1)
 
--- the least k from low up to high with P, and the greatest
+-- `IsLeast`, `IsGreatest`: the least, and the greatest, k from low up to high with P
 pub record IsLeast (P : ℕ → Type 0) (low high first : ℕ) : Type 0 where
   pub begun : low ≤ first
   pub ahead : first < high

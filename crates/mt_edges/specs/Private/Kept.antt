@@ -16,7 +16,7 @@ standing_pairs (Some e ∷ nodes) = e ∷ standing_pairs nodes
 abbrev pub node_at : List (Option Edge) → ℕ → Option Edge
 node_at nodes i = slice_index_or nodes i None
 
--- The heads of the three lists of a pair: of its lesser end, its greater end, and the bucket of its first second.
+-- the heads of a pair's three lists: its lesser end, its greater end, its first second's bucket
 abbrev pub head_of : ℕ → Edge → ℕ → ℕ
 head_of ends e zero = 1 + e.a
 head_of ends e (suc zero) = 1 + e.b
@@ -49,30 +49,30 @@ pub record Spares (nodes : List (Option Edge)) (free : List ℕ) (spare : ℕ) :
   pub empty : (k : ℕ) → k < spare → (slice_index free k < length nodes) × (node_at nodes (slice_index free k) ≡ None)
   pub once : (j k : ℕ) → j < k → k < spare → slice_index free j ≢ slice_index free k
 
--- what does not speak of lists
+-- all that is kept, but for the linked lists
 pub record Shape (ends base : ℕ) (nodes : List (Option Edge)) (free : List ℕ) (spare : ℕ) (next : List ℕ) : Type 0 where
   pub base_is : base ≡ ends + 39120
   pub room : base + 3 * length nodes ≤ length next
   pub sound : Sound ends nodes
   pub spares : Spares nodes free spare
 
--- all that is kept
+-- all that is kept: nodes, free nodes, and linked lists
 pub record AreEdgesKept (ends base : ℕ) (nodes : List (Option Edge)) (free : List ℕ) (spare : ℕ) (next prev : List ℕ) : Type 0 where
   pub shape : Shape ends base nodes free spare next
   pub lists : ℕ → List ℕ
   pub laid : Laid next prev base lists
   pub ties : Ties ends base nodes lists
 
--- a table that keeps all of it
+-- a table keeps all of it
 abbrev pub IsTable : Table → Type 0
 IsTable t = AreEdgesKept t.ends t.base t.nodes.items t.free.items t.spare t.links.next.items t.links.prev.items
 
--- a list that is at least as long as another, and the same as far as that goes
+-- a list at least as long as another, and the same as far as that goes
 pub record IsRoomier (old new : List ℕ) : Type 0 where
   pub longer : length old ≤ length new
   pub kept : (k : ℕ) → k < length old → slice_index new k ≡ slice_index old k
 
--- Memory is there for that many nodes more: in the table of nodes, on the stack of free ones, and among the links.
+-- there is room for so many more nodes. In the table of nodes, on the stack of free ones, and among the links.
 pub record HasRoom (t : Table) (count : ℕ) : Type 0 where
   pub nodes : vec_len t.nodes + count ≤ vec_capacity t.nodes
   pub free : length t.nodes.items + count ≤ length t.free.items
@@ -83,7 +83,8 @@ abbrev pub first_place : List ℕ → ℕ
 first_place [] = 0
 first_place (x ∷ xs) = x
 
--- Between two turns of the walk that drops a list: the places before the one that is reached are linked still, though their pairs are gone.
+-- `Walk`, `IsWalk`: between two turns of the walk that drops a list. The places before the one that is reached are linked still, though their pairs
+-- are gone.
 pub record Walk (ends base : ℕ) (nodes : List (Option Edge)) (free : List ℕ) (spare : ℕ) (next prev : List ℕ) (head place : ℕ) : Type 0 where
   pub shape : Shape ends base nodes free spare next
   pub head_is : IsHead base head
@@ -99,7 +100,7 @@ pub record Walk (ends base : ℕ) (nodes : List (Option Edge)) (free : List ℕ)
 abbrev pub IsWalk : Table → ℕ → ℕ → Type 0
 IsWalk t head place = Walk t.ends t.base t.nodes.items t.free.items t.spare t.links.next.items t.links.prev.items head place
 
--- One pair of an end is gone, and no pair that has another end.
+-- one pair of an end is gone, and no pair with another end
 pub record IsDropped (end : ℕ) (nodes nodes' : List (Option Edge)) : Type 0 where
   pub kept : without_end end (standing_pairs nodes') ≡ without_end end (standing_pairs nodes)
   pub one : degree end (standing_pairs nodes) ≡ degree end (standing_pairs nodes') + 1
@@ -123,7 +124,7 @@ abbrev pub gathered : List (Option Edge) → ℕ → ℕ → ℕ → List ℕ �
 gathered nodes base from to [] = []
 gathered nodes base from to (p ∷ ps) = in_range_of from to (node_at nodes ((p - base) / 3)) ++ gathered nodes base from to ps
 
--- Between two turns of a walk that reads a list.
+-- between two turns of a walk that reads a list
 pub record ReadsWalk (ends base : ℕ) (nodes : List (Option Edge)) (free : List ℕ) (spare : ℕ) (next prev : List ℕ) (head place : ℕ) : Type 0 where
   pub kept : AreEdgesKept ends base nodes free spare next prev
   pub head_is : IsHead base head
@@ -136,7 +137,7 @@ pub record ReadsWalk (ends base : ℕ) (nodes : List (Option Edge)) (free : List
 abbrev pub StandsIn : ℕ → ℕ → Edge → Type 0
 StandsIn ends head e = (s : ℕ) × (s < 3) × (head ≡ head_of ends e s)
 
--- The list grew by the pairs of one head whose first second is in the range, each once.
+-- the list grew by the pairs of one head whose first second is in the range, each once
 pub record AreEdgesGathered (ends head from to : ℕ) (edges old new : List Edge) : Type 0 where
   pub found : List Edge
   pub is : new ≡ old ++ found

@@ -17,7 +17,7 @@ abbrev pub without_place : ℕ → List ℕ → List ℕ
 without_place p [] = []
 without_place p (x ∷ xs) = if x == p then without_place p xs else x ∷ without_place p xs
 
--- From place u the links lead through these places, and there back; after the last one stands 0.
+-- the links lead from place u through these places, and back. After the last one stands 0.
 abbrev pub Chain : List ℕ → List ℕ → ℕ → List ℕ → Type 0
 Chain next prev u [] = slice_index next u ≡ 0
 Chain next prev u (x ∷ xs) = (slice_index next u ≡ x) × (slice_index prev x ≡ u) × Chain next prev x xs
@@ -26,7 +26,8 @@ Chain next prev u (x ∷ xs) = (slice_index next u ≡ x) × (slice_index prev x
 abbrev pub IsHead : ℕ → ℕ → Type 0
 IsHead base h = (0 < h) × (h < base)
 
--- The links of all lists: each list is a chain from its head, its places stand at the base or above, and no place stands twice, neither in one list nor in two.
+-- the links of all lists. Each list is a chain from its head, its places stand at the base or above, and no place stands twice, neither in one list
+-- nor in two.
 pub record Laid (next prev : List ℕ) (base : ℕ) (lists : ℕ → List ℕ) : Type 0 where
   pub some : 0 < base
   pub heads : base ≤ length next
@@ -36,7 +37,7 @@ pub record Laid (next prev : List ℕ) (base : ℕ) (lists : ℕ → List ℕ) :
   pub once : (h : ℕ) → IsHead base h → AreDistinct (lists h)
   pub apart : (h k p : ℕ) → IsHead base h → IsHead base k → Has (lists h) p → Has (lists k) p → h ≡ k
 
--- Place p is put after place h.
+-- place p now follows place h
 pub record IsLinked (next prev next' prev' : List ℕ) (h p : ℕ) : Type 0 where
   pub lengths : (length next' ≡ length next) × (length prev' ≡ length prev)
   pub first : slice_index next' h ≡ p
@@ -46,7 +47,7 @@ pub record IsLinked (next prev next' prev' : List ℕ) (h p : ℕ) : Type 0 wher
   pub rest_back : slice_index prev' (slice_index next h) ≡ p
   pub prev_kept : (y : ℕ) → y ≢ p → y ≢ slice_index next h → slice_index prev' y ≡ slice_index prev y
 
--- Place p is taken out: its neighbours are linked with each other.
+-- place p is taken out, and its neighbours are linked with each other
 pub record IsUnlinked (next prev next' prev' : List ℕ) (p : ℕ) : Type 0 where
   pub lengths : (length next' ≡ length next) × (length prev' ≡ length prev)
   pub joined : slice_index next' (slice_index prev p) ≡ slice_index next p
@@ -54,20 +55,20 @@ pub record IsUnlinked (next prev next' prev' : List ℕ) (p : ℕ) : Type 0 wher
   pub back : slice_index prev' (slice_index next p) ≡ slice_index prev p
   pub prev_kept : (y : ℕ) → y ≢ slice_index next p → slice_index prev' y ≡ slice_index prev y
 
--- What linking asks for: the places are in range, and p is new.
+-- the places to be linked are in range, and p is new
 pub record CanLink (next prev : List ℕ) (h p : ℕ) : Type 0 where
   pub head : h < length next
   pub place : (p < length next) × (p < length prev)
   pub behind : slice_index next h < length prev
   pub new : (p ≢ h) × (p ≢ slice_index next h)
 
--- What taking out asks for.
+-- the place to be taken out and its neighbours are in range
 pub record CanUnlink (next prev : List ℕ) (p : ℕ) : Type 0 where
   pub place : (p < length next) × (p < length prev)
   pub before : slice_index prev p < length next
   pub behind : slice_index next p < length prev
 
--- The links are those that were, and perhaps some more after them.
+-- the links are those that were, and perhaps some more after them
 pub record IsLonger (next prev next' prev' : List ℕ) : Type 0 where
   pub next_length : length next ≤ length next'
   pub both : length next ≤ length prev → length next' ≤ length prev'

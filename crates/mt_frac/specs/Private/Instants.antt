@@ -11,7 +11,7 @@ pub record HoldsIn (P : ℤ → ℤ → Type 0) (k : ℕ) : Type 0 where
   pub within : n <ℤ d
   pub holds : P (n +ℤ pos k *ℤ d) d
 
--- and of some second from low up to high
+-- P holds at some instant of some second from low up to high
 pub record HoldsOver (P : ℤ → ℤ → Type 0) (low high : ℕ) : Type 0 where
   pub k : ℕ
   pub begun : low ≤ k

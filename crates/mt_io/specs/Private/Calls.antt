@@ -3,6 +3,7 @@ use Rattle.std.specs.Prelude.{refl}
 use Rattle.std.proofs.Common.{◌∙◌, arith}
 use Rattle.mt_io.specs.Calls.{AreUnlisted, FaultPlan, GoOn}
 
+-- `went_none`, `went_on`: calls go on over no call, and over two runs of calls
 pub went_none : (calls : FaultPlan) → GoOn calls calls
 went_none calls = record { same = refl; more = omega arith; later = omega arith }
 
@@ -13,7 +14,7 @@ went_on a b c ab bc = record {
   later = omega arith;
 }
 
--- where none of all is listed, none of the first ones is, and none of the others
+-- `unlisted_first`, `unlisted_others`: where no call of all is listed, none of the first ones is, and none of the others
 pub unlisted_first : (a b c : FaultPlan) → GoOn b c → AreUnlisted a c → AreUnlisted a b
 unlisted_first a b c bc none n above within = none n above (omega arith)
 

@@ -12,13 +12,13 @@ use Rattle.mt_io.specs.declared.line.LineFault.{LineFault}
 use Rattle.mt_io.specs.declared.line.LineFault.TheVariants.{ReadFault, Spent}
 use Rattle.mt_io.specs.Gathering.{ending_of}
 
--- Of a buffer's bytes, of which those from `at` to `end` are ahead, the last 0x0A stands right before `whole`, if one is ahead.
+-- `whole` is right after the last 0x0A ahead, if any. Of a buffer's bytes, those from `at` to `end` are ahead.
 pub record EndsWhole (bytes : List ℕ) (at whole end : ℕ) : Type 0 where
   pub within : whole ≤ end
   pub last : at < whole → slice_index bytes (whole - 1) ≡ 10
   pub none : (k : ℕ) → whole ≤ k → k < end → slice_index bytes k ≢ 10
 
--- Nothing was ahead, and what was read is ahead now. Where there was no more, the source has ended.
+-- the buffer was empty, and what was read is ahead now. Where there was no more, the source has ended.
 pub record Fills (old new : Store) (before after : Option (List ℕ)) (more : Bool) : Type 0 where
   pub from : Consumes before after new.ahead
   pub count : new.taken ≡ old.taken + length new.ahead
@@ -26,12 +26,12 @@ pub record Fills (old new : Store) (before after : Option (List ℕ)) (more : Bo
   pub some : more ≡ true → (0 < length new.ahead) × (new.ended ≡ false)
   pub none : more ≡ false → (new.ahead ≡ []) × (new.ended ≡ true) × IsAtEnd after × (new.taken < 2 ^ 32)
 
--- nothing is read where the limit is met
+-- nothing is read at the limit; a failed read keeps the bytes
 abbrev pub IsUnread : LineFault → Option (List ℕ) → Option (List ℕ) → Type 0
 IsUnread Spent before after = after ≡ before
 IsUnread ReadFault before after = Keeps before after
 
--- Nothing was ahead, and nothing could be read.
+-- the buffer was empty, and nothing could be read
 pub record StopsFill (old new : Store) (before after : Option (List ℕ)) (fault : LineFault) : Type 0 where
   pub unread : IsUnread fault before after
   pub place : IsFaultAt fault new.taken
@@ -39,12 +39,12 @@ pub record StopsFill (old new : Store) (before after : Option (List ℕ)) (fault
   pub same : new.taken ≡ old.taken
   pub going : new.ended ≡ false
 
--- what is kept of a line: all of it, or, where it is too long, that it is
+-- what is kept of a line: all of it, or that it is too long
 pub record IsGathered (kept : List ℕ) (is_long : Bool) (line : List ℕ) : Type 0 where
   pub short : is_long ≡ false → (kept ≡ line) × (length line ≤ 65536)
   pub long : is_long ≡ true → 65536 < length line
 
--- A piece goes from the bytes ahead to the line: up to a 0x0A, which goes too, or all.
+-- a piece goes from the bytes ahead to the line. Up to a 0x0A, which goes too, or all.
 pub record Moves (old new : Store) (kept : List ℕ) (was_long : Bool) (kept_now : List ℕ) (is_long : Bool) (whole : Bool) : Type 0 where
   pub piece : List ℕ
   pub is_part : IsPart piece
@@ -54,7 +54,7 @@ pub record Moves (old new : Store) (kept : List ℕ) (was_long : Bool) (kept_now
   pub taken : new.taken ≡ old.taken
   pub ended : new.ended ≡ old.ended
 
--- A line was gathered: up to its 0x0A, which went too, or up to the end of the source.
+-- a line was gathered, up to its 0x0A or to the end of the source
 pub record Gathers (old new : Store) (before after : Option (List ℕ)) (kept : List ℕ) (is_long : Bool) (whole : Bool) : Type 0 where
   pub line : List ℕ
   pub part : IsPart line
@@ -63,7 +63,7 @@ pub record Gathers (old new : Store) (before after : Option (List ℕ)) (kept : 
   pub more : whole ≡ true → new.ended ≡ false
   pub over : whole ≡ false → (new.ended ≡ true) × (new.ahead ≡ []) × IsAtEnd after × (new.taken < 2 ^ 32)
 
--- A fault was met: all that was taken went, and held no further line.
+-- a fault was met: all that was taken went, and held no further line
 pub record StopsLine (old new : Store) (before after : Option (List ℕ)) (fault : LineFault) : Type 0 where
   pub part : List ℕ
   pub is_part : IsPart part
@@ -72,13 +72,13 @@ pub record StopsLine (old new : Store) (before after : Option (List ℕ)) (fault
   pub going : new.ended ≡ false
   pub place : IsFaultAt fault new.taken
 
--- what is counted, and as what: a line that has its 0x0A or a byte
+-- a line is counted where it has its 0x0A or a byte
 abbrev pub CountsLine : Bool → List ℕ → List ℕ → ℕ → ℕ → Step → Type 0
 CountsLine whole kept bytes given given_now Short = (given_now ≡ given + 1) × (whole ≡ false → 0 < length bytes) × (kept ≡ bytes) × (length bytes ≤ 65536)
 CountsLine whole kept bytes given given_now Skipped = (given_now ≡ given + 1) × (whole ≡ false → 0 < length bytes) × (65536 < length bytes)
 CountsLine whole kept bytes given given_now Finished = (given_now ≡ given) × (whole ≡ false) × (bytes ≡ [])
 
--- what `advance` answers: a line of at most 65,536 bytes, which is the text now, a longer one, or the end
+-- the answer of `advance`: a line of at most 65,536 bytes, a longer one, or the end
 abbrev pub GivesStep : Reading → Reading → Option (List ℕ) → Option (List ℕ) → Step → Type 0
 GivesStep old new before after Short = (length new.text ≤ 65536) × TakesLine old new before after new.text
 GivesStep old new before after Skipped = (line : List ℕ) × (65536 < length line) × TakesLine old new before after line
@@ -88,7 +88,7 @@ GivesStep old new before after Finished = IsAllGiven old new before after
 abbrev pub reading : Store → ℕ → Option LineFault → List ℕ → Reading
 reading store given fault text = record { store = store; given = given; fault = fault; text = text }
 
--- One call on a reader without a fault.
+-- one call on a reader without a fault
 pub record Advances (old new : Store) (given given_now : ℕ) (text text_now : List ℕ) (before after : Option (List ℕ)) (result : Result Step LineFault) : Type 0 where
   pub step : MatchResult result
       (GivesStep (reading old given None text) (reading new given_now None text_now) before after)

@@ -6,7 +6,7 @@ use Rattle.mt_io.specs.Lines.{lines_of, whole_lines_of}
 use Rattle.mt_io.specs.Reading.{Reading}
 use Rattle.mt_io.specs.HasRead.{AreLines}
 
--- The reader took these bytes and gave these lines, and has met no fault. `before` is what the source had left at first.
+-- the reader took these bytes and gave these lines, without a fault. `before` is what the source had left at first.
 pub record HasRead (before now : Option (List ℕ)) (reader : Reading) (lines : List (List ℕ)) (taken : List ℕ) : Type 0 where
   pub from : Consumes before now taken
   pub gone : List ℕ
@@ -16,7 +16,7 @@ pub record HasRead (before now : Option (List ℕ)) (reader : Reading) (lines : 
   pub going : reader.store.ended ≡ false → AreLines gone lines
   pub over : reader.store.ended ≡ true → (lines_of taken ≡ lines) × IsAtEnd now × (length taken < 2 ^ 32)
 
--- The source has ended: these are all its bytes, and the lines given are their lines.
+-- the source ended: these are all its bytes, and the lines given are their lines
 pub record HasReadAll (before after : Option (List ℕ)) (lines : List (List ℕ)) : Type 0 where
   pub taken : List ℕ
   pub from : Consumes before after taken
@@ -24,7 +24,7 @@ pub record HasReadAll (before after : Option (List ℕ)) (lines : List (List ℕ
   pub end : IsAtEnd after
   pub few : length taken < 2 ^ 32
 
--- The reader stopped at a fault: these are the bytes that it took, and the lines given are their whole lines.
+-- the reader stopped at a fault: the lines given are the whole lines of the bytes taken
 pub record HasReadPart (before after : Option (List ℕ)) (reader : Reading) (lines : List (List ℕ)) : Type 0 where
   pub taken : List ℕ
   pub from : Consumes before after taken

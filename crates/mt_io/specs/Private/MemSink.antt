@@ -5,6 +5,7 @@ use Rattle.mt_io.specs.Private.Calls.{went_none, went_on, unlisted_first, unlist
 use Rattle.mt_io.specs.declared.mem_sink.MemSink.{MemSink}
 use Rattle.mt_io.specs.MemSink.{HasWritten}
 
+-- `written_none`, `written_on`: no write, and two runs of writes, keep what writes keep
 pub written_none : (sink : MemSink) → HasWritten sink sink
 written_none sink = record {
   same_room = refl;

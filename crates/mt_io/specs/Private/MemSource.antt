@@ -5,6 +5,7 @@ use Rattle.mt_io.specs.Private.Calls.{went_none, went_on, unlisted_first, unlist
 use Rattle.mt_io.specs.declared.mem_source.MemSource.{MemSource}
 use Rattle.mt_io.specs.MemSource.{HasGiven}
 
+-- `given_none`, `given_on`: no read, and two runs of reads, keep what reads keep
 pub given_none : (source : MemSource) → HasGiven source source
 given_none source = record { same_bytes = refl; same_most = refl; calls = went_none source.calls; quiet = λ _. refl }
 

@@ -4,7 +4,7 @@ use Rattle.std.specs.declared.option.Option.{Option}
 use Rattle.mt_io.specs.declared.line.LineFault.{LineFault}
 use Rattle.mt_io.specs.Reading.{IsFaultAt, Store}
 
--- true of every reader: each line that was given took a byte at least; at the end, and after a fault, none is ahead
+-- each line given took a byte; at the end, and after a fault, none is ahead
 pub record IsReaderSound (store : Store) (given : ℕ) (stop : Option LineFault) : Type 0 where
   pub counted : given + length store.ahead ≤ store.taken
   pub limit : store.taken ≤ 2 ^ 32

@@ -5,7 +5,7 @@ use Rattle.std.specs.Ordering.{nat_cmp}
 use Rattle.std.specs.declared.cmp.Ordering.TheVariants.{Less}
 use Rattle.mt_names.specs.declared.names.Named.{Named}
 
--- a callsign is before another, in the order of their bytes
+-- `IsCallBefore`, `IsNotBefore`: a listed callsign is before another in byte order, and is not
 abbrev pub IsCallBefore : List ℕ → Named → Type 0
 IsCallBefore call n = slice_cmp nat_cmp n.call call ≡ Less
 
@@ -16,7 +16,7 @@ IsNotBefore call n = slice_cmp nat_cmp n.call call ≢ Less
 abbrev pub AreRising : List Named → Type 0
 AreRising names = AllPairs (λ a b. IsCallBefore b.call a) names
 
--- where the places before a callsign end, and where those after it begin: between the two stands only its own
+-- the places before a callsign, its own, and those after it. Between the two bounds stands only its own.
 pub record IsSplit (names : List Named) (call : List ℕ) (span : ℕ × ℕ) : Type 0 where
   pub first : span.0 ≤ span.1
   pub inside : span.1 ≤ length names
@@ -25,7 +25,7 @@ pub record IsSplit (names : List Named) (call : List ℕ) (span : ℕ × ℕ) : 
   pub same : (d : Named) → span.0 < span.1 → (slice_index_or names span.0 d).call ≡ call
   pub above : (n : Named) → Contains (drop span.1 names) n → slice_cmp nat_cmp call n.call ≡ Less
 
--- it is listed, and has another callsign
+-- a listed name with another callsign
 pub record IsOtherName (names : List Named) (call : List ℕ) (n : Named) : Type 0 where
   pub listed : Contains names n
   pub other : n.call ≢ call

@@ -6,19 +6,19 @@ use Rattle.mt_track.specs.declared.segment.Segment.{Segment}
 use Rattle.mt_track.specs.Rows.{row_after}
 use Rattle.mt_track.specs.Laid.{Adjoin, AreSeparateSegments, AreStrandRows, all_rows}
 
--- the second at which segment i of these begins, from the one at which the first does; after the last one, that at which it ends
+-- the second at which segment i begins, or the last one ends
 abbrev pub edge : ℕ → List Segment → ℕ → ℕ
 edge from ss zero = from
 edge from [] (suc i) = from
 edge from (s ∷ ss) (suc i) = edge s.to ss i
 
--- how a strand is kept: its segments lie from its start to its end, and no two neighbours are in one
+-- a strand's segments lie from its start to its end, and no two neighbours are in one
 pub record IsLaid (start end : ℕ) (segments : List Segment) : Type 0 where
   pub adjoin : Adjoin start segments end
   pub apart : AreSeparateSegments segments
   pub kept : AreStrandRows start (all_rows segments)
 
--- A segment holds second k of a trajectory: the row of k is that many seconds after the segment's first row, and within bounds until then.
+-- a segment holds second k of a trajectory. The row of k is that many seconds after the segment's first row, and within bounds until then.
 pub record CoversSecond (t : Trajectory) (k : ℕ) (s : Segment) : Type 0 where
   pub begun : s.from ≤ k
   pub row : row_at t k ≡ Some (row_after s.first (k - s.from))
