@@ -12,7 +12,7 @@ use Rattle.mt_base.specs.Picture.{State, flight_of}
 use Rattle.mt_base.specs.Tables.{Setup}
 use Rattle.mt_base.specs.WhatIf.{what_if_checks}
 
--- The flight of that callsign is planned by this course, and from this base a clearance of it holds at the moment.
+-- the planned flight, its course and its current base
 pub record FliesOn (setup : Setup) (s : State) (call : List ℕ) (course : Course) (base : Base) : Type 0 where
   pub tables : AreBoundedTables setup.tables
   pub sound : IsSoundCourse setup course
@@ -21,7 +21,7 @@ pub record FliesOn (setup : Setup) (s : State) (call : List ℕ) (course : Cours
   pub planned : flight.path ≡ Planned course
   pub from : base_now setup s.now course ≡ Some base
 
--- A clearance is bounded, and no check refuses it at the moment.
+-- a bounded clearance that no check refuses now
 pub record CanBeTried (setup : Setup) (s : State) (call : List ℕ) (clearance : Clearance) : Type 0 where
   pub bounded : IsBoundedClearance clearance
   pub passed : judged (what_if_checks setup s.now (flight_of s.records call) call clearance s.now) (tt {0}) ≡ Ok (tt {0})

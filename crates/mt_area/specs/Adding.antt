@@ -11,11 +11,11 @@ pub record IsTaken (areas : List Area) (name : List ℕ) : Type 0 where
   pub there : Contains areas area
   pub named : area.name ≡ name
 
--- its name is new, its shape is right, and fewer than 256 areas stand
+-- new name, right shape, fewer than 256 areas
 abbrev pub CanBeAdded : List Area → Area → Type 0
 CanBeAdded areas area = (¬ IsTaken areas area.name) × HasRightShape area × (length areas < 256)
 
--- Which answer there is: of the three refusals the first that holds. Want of memory comes only where the area can be added.
+-- the answer to an area: accepted, or its first refusal. Want of memory comes only where the area can be added.
 abbrev pub IsAnswer : List Area → Area → Result ⊤ AreaNo → Type 0
 IsAnswer areas area (Ok _) = CanBeAdded areas area
 IsAnswer areas area (Err Taken) = IsTaken areas area.name

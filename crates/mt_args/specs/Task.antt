@@ -7,18 +7,18 @@ use Rattle.std.specs.Str.Parse.{digits_value}
 use Rattle.mt_args.specs.declared.task.Task.{Task}
 use Rattle.mt_args.specs.declared.task.Task.TheVariants.{Load, Replay, Serve, Standby}
 
--- A number: 1 to 10 ASCII digits, whose number is within these bounds.
+-- a number of 1 to 10 digits within bounds
 abbrev pub number_in : ℕ → ℕ → List ℕ → Option ℕ
 number_in low high text =
     if is_in_range 1 10 (length text) && (all_ascii_digits text && is_in_range low high (digits_value 10 text))
     then Some (digits_value 10 text) else None
 
--- An option, as it is spelled: its name, with the dashes, and its value.
+-- an option's name, with its dashes, and its value
 pub record CommandOption : Type 0 where
   pub name : List ℕ
   pub value : List ℕ
 
--- whether a word has a sign =, and what stands before its first one and after it
+-- `is_sign`, `has_sign`, `parted`: a word's first `=`, and its two sides
 abbrev pub is_sign : ℕ → Bool
 is_sign byte = byte == 61
 
@@ -32,7 +32,7 @@ parted word = record { name = before_first is_sign word; value = after_first is_
 abbrev pub before : CommandOption → Option (List CommandOption) → Option (List CommandOption)
 before first others = option_map (λ more. first ∷ more) others
 
--- Words as options, in order: an option is one word `name=value`, or two, the name and the value. Nothing, where a value is missing.
+-- words as options, `name=value` or two words. Nothing, where a value is missing.
 abbrev pub options_of : List (List ℕ) → Option (List CommandOption)
 options_of [] = Some []
 options_of (word ∷ []) = if has_sign word then Some (parted word ∷ []) else None
@@ -40,12 +40,12 @@ options_of (word ∷ next ∷ words) =
     if has_sign word then before (parted word) (options_of (next ∷ words))
     else before (record { name = word; value = next }) (options_of words)
 
--- The number of an option that is set at most once.
+-- the number of an option set at most once
 abbrev pub once : Bool → ℕ → ℕ → List ℕ → Option ℕ
 once true low high value = None
 once false low high value = number_in low high value
 
--- what is set for `serve`, and for `load`
+-- `Serving`, `Loading`: what is set for `serve`, and for `load`
 pub record Serving : Type 0 where
   pub port : Option ℕ
   pub sessions : Option ℕ
@@ -55,7 +55,7 @@ pub record Loading : Type 0 where
   pub flights : Option ℕ
   pub number : Option ℕ
 
--- The options of `serve`: the port, 1 to 65,535; the sessions, 1 to 64; the workers, 0 to 8. There is no other.
+-- the options of `serve`. The port, 1 to 65,535; the sessions, 1 to 64; the workers, 0 to 8. There is no other.
 abbrev pub serving_with : Serving → CommandOption → Option Serving
 serving_with set s =
     if bytes_eq s.name (codes "--port")
@@ -66,7 +66,7 @@ serving_with set s =
     then option_map (λ workers. record set { workers = Some workers }) (once (is_some set.workers) 0 8 s.value)
     else None))
 
--- The options of `load`: the flights, 1 to 1,024; the number that its input is made from, of 32 bits. There is no other.
+-- the options of `load`. The flights, 1 to 1,024; the number that its input is made from, of 32 bits. There is no other.
 abbrev pub loading_with : Loading → CommandOption → Option Loading
 loading_with set s =
     if bytes_eq s.name (codes "--flights")
@@ -75,7 +75,7 @@ loading_with set s =
     then option_map (λ number. record set { number = Some number }) (once (is_some set.number) 0 4294967295 s.value)
     else None)
 
--- with what is there, where it is there
+-- `and_then`, `all_set`, `set_by`: a value passed on; all options of some words
 abbrev pub and_then : {A B : Type 0} → Option A → (A → Option B) → Option B
 and_then None next = None
 and_then (Some x) next = next x
@@ -89,25 +89,25 @@ module _ {S : Type 0} (with : S → CommandOption → Option S) where
   abbrev pub set_by : S → List (List ℕ) → Option S
   set_by set words = and_then (options_of words) (all_set set)
 
--- what is not set is usual: port 7700, 16 sessions, 2 workers; 40 flights, number 1
+-- `serve_task`, `load_task`: what is not set is usual. Port 7700, 16 sessions, 2 workers; 40 flights, number 1.
 abbrev pub serve_task : Serving → Task
 serve_task set = Serve (unwrap_or set.port 7700) (unwrap_or set.sessions 16) (unwrap_or set.workers 2)
 
 abbrev pub load_task : Loading → Task
 load_task set = Load (unwrap_or set.flights 40) (unwrap_or set.number 1)
 
--- nothing is set at first
+-- `no_serving`, `no_loading`: nothing is set at first
 abbrev pub no_serving : Serving
 no_serving = record { port = None; sessions = None; workers = None }
 
 abbrev pub no_loading : Loading
 no_loading = record { flights = None; number = None }
 
--- what is asked for by a word that stands alone
+-- a word that stands alone
 abbrev pub alone : Task → List (List ℕ) → Option Task
 alone task words = if length words == 0 then Some task else None
 
--- Words are read so: `replay` or `standby` alone; `serve` or `load` and its options. Nothing else is.
+-- what the words of the command line mean. `replay` or `standby` alone; `serve` or `load` and its options. Nothing else is read.
 abbrev pub task_of : List (List ℕ) → Option Task
 task_of [] = None
 task_of (command ∷ words) =
@@ -117,7 +117,7 @@ task_of (command ∷ words) =
     else (if bytes_eq command (codes "load") then option_map load_task (set_by loading_with no_loading words)
     else None)))
 
--- the flights of a load run are 1 to 1,024
+-- `IsFlights`, `AreFewSessions`, `AreFewWorkers`, `IsBoundedTask`: 1 to 1,024 flights; at most 64 sessions and 8 workers
 abbrev pub IsFlights : ℕ → Type 0
 IsFlights flights = (1 ≤ flights) × (flights ≤ 1024)
 

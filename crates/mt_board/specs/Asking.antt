@@ -25,7 +25,7 @@ version_of (answers.Due calls version) = version
 version_of (answers.Flight view) = view.version
 version_of (answers.History entries version) = version
 
--- What is told of a history: what is published; the flights that are due; what is to be told of a flight, which is there; some entries.
+-- an answer is right for a history. What is published; the flights that are due; a flight's view; some entries.
 abbrev pub IsTold : Setup → List Entry → Ask → Answer → Type 0
 IsTold fixed h asks.List (answers.List conflicts version) = IsPublished fixed (state_of fixed h) conflicts
 IsTold fixed h asks.Check (answers.Check conflicts version) = IsPublished fixed (state_of fixed h) conflicts
@@ -35,17 +35,17 @@ IsTold fixed h (asks.Flight call sec) (answers.Flight view) =
 IsTold fixed h (asks.History from to) (answers.History entries version) = entries ≡ take (to - from) (drop from h)
 IsTold fixed h asked answer = ⊥
 
--- the one refusal: no flight has the callsign that is asked for
+-- no flight has the callsign asked for
 abbrev pub IsNotTold : Setup → List Entry → Ask → Refusal → Type 0
 IsNotTold fixed h (asks.Flight call sec) refusal = (flight_of (state_of fixed h).records call ≡ None) × (refusal ≡ UnknownCall call)
 IsNotTold fixed h asked refusal = ⊥
 
--- What a seat's read is answered: what is told of the history that it has seen then.
+-- a read is answered by the history then seen
 abbrev pub IsRead : Seat → Ask → Result Answer No → Seat → Type 0
 IsRead s asked (Ok answer) t = HasSeen s t (version_of answer) × IsTold t.fixed t.seen asked answer
 IsRead s asked (Err denied) t = IsDenied s (IsNotTold t.fixed t.seen asked) denied t
 
--- an answer of which a reply that follows a change is made fits the room that was taken for it
+-- an answer after a change fits its room
 abbrev pub IsShortAnswer : Answer → Type 0
 IsShortAnswer (answers.Due calls version) = AreFewCalls calls
 IsShortAnswer answer = ⊤

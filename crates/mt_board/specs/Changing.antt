@@ -9,8 +9,8 @@ use Rattle.mt_board.specs.declared.no.No.{No}
 use Rattle.mt_board.specs.declared.no.No.TheVariants.{Memory, Refused}
 use Rattle.mt_board.specs.Seat.{GoesOn, HasLooked, HasSeen, IsSameSeat, IsSeatSound, Seat, state_seen}
 
--- From s to t the seat's command was entered, once: it is the last of what the seat has seen, what is decided on the state of the entries
--- before it, and the one entry more that is its own. It is answered by its version and, of a report, the verdict.
+-- the seat's command was entered, exactly once. It is the last of what the seat has seen, what is decided on the state of the entries before it, and
+-- the one entry more that is its own. It is answered by its version and, of a report, the verdict.
 pub record HasEntered (s t : Seat) (command : Command) (entered : Entered) : Type 0 where
   pub same : IsSameSeat s t
   pub front : List Entry
@@ -22,13 +22,12 @@ pub record HasEntered (s t : Seat) (command : Command) (entered : Entered) : Typ
   pub mine : t.mine ≡ s.mine ++ entry ∷ []
   pub sound : IsSeatSound t
 
--- A call gives nothing: it is refused, for this reason, at a version that the seat has seen then; or memory is wanted. Either way the seat
--- has entered nothing.
+-- a call is refused at a version seen, or memory lacks. Either way the seat has entered nothing.
 abbrev pub IsDenied : Seat → (Refusal → Type 0) → No → Seat → Type 0
 IsDenied s why (Refused refusal version) t = HasSeen s t version × why refusal
 IsDenied s why Memory t = HasLooked s t
 
--- What a command of the seat is answered: it is entered; or refused, as is decided on the state that the seat has seen then.
+-- a seat's command is entered, or refused as decided
 abbrev pub IsChanged : Seat → Command → Result Entered No → Seat → Type 0
 IsChanged s command (Ok entered) t = HasEntered s t command entered
 IsChanged s command (Err denied) t = IsDenied s (λ refusal. IsDecided t.fixed (state_seen t) t.number command (Err refusal)) denied t

@@ -13,7 +13,7 @@ use Rattle.mt_board.specs.declared.no.No.{No}
 use Rattle.mt_board.specs.Changing.{IsDenied}
 use Rattle.mt_board.specs.Seat.{HasSeen, Seat, state_seen}
 
--- A probe: the flight, the clearance that was tried and from which second on, the version that it was tried on, and the hits there.
+-- a probe: flight, clearance, second, version and hits
 pub record Probe : Type 0 where
   pub call : List ℕ
   pub clearance : Clearance
@@ -21,11 +21,11 @@ pub record Probe : Type 0 where
   pub version : ℕ
   pub hits : List Hit
 
--- the command that accepts it
+-- the command that accepts a probe
 abbrev pub acceptance : Probe → Command
 acceptance p = Accept p.call p.clearance p.eff p.version
 
--- From s to t the seat has seen the history of the probe's version, on whose state the clearance was tried, by default from its moment on.
+-- the probe's hits hold at its version, which was seen
 pub record IsProbed (s t : Seat) (call : List ℕ) (clearance : Clearance) (eff : Option ℕ) (probe : Probe) : Type 0 where
   pub seen : HasSeen s t probe.version
   pub call_is : probe.call ≡ call
@@ -33,11 +33,11 @@ pub record IsProbed (s t : Seat) (call : List ℕ) (clearance : Clearance) (eff 
   pub eff_is : probe.eff ≡ unwrap_or eff (state_seen t).now
   pub follows : IsWhatIf t.fixed (state_seen t) call clearance eff (Ok probe.hits)
 
--- it is refused as on the state that the seat has seen then
+-- the refusal of a probe, as the state says
 abbrev pub IsNotProbed : Seat → Seat → List ℕ → Clearance → Option ℕ → No → Type 0
 IsNotProbed s t call clearance eff denied = IsDenied s (λ refusal. IsWhatIf t.fixed (state_seen t) call clearance eff (Err refusal)) denied t
 
--- A state, with what was fixed there, is that of the first entries that the seat has seen, as many as the version says.
+-- a state at an earlier version that the seat saw
 pub record IsPast (s : Seat) (fixed : Setup) (state : State) (version : ℕ) : Type 0 where
   pub same : fixed ≡ s.fixed
   pub past : version ≤ length s.seen
@@ -47,8 +47,8 @@ pub record IsPast (s : Seat) (fixed : Setup) (state : State) (version : ℕ) : T
 abbrev pub free_probe : List ℕ → ℕ → ℕ → Clearance → Probe
 free_probe call eff version clearance = record { call = call; clearance = clearance; eff = eff; version = version; hits = [] }
 
--- From s to t the seat has seen the history of that version. These probes, at most sixteen, are the clearances that are advised on its
--- state, in order, each tried from its moment on and without hits.
+-- these probes, at most sixteen, are the advice. They are the clearances that are advised on the state of that version, in order, each tried from its
+-- moment on and without hits.
 pub record IsAdvised (s t : Seat) (call : List ℕ) (eff version : ℕ) (probes : List Probe) : Type 0 where
   pub seen : HasSeen s t version
   pub eff_is : eff ≡ (state_seen t).now
@@ -57,6 +57,6 @@ pub record IsAdvised (s t : Seat) (call : List ℕ) (eff version : ℕ) (probes 
   pub probes_are : probes ≡ map (free_probe call eff version) clearances
   pub few : length probes ≤ 16
 
--- it is refused as on the state that the seat has seen then
+-- the refusal of advice, as the state says
 abbrev pub IsNotAdvised : Seat → Seat → List ℕ → No → Type 0
 IsNotAdvised s t call denied = IsDenied s (λ refusal. IsAdvice t.fixed (state_seen t) call (Err refusal)) denied t

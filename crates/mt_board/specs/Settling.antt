@@ -10,17 +10,17 @@ use Rattle.mt_board.specs.Asking.{IsRead}
 use Rattle.mt_board.specs.Changing.{IsChanged}
 use Rattle.mt_board.specs.Seat.{HasLooked, Seat}
 
--- One flight after the other a seat asked to renew, and these are the answers.
+-- a seat asked to renew flights in turn, so answered
 abbrev pub AreRenewalsAsked : Seat → List (List ℕ) → List (Result Entered No) → Seat → Type 0
 AreRenewalsAsked s [] [] t = t ≡ s
 AreRenewalsAsked s (call ∷ calls) (result ∷ results) t = (next : Seat) × IsChanged s (Renew call) result next × AreRenewalsAsked next calls results t
 AreRenewalsAsked s calls results t = ⊥
 
--- none of them is that memory was wanted: each flight was renewed, or refused and passed over
+-- no renewal lacked memory. Each flight was renewed, or refused and passed over.
 abbrev pub AreMade : List (Result Entered No) → Type 0
 AreMade results = All (λ result. result ≢ Err Memory) results
 
--- From s to t the flights that were due at first were renewed, in the order of filing, and no others; these are due at that version then.
+-- exactly the flights due were renewed, in filing order. Those that are due afterwards, at that version, are answered.
 pub record HasSettled (s t : Seat) (left : List (List ℕ)) (version : ℕ) : Type 0 where
   pub calls : List (List ℕ)
   pub was : ℕ
@@ -32,7 +32,7 @@ pub record HasSettled (s t : Seat) (left : List (List ℕ)) (version : ℕ) : Ty
   pub made : AreMade results
   pub told : IsRead last asks.Due (Ok (answers.Due left version)) t
 
--- From s to t some of them were, the first ones, before memory was wanted.
+-- the first of them were renewed before memory ran out
 pub record HasSettledInPart (s t : Seat) : Type 0 where
   pub calls : List (List ℕ)
   pub rest : List (List ℕ)
@@ -45,6 +45,6 @@ pub record HasSettledInPart (s t : Seat) : Type 0 where
   pub made : AreMade results
   pub looked : HasLooked last t
 
--- what a settling leaves that memory was wanted for: the seat has seen more, or settled in part
+-- a settling that lacked memory settled none or part
 abbrev pub IsNotSettled : Seat → Seat → Type 0
 IsNotSettled s t = HasLooked s t ⊎ HasSettledInPart s t

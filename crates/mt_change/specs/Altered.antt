@@ -18,7 +18,7 @@ use Rattle.mt_base.specs.Verdict.{is_flagged}
 use Rattle.mt_change.specs.declared.altering.Alteration.{Alteration}
 use Rattle.mt_change.specs.declared.altering.Alteration.TheVariants.{Reported, Begun, Cleared, Marked, Bare, Committed}
 
--- a course with an alteration
+-- `altered`, `altered_path`: a course, and a path, after an alteration
 abbrev pub altered : Alteration → Course → Course
 altered (Reported report verdict) course = record course { last = Some report; due = course.due || is_flagged verdict }
 altered (Begun base) course = record course { base = base; due = false }
@@ -31,12 +31,12 @@ abbrev pub altered_path : Alteration → Path → Path
 altered_path a (Planned course) = Planned (altered a course)
 altered_path a (Outer stretch) = Outer stretch
 
--- the verdict on a report
+-- the verdict on an alteration's report
 abbrev pub verdict_on_alteration : Alteration → Option Verdict
 verdict_on_alteration (Reported report verdict) = Some verdict
 verdict_on_alteration a = None
 
--- what a command leaves of the path of the flight that it names
+-- the named flight's path after a command
 abbrev pub path_after : Setup → ℕ → Command → Path → Path
 path_after setup who (commands.Report call report) = reported_path setup report
 path_after setup who (Renew call) = renewed_path setup
@@ -47,12 +47,12 @@ path_after setup who (Withdraw call force) = bare_path
 path_after setup who (Commit call) = committed_path
 path_after setup who command = λ path. path
 
--- the verdict of a report of a course; no other command has one
+-- the verdict on a report of a course. No other command has one.
 abbrev pub verdict_for : Setup → Course → Command → Option Verdict
 verdict_for setup course (commands.Report call report) = Some (verdict_on setup course report)
 verdict_for setup course command = None
 
--- An alteration is what a command makes of a course, and leaves it sound.
+-- an alteration is what a command makes of a course. It leaves it sound.
 pub record IsAlterationBy (setup : Setup) (who : ℕ) (command : Command) (course : Course) (a : Alteration) : Type 0 where
   pub path : altered_path a (Planned course) ≡ path_after setup who command (Planned course)
   pub sound : IsSoundCourse setup (altered a course)
@@ -71,7 +71,7 @@ abbrev pub IsFreeToFly : Setup → ℕ → Course → Clearance → ℕ → Type
 IsFreeToFly setup now course clearance eff =
     judged (clearance_checks setup.tables course (trajectory_of setup (Planned course)) clearance eff now) (tt {0}) ≡ Ok (tt {0})
 
--- such a command, of which the checks that this needs are passed
+-- a command that changes a planned flight, its checks passed. Those that the change needs.
 abbrev pub CanAlter : Setup → ℕ → Course → Command → Type 0
 CanAlter setup now course (Plan call kind route at from level rvsm) = ⊥
 CanAlter setup now course (External call straight) = ⊥
@@ -83,7 +83,7 @@ CanAlter setup now course (Accept call clearance eff probed) = IsFreeToFly setup
 CanAlter setup now course (Tentative call clearance eff) = IsFreeToFly setup now course clearance (unwrap_or eff 0)
 CanAlter setup now course command = ⊤
 
--- the numbers of a command are within their bounds, whatever version the probe of an acceptance names
+-- a command's numbers are bounded, its probe's version aside
 abbrev pub IsBoundedBesides : Command → Type 0
 IsBoundedBesides (Accept call clearance eff probed) = IsBoundedClearance clearance × (eff ≤ 10000000)
 IsBoundedBesides command = IsBoundedCommand command

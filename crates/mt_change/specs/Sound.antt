@@ -3,8 +3,7 @@ use Rattle.mt_base.specs.Bounds.{IsSoundFlight}
 use Rattle.mt_base.specs.Picture.{HaveOwnCalls, State}
 use Rattle.mt_base.specs.Tables.{Setup}
 
--- What every state that can be reached keeps: each flight is sound for the rules and tables, no two have one callsign, there are at most
--- 1,024, and the moment is within its bound.
+-- a reachable state's flights are sound, at most 1,024. No two have one callsign, and the moment is within its bound.
 pub record IsSoundState (setup : Setup) (s : State) : Type 0 where
   pub sound : All (IsSoundFlight setup) s.records
   pub own_calls : HaveOwnCalls s.records

@@ -7,30 +7,30 @@ use Rattle.mt_track.specs.declared.layer.Layer.{Layer}
 use Rattle.mt_cover.specs.declared.bounding_box.BoundingBox.{BoundingBox}
 use Rattle.mt_cover.specs.declared.bounding_box.Extent.{Extent}
 
--- from the lesser to the greater of a value and what it is after its gain
+-- the values between a value and its value after a gain
 abbrev pub extent_of : ℤ → ℤ → Extent
 extent_of z gain = record { low = int_min z (z +ℤ gain); high = int_max z (z +ℤ gain) }
 
--- so far that it holds both
+-- the least extent that holds both
 abbrev pub hull : Extent → Extent → Extent
 hull a b = record { low = int_min a.low b.low; high = int_max a.high b.high }
 
--- heights so far that they hold both
+-- the least layer that holds both
 abbrev pub both : Layer → Layer → Layer
 both a b = record { low = int_min a.low b.low; high = int_max a.high b.high }
 
--- from the lesser `z - w` at both ends of a row's second to the greater `z + w`
+-- a row's heights with its margin, `z - w` to `z + w`. At both ends of its second.
 abbrev pub layer_of : Row → Layer
 layer_of row = record {
   low = (extent_of (row.z -ℤ row.w) (row.vz -ℤ row.gw)).low;
   high = (extent_of (row.z +ℤ row.w) (row.vz +ℤ row.gw)).high;
 }
 
--- x and `x + vx`, y and `y + vy` of a row, its margin at the end of its second, and its heights
+-- a row's positions during its second, margin and heights
 abbrev pub box_of : Row → BoundingBox
 box_of row = record { x = extent_of row.x row.vx; y = extent_of row.y row.vy; margin = row.r +ℤ row.gr; layer = layer_of row }
 
--- with a row more
+-- `grown`, `grown_by`: a box with one row more, and with some more
 abbrev pub grown : BoundingBox → Row → BoundingBox
 grown a row = record {
   x = hull a.x (extent_of row.x row.vx);
@@ -39,19 +39,18 @@ grown a row = record {
   layer = both a.layer (layer_of row);
 }
 
--- with some rows more
 abbrev pub grown_by : BoundingBox → List Row → BoundingBox
 grown_by a [] = a
 grown_by a (row ∷ rows) = grown_by (grown a row) rows
 
--- The box of some rows: that of the first one, with all of them.
+-- the box of some rows
 abbrev pub box_over : List Row → Row → BoundingBox
 box_over rows first = grown_by (box_of first) rows
 
--- half of the horizontal minimum, rounded up
+-- half the horizontal minimum, rounded up
 abbrev pub half : Rules → ℤ
 half rules = int_div (rules.sh +ℤ pos 1) (pos 2)
 
--- wider on each side
+-- an extent, wider on each side
 abbrev pub wider : Extent → ℤ → Extent
 wider e by = record { low = e.low -ℤ by; high = e.high +ℤ by }

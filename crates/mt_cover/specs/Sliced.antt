@@ -15,7 +15,7 @@ use Rattle.mt_cover.specs.declared.sliced.Slice.{Slice}
 use Rattle.mt_cover.specs.Box.{box_over, both, half, wider}
 use Rattle.mt_cover.specs.Cells.{ShareAt, cover_of, slice_rows}
 
--- the box of a slice's rows, made wider on each side by its greatest margin and half of the horizontal minimum, and its heights
+-- the slice of a box: positions widened, and heights. By its greatest margin and half of the horizontal minimum on each side.
 abbrev pub slice_by : Rules → BoundingBox → Slice
 slice_by rules a = record { x = wider a.x (a.margin +ℤ half rules); y = wider a.y (a.margin +ℤ half rules); layer = a.layer }
 
@@ -23,7 +23,7 @@ slice_by rules a = record { x = wider a.x (a.margin +ℤ half rules); y = wider 
 abbrev pub no_slice : Slice
 no_slice = record { x = record { low = pos 0; high = pos 0 }; y = record { low = pos 0; high = pos 0 }; layer = record { low = pos 0; high = pos 0 } }
 
--- the slice of those rows
+-- the slice of some rows
 abbrev pub slice_over : Rules → List Row → Slice
 slice_over rules [] = no_slice
 slice_over rules (row ∷ rows) = slice_by rules (box_over (row ∷ rows) row)
@@ -32,14 +32,14 @@ slice_over rules (row ∷ rows) = slice_by rules (box_over (row ∷ rows) row)
 abbrev pub slice_in : Rules → Trajectory → ℕ → Slice
 slice_in rules t i = slice_over rules (slice_rows t.rows i)
 
--- Slices, one after another: the seconds `from <= k < to` that they have together, and whether the aircraft is approved for RVSM.
+-- slices of consecutive seconds, and RVSM approval. Together they have the seconds `from <= k < to`.
 pub record Sliced : Type 0 where
   pub from : ℕ
   pub to : ℕ
   pub rvsm : Bool
   pub list : List Slice
 
--- The slices of a trajectory.
+-- the slices of a trajectory
 abbrev pub slices_of : Rules → Trajectory → Sliced
 slices_of rules t = record {
   from = t.start;
@@ -52,7 +52,7 @@ slices_of rules t = record {
 abbrev pub slice_at : Sliced → ℕ → Slice
 slice_at s k = get_or s.list ((k - s.from) / 256) no_slice
 
--- they have second k
+-- the slices have second k
 pub record Have (s : Sliced) (k : ℕ) : Type 0 where
   pub begun : s.from ≤ k
   pub within : k < s.to
@@ -67,29 +67,29 @@ pub record TouchBoth (a b : Slice) : Type 0 where
   pub x : Touch a.x b.x
   pub y : Touch a.y b.y
 
--- an extent reaches as far as another one on both sides
+-- an extent holds all of another
 pub record Reaches (a b : Extent) : Type 0 where
   pub low : a.low ≤ℤ b.low
   pub high : b.high ≤ℤ a.high
 
--- a slice holds all positions and heights of another one
+-- a slice holds all of another
 pub record Holds (a b : Slice) : Type 0 where
   pub x : Reaches a.x b.x
   pub y : Reaches a.y b.y
   pub low : a.layer.low ≤ℤ b.layer.low
   pub high : b.layer.high ≤ℤ a.layer.high
 
--- a slice holds those of all seconds of a window, which is 1,024 seconds of the clock
+-- a slice holds all seconds of a 1,024-second window
 abbrev pub HoldsWindow : Sliced → ℕ → Slice → Type 0
 HoldsWindow s window wide = (k : ℕ) → Have s k → k / 1024 ≡ window → Holds wide (slice_at s k)
 
--- What has slices with a position in common is near: in a second in which two trajectories have such slices, their covers share a cell.
+-- where slices touch in a second, covers share a cell
 abbrev pub TouchingIsNear : Type 0
 TouchingIsNear = (rules : Rules) (a b : Trajectory) (k : ℕ) → AreWithinBounds rules → IsStrand a → IsStrand b → Have (slices_of rules a) k
     → Have (slices_of rules b) k → TouchBoth (slice_at (slices_of rules a) k) (slice_at (slices_of rules b) k)
     → ShareAt (cover_of rules a) (cover_of rules b) k
 
--- no height, and the heights of some slices
+-- `no_layer`, `with_slice`, `layer_over`: no height, and the heights of some slices
 abbrev pub no_layer : Layer
 no_layer = record { low = pos 4200000; high = neg_ℤ (pos 600000) }
 
@@ -99,7 +99,7 @@ with_slice layer slice = both layer slice.layer
 abbrev pub layer_over : List Slice → Layer
 layer_over slices = fold with_slice no_layer slices
 
--- What slices keep: one for each 256 seconds, none of which begins after second 10,014,400; numbers of a size that sums of them fit.
+-- what slices keep: one per 256 seconds, addable heights. None begins after second 10,014,400.
 pub record AreSlices (s : Sliced) : Type 0 where
   pub number : length s.list ≡ div_ceil (s.to - s.from) 256
   pub ordered : s.from ≤ s.to

@@ -5,7 +5,7 @@ use Rattle.mt_base.specs.Picture.{NamedTrajectory}
 use Rattle.mt_edges.specs.declared.edge.Edge.{Edge}
 use Rattle.mt_kept.specs.Losing.{IsPair, TouchesSlot}
 
--- At most six steps were made for each pair of that slot, and two.
+-- at most six steps per pair of a slot, and two
 pub record WereStepsOf (rules : Rules) (places : List (Option NamedTrajectory)) (slot old new : ℕ) : Type 0 where
   pub edges : List Edge
   pub distinct : AllPairs (λ e f. e ≢ f) edges

@@ -14,22 +14,22 @@ use Rattle.mt_kept.specs.Places.{at, slot_of}
 use Rattle.mt_base.specs.Trajectory.{horizon}
 use Rattle.mt_kept.specs.Window.{IsOpen, ShowsInWindow, edge_of, is_straddling}
 
--- what is known of two trajectories is right: it is their conflict over all seconds
+-- what is known of two trajectories is their conflict
 abbrev pub IsRight : Rules → NamedTrajectory → NamedTrajectory → Knowledge → Type 0
 IsRight rules mine other Unknown = ⊤
 IsRight rules mine other (Known span) = IsConflict rules mine.path other.path 0 horizon span
 
--- In another place than its own stands that trajectory, of another flight.
+-- at another place stands this trajectory of another flight
 pub record IsOfOtherFlight (places : List (Option NamedTrajectory)) (place : ℕ) (mine : NamedTrajectory) (j : ℕ) (other : NamedTrajectory) : Type 0 where
   pub is : at places j ≡ Some other
   pub elsewhere : j ≢ place
   pub apart : mine.call ≢ other.call
 
+-- the place of a candidate
 abbrev pub candidate_place : Candidate → ℕ
 candidate_place x = x.place
 
--- Each place is listed once at most. Each where a trajectory of another flight stands that has a loss second with the new one is listed, and
--- what is known of the listed ones is right.
+-- every trajectory with a loss second is a candidate. Each place is listed once at most, and what is known of the listed ones is right.
 pub record AreCandidates (rules : Rules) (places : List (Option NamedTrajectory)) (place : ℕ) (mine : NamedTrajectory)
     (xs : List Candidate) : Type 0 where
   pub right : (x : Candidate) (other : NamedTrajectory) → Contains xs x → IsOfOtherFlight places place mine x.place other
@@ -38,19 +38,19 @@ pub record AreCandidates (rules : Rules) (places : List (Option NamedTrajectory)
       → IsLossSecond rules mine.path other.path k → Contains (map candidate_place xs) j
   pub once : AllPairs (λ x y. x.place ≢ y.place) xs
 
--- After a change the place has the new trajectory, and each other place has what it had, as far as other flights go.
+-- one place changed; the others agree for other flights
 pub record Agree (places after : List (Option NamedTrajectory)) (place : ℕ) (mine : NamedTrajectory) : Type 0 where
   pub here : at after place ≡ Some mine
   pub there : (i : ℕ) (t : NamedTrajectory) → i ≢ place → mine.call ≢ t.call → (at after i ≡ Some t) ↔ (at places i ≡ Some t)
 
--- What was found for one place: its pairs, each once, with what each that is open shows.
+-- exactly one place's pairs, with what open ones show
 pub record AreFindsAt (rules : Rules) (places : List (Option NamedTrajectory)) (now place : ℕ) (finds : List OpenPair) : Type 0 where
   pub sound : (o : OpenPair) → Contains finds o
       → Touches place o.edge × IsPair rules places o.edge × (IsOpen now o.edge → ShowsInWindow rules places now o.edge o.conflict)
   pub complete : (a b k : ℕ) → a < b → (a ≡ place) ⊎ (b ≡ place) → LoseSeparation rules places a b k → Joins (map edge_of finds) a b
   pub distinct : AllPairs (λ o p. ¬ HaveSameEnds o.edge p.edge) finds
 
--- The same for both places of a slot.
+-- exactly a slot's pairs, with what open ones show
 pub record AreFindsOfSlot (rules : Rules) (places : List (Option NamedTrajectory)) (now slot : ℕ) (finds : List OpenPair) : Type 0 where
   pub sound : (o : OpenPair) → Contains finds o
       → TouchesSlot slot o.edge × IsPair rules places o.edge × (IsOpen now o.edge → ShowsInWindow rules places now o.edge o.conflict)
@@ -62,25 +62,25 @@ abbrev pub is_other : Option NamedTrajectory → List ℕ → Bool
 is_other None call = false
 is_other (Some t) call = not (bytes_eq t.call call)
 
--- a candidate in another place, where a trajectory of another flight stands
+-- a candidate of another flight, at another place
 abbrev pub is_listed : List (Option NamedTrajectory) → ℕ → List ℕ → Candidate → Bool
 is_listed places place call x = not (x.place == place) && is_other (at places x.place) call
 
--- how many tests a pair asks for whose conflict over all seconds is known: one where it straddles an edge of the window
+-- one test where a known conflict straddles an edge
 abbrev pub cost_known : ℕ → Option (ℕ × ℕ) → ℕ
 cost_known now None = 0
 cost_known now (Some span) = if is_straddling now span.0 span.1 then 1 else 0
 
--- two where nothing is known
+-- two tests where nothing is known
 abbrev pub cost_of : ℕ → Knowledge → ℕ
 cost_of now Unknown = 2
 cost_of now (Known span) = cost_known now span
 
--- how many a candidate asks for: none where no trajectory of another flight stands
+-- the tests that a candidate needs
 abbrev pub cost : List (Option NamedTrajectory) → ℕ → List ℕ → ℕ → Candidate → ℕ
 cost places place call now x = if is_listed places place call x then cost_of now x.knowledge else 0
 
--- whether nothing is known of a candidate, and whether what is known straddles an edge of the window
+-- `is_unknown`, `is_crossing`: nothing is known; what is known straddles an edge
 abbrev pub is_unknown : Knowledge → Bool
 is_unknown Unknown = true
 is_unknown (Known span) = false
@@ -90,7 +90,7 @@ is_crossing now Unknown = false
 is_crossing now (Known None) = false
 is_crossing now (Known (Some span)) = is_straddling now span.0 span.1
 
--- the candidates that ask for two tests, and those that ask for one
+-- `asks_two`, `asks_one`: the candidates that need two tests, and one
 abbrev pub asks_two : List (Option NamedTrajectory) → ℕ → List ℕ → Candidate → Bool
 asks_two places place call x = is_listed places place call x && is_unknown x.knowledge
 

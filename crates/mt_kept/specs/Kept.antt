@@ -4,7 +4,7 @@ use Rattle.mt_base.specs.declared.conflict.Conflict.{Conflict}
 use Rattle.mt_base.specs.declared.rules.Rules.{Rules}
 use Rattle.mt_base.specs.Picture.{NamedTrajectory}
 
--- What callers see: the rules, the moment, what stands in each place, and the conflicts published of them.
+-- the rules, the moment, the places and what is published
 pub record Watched : Type 0 where
   pub rules : Rules
   pub moment : ℕ

@@ -11,24 +11,24 @@ use Rattle.mt_kept.specs.Losing.{IsPair}
 use Rattle.mt_kept.specs.Places.{at}
 use Rattle.mt_base.specs.Tally.{raised_by}
 
--- A pair is open where its span over all seconds meets the window: it begins before the window's end and doesn't end before the moment.
+-- a pair's conflict reaches into the look-ahead. It begins before the look-ahead's end and doesn't end before the moment.
 abbrev pub IsOpen : ℕ → Edge → Type 0
 IsOpen now e = (e.first < window_end now) × (now ≤ e.last)
 
--- A span of seconds straddles an edge of the window: it begins before the moment, or before the window's end, and goes on at it.
+-- a span straddles an edge of the look-ahead. It begins before the moment, or before the look-ahead's end, and goes on at it.
 abbrev pub is_straddling : ℕ → ℕ → ℕ → Bool
 is_straddling now first last = crosses_one now (window_end now) first last
 
--- the span of a pair does
+-- a pair's conflict straddles such an edge
 abbrev pub straddles : ℕ → Edge → Bool
 straddles now e = is_straddling now e.first e.last
 
--- In the window the two trajectories, either of which may have the lesser callsign, have that conflict, or none.
+-- two trajectories' conflict in the look-ahead, or none. Either of them may have the lesser callsign.
 abbrev pub IsFoundOf : Rules → ℕ → NamedTrajectory → NamedTrajectory → Option Conflict → Type 0
 IsFoundOf rules now left right (Some c) = IsOf rules now left right c ⊎ IsOf rules now right left c
 IsFoundOf rules now left right None = (k : ℕ) → now ≤ k → k < window_end now → ¬ IsLossSecond rules left.path right.path k
 
--- what the two places of a pair show in the window
+-- `ShowsInWindow`, `edge_of`: what a pair shows in the look-ahead
 pub record ShowsInWindow (rules : Rules) (places : List (Option NamedTrajectory)) (now : ℕ) (e : Edge) (shown : Option Conflict) : Type 0 where
   pub left : NamedTrajectory
   pub right : NamedTrajectory
@@ -39,7 +39,7 @@ pub record ShowsInWindow (rules : Rules) (places : List (Option NamedTrajectory)
 abbrev pub edge_of : OpenPair → Edge
 edge_of o = o.edge
 
--- At most one test was made for each pair of the places that straddles an edge of the window, and no other test.
+-- at most one test per straddling pair, no other
 pub record WasTestedOnce (rules : Rules) (places : List (Option NamedTrajectory)) (now old new : ℕ) : Type 0 where
   pub edges : List Edge
   pub distinct : AllPairs (λ e f. e ≢ f) edges

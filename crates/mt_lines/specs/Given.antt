@@ -9,7 +9,7 @@ use Rattle.mt_write.specs.declared.reply.Reply.{Reply}
 use Rattle.mt_write.specs.declared.reply.Reply.TheVariants as replies
 use Rattle.mt_write.specs.Reply.{reply_text}
 
--- A reply that is written in the room that was taken before the first line, and so never wants memory. Each reply that follows a change is one.
+-- a reply that needs no further memory. It is written in the room that was taken before the first line. Each reply that follows a change is one.
 abbrev pub is_brief : Reply → Bool
 is_brief (replies.List conflicts version) = false
 is_brief (replies.Flight view) = false
@@ -25,16 +25,16 @@ is_brief (replies.Illegal version refusal) = false
 is_brief (replies.Late version) = false
 is_brief reply = true
 
--- the reply after which no line is answered
+-- the reply that ends a run
 abbrev pub is_farewell : Reply → Bool
 is_farewell (replies.Done done.Bye) = true
 is_farewell reply = false
 
--- the reply that is given: this one, or `memory` in place of one that is not brief
+-- this reply, or `memory` for one not brief
 abbrev pub IsGivenFor : Reply → Reply → Type 0
 IsGivenFor reply given = (given ≡ reply) ⊎ ((given ≡ replies.Memory) × (is_brief reply ≡ false))
 
--- What the output holds after a text was sent: it, and whether it was the last one is answered; or a front of it, where the output failed.
+-- a text was sent, or a front of it, where output failed
 abbrev pub Sends : List ℕ → Bool → Result Bool WriteFault → Option (List ℕ) → Option (List ℕ) → Type 0
 Sends text is_last (Ok ends) before after = Appends before after text × (is_last ≡ ends)
 Sends text is_last (Err fault) before after = AppendsFront before after text

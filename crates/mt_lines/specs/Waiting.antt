@@ -8,12 +8,11 @@ use Rattle.mt_lines.specs.Given.{IsGivenFor, is_farewell}
 use Rattle.mt_write.specs.declared.reply.Reply.{Reply}
 use Rattle.mt_write.specs.Reply.{reply_text}
 
--- a front of these bytes was written, and the rest of them waits
+-- a front of these bytes was written; the rest waits
 abbrev pub LeavesWaiting : Option (List ℕ) → Option (List ℕ) → List ℕ → List ℕ → Type 0
 LeavesWaiting before after bytes waits = (front : List ℕ) × (bytes ≡ front ++ waits) × Appends before after front
 
--- What is written and what waits after a text was put after what waited: it, and whether it was the last one is answered; or a front of it all was
--- written, where the output failed, and the rest is lost.
+-- a text follows those waiting, or output failed. Then a front of it all was written, and the rest is lost.
 abbrev pub PutsAfter : List ℕ → Bool → Result Bool WriteFault → List ℕ → List ℕ → Option (List ℕ) → Option (List ℕ) → Type 0
 PutsAfter text is_last (Ok ends) waited waits before after = LeavesWaiting before after (waited ++ text) waits × (is_last ≡ ends)
 PutsAfter text is_last (Err fault) waited waits before after = AppendsFront before after (waited ++ text)

@@ -2,6 +2,6 @@
 use Rattle.std.specs.Prelude.{ℕ, List}
 use Rattle.mt_lines.specs.declared.waiting.Waiting.{Waiting}
 
--- its bytes, in the order in which they were given
+-- the bytes waiting, in order
 abbrev pub waits : Waiting → List ℕ
 waits waiting = waiting.bytes.items

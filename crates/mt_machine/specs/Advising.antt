@@ -6,7 +6,7 @@ use Rattle.mt_base.specs.Picture.{State}
 use Rattle.mt_base.specs.Tables.{Setup}
 use Rattle.mt_base.specs.WhatIf.{IsWhatIf}
 
--- A clearance of a flight is bounded, and nothing would follow from it.
+-- a bounded clearance without hits
 pub record IsClearanceFree (setup : Setup) (s : State) (call : List ℕ) (clearance : Clearance) : Type 0 where
   pub bounded : IsBoundedClearance clearance
   pub follows : IsWhatIf setup s call clearance None (Ok [])

@@ -4,20 +4,20 @@ use Rattle.std.specs.Coded.{coded×}
 use Rattle.mt_base.specs.Tally.{raised}
 use Rattle.circular_buffer.specs.Buffer.{keep_last}
 
--- how many values were ever put in, and those of them that are kept, the newest last
+-- a count of all values, and the last 64. The newest stands last.
 pub record Book (P : Type 0) : Type 0 where
   pub count : ℕ
   pub last : List P
 
 module _ {P : Type 0} where
+  -- `empty_book`, `with_probe`: an empty book, and a book with one value more. The count stays at 2^64 - 1.
   abbrev pub empty_book : Book P
   empty_book = record { count = 0; last = [] }
 
-  -- with one value more (the count stays at its type's end)
   abbrev pub with_probe : Book P → P → Book P
   with_probe book p = record { count = raised book.count; last = keep_last 64 (book.last ++ p ∷ []) }
 
-  -- the value that was put in under that number, where it is kept
+  -- the value under that number, where kept
   abbrev pub probe_at : Book P → ℕ → Option P
   probe_at book n = if nat_lt book.count (n + length book.last) then slice_get book.last (n + length book.last - (book.count + 1)) else None
 

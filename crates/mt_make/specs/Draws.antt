@@ -1,11 +1,11 @@
 -- Draws: numbers that are fixed by a first state and look as if they were drawn at random.
 use Rattle.std.specs.Prelude.{ℕ, zero, suc, ◌+◌, ◌*◌, ◌/◌, ◌%◌, ◌^◌}
 
--- the state after a draw: a linear congruential generator of 64 bits
+-- a linear congruential generator's next state, 64 bits
 unfoldable pub next_state : ℕ → ℕ
 next_state state = (state * 6364136223846793005 + 1442695040888963407) % 2 ^ 64
 
--- what is drawn from n, a number below n, where the draw has left this state: its 31 high bits decide
+-- a number below n, from the 31 high bits
 unfoldable pub drawn : ℕ → ℕ → ℕ
 drawn n state = state / 2 ^ 33 % n
 

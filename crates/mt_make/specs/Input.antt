@@ -9,7 +9,7 @@ use Rattle.mt_read.specs.declared.request.Request.{Request}
 use Rattle.mt_read.specs.declared.request.Request.TheVariants.{Begin, Change, Fix, TypeLine}
 use Rattle.mt_make.specs.Draws.{drawn, state_after}
 
--- what f gives for 0, 1, 2 and so on, n values
+-- f of 0, 1, 2 and so on, n values
 unfoldable pub each_below : {A : Type 0} → (ℕ → A) → ℕ → List A
 each_below f zero = []
 each_below f (suc n) = each_below f n ++ f n ∷ []
@@ -20,12 +20,12 @@ each_below f (suc n) = each_below f n ++ f n ∷ []
 abbrev pub digit : ℕ → ℕ
 digit d = 48 + d
 
--- The fixes stand in 8 columns, from west to east, of 8 each, from south to north. They are counted from 0, column by column, and the name
--- of each is `F`, its column and its place in it, both from 0.
+-- a fix name: `F`, column and place. The fixes stand in 8 columns, from west to east, of 8 each, from south to north, and are counted from 0, column
+-- by column.
 abbrev pub fix_name : ℕ → List ℕ
 fix_name k = 70 ∷ digit (k / 8) ∷ digit (k % 8) ∷ []
 
--- the callsign of a flight: `L` and its number in four digits
+-- a flight's callsign: `L` and four digits
 abbrev pub callsign : ℕ → List ℕ
 callsign n = 76 ∷ digit (n / 1000) ∷ digit (n / 100 % 10) ∷ digit (n / 10 % 10) ∷ digit (n % 10) ∷ []
 
@@ -35,14 +35,14 @@ kind_name = codes "JA1"
 
 -- ---- what stands before the first flight
 
--- columns are 32 nautical miles apart, and so are places: the first is 112 nautical miles from the origin, in units of 1/3600
+-- `coordinate`, `fix`: fixes 32 NM apart, the first 112 NM out. In units of 1/3600 NM.
 abbrev pub coordinate : ℕ → ℤ
 coordinate i = pos 115200 *ℤ pos i -ℤ pos 403200
 
 abbrev pub fix : ℕ → Request
 fix k = Fix (fix_name k) (coordinate (k / 8)) (coordinate (k % 8))
 
--- 400 knots up to flight level 245 and 480 up to 410, with 2,000 and 2,100 feet a minute up and down
+-- two bands, up to flight levels 245 and 410. 400 and 480 knots, with 2,000 and 2,100 feet a minute up and down.
 abbrev pub bands : List Band
 bands =
     record { top = 245; speed = pos 400; climb = pos 2000; descent = pos 2000 } ∷
@@ -50,12 +50,11 @@ bands =
 
 -- ---- flights
 
--- of a number drawn from one fewer, the number that passes one over
+-- a number from one fewer, passing one over
 abbrev pub other_than : ℕ → ℕ → ℕ
 other_than a b = if nat_le a b then b + 1 else b
 
--- The plan of flight n, by four draws from a state: from one fix to another, at a level from 300 to 390, from a second below 1,200 on, approved
--- for RVSM.
+-- flight n's plan, by four draws. From one fix to another, at a level from 300 to 390, from a second below 1,200 on, approved for RVSM.
 abbrev pub plan_from : ℕ → ℕ → Command
 plan_from n state =
     let first = drawn 64 (state_after 1 state) in
@@ -63,18 +62,18 @@ plan_from n state =
     let level = 300 + 10 * drawn 10 (state_after 3 state) in
     Plan (callsign n) kind_name (fix_name first ∷ fix_name second ∷ []) (drawn 1200 (state_after 4 state)) level level true
 
--- each flight takes four draws, after those of the flights before it; the number is the first state
+-- flight n's plan, drawn after those before it. The number is the first state.
 abbrev pub plan_of : ℕ → ℕ → Request
 plan_of number n = Change (plan_from n (state_after (4 * n) number))
 
 -- ---- the whole
 
--- The requests: the fixes and the type, the begin with the usual rules, the plans, and the moment moved to second 60.
+-- the requests: fixes, type, begin, plans, one tick. The begin has the usual rules, and the tick moves the moment to second 60.
 abbrev pub inputs : ℕ → ℕ → List Request
 inputs flights number =
     each_below fix 64 ++ TypeLine kind_name bands ∷ [] ++ Begin ∷ [] ++ each_below (plan_of number) flights ++ Change (Tick 60) ∷ []
 
--- the route of a plan has 2 to 64 names, no two neighbours equal
+-- a plan's route has 2 to 64 names, neighbours differ
 abbrev pub HasRightRoute : Request → Type 0
 HasRightRoute (Change (Plan call kind route at from level rvsm)) = All (λ (c : RouteNo × Bool). c.1 ≡ true) (length_checks route)
 HasRightRoute request = ⊤

@@ -12,45 +12,45 @@ use Rattle.mt_pair.specs.Heights.{LieApart}
 use Rattle.mt_pair.specs.High.{level_of}
 use Rattle.mt_meet.specs.declared.table.Met.{Met}
 
--- Two slices meet: they have a position in common, and don't lie apart in height by the vertical minimum.
+-- two slices touch, and lie within the vertical minimum
 pub record SlicesMeet (rules : Rules) (approved : Bool) (a b : Slice) : Type 0 where
   pub touch : TouchBoth a b
   pub heights : ¬ LieApart rules (level_of approved) a.layer b.layer
 
--- In second k slices of both meet.
+-- in second k slices of both meet
 pub record MeetAt (rules : Rules) (a b : Sliced) (k : ℕ) : Type 0 where
   pub left : Have a k
   pub right : Have b k
   pub meet : SlicesMeet rules (a.rvsm && b.rvsm) (slice_at a k) (slice_at b k)
 
--- of the seconds with P, `first` is the least and `last` the greatest
+-- the first and the last second with P
 pub record IsHullOf (P : ℕ → Type 0) (first last : ℕ) : Type 0 where
   pub first_is : P first
   pub last_is : P last
   pub none_outside : (k : ℕ) → P k → (first ≤ k) × (k ≤ last)
 
--- the least and the greatest second with P, or none where no second has P
+-- those seconds, or none where no second has P
 abbrev pub IsHull : (ℕ → Type 0) → Option (ℕ × ℕ) → Type 0
 IsHull P (Some span) = IsHullOf P span.0 span.1
 IsHull P None = (k : ℕ) → ¬ P k
 
--- No loss is missed: in a loss second of two trajectories their slices meet.
+-- in a loss second the slices meet
 abbrev pub LosingMeet : Type 0
 LosingMeet = (rules : Rules) (a b : Trajectory) (k : ℕ) → AreWithinBounds rules → IsStrand a → IsStrand b → IsLossSecond rules a b k
     → MeetAt rules (slices_of rules a) (slices_of rules b) k
 
--- What meets is near: in a second in which their slices meet, two covers share a cell.
+-- where slices meet in a second, covers share a cell
 abbrev pub MeetingIsNear : Type 0
 MeetingIsNear = (rules : Rules) (a b : Trajectory) (k : ℕ) → AreWithinBounds rules → IsStrand a → IsStrand b
     → MeetAt rules (slices_of rules a) (slices_of rules b) k → ShareAt (cover_of rules a) (cover_of rules b) k
 
--- of the items of a table, this one meets some slices, in a first and a last second
+-- this item's slices meet ours from first to last
 pub record IsMetIn (rules : Rules) (mine : Sliced) (table : List (Option Sliced)) (met : Met) : Type 0 where
   pub theirs : Sliced
   pub there : get_or table met.item None ≡ Some theirs
   pub hull : IsHullOf (MeetAt rules mine theirs) met.first met.last
 
--- what is said of one item: that; or it meets them in no second
+-- an item meets ours so, or in no second
 abbrev pub IsMetAt : Rules → Sliced → List (Option Sliced) → ℕ → Option Met → Type 0
 IsMetAt rules mine table item (Some met) = (met.item ≡ item) × IsMetIn rules mine table met
 IsMetAt rules mine table item None = (theirs : Sliced) (k : ℕ) → get_or table item None ≡ Some theirs → ¬ MeetAt rules mine theirs k
@@ -61,23 +61,23 @@ pub record IsItemListed (list : List Met) (item : ℕ) : Type 0 where
   pub held : Contains list met
   pub is : met.item ≡ item
 
--- The items of a table whose slices meet some, rising, each once.
+-- exactly the items that meet ours, rising, each once
 pub record AreMet (rules : Rules) (mine : Sliced) (table : List (Option Sliced)) (list : List Met) : Type 0 where
   pub rising : AllPairs (λ (m n : Met). m.item < n.item) list
   pub exact : (met : Met) → Contains list met → IsMetIn rules mine table met
   pub complete : (item : ℕ) (theirs : Sliced) (k : ℕ) → get_or table item None ≡ Some theirs → MeetAt rules mine theirs k → IsItemListed list item
 
--- none of the items from one on and before another one has slices that meet some
+-- no item of a range meets ours
 abbrev pub MeetNone : Rules → Sliced → List (Option Sliced) → ℕ → ℕ → Type 0
 MeetNone rules mine table from end = (item : ℕ) → from ≤ item → item < end → IsMetAt rules mine table item None
 
--- it is the first item, from one on, whose slices meet some
+-- the first item from a place on that meets ours
 pub record IsFirstMet (rules : Rules) (mine : Sliced) (table : List (Option Sliced)) (from : ℕ) (met : Met) : Type 0 where
   pub begun : from ≤ met.item
   pub is : IsMetIn rules mine table met
   pub none_before : MeetNone rules mine table from met.item
 
--- The first item of a table, from one on, whose slices meet some; or none does.
+-- the next item that meets ours, or none
 abbrev pub IsNextMet : Rules → Sliced → List (Option Sliced) → ℕ → Option Met → Type 0
 IsNextMet rules mine table from (Some met) = IsFirstMet rules mine table from met
 IsNextMet rules mine table from None = MeetNone rules mine table from (length table)

@@ -5,13 +5,13 @@ use Rattle.std.specs.Cmp.Lexicographic.{slice_cmp}
 use Rattle.std.specs.Ordering.{nat_cmp, is_lt}
 use Rattle.mt_base.specs.Picture.{NamedTrajectory}
 
--- of two trajectories, the first has the lesser callsign
+-- `is_before`, `tests_of_left`: the first trajectory has the lesser callsign; how many pairs it leads
 abbrev pub is_before : NamedTrajectory → NamedTrajectory → Bool
 is_before left right = is_lt (slice_cmp nat_cmp left.call right.call)
 
 abbrev pub tests_of_left : List NamedTrajectory → NamedTrajectory → ℕ
 tests_of_left rights left = count_by (is_before left) rights
 
--- How many pairs of trajectories of different flights a list has: each is counted where the lesser callsign stands first.
+-- how many pairs of different flights a list has. Each is counted where the lesser callsign stands first.
 abbrev pub pairs_of_different_flights : List NamedTrajectory → ℕ
 pairs_of_different_flights all = sum_by (tests_of_left all) all

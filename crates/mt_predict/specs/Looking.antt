@@ -13,22 +13,22 @@ use Rattle.mt_base.specs.Trajectory.{Trajectory}
 use Rattle.mt_base.specs.WhatIf.{course_in, mark_in}
 use Rattle.mt_predict.specs.declared.judging.Looked.{Looked}
 
--- what a decision looks at, as its definition has it
+-- what a decision looks at, as the definition says
 abbrev pub look_of : Looked → Look
 look_of looked = record { now = looked.now; held = looked.held; entries = looked.entries; flight = option_copied looked.flight }
 
--- the trajectory that is at hand; where there is none, one of no seconds
+-- the trajectory at hand, or an empty one
 abbrev pub strand_in : Looked → Trajectory
 strand_in looked = unwrap_or (option_copied looked.strand) (record { start = 0; rows = []; rvsm = true })
 
--- what is checked of a clearance of a flight, where it has that trajectory
+-- the checks of a clearance, along a given trajectory
 abbrev pub cleared_checks : Tables → Trajectory → Look → List ℕ → Clearance → ℕ → List (Refusal × Bool)
 cleared_checks tables t look call clearance eff =
     (UnknownCall call, is_some look.flight) ∷
     (Fixed, is_some (course_in look.flight)) ∷
     option_map_or (λ course. clearance_checks tables course t clearance eff look.now) (course_in look.flight) []
 
--- What is checked of a command, in order, where the flight that it names has that trajectory.
+-- the checks of a command, along a given trajectory
 abbrev pub checks_along : Setup → Trajectory → Look → ℕ → Command → List (Refusal × Bool)
 checks_along setup t look who (Clear call clearance eff) =
     cleared_checks setup.tables t look call clearance (unwrap_or eff look.now) ++ (HistoryFull, has_history setup.rules look) ∷ []
@@ -43,7 +43,7 @@ checks_along setup t look who (Tentative call clearance eff) =
     (HistoryFull, has_history setup.rules look) ∷ [])
 checks_along setup t look who command = checks setup look who command
 
--- A trajectory is at hand for a course, along a route of at most 64 names.
+-- `HasSomeStrandOf`, `HasSomeStrandOfPlanned`: a trajectory is at hand for a course of at most 64 fixes
 pub record HasSomeStrandOf (looked : Looked) (course : Course) : Type 0 where
   pub strand : is_some looked.strand ≡ true
   pub short : length course.route ≤ 64
@@ -51,7 +51,7 @@ pub record HasSomeStrandOf (looked : Looked) (course : Course) : Type 0 where
 abbrev pub HasSomeStrandOfPlanned : Looked → Type 0
 HasSomeStrandOfPlanned looked = IfSome (course_in (option_copied looked.flight)) (HasSomeStrandOf looked)
 
--- What a decision has at hand beside: for a clearance, a trajectory of the planned flight that is cleared.
+-- for a clearance, the planned flight's trajectory is at hand
 abbrev pub HasSomeStrand : Looked → Command → Type 0
 HasSomeStrand looked (Clear call clearance eff) = HasSomeStrandOfPlanned looked
 HasSomeStrand looked (Accept call clearance eff probed) = HasSomeStrandOfPlanned looked

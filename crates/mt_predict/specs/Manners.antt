@@ -9,13 +9,13 @@ use Rattle.mt_base.specs.Predictor.{Manner}
 abbrev pub manner : Rules → List Band → ℕ → Manner
 manner rules bands level = record { rules = rules; bands = bands; level = level }
 
--- Its rules, its bands and its level are within their bounds.
+-- rules, bands and level are within bounds
 pub record IsBoundedManner (m : Manner) : Type 0 where
   pub rules : AreWithinBounds m.rules
   pub bands : AreBoundedBands m.bands
   pub level : m.level ≤ 600
 
--- A place in the plane, at a height that is flown, with margins up to the greatest.
+-- a place in the plane, height and margins within bounds
 pub record IsFlownPlace (rules : Rules) (a : Place) : Type 0 where
   pub plane : IsInPlane a.x a.y
   pub height : IsHeight a.z

@@ -7,14 +7,15 @@ use Rattle.mt_probe.specs.declared.flight.Flight.{Flight}
 use Rattle.mt_probe.specs.Shot.{Shot, flights_in, records_in}
 use Rattle.mt_probe.specs.Standing.{IsSoundShot}
 
+-- the order of filing
 abbrev pub filed_cmp : Flight → Flight → Ordering
 filed_cmp f g = nat_cmp f.filed g.filed
 
--- these are the flights of some places, and no other, once, in rising order of filing
+-- exactly these places' flights, each once, in filing order
 pub record AreFiled (slots : List (Option Flight)) (flights : List Flight) : Type 0 where
   pub sorted : IsStrictlySortedBy filed_cmp flights
   pub members : (f : Flight) → Contains flights f ↔ Contains (flights_in slots) f
 
--- The records of a snapshot's state are those of its flights in rising order of filing, however these were found.
+-- filing order determines a snapshot's records
 abbrev pub FilingOrderLaw : Type 0
 FilingOrderLaw = (shot : Shot) (flights : List Flight) → IsSoundShot shot → AreFiled shot.slots flights → map (λ f. f.card) flights ≡ records_in shot.slots

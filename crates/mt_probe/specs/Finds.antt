@@ -8,7 +8,7 @@ use Rattle.mt_base.specs.Trajectory.{Trajectory}
 use Rattle.mt_probe.specs.declared.finding.Found.{Found}
 use Rattle.mt_base.specs.Trajectory.{horizon}
 
--- What is found with another trajectory: its name, and its conflict with the new one over all seconds and in the window.
+-- another trajectory's conflict, over all seconds and the look-ahead
 pub record IsFound (rules : Rules) (now : ℕ) (t : Trajectory) (other : NamedTrajectory) (found : Found) : Type 0 where
   pub call_is : found.call ≡ other.call
   pub kind_is : found.kind ≡ other.kind
@@ -20,31 +20,31 @@ pub record IsOfAnother (setup : Setup) (s : State) (call : List ℕ) (other : Na
   pub there : Contains (trajectories setup s) other
   pub apart : other.call ≢ call
 
--- a find with a loss: what is found with a trajectory of another flight, which has a loss second with the new one
+-- a find of another flight, with a loss second
 pub record IsFoundOfAnother (setup : Setup) (s : State) (call : List ℕ) (t : Trajectory) (found : Found) : Type 0 where
   pub other : NamedTrajectory
   pub of : IsOfAnother setup s call other
   pub is : IsFound setup.rules s.now t other found
   pub loss : is_some found.whole ≡ true
 
--- two finds are of different flights, or of different kinds
+-- two finds differ in flight or kind
 abbrev pub AreDifferentFinds : Found → Found → Type 0
 AreDifferentFinds f g = ¬ ((f.call ≡ g.call) × (f.kind ≡ g.kind))
 
--- one of some finds is what is found with another trajectory
+-- a trajectory's find is listed
 pub record IsFindListed (rules : Rules) (now : ℕ) (t : Trajectory) (finds : List Found) (other : NamedTrajectory) : Type 0 where
   pub found : Found
   pub held : Contains finds found
   pub is : IsFound rules now t other found
 
--- What is found with a new trajectory of a flight in a state: each trajectory of another flight that has a loss second with the new one is
--- listed, once, and no other; each find is exact.
+-- exactly the other flights' trajectories that lose separation. Each that has a loss second with the new trajectory is listed, once, and no other;
+-- each find is exact.
 pub record AreFinds (setup : Setup) (s : State) (call : List ℕ) (t : Trajectory) (finds : List Found) : Type 0 where
   pub exact : (found : Found) → Contains finds found → IsFoundOfAnother setup s call t found
   pub complete : (other : NamedTrajectory) → IsOfAnother setup s call other → (k : ℕ) → k < horizon → IsLossSecond setup.rules t other.path k
       → IsFindListed setup.rules s.now t finds other
   pub once : AllPairs AreDifferentFinds finds
 
--- no two of these trajectories have one callsign and one kind
+-- no two have one callsign and one kind
 abbrev pub AreOneEach : List NamedTrajectory → Type 0
 AreOneEach all = (a b : NamedTrajectory) → Contains all a → Contains all b → a.call ≡ b.call → a.kind ≡ b.kind → a ≡ b

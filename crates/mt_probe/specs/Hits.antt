@@ -12,7 +12,7 @@ use Rattle.mt_board.specs.Short.{AreShortHits}
 use Rattle.mt_probe.specs.Prepared.{IsPrepOf, IsPrepared, Prepared}
 use Rattle.mt_probe.specs.Shot.{Shot, state_in_shot}
 
--- A clearance that was tried: what was prepared for its acceptance, and the hits.
+-- a tried clearance, its prepared acceptance and its hits
 pub record Trial : Type 0 where
   pub prep : Prepared
   pub call : List ℕ
@@ -20,8 +20,7 @@ pub record Trial : Type 0 where
   pub eff : ℕ
   pub hits : List Hit
 
--- What every probe keeps: its numbers are within their bounds; it was prepared for the acceptance of its clearance, and its hits are what would
--- follow in its state; there are few enough of them for a reply.
+-- a trial's hits are exact, and its numbers bounded. It was prepared for the acceptance of its clearance, and has few enough hits for a reply.
 pub record IsTried (p : Trial) : Type 0 where
   pub clearance : IsBoundedClearance p.clearance
   pub early : p.eff ≤ 10000000
@@ -31,11 +30,11 @@ pub record IsTried (p : Trial) : Type 0 where
   pub follows : IsWhatIf p.prep.setup p.prep.state p.call p.clearance (Some p.eff) (Ok p.hits)
   pub short : AreShortHits p.hits
 
--- what a board is told of it
+-- a trial as a board's probe
 abbrev pub told_of : Trial → Probe
 told_of p = record { call = p.call; clearance = p.clearance; eff = p.eff; version = p.prep.state.version; hits = p.hits }
 
--- What is answered of a what-if on a snapshot: the probe, whose hits are those of the clearance, or the first refusal, at the snapshot's version.
+-- `IsProbe`, `IsUnprobed`: a what-if on a snapshot: its probe, or its refusal. At the snapshot's version.
 pub record IsProbe (shot : Shot) (call : List ℕ) (clearance : Clearance) (eff : Option ℕ) (p : Trial) : Type 0 where
   pub call_is : p.call ≡ call
   pub clearance_is : p.clearance ≡ clearance
@@ -48,12 +47,12 @@ IsUnprobed shot call clearance eff (nos.Refused refusal version) =
     IsWhatIf shot.setup (state_in_shot shot) call clearance eff (Err refusal) × (version ≡ shot.version)
 IsUnprobed shot call clearance eff nos.Memory = ⊤
 
--- The probe of a clearance that has no hit.
+-- the probe of a clearance without hits
 pub record IsFreeProbe (shot : Shot) (call : List ℕ) (clearance : Clearance) (eff : Option ℕ) (p : Trial) : Type 0 where
   pub probe : IsProbe shot call clearance eff p
   pub free : p.hits ≡ []
 
--- What is answered where only a free clearance is asked for: its probe, or none, and then something would follow from it.
+-- a free clearance's probe, or none where it has hits
 abbrev pub IsFreeOrConflicting : Shot → List ℕ → Clearance → Option ℕ → Option Trial → Type 0
 IsFreeOrConflicting shot call clearance eff (Some p) = IsFreeProbe shot call clearance eff p
 IsFreeOrConflicting shot call clearance eff None = IsConflicting shot.setup (state_in_shot shot) call clearance eff

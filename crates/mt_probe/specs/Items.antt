@@ -15,15 +15,15 @@ use Rattle.mt_cover.specs.Cells.{Overlap, cover_of}
 use Rattle.mt_probe.specs.declared.flight.Flight.{Flight}
 use Rattle.mt_probe.specs.Shot.{Shot, made_named, made_of}
 
--- the kind of trajectory that an item names
+-- the kind that an item names
 abbrev pub kind_at : ℕ → Kind
 kind_at item = if nat_eq (item % 2) 0 then Actual else Tentative
 
--- the trajectory of a kind that is kept of a flight, where it has one
+-- a flight's trajectory of a kind, where it has one
 abbrev pub path_of : Kind → Flight → Option Trajectory
 path_of kind f = option_map (λ m. arc_value m.strand) (made_of f kind)
 
--- the stays of a trajectory that may be there, and of a flight's of a kind
+-- `stays_of_item`, `stays_by`: the stays of a trajectory that may be missing
 abbrev pub stays_of_item : Rules → Option Trajectory → List Stay
 stays_of_item rules None = []
 stays_of_item rules (Some t) = cover_of rules t
@@ -32,16 +32,16 @@ abbrev pub stays_by : Rules → Kind → Option Flight → List Stay
 stays_by rules kind None = []
 stays_by rules kind (Some f) = stays_of_item rules (path_of kind f)
 
--- the stays of the trajectory that an item names
+-- the stays of an item's trajectory
 abbrev pub stays_at : Rules → List (Option Flight) → ℕ → List Stay
 stays_at rules slots item = stays_by rules (kind_at item) (get_or slots (item / 2) None)
 
--- Two stays meet: they are in one cell, and have a second in common.
+-- two stays share a cell and a second
 pub record Meet (a b : Stay) : Type 0 where
   pub cell : b.cell ≡ a.cell
   pub common : Overlap a b.from b.to
 
--- An item is near a cover: a stay of the trajectory that it names meets one of the cover's.
+-- an item's trajectory has a stay that meets the cover
 pub record IsNearItem (shot : Shot) (cover : List Stay) (item : ℕ) : Type 0 where
   pub mine : Stay
   pub of : Contains cover mine
@@ -54,19 +54,19 @@ pub record AreNearItems (shot : Shot) (cover : List Stay) (items : List ℕ) : T
   pub rising : IsStrictlyIncreasing items
   pub same : (item : ℕ) → Contains items item ↔ IsNearItem shot cover item
 
--- a flight's trajectory of a kind, where it has one and its callsign is another
+-- a flight's trajectory, where its callsign is another
 abbrev pub other_of : List ℕ → Kind → Option Flight → List NamedTrajectory
 other_of call kind None = []
 other_of call kind (Some f) = if bytes_eq f.card.call call then [] else made_named f.card.call kind (path_of kind f)
 
--- the trajectories of flights of other callsigns that an item names, and that some items name
+-- `other_at`, `others_among`: other flights' trajectories of an item, and of some
 abbrev pub other_at : List ℕ → List (Option Flight) → ℕ → List NamedTrajectory
 other_at call slots item = other_of call (kind_at item) (get_or slots (item / 2) None)
 
 abbrev pub others_among : List ℕ → List (Option Flight) → List ℕ → List NamedTrajectory
 others_among call slots items = flat_map (other_at call slots) items
 
--- From one count of tests to another, at most two were made for each trajectory of another flight that is near this one.
+-- at most two tests per nearby trajectory
 abbrev pub WasTestedNear : Shot → List ℕ → Trajectory → ℕ → ℕ → Type 0
 WasTestedNear shot call t old new = (items : List ℕ) → AreNearItems shot (cover_of shot.setup.rules t) items
     → new ≤ old + 2 * length (others_among call shot.slots items)

@@ -22,20 +22,20 @@ use Rattle.mt_probe.specs.Finds.{AreFinds, AreOneEach}
 use Rattle.mt_probe.specs.Items.{WasTestedNear}
 use Rattle.mt_probe.specs.Shot.{Shot, state_in_shot}
 
--- what a decision looks at, as if there were room for a flight and an entry
+-- what a decision looks at, with room to spare
 abbrev pub roomy : State → Command → Look
 roomy s command = record (look_at s command) { held = 0; entries = 0 }
 
--- the first refusal of an actor's command in a state, but for the want of room
+-- a command's first refusal, want of room aside
 abbrev pub judged_aside : Setup → State → ℕ → Command → Result ⊤ Refusal
 judged_aside setup s who command = judged (checks setup (roomy s command) who command) (tt {0})
 
--- the flight that a command names, as its entry leaves it
+-- the named flight, as the command leaves it
 abbrev pub flight_left : Setup → State → ℕ → Command → Option Record
 flight_left setup s who command =
     option_and_then (flight_of (effect setup s (record { who = who; command = filled s.now command })).records) (call_of command)
 
--- the commands that make a trajectory, and its kind: a tentative clearance makes a tentative one
+-- `MakesStrand`, `kind_made`: the commands that make a trajectory, and its kind. A tentative clearance makes a tentative one.
 abbrev pub MakesStrand : Command → Type 0
 MakesStrand (Plan call kind route at from level rvsm) = ⊤
 MakesStrand (External call straight) = ⊤
@@ -50,7 +50,7 @@ abbrev pub kind_made : Command → Kind
 kind_made (Tentative call clearance eff) = kinds.Tentative
 kind_made command = kinds.Actual
 
--- the trajectory of a kind of a flight, where it has one
+-- `marked_of`, `path_made`, `named_trajectory`: a flight's trajectory of a kind, and its name
 abbrev pub marked_of : Setup → Path → Option Trajectory
 marked_of setup (Planned course) = option_map (trajectory_marked setup course) course.mark
 marked_of setup (Outer stretch) = None
@@ -62,8 +62,7 @@ path_made setup flight kinds.Tentative = marked_of setup flight.path
 abbrev pub named_trajectory : Record → Kind → Trajectory → NamedTrajectory
 named_trajectory flight kind path = record { call = flight.call; kind = kind; path = path }
 
--- What is prepared for a command of an actor in a state: the flight as the entry leaves it, the trajectory that the command makes, and what is
--- found with it.
+-- a prepared command: flight left, trajectory made, finds
 pub record Prepared : Type 0 where
   pub setup : Setup
   pub state : State
@@ -73,8 +72,8 @@ pub record Prepared : Type 0 where
   pub strand : Trajectory
   pub finds : List Found
 
--- What every prep keeps: its command passes in its state, room aside; the flight is the one that the entry leaves, and the trajectory is
--- the one that the command makes of it; the finds are what is found with it. Of its state, what every snapshot keeps.
+-- what every preparation keeps. The command passes in its state, room aside; the flight is the one that the entry leaves, the trajectory is the one
+-- that the command makes of it, and the finds are exact.
 pub record IsPrepared (p : Prepared) : Type 0 where
   pub passed : judged_aside p.setup p.state p.who p.command ≡ Ok (tt {0})
   pub card_is : flight_left p.setup p.state p.who p.command ≡ Some p.card
@@ -89,7 +88,7 @@ pub record IsPrepared (p : Prepared) : Type 0 where
   pub few : length p.state.records ≤ 1024
   pub one_each : AreOneEach (trajectories p.setup p.state)
 
--- the flight as the entry of a command leaves it, or the first refusal of the command
+-- `IsLeftByEntry`, `IsLeftOr`: the flight that a command leaves, or its first refusal
 pub record IsLeftByEntry (setup : Setup) (s : State) (who : ℕ) (command : Command) (card : Record) : Type 0 where
   pub passed : judged_aside setup s who command ≡ Ok (tt {0})
   pub card_is : flight_left setup s who command ≡ Some card
@@ -101,29 +100,29 @@ abbrev pub IsLeftOr : Setup → State → ℕ → Command → Result Record Refu
 IsLeftOr setup s who command (Ok card) = IsLeftByEntry setup s who command card
 IsLeftOr setup s who command (Err refusal) = judged_aside setup s who command ≡ Err refusal
 
--- it was prepared on that snapshot, for that command of that actor
+-- prepared on that snapshot, for that actor's command
 pub record IsPrepOf (shot : Shot) (who : ℕ) (command : Command) (p : Prepared) : Type 0 where
   pub setup_is : p.setup ≡ shot.setup
   pub state_is : p.state ≡ state_in_shot shot
   pub who_is : p.who ≡ who
   pub command_is : p.command ≡ command
 
--- it is refused on that snapshot, whose version is named
+-- refused on that snapshot, at its version
 abbrev pub IsRefusedOn : Shot → ℕ → Command → No → Type 0
 IsRefusedOn shot who command (nos.Refused refusal version) =
     (judged_aside shot.setup (state_in_shot shot) who command ≡ Err refusal) × (version ≡ shot.version)
 IsRefusedOn shot who command nos.Memory = ⊤
 
--- the trajectory that a command makes on a state, with its name
+-- the named trajectory that a command makes
 abbrev pub left_made : Setup → State → ℕ → Command → Option NamedTrajectory
 left_made setup s who command = option_and_then (λ card. option_map (named_trajectory card (kind_made command)) (path_made setup card (kind_made command)))
     (flight_left setup s who command)
 
--- the tests for a trajectory that may be there; none are made where there is none
+-- few tests for a trajectory, none without one
 abbrev pub WereFew : Shot → Option NamedTrajectory → ℕ → ℕ → Type 0
 WereFew shot None old new = new ≡ old
 WereFew shot (Some mine) old new = WasTestedNear shot mine.call mine.path old new
 
--- At most two tests were made for each trajectory of another flight that is near the one that the command makes on the snapshot.
+-- at most two tests per nearby trajectory. Near the one that the command makes on the snapshot.
 abbrev pub WasTestedFor : Shot → ℕ → Command → ℕ → ℕ → Type 0
 WasTestedFor shot who command old new = WereFew shot (left_made shot.setup (state_in_shot shot) who command) old new

@@ -6,12 +6,12 @@ use Rattle.mt_probe.specs.declared.flight.Flight.{Flight}
 use Rattle.mt_probe.specs.Shot.{Shot, flight_at}
 use Rattle.mt_probe.specs.Standing.{IsSoundEntry}
 
--- a flight keeps the filing of the one that it replaces; one that is filed anew is the last
+-- a replaced flight keeps its filing; a new one is last
 abbrev pub IsFiledAt : Shot → ℕ → Flight → Option Flight → Type 0
 IsFiledAt shot slot f (Some old) = f.filed ≡ old.filed
 IsFiledAt shot slot f None = (i : ℕ) (g : Flight) → flight_at shot i ≡ Some g → g.filed < f.filed
 
--- A flight may be put at a place: it is sound, its trajectories are its own, no other place has its callsign, and its filing fits.
+-- a flight may stand at a place of the snapshot. It is sound, its trajectories are its own, no other place has its callsign, and its filing fits.
 pub record Fits (shot : Shot) (slot : ℕ) (f : Flight) : Type 0 where
   pub entry : IsSoundEntry shot.setup f
   pub own_call : (i : ℕ) (g : Flight) → i ≢ slot → flight_at shot i ≡ Some g → g.card.call ≢ f.card.call
@@ -21,16 +21,16 @@ pub record Fits (shot : Shot) (slot : ℕ) (f : Flight) : Type 0 where
 abbrev pub with_flight : Shot → ℕ → Option Flight → Shot
 with_flight shot slot flight = record shot { version = shot.version + 1; slots = slice_set shot.slots slot flight }
 
--- the snapshot with that moment, one version later
+-- the snapshot at another moment, one version later
 abbrev pub with_moment : Shot → ℕ → Shot
 with_moment shot now = record shot { version = shot.version + 1; now = now }
 
--- a flight, or that in its place where it has the callsign
+-- a flight, replaced where the callsign matches
 abbrev pub replaced_if : List ℕ → Record → Record → Record
 replaced_if call card flight = if bytes_eq flight.call call then card else flight
 
--- The records with what was at a place, and what is put there: the new one is filed after the others, or takes the place of the old one in
--- the order; or the old one is taken out.
+-- the records after a change at one place. A new flight is filed after the others, or takes the place of the old one in the order; or the old one is
+-- taken out.
 abbrev pub records_put : Option Flight → Option Flight → List Record → List Record
 records_put None None records = records
 records_put None (Some f) records = records ++ f.card ∷ []

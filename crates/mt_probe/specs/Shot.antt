@@ -10,14 +10,14 @@ use Rattle.mt_base.specs.Trajectory.{Trajectory}
 use Rattle.mt_probe.specs.declared.flight.Flight.{Flight}
 use Rattle.mt_probe.specs.declared.flight.Made.{Made}
 
--- A snapshot: the rules and tables, the version, the moment, and places that are empty or hold a flight.
+-- a snapshot: rules, tables, version, moment, places
 pub record Shot : Type 0 where
   pub setup : Setup
   pub version : ℕ
   pub now : ℕ
   pub slots : List (Option Flight)
 
--- what is at a place; nothing behind the last one
+-- what is at a place, none behind the last
 abbrev pub flight_at : Shot → ℕ → Option Flight
 flight_at shot slot = get_or shot.slots slot None
 
@@ -32,7 +32,7 @@ flights_in [] = []
 flights_in (None ∷ slots) = flights_in slots
 flights_in (Some f ∷ slots) = f ∷ flights_in slots
 
--- a flight, put before the first of the others that was filed after it
+-- a flight among others, in filing order
 abbrev pub filed_among : Flight → List Flight → List Flight
 filed_among f [] = f ∷ []
 filed_among f (g ∷ gs) = if nat_lt f.filed g.filed then f ∷ g ∷ gs else g ∷ filed_among f gs
@@ -42,25 +42,25 @@ abbrev pub in_order : List Flight → List Flight
 in_order [] = []
 in_order (f ∷ fs) = filed_among f (in_order fs)
 
--- what is known of the flights of some places, in the order of filing
+-- the records of some places, in filing order
 unfoldable pub records_in : List (Option Flight) → List Record
 records_in slots = map (λ f. f.card) (in_order (flights_in slots))
 
--- a place that is free; or none is
+-- a free place, or none is free
 abbrev pub IsFreeIn : List (Option Flight) → Option ℕ → Type 0
 IsFreeIn slots (Some slot) = (slot < length slots) × (get_or slots slot None ≡ None)
 IsFreeIn slots None = length (records_in slots) ≡ length slots
 
--- the state that a snapshot stands for
+-- the state of a snapshot
 abbrev pub state_in_shot : Shot → State
 state_in_shot shot = record { now = shot.now; records = records_in shot.slots; version = shot.version }
 
--- a trajectory that may be there, with its name
+-- a trajectory with its name, where there is one
 abbrev pub made_named : List ℕ → Kind → Option Trajectory → List NamedTrajectory
 made_named call kind None = []
 made_named call kind (Some t) = record { call = call; kind = kind; path = t } ∷ []
 
--- the trajectories of a flight, as they are kept
+-- the trajectories kept of a flight
 abbrev pub kept_of : Flight → List NamedTrajectory
 kept_of f =
     record { call = f.card.call; kind = Actual; path = arc_value f.actual.strand } ∷ made_named f.card.call Tentative (option_map (λ m. arc_value m.strand) f.mark)

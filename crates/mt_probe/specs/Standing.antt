@@ -7,19 +7,19 @@ use Rattle.mt_track.specs.Laid.{IsStrand}
 use Rattle.mt_probe.specs.declared.flight.Flight.{Flight}
 use Rattle.mt_probe.specs.Shot.{Shot, flight_at, kept_of}
 
--- A flight is sound for the rules and tables, and the trajectories that are kept of it are its own: the one that it flies, and its tentative
--- one where it has one.
+-- a sound flight whose kept trajectories are its own
 pub record IsSoundEntry (setup : Setup) (f : Flight) : Type 0 where
   pub sound : IsSoundFlight setup f.card
   pub kept : kept_of f ≡ trajectories_of setup f.card
 
--- two flights have different callsigns and were filed at different versions
+-- two flights differ in callsign and filing
 pub record AreTwoFlights (f g : Flight) : Type 0 where
   pub calls : f.card.call ≢ g.card.call
   pub filings : f.filed ≢ g.filed
 
--- The rules are within their bounds, there are as many places as the rules allow flights, each flight is sound and each trajectory that is
--- kept of it is one of segments, no two flights have one callsign or were filed at one version, and the moment is within its bound.
+-- what every snapshot keeps. The rules are within their bounds, there are as many places as the rules allow flights, each flight is sound and each
+-- trajectory that is kept of it is one of segments, no two flights have one callsign or were filed at one version, and the moment is within its
+-- bound.
 pub record IsSoundShot (shot : Shot) : Type 0 where
   pub rules : AreWithinBounds shot.setup.rules
   pub places : pos (length shot.slots) ≡ shot.setup.rules.flights

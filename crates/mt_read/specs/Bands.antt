@@ -6,14 +6,14 @@ use Rattle.mt_base.specs.declared.band.Band.{Band}
 use Rattle.mt_json.specs.Field.{as_whole}
 use Rattle.mt_read.specs.Field.{as_list_of}
 
--- what stands in a band: its top, its speed, and its rates of climb and descent
+-- a band's values: top, speed, climb, descent
 pub record Four : Type 0 where
   pub top : Data
   pub speed : Data
   pub climb : Data
   pub descent : Data
 
--- a list of exactly four
+-- `four_of`, `as_four`: a list of exactly four
 abbrev pub four_of : Items → Option Four
 four_of (item top (item speed (item climb (item descent no_items)))) = Some (record { top = top; speed = speed; climb = climb; descent = descent })
 four_of ds = None
@@ -38,15 +38,15 @@ abbrev pub band : Option ℤ → Option ℤ → Option ℤ → Option ℤ → Op
 band (Some top) (Some speed) (Some climb) (Some descent) = Some (record { top = unsigned_abs top; speed = speed; climb = climb; descent = descent })
 band top speed climb descent = None
 
--- its top is a flight level of 1 to 600, its speed 1 to 1,000 knots, and each rate 1 to 10,000 feet a minute
+-- a band within bounds. Its top is a flight level of 1 to 600, its speed 1 to 1,000 knots, and each rate 1 to 10,000 feet a minute.
 abbrev pub band_of : Four → Option Band
 band_of n = band (as_bounded (pos 1) (pos 600) n.top) (as_bounded (pos 1) (pos 1000) n.speed) (as_bounded (pos 1) (pos 10000) n.climb) (as_bounded (pos 1) (pos 10000) n.descent)
 
--- a list of exactly four numbers within these bounds
+-- a list of four numbers that is a band
 abbrev pub as_band : Data → Option Band
 as_band d = option_and_then band_of (as_four d)
 
--- 1 to 8 of them
+-- `are_few`, `as_bands`: 1 to 8 bands
 abbrev pub are_few : List Band → Bool
 are_few bands = nat_le 1 (length bands) && nat_le (length bands) 8
 

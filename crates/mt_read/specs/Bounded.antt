@@ -7,14 +7,14 @@ use Rattle.mt_read.specs.declared.request.Request.{Request}
 use Rattle.mt_read.specs.declared.request.Request.TheVariants as request
 use Rattle.mt_read.specs.Rules.{rules_with}
 
--- at most 64 numbers of entries, from one that a history can have
+-- at most 64 entries of a history
 pub record IsEntrySpan (from to : ℕ) : Type 0 where
   pub begins : from ≤ 4194304
   pub forward : from ≤ to
   pub short : to ≤ from + 64
 
--- A fix, the bands of a type, an area, a change that is asked for by itself, a second, a stretch of the history, a clearance, the number of a probe,
--- and the rules as they would stand once they are set.
+-- a request's numbers are within bounds. A fix, the bands of a type, an area, a change that is asked for by itself, a second, a stretch of the
+-- history, a clearance, the number of a probe, and the rules as they would stand once they are set.
 abbrev pub IsBoundedRequest : Rules → Request → Type 0
 IsBoundedRequest rules (request.Fix name x y) = IsInPlane x y
 IsBoundedRequest rules (request.TypeLine name bands) = AreBoundedBands bands
@@ -27,7 +27,7 @@ IsBoundedRequest rules (request.Flight call sec) = IfSome sec (λ s. s ≤ 10014
 IsBoundedRequest rules (request.History from to) = IsEntrySpan from to
 IsBoundedRequest rules request = ⊤
 
--- it, and the number of who asks
+-- a bounded request by an actor up to 15
 pub record IsBounded (rules : Rules) (asked : ℕ × Request) : Type 0 where
   pub who : asked.0 ≤ 15
   pub request : IsBoundedRequest rules asked.1

@@ -6,12 +6,12 @@ use Rattle.mt_json.specs.Field.{as_whole}
 use Rattle.mt_read.specs.Bands.{as_bounded}
 use Rattle.mt_read.specs.Field.{as_list_of}
 
--- what stands in a corner: its position east and north
+-- a corner's values, east and north
 pub record Pair : Type 0 where
   pub east : Data
   pub north : Data
 
--- a list of exactly two
+-- `pair_of`, `as_pair`: a list of exactly two
 abbrev pub pair_of : Items → Option Pair
 pair_of (item east (item north no_items)) = Some (record { east = east; north = north })
 pair_of ds = None
@@ -32,15 +32,15 @@ abbrev pub corner_read : Option ℤ → Option ℤ → Option (ℤ × ℤ)
 corner_read (Some east) (Some north) = Some (east, north)
 corner_read east north = None
 
--- it lies in the plane
+-- a corner within 1,024 NM of the origin
 abbrev pub corner_of : Pair → Option (ℤ × ℤ)
 corner_of p = corner_read (as_bounded (neg_ℤ (pos 3686400)) (pos 3686400) p.east) (as_bounded (neg_ℤ (pos 3686400)) (pos 3686400) p.north)
 
--- a list of exactly two numbers within these bounds
+-- a list of two numbers that is a corner
 abbrev pub as_corner : Data → Option (ℤ × ℤ)
 as_corner d = option_and_then corner_of (as_pair d)
 
--- 3 to 16 of them
+-- `are_enough`, `as_corners`: 3 to 16 corners
 abbrev pub are_enough : List (ℤ × ℤ) → Bool
 are_enough corners = nat_le 3 (length corners) && nat_le (length corners) 16
 

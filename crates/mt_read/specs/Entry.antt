@@ -11,19 +11,19 @@ use Rattle.mt_read.specs.Line.{decoded, read_layout, read_value, word_text}
 use Rattle.mt_read.specs.Table.{entry_layout}
 use Rattle.mt_read.specs.Words.{entry_word_of}
 
+-- `of_entry_word`, `held_in`: the command that an entry holds, and who asked
 abbrev pub of_entry_word : Members → Option EntryWord → Result (ℕ × Command) LineNo
 of_entry_word ms None = Err (Form (codes "do"))
 of_entry_word ms (Some word) = read_layout origin.Entry [] (entry_layout word) ms
 
--- the command that an entry's members hold, and who asked for it
 abbrev pub held_in : Members → Result (ℕ × Command) LineNo
 held_in ms = of_entry_word ms (option_and_then entry_word_of (word_text ms))
 
+-- `as_entry`, `entry`: what an entry's text is read as. By the checks of a line and in their order: the object has the fields of its command, each of
+-- them, and who asked, up to 2^32 - 1.
 abbrev pub as_entry : Result (ℕ × Command) LineNo → Result Entry LineNo
 as_entry (Ok held) = Ok (record { who = held.0; command = held.1 })
 as_entry (Err refusal) = Err refusal
 
--- What an entry's text is read as, by the checks of a line and in their order: the object has the fields of its command, each of them, and
--- who asked, up to 2^32 - 1.
 abbrev pub entry : List ℕ → Result Entry LineNo
 entry bytes = as_entry (read_value held_in (decoded bytes))

@@ -19,7 +19,7 @@ use Rattle.mt_read.specs.Line.{decoded, read_layout, read_value, word_text}
 use Rattle.mt_read.specs.Table.{Layout, layout_of}
 use Rattle.mt_read.specs.Words.{named_by}
 
--- the rows of the lines that are no entry
+-- `reading_layout`, `readings`, `reading_word_of`: the rows of lines that are no entry
 abbrev pub reading_layout : Reading → Layout Request
 reading_layout reading.List = layout_of word.List
 reading_layout reading.Check = layout_of word.Check
@@ -33,7 +33,7 @@ readings = reading.List ∷ reading.Check ∷ reading.Flight ∷ reading.Due ∷
 unfoldable pub reading_word_of : List ℕ → Option Reading
 reading_word_of = named_by (λ w. (reading_layout w).text) readings
 
--- what such a line asks for: to end, or what holds
+-- `as_line`, `as_asked`, `as_followed`, `of_reading`: what a feed's line asks for, or the entry it holds
 abbrev pub as_line : Request → FeedLine
 as_line request.Bye = Ended
 as_line asked = Asked asked
@@ -50,12 +50,12 @@ abbrev pub of_reading : Members → Option Reading → Result FeedLine LineNo
 of_reading ms (Some word) = as_asked (read_layout (Line Plain) [] (reading_layout word) ms)
 of_reading ms None = as_followed (as_entry (held_in ms))
 
--- what an object's members are read as
+-- what a feed object's members are read as
 abbrev pub feed_members : Members → Result FeedLine LineNo
 feed_members ms = of_reading ms (option_and_then reading_word_of (word_text ms))
 
--- What a line is read as, by the checks of a line and in their order: a line that is no entry as in a session, and so without who asks; each
--- other line as the text of an entry.
+-- what a standby's line is read as. By the checks of a line and in their order: a line that is no entry as in a session, and so without who asks;
+-- each other line as the text of an entry.
 abbrev pub feed : List ℕ → Result FeedLine LineNo
 feed bytes = read_value feed_members (decoded bytes)
 
@@ -67,7 +67,7 @@ IsReading (request.Flight call sec) = ⊤
 IsReading request.Due = ⊤
 IsReading other = ⊥
 
--- The numbers of an entry are within their bounds, and no moment fills anything in. What else is asked for is what holds.
+-- a bounded entry with its second, or a read. The numbers of an entry are within their bounds, and no moment fills anything in.
 abbrev pub IsReadyLine : FeedLine → Type 0
 IsReadyLine (Followed e) = IsBoundedCommand e.command × ((now : ℕ) → filled now e.command ≡ e.command)
 IsReadyLine (Asked asked) = IsReading asked

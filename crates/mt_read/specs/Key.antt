@@ -5,6 +5,7 @@ use Rattle.mt_base.specs.declared.rules.RuleName.TheVariants as rule
 use Rattle.mt_read.specs.declared.key.Key.{Key}
 use Rattle.mt_read.specs.declared.key.Key.TheVariants as key
 
+-- the key of a rule
 abbrev pub rule_text : RuleName → List ℕ
 rule_text rule.Sh = codes "sh"
 rule_text rule.Sv = codes "sv"
@@ -21,6 +22,7 @@ rule_text rule.Flights = codes "flights"
 rule_text rule.History = codes "history"
 rule_text rule.Sv2 = codes "sv2"
 
+-- the text of a key
 abbrev pub key_text : Key → List ℕ
 key_text key.Do = codes "do"
 key_text key.Who = codes "who"

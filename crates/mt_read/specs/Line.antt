@@ -33,6 +33,8 @@ Err e >>= f = Err e
 
 -- ---- who asks: in a script a field with a default, in an entry one that must be there, in a session none
 
+-- `who_fields`, `who_bounds`, `who_in`: the field that says who asks. A script's line may leave it out, an entry must have it, a session's line has
+-- none.
 abbrev pub who_fields : Origin → List Field
 who_fields (Line sender.Replay) = may key.Who as_whole ∷ []
 who_fields Entry = must key.Who as_whole ∷ []
@@ -50,12 +52,12 @@ who_in origin ms = 0
 
 -- ---- the members of a command
 
--- each of the fields, in order: is it there, and of its kind
+-- the fields' presence and kinds, in order
 abbrev pub kinds : Origin → List Field → Members → Result ⊤ Fault
 kinds origin fields ms = judged (map (kind_check origin ms) fields) (tt {0})
 
--- What the members of a command ask for, and who asks. First each field's presence and kind, the actor's last; then each field's bounds,
--- the actor's last; then some checks more.
+-- what a command's members ask for, and who asks. First each field's presence and kind, the actor's last; then each field's bounds, the actor's last;
+-- then some checks more.
 unfoldable pub checked : {A : Type 0} → Origin → List (Fault × Bool) → Layout A → Members → Result (ℕ × A) Fault
 checked origin more row ms = do
   _ ← kinds origin row.fields ms
@@ -65,7 +67,7 @@ checked origin more row ms = do
   _ ← judged more (tt {0})
   Ok (who, row.asks ms)
 
--- a refusal with the text of its key
+-- `named_fault`, `as_line_refusal`: a refusal with its key's text
 abbrev pub named_fault : Fault → LineNo
 named_fault (fault.Form key) = Form (key_text key)
 named_fault (fault.Range key) = Range (key_text key)
@@ -78,7 +80,7 @@ as_line_refusal (Err f) = Err (named_fault f)
 abbrev pub keys_of : Origin → List Field → List ℕ
 keys_of origin fields = codes "do " ++ flat_map (λ field. key_text field.key ++ 32 ∷ []) (fields ++ who_fields origin)
 
--- the least key, in byte order, that isn't one of these
+-- `least_other`, `unless_other`: the least other key, which refuses the line
 abbrev pub least_other : List ℕ → Members → Option (List ℕ)
 least_other allowed ms = option_and_then (slice_get (keys ms)) (other_key_at allowed ms)
 
@@ -86,7 +88,7 @@ abbrev pub unless_other : {A : Type 0} → Option (List ℕ) → Result A LineNo
 unless_other (Some key) r = Err (Form key)
 unless_other None r = r
 
--- the members have no other key, and pass those checks
+-- no other keys, and all checks of a row
 abbrev pub read_layout : {A : Type 0} → Origin → List (Fault × Bool) → Layout A → Members → Result (ℕ × A) LineNo
 read_layout origin more row ms = unless_other (least_other (keys_of origin row.fields) ms) (as_line_refusal (checked origin more row ms))
 
@@ -96,6 +98,7 @@ word_text ms = option_and_then as_str (get_member (codes "do") ms)
 
 -- ---- a value that is an object
 
+-- `read_object`, `read_value`: JSON, then an object, then its members
 abbrev pub read_object : {A : Type 0} → (Members → Result A LineNo) → Option Members → Result A LineNo
 read_object reading None = Err (Form [])
 read_object reading (Some ms) = reading ms
@@ -110,14 +113,14 @@ decoded bytes = if is_utf8 bytes then read bytes else None
 
 -- ---- lines
 
+-- `allowed_word`, `word_in`: the command that `do` names, where the sender has it
 abbrev pub allowed_word : Sender → Word → Option Word
 allowed_word sender word = if may_send sender word then Some word else None
 
--- the command that the member `do` names, where the sender has it
 abbrev pub word_in : Sender → Members → Option Word
 word_in sender ms = option_and_then (allowed_word sender) (option_and_then word_of (word_text ms))
 
--- for a line that sets rules: the rules as they would then stand
+-- `standing_rules`, `of_word`: the rules as a line would set them, and what is read
 abbrev pub standing_rules : Word → Rules → Members → List (Fault × Bool)
 standing_rules word.Rule rules ms = rule_bounds (rules_with (set_in ms) rules)
 standing_rules w rules ms = []
@@ -130,12 +133,12 @@ of_word sender rules ms (Some word) = read_layout (Line sender) (standing_rules 
 abbrev pub read_members : Sender → Rules → Members → Result (ℕ × Request) LineNo
 read_members sender rules ms = of_word sender rules ms (word_in sender ms)
 
--- What a line of a sender is read as, the rules being those that stand: first that it is JSON, then that it is an object, then its command,
--- then that it has no other key than the command's, then the command's fields.
+-- what a sender's line is read as. The rules are those that stand. First that it is JSON, then that it is an object, then its command, then that it
+-- has no other key than the command's, then the command's fields.
 abbrev pub line : Sender → Rules → List ℕ → Result (ℕ × Request) LineNo
 line sender rules bytes = read_value (read_members sender rules) (decoded bytes)
 
--- the answer is that reading, or that memory is wanting
+-- the answer is that reading, or memory lacks
 abbrev pub GivesReading : {A : Type 0} → Result A LineNo → Result A LineNo → Type 0
 GivesReading (Err Memory) r = ⊤
 GivesReading answer r = answer ≡ r

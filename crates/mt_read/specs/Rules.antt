@@ -12,10 +12,10 @@ use Rattle.mt_read.specs.declared.key.Key.TheVariants as key
 use Rattle.mt_read.specs.declared.request.RuleSet.{RuleSet}
 use Rattle.mt_read.specs.Field.{bound, number, read_at}
 
+-- `rule_names`, `rule_bound`: the rules, each any number of 64 bits
 abbrev pub rule_names : List RuleName
 rule_names = Sh ∷ Sv ∷ R0 ∷ Gh ∷ Rmax ∷ W0 ∷ Gv ∷ Wmax ∷ Tc ∷ Ta ∷ Tv ∷ Flights ∷ History ∷ Sv2 ∷ []
 
--- any number that an i64 holds
 abbrev pub rule_bound : Members → RuleName → Fault × Bool
 rule_bound ms name = bound (key.Rule name) (neg_ℤ (pos (2 ^ 63))) (pos (2 ^ 63 - 1)) (number (key.Rule name) ms)
 
@@ -38,7 +38,7 @@ set_in ms = record {
   sv2 = read_at (key.Rule Sv2) as_whole ms;
 }
 
--- the rules as they stand once these are set
+-- the rules once these are set
 abbrev pub rules_with : RuleSet → Rules → Rules
 rules_with set rules = record {
   sh = unwrap_or set.sh rules.sh;
@@ -57,6 +57,6 @@ rules_with set rules = record {
   sv2 = unwrap_or set.sv2 rules.sv2;
 }
 
--- each rule within its bounds (opaque, so that a proof goes by their answer)
+-- each rule within its bounds. It is opaque, so that a proof goes by the answer.
 unfoldable pub rule_bounds : Rules → List (Fault × Bool)
 rule_bounds rules = map (λ c. (Range (key.Rule c.0), c.1)) (rule_checks rules)

@@ -32,7 +32,7 @@ use Rattle.mt_read.specs.Corners.{as_numbers as as_pair_of_numbers}
 use Rattle.mt_read.specs.Field.{Field, as_call, as_fix, as_list_of, as_role, as_type, bound, count, count_if_there, first_of_two, free, may, must, number, read_at, second_of_two}
 use Rattle.mt_read.specs.Rules.{rule_bound, rule_names, set_in}
 
--- A row of the table: the command's word, who may give it, its fields in order, their bounds in order, and what its members ask for.
+-- `Layout`, `layout`: a command's row: word, group, fields, bounds, request
 pub record Layout (A : Type 0) : Type 0 where
   pub text : List ℕ
   pub group : Group
@@ -45,7 +45,8 @@ layout text group fields bounds asks = record { text = text; group = group; fiel
 
 -- ---- numbers and names that several commands have
 
--- a second up to 10,000,000, a flight level up to 600, a position east or north within 1,024 nautical miles, a height up to flight level 600
+-- `second_bound`, `level_bound`, `plane_bound`, `height_bound`, `call_in`: a second up to 10,000,000; a level up to 600; a position; a height; a
+-- callsign. The position is within 1,024 NM of the origin, the height up to flight level 600.
 abbrev pub second_bound : Key → Members → Fault × Bool
 second_bound key ms = bound key (pos 0) (pos 10000000) (number key ms)
 
@@ -61,7 +62,7 @@ height_bound key ms = bound key (pos 0) (pos 3600000) (number key ms)
 abbrev pub call_in : Members → List ℕ
 call_in ms = unwrap_or (read_at key.Call as_call ms) []
 
--- whether an aircraft is approved for RVSM, which it is where nothing is said
+-- `rvsm_field`, `rvsm_in`: RVSM approval, granted by default
 abbrev pub rvsm_field : Field
 rvsm_field = free key.Rvsm as_bool
 
@@ -70,6 +71,7 @@ rvsm_in ms = unwrap_or (read_at key.Rvsm as_bool ms) true
 
 -- ---- planned flights
 
+-- `plan_fields`, `plan_bounds`, `kind_in`, `route_in`: the fields and bounds of a plan, its type and route
 abbrev pub plan_fields : List Field
 plan_fields =
     must key.Call as_call ∷
@@ -89,12 +91,13 @@ kind_in ms = unwrap_or (read_at key.Kind as_type ms) []
 abbrev pub route_in : Members → List (List ℕ)
 route_in ms = unwrap_or (read_at key.Route (as_list_of as_fix) ms) []
 
--- a planned flight, whose first level is that it is cleared to where it isn't given
+-- a plan; its first level defaults to the cleared one
 abbrev pub plan_in : Members → Command
 plan_in ms = command.Plan (call_in ms) (kind_in ms) (route_in ms) (count key.At ms) (unwrap_or (count_if_there key.From ms) (count key.Level ms)) (count key.Level ms) (rvsm_in ms)
 
 -- ---- external flights
 
+-- the fields of an external flight
 abbrev pub external_fields : List Field
 external_fields =
     must key.Call as_call ∷
@@ -112,7 +115,7 @@ external_fields =
     may key.Gw as_whole ∷
     rvsm_field ∷ []
 
--- five values at the end of so many seconds of a row's gains
+-- `ends`, `row_in`: five values at a row's end, and the first row
 abbrev pub ends : Row → ℕ → List (Fault × Bool)
 ends row seconds =
     bound key.X (neg_ℤ (pos 3686400)) (pos 3686400) (row.x +ℤ row.vx *ℤ pos seconds) ∷
@@ -136,7 +139,7 @@ row_in ms = record {
   leg = 0;
 }
 
--- its stretch, the approval given
+-- `straight_of`, `straight_in`, `external_bounds`: an external flight's stretch, and its bounds
 abbrev pub straight_of : Bool → Members → Straight
 straight_of rvsm ms = record { from = count key.From ms; to = count key.To ms; first = row_in ms; rvsm = rvsm }
 
@@ -161,6 +164,7 @@ external_bounds ms =
 
 -- ---- reports
 
+-- `report_fields`, `report_bounds`, `report_in`: the fields and bounds of a report, and the report
 abbrev pub report_fields : List Field
 report_fields = must key.Call as_call ∷ must key.At as_whole ∷ must key.X as_whole ∷ must key.Y as_whole ∷ must key.Z as_whole ∷ []
 
@@ -172,7 +176,7 @@ report_in ms = record { at = count key.At ms; x = number key.X ms; y = number ke
 
 -- ---- clearances
 
--- a flight, the clearance, a level or a fix to fly direct to, and from when it holds
+-- `clearance_fields`, `clearance_bounds`: a flight, a level or a fix, and the effective second
 abbrev pub clearance_fields : List Field
 clearance_fields =
     must key.Call as_call ∷
@@ -183,7 +187,7 @@ clearance_fields =
 abbrev pub clearance_bounds : Members → List (Fault × Bool)
 clearance_bounds ms = level_bound key.Level ms ∷ second_bound key.Eff ms ∷ []
 
--- to the fix where one is given, else to the level
+-- `clearance_to`, `clearance_in`: direct to the fix given, else to the level
 abbrev pub clearance_to : Option (List ℕ) → ℕ → Clearance
 clearance_to (Some fix) level = Direct fix
 clearance_to None level = Level level
@@ -191,7 +195,7 @@ clearance_to None level = Level level
 abbrev pub clearance_in : Members → Clearance
 clearance_in ms = clearance_to (read_at key.Direct as_fix ms) (count key.Level ms)
 
--- an acceptance as it is entered has the version of its probe too
+-- `accepted_fields`, `accepted_bounds`: an entered acceptance also names its probe's version
 abbrev pub accepted_fields : List Field
 accepted_fields = clearance_fields ++ must key.Probed as_whole ∷ []
 
@@ -200,6 +204,7 @@ accepted_bounds ms = clearance_bounds ms ++ bound key.Probed (pos 0) (pos 419430
 
 -- ---- restricted areas, whose hours are by default all
 
+-- `area_fields`, `area_bounds`, `area_in`: the fields and bounds of an area, and the area
 abbrev pub area_fields : List Field
 area_fields =
     must key.Name as_fix ∷
@@ -229,6 +234,7 @@ area_in ms = record {
 
 -- ---- rows that several commands share: no field, a callsign alone, a clearance
 
+-- `bare_layout`, `call_layout`, `clearance_layout`: a row without fields, with a callsign, with a clearance
 abbrev pub bare_layout : List ℕ → Group → Request → Layout Request
 bare_layout text group asked = layout text group [] (λ ms. []) (λ ms. asked)
 
@@ -241,7 +247,7 @@ clearance_layout text group asks =
 
 -- ---- the table
 
--- the changes of the picture that are asked for by themselves
+-- `change_layout`, `as_request`: the rows of the changes
 abbrev pub change_layout : Change → Layout Command
 change_layout change.Plan = layout (codes "plan") group.Feed plan_fields plan_bounds plan_in
 change_layout change.External =
@@ -261,7 +267,7 @@ change_layout change.Commit = call_layout (codes "commit") group.Position comman
 abbrev pub as_request : Layout Command → Layout Request
 as_request row = layout row.text row.group row.fields row.bounds (λ ms. request.Change (row.asks ms))
 
--- everything that a line asks for
+-- the row of each word that a line may use
 abbrev pub layout_of : Word → Layout Request
 layout_of word.Fix =
     layout (codes "fix") group.Script (must key.Name as_fix ∷ must key.X as_whole ∷ must key.Y as_whole ∷ [])
@@ -300,7 +306,7 @@ layout_of word.History =
 layout_of word.Settle = bare_layout (codes "settle") group.Any request.Settle
 layout_of word.Bye = bare_layout (codes "bye") group.Any request.Bye
 
--- everything that an entry holds: a change, or an acceptance with what was accepted
+-- the row of each entry, acceptances with their probe's version
 abbrev pub entry_layout : EntryWord → Layout Command
 entry_layout (entries.Change c) = change_layout c
 entry_layout entries.Accepted =

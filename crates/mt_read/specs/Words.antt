@@ -13,17 +13,18 @@ use Rattle.mt_read.specs.declared.word.Word.{Word}
 use Rattle.mt_read.specs.declared.word.Word.TheVariants as word
 use Rattle.mt_read.specs.Table.{change_layout, entry_layout, layout_of}
 
--- the first of some commands whose word a text is
+-- the first command whose word this text is
 abbrev pub named_by : {A : Type 0} → (A → List ℕ) → List A → List ℕ → Option A
 named_by text_of [] text = None
 named_by text_of (w ∷ ws) text = if bytes_eq text (text_of w) then Some w else named_by text_of ws text
 
+-- all changes that are asked for by themselves
 abbrev pub changes : List Change
 changes =
     change.Plan ∷ change.External ∷ change.Drop ∷ change.Report ∷ change.Tick ∷ change.Renew ∷ change.Clear ∷ change.Tentative ∷
     change.Withdraw ∷ change.Commit ∷ []
 
--- the commands of a line that are no change by themselves
+-- `own_words`, `own_word_of`, `change_word_of`: the words that are no change, and a text's word
 abbrev pub own_words : List Word
 own_words =
     word.Fix ∷ word.TypeLine ∷ word.Area ∷ word.Rule ∷ word.Begin ∷ word.Take ∷ word.Areas ∷ word.Probe ∷ word.Accept ∷ word.Advise ∷ word.Hello ∷ word.List ∷
@@ -40,14 +41,15 @@ abbrev pub own_or_change : Option Word → Option Change → Option Word
 own_or_change (Some w) c = Some w
 own_or_change None c = option_map word.Change c
 
--- the command of a line, and of an entry
+-- `word_of`, `entry_word_of`: the command of a line, and of an entry
 unfoldable pub word_of : List ℕ → Option Word
 word_of text = own_or_change (own_word_of text) (change_word_of text)
 
 unfoldable pub entry_word_of : List ℕ → Option EntryWord
 entry_word_of text = if bytes_eq text (entry_layout entries.Accepted).text then Some entries.Accepted else option_map entries.Change (change_word_of text)
 
--- A script has every command, a session none that is a script's alone, and the feed's and a position's only in that role.
+-- `may_give`, `may_send`: who may use which words. A script has every command, a session none that is a script's alone, and the feed's and a
+-- position's only in that role.
 abbrev pub may_give : Sender → Group → Bool
 may_give sender.Replay g = true
 may_give sender.Feed group.Feed = true

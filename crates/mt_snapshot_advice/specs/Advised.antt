@@ -8,12 +8,12 @@ use Rattle.mt_board.specs.Probing.{free_probe}
 use Rattle.mt_probe.specs.Hits.{IsFreeProbe, Trial, told_of}
 use Rattle.mt_probe.specs.Shot.{Shot, state_in_shot}
 
--- It is the probe of its clearance on a snapshot, from the moment on, and has no hit.
+-- a clearance's probe from now on, without hits
 abbrev pub IsFreeFor : Shot → List ℕ → Trial → Type 0
 IsFreeFor shot call p = IsFreeProbe shot call p.clearance None p
 
--- These probes, at most sixteen, are the clearances that are advised on the snapshot's state, in order, each tried on it from its moment on
--- and without hits.
+-- these probes, at most sixteen, are the snapshot's advice. They are the clearances that are advised on its state, in order, each tried on it from
+-- its moment on and without hits.
 pub record IsAdvisedOn (shot : Shot) (call : List ℕ) (eff version : ℕ) (probes : List Trial) : Type 0 where
   pub eff_is : eff ≡ shot.now
   pub version_is : version ≡ shot.version
@@ -23,7 +23,7 @@ pub record IsAdvisedOn (shot : Shot) (call : List ℕ) (eff version : ℕ) (prob
   pub each : All (IsFreeFor shot call) probes
   pub few : length probes ≤ 16
 
--- it is refused as on the snapshot's state, at the snapshot's version
+-- the refusal of advice on a snapshot, at its version
 abbrev pub IsNotAdvisedOn : Shot → List ℕ → No → Type 0
 IsNotAdvisedOn shot call (nos.Refused refusal version) = IsAdvice shot.setup (state_in_shot shot) call (Err refusal) × (version ≡ shot.version)
 IsNotAdvisedOn shot call nos.Memory = ⊤

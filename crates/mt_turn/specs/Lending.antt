@@ -7,8 +7,8 @@ use Rattle.mt_turn.specs.declared.view.Joined.{Joined}
 use Rattle.mt_turn.specs.declared.view.View.{View}
 use Rattle.mt_turn.specs.Views.{entries_of, Extends}
 
--- The value x is lent to a seat that knows v: its history begins with all that the seat has seen and has nothing later of the seat's number,
--- and its plain data is the seat's
+-- a value lent to a seat continues what it saw. Its history begins with all that the seat has seen and has nothing later of the seat's number, and
+-- its plain data is the seat's.
 pub record Lent {E F S : Type 0} (history : S → List E) (number : E → ℕ) (fixed : S → F) (v : View E F) (x : S) : Type 0 where
   pub begins : (later : List E) × (history x ≡ v.seen ++ later) × (entries_of number v.number later ≡ [])
   pub mine : entries_of number v.number (history x) ≡ v.mine
@@ -16,20 +16,20 @@ pub record Lent {E F S : Type 0} (history : S → List E) (number : E → ℕ) (
   pub same : Some (fixed x) ≡ v.fixed
   pub short : length (history x) ≤ 2 ^ 32
 
--- The seat has the turn, and was lent a value with the history `lent`
+-- the seat has the turn, with a value of history `lent`
 abbrev pub HasTurn : {E F : Type 0} → View E F → List E → Type 0
 HasTurn v lent = (t : ℕ) × (v.phase ≡ Holds t lent)
 
--- The history is the one that was lent, or that one with one entry more, which has the number n
+-- the history lent, or with one own entry more
 abbrev pub Grows : {E : Type 0} → (E → ℕ) → ℕ → List E → List E → Type 0
 Grows {E} number n lent log = (log ≡ lent) ⊎ ((e : E) × (number e ≡ n) × (log ≡ lent ++ e ∷ []))
 
--- The two views are of one seat, which has split and joined nothing in between
+-- one seat's views, no split or join between
 abbrev pub AreViewsOfOneSeat : {E F : Type 0} → View E F → View E F → Type 0
 AreViewsOfOneSeat v w = (w.number ≡ v.number) × (w.gave ≡ v.gave) × (w.joined ≡ v.joined) × (w.fixed ≡ v.fixed)
 
--- A seat that knew v leaves the history `log`, where it was lent `lent`, and knows w: it has seen all of `log`, and its own entries grew by
--- the one that was added, or by none
+-- a seat leaves the history `log` when its turn ends. It was lent `lent`, knew v and knows w: it has seen all of `log`, and its own entries grew by
+-- the one that was added, or by none.
 pub record Left {E F : Type 0} (number : E → ℕ) (v : View E F) (lent log : List E) (w : View E F) : Type 0 where
   pub seen : w.seen ≡ log
   pub begins : Extends v.seen log
@@ -41,16 +41,16 @@ pub record Left {E F : Type 0} (number : E → ℕ) (v : View E F) (lent log : L
 abbrev pub IsJoined : {E : Type 0} → List (Joined E) → ℕ → Type 0
 IsJoined {E} joined n = (j : Joined E) × Contains joined j × (j.number ≡ n)
 
--- no two of these joined seats have one number
+-- no two joined seats have one number
 abbrev pub HaveOwnNumbers : {E : Type 0} → List (Joined E) → Type 0
 HaveOwnNumbers {E} joined = (i j : ℕ) (a b : Joined E) → get_elem? joined i ≡ some a → get_elem? joined j ≡ some b → a.number ≡ b.number → i ≡ j
 
--- every seat that was split off has been joined again
+-- every seat split off is joined again
 abbrev pub AllJoined : {E F : Type 0} → View E F → Type 0
 AllJoined v = (n : ℕ) → Contains v.gave n → IsJoined v.joined n
 
--- The history at the end, where the first seat knows v: it begins with what each seat has seen, each seat's entries are its own, no two seats
--- had one number, and there are no others
+-- the final history is exactly the seats' entries. It begins with what each seat has seen, each seat's entries are its own, no two seats had one
+-- number, and there are no others.
 pub record ClosesHistory {E F : Type 0} (number : E → ℕ) (v : View E F) (log : List E) : Type 0 where
   pub begins : Extends v.seen log
   pub mine : entries_of number 0 log ≡ v.mine

@@ -2,12 +2,12 @@
 use Rattle.atomic_table.specs.Seated.{TableId}
 use Rattle.mt_turn.specs.declared.view.View.{View}
 
--- a seat: which turn it is of, and what it knows
+-- a seat: its turn, and what it knows
 pub record SeatNow (E F : Type 0) : Type 0 where
   pub home : TableId
   pub view : View E F
 
--- a value that is lent: of which turn, what it was when it was lent, and what it is now
+-- a lent value: its turn, then and now
 pub record Loan (T : Type 0) : Type 0 where
   pub home : TableId
   pub lent : T

@@ -5,7 +5,7 @@ use Rattle.mt_turn.specs.declared.view.Phase.TheVariants.{Idle}
 use Rattle.mt_turn.specs.declared.view.Joined.{Joined}
 use Rattle.mt_turn.specs.declared.view.View.{View}
 
--- the entries of a history that have the number n, in order
+-- the entries with number n, in order
 abbrev pub entries_of : {E : Type 0} → (E → ℕ) → ℕ → List E → List E
 entries_of number n log = filter (λ e. number e == n) log
 
@@ -22,6 +22,7 @@ abbrev pub up_to : ℕ → List ℕ
 up_to zero = []
 up_to (suc n) = up_to n ++ suc n ∷ []
 
+-- what a seat knows, in another phase
 abbrev pub with_phase : {E F : Type 0} → View E F → Phase E → View E F
 with_phase v p = record { number = v.number; seen = v.seen; mine = v.mine; gave = v.gave; joined = v.joined; fixed = v.fixed; phase = p }
 
@@ -29,14 +30,14 @@ with_phase v p = record { number = v.number; seen = v.seen; mine = v.mine; gave 
 abbrev pub first_view : {E F : Type 0} → F → View E F
 first_view f = record { number = 0; seen = []; mine = []; gave = []; joined = []; fixed = Some f; phase = Idle }
 
--- A split: the next number is given, and the new seat has seen what the first one has
+-- `giver`, `newcomer`: a split: the first seat, and the new one. The next number is given, and the new seat has seen what the first one has.
 abbrev pub giver : {E F : Type 0} → View E F → View E F
 giver v = record { number = v.number; seen = v.seen; mine = v.mine; gave = v.gave ++ (length v.gave + 1) ∷ []; joined = v.joined; fixed = v.fixed; phase = Idle }
 
 abbrev pub newcomer : {E F : Type 0} → View E F → View E F
 newcomer v = record { number = length v.gave + 1; seen = v.seen; mine = []; gave = []; joined = []; fixed = v.fixed; phase = Idle }
 
--- A join: the longer seen stays, and what the other was is remembered
+-- `joined_as`, `taker`: a join: the longer seen stays, the other is remembered
 abbrev pub joined_as : {E F : Type 0} → View E F → Joined E
 joined_as w = record { number = w.number; seen = w.seen; mine = w.mine }
 

@@ -5,7 +5,7 @@ use Rattle.mt_read.specs.declared.request.LineNo.TheVariants as nos
 use Rattle.mt_write.specs.declared.reply.Reply.{Reply}
 use Rattle.mt_write.specs.declared.reply.Reply.TheVariants as replies
 
--- what was read of a line, or its refusal as a reply
+-- what was read, or its refusal as a reply
 abbrev pub or_reply : {A : Type 0} → Result A LineNo → Result A Reply
 or_reply (Ok read) = Ok read
 or_reply (Err nos.Json) = Err replies.Json

@@ -18,7 +18,7 @@ abbrev pub values : {A : Type 0} → (A → Data) → List A → Items
 values value [] = no_items
 values value (x ∷ xs) = item (value x) (values value xs)
 
--- The fields of a clearance of a flight, before others, with the command's word: a fix to fly direct to stands before it, a level after it.
+-- a clearance's fields, before others. With the command's word: a fix to fly direct to stands before it, a level after it.
 abbrev pub clearance_members : List ℕ → List ℕ → Clearance → ℕ → Members → Members
 clearance_members word call (Level level) eff others =
     member (codes "call") (string call) (
@@ -31,15 +31,15 @@ clearance_members word call (Direct fix) eff others =
     member (codes "do") (string word) (
     member (codes "eff") (whole (pos eff)) others)))
 
--- a flight alone, with the command's word, and who asked
+-- a callsign, the command's word and who asked
 abbrev pub call_members : List ℕ → List ℕ → ℕ → Members
 call_members word call who =
     member (codes "call") (string call) (
     member (codes "do") (string word) (
     member (codes "who") (whole (pos who)) no_members))
 
--- An entry has its command's fields, all of them, and the number of who asked for it; the keys stand in byte order. (A clearance
--- that is entered says from when it holds; 0 stands for one that doesn't.)
+-- `entry_members`, `entry_value`: an entry's fields, keys in byte order. All of its command's, and the number of who asked for it. A clearance that
+-- is entered says from when it holds; 0 stands for one that doesn't.
 abbrev pub entry_members : ℕ → Command → Members
 entry_members who (command.Plan call kind route at from level rvsm) =
     member (codes "at") (whole (pos at)) (
@@ -100,6 +100,6 @@ entry_members who (command.Commit call) = call_members (codes "commit") call who
 abbrev pub entry_value : Entry → Data
 entry_value e = object (entry_members e.who e.command)
 
--- it, compact, with 0x0A at its end
+-- an entry's compact text and 0x0A
 abbrev pub entry_text : Entry → List ℕ
 entry_text e = compact_text (entry_value e) ++ 10 ∷ []

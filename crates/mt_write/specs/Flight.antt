@@ -6,12 +6,12 @@ use Rattle.mt_base.specs.declared.flight.Tent.{Tent}
 use Rattle.mt_base.specs.declared.row.Row.{Row}
 use Rattle.mt_write.specs.Entry.{values, whole}
 
--- the value of what is there, or null
+-- a value, or null
 abbrev pub or_null : {A : Type 0} → (A → Data) → Option A → Data
 or_null value None = null
 or_null value (Some x) = value x
 
--- a row as the list of its eleven numbers: the five values, what each of them gains, and the leg
+-- a row as eleven numbers. The five values, what each of them gains, and the leg.
 abbrev pub row_value : Row → Data
 row_value row = array (values whole (
     row.x ∷ row.y ∷ row.z ∷ row.r ∷ row.w ∷
@@ -24,7 +24,7 @@ tent_value tent = object (
     member (codes "owner") (whole (pos tent.owner)) (
     member (codes "start") (whole (pos tent.start)) no_members)))
 
--- A flight, with its keys in byte order; null stands for no level, no row and no tentative clearance.
+-- a flight, keys in byte order. null stands for no level, no row and no tentative clearance.
 abbrev pub flight_value : FlightView → Data
 flight_value view = object (
     member (codes "call") (string view.call) (

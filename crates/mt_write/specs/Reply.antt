@@ -22,6 +22,7 @@ use Rattle.mt_write.specs.declared.reply.Reply.TheVariants as reply
 use Rattle.mt_write.specs.Entry.{entry_value, values, whole}
 use Rattle.mt_write.specs.Flight.{flight_value}
 
+-- the word of what is done
 abbrev pub done_text : DoneWord → List ℕ
 done_text Fix = codes "fix"
 done_text TypeLine = codes "type"
@@ -30,11 +31,12 @@ done_text Rule = codes "rule"
 done_text Begin = codes "begin"
 done_text Bye = codes "bye"
 
+-- the text of a role
 abbrev pub role_text : Role → List ℕ
 role_text Feed = codes "feed"
 role_text Position = codes "position"
 
--- the letter of a kind
+-- a kind's letter, `a` or `t`
 abbrev pub kind_letter : Kind → ℕ
 kind_letter Actual = 97
 kind_letter Tentative = 116
@@ -47,14 +49,14 @@ conflict_value c = object (
     member (codes "last") (whole (pos c.last)) (
     member (codes "pair") (array (item (string c.a) (item (string c.b) no_items))) no_members))))
 
--- a conflict of a trajectory that is tried
+-- a hit
 abbrev pub hit_value : Hit → Data
 hit_value hit = object (
     member (codes "first") (whole (pos hit.first)) (
     member (codes "last") (whole (pos hit.last)) (
     member (codes "with") (string hit.with) no_members)))
 
--- a passage of a trajectory through an area
+-- a pierce of an area by a trajectory
 abbrev pub pierced_value : Pierced → Data
 pierced_value p = object (
     member (codes "area") (string p.area) (
@@ -63,7 +65,7 @@ pierced_value p = object (
     member (codes "kind") (string (kind_letter p.kind ∷ [])) (
     member (codes "last") (whole (pos p.last)) no_members)))))
 
--- the flags of a verdict by their names, in order, and those of them that hold
+-- `flags`, `holding`: a verdict's flags in order, and those set
 abbrev pub flags : Verdict → List (List ℕ × Bool)
 flags v =
     (codes "lateral", v.lateral) ∷
@@ -75,12 +77,12 @@ flags v =
 abbrev pub holding : List (List ℕ × Bool) → List (List ℕ)
 holding named = map (λ flag. flag.0) (filter (λ flag. flag.1) named)
 
--- the verdict on a report; no other command has one
+-- the verdict on a report. No other command has one.
 abbrev pub verdict_members : Option Verdict → Members
 verdict_members None = no_members
 verdict_members (Some v) = member (codes "verdict") (array (values string (holding (flags v)))) no_members
 
--- an advised clearance and the number of its probe
+-- `advised_members`, `advised_value`: an advised clearance and its probe's number
 abbrev pub advised_members : Clearance → ℕ → Members
 advised_members (Level level) probe = member (codes "level") (whole (pos level)) (member (codes "probe") (whole (pos probe)) no_members)
 advised_members (Direct fix) probe = member (codes "direct") (string fix) (member (codes "probe") (whole (pos probe)) no_members)
@@ -88,23 +90,23 @@ advised_members (Direct fix) probe = member (codes "direct") (string fix) (membe
 abbrev pub advised_value : AdviceItem → Data
 advised_value advised = object (advised_members advised.clearance advised.probe)
 
--- a refusal that has only its word
+-- a refusal by its word alone
 abbrev pub word_value : List ℕ → Data
 word_value word = object (member (codes "no") (string word) no_members)
 
--- a refusal that names what stands already
+-- a refusal naming what is taken
 abbrev pub taken_value : List ℕ → Data
 taken_value name = object (member (codes "name") (string name) (member (codes "no") (string (codes "taken")) no_members))
 
--- a refusal of a line that names a field
+-- a refusal naming a field
 abbrev pub field_value : List ℕ → List ℕ → Data
 field_value name word = object (member (codes "field") (string name) (member (codes "no") (string word) no_members))
 
--- a refusal of a command, with the version at which it holds
+-- a refusal at a version
 abbrev pub at_version : List ℕ → ℕ → Members
 at_version word version = member (codes "no") (string word) (member (codes "version") (whole (pos version)) no_members)
 
--- a refusal of a name that stands nowhere
+-- a refusal naming an unknown name
 abbrev pub unknown_name : List ℕ → List ℕ → ℕ → Members
 unknown_name word name version = member (codes "name") (string name) (at_version word version)
 
@@ -113,13 +115,14 @@ abbrev pub bad_route : List ℕ → ℕ → Members
 bad_route why version =
     member (codes "no") (string (codes "route")) (member (codes "version") (whole (pos version)) (member (codes "why") (string why) no_members))
 
--- a refusal of a tentative clearance where one stands, with its owner
+-- a refusal naming a tentative clearance's owner
 abbrev pub held_by : ℕ → ℕ → Members
 held_by owner version =
     member (codes "no") (string (codes "tentative-held")) (
     member (codes "owner") (whole (pos owner)) (
     member (codes "version") (whole (pos version)) no_members))
 
+-- a refusal's fields, at a version
 abbrev pub refusal_members : ℕ → Refusal → Members
 refusal_members version refusal.HeldCall = at_version (codes "held-call") version
 refusal_members version (refusal.UnknownCall call) = unknown_name (codes "unknown-call") call version
@@ -171,14 +174,14 @@ refusal_word (refusal.Stale first) = codes "stale"
 refusal_word refusal.NotDue = codes "not-due"
 refusal_word refusal.Fixed = codes "fixed"
 
--- the refusal of an entry that a standby was to follow, with the word of why it is not what is decided
+-- a standby's refusal of an illegal entry. With the word of why it is not what is decided.
 abbrev pub illegal_value : ℕ → Refusal → Data
 illegal_value version why = object (
     member (codes "no") (string (codes "illegal")) (
     member (codes "version") (whole (pos version)) (
     member (codes "why") (string (refusal_word why)) no_members)))
 
--- What a reply says, as an object with its keys in byte order.
+-- a reply as an object, keys in byte order
 abbrev pub reply_value : Reply → Data
 reply_value (reply.Done word) = object (member (codes "done") (string (done_text word)) no_members)
 reply_value (reply.Hello role) = object (member (codes "role") (string (role_text role)) no_members)
@@ -227,6 +230,6 @@ reply_value (reply.Refused refusal version) = object (refusal_members version re
 reply_value (reply.Illegal version refusal) = illegal_value version refusal
 reply_value (reply.Late version) = object (at_version (codes "late") version)
 
--- it, compact, with 0x0A at its end
+-- a reply's compact text and 0x0A
 abbrev pub reply_text : Reply → List ℕ
 reply_text r = compact_text (reply_value r) ++ 10 ∷ []

@@ -13,13 +13,13 @@ use Rattle.mt_write.specs.declared.reply.AdviceItem.{AdviceItem}
 use Rattle.mt_write.specs.declared.reply.Reply.{Reply}
 use Rattle.mt_write.specs.declared.reply.Reply.TheVariants as reply
 
--- a hit with a flight of some callsign, its seconds of 32 bits
+-- a hit of a callsign, seconds of 32 bits
 pub record IsShortHit (hit : Hit) : Type 0 where
   pub first : hit.first < 2 ^ 32
   pub with_is : is_name 1 7 hit.with ≡ true
   pub last : hit.last < 2 ^ 32
 
--- a refusal whose name has at most 7 letters, whose hit is short, and whose owner has a number of 32 bits
+-- a refusal of short names and bounded numbers. Its name has at most 7 letters, its hit is short, and its owner has a number of 32 bits.
 abbrev pub IsShortRefusal : Refusal → Type 0
 IsShortRefusal (UnknownCall call) = length call ≤ 7
 IsShortRefusal (UnknownType name) = length name ≤ 7
@@ -33,7 +33,7 @@ abbrev pub IsShortNumber : ℤ → Type 0
 IsShortNumber (pos n) = n < 2 ^ 64
 IsShortNumber (negsuc n) = n < 2 ^ 63
 
--- a row, a tentative clearance and a flight of such numbers
+-- `IsShortRow`, `IsShortTent`, `IsShortFlight`: a row, tentative clearance, flight of 64-bit numbers
 pub record IsShortRow (row : Row) : Type 0 where
   pub x : IsShortNumber row.x
   pub y : IsShortNumber row.y
@@ -61,7 +61,7 @@ pub record IsShortFlight (view : FlightView) : Type 0 where
   pub tentative : IfSome view.tentative IsShortTent
   pub version : view.version < 2 ^ 64
 
--- what is told of a probe: at most 1,023 hits, a second of 32 bits, and numbers of 64 bits
+-- a probe of at most 1,023 short hits. Its second has 32 bits, its numbers 64.
 pub record IsShortProbe (conflicts : List Hit) (eff probe version : ℕ) : Type 0 where
   pub few : length conflicts ≤ 1023
   pub each : All IsShortHit conflicts
@@ -69,13 +69,13 @@ pub record IsShortProbe (conflicts : List Hit) (eff probe version : ℕ) : Type 
   pub number : probe < 2 ^ 64
   pub at_version : version < 2 ^ 64
 
--- callsigns of flights, of which there are at most 1,024
+-- at most 1,024 callsigns
 pub record AreShortCalls (calls : List (List ℕ)) (version : ℕ) : Type 0 where
   pub few : length calls ≤ 1024
   pub each : All (λ call. is_name 1 7 call ≡ true) calls
   pub at_version : version < 2 ^ 64
 
--- a clearance to a level of 32 bits or direct to some fix, and a number of 64 bits
+-- `IsShortClearance`, `IsShortAdvised`: a clearance to a level or fix, and its probe's number. The level has 32 bits, the number 64.
 abbrev pub IsShortClearance : Clearance → Type 0
 IsShortClearance (Level level) = level < 2 ^ 32
 IsShortClearance (Direct fix) = is_name 1 7 fix ≡ true
@@ -84,7 +84,7 @@ pub record IsShortAdvised (advised : AdviceItem) : Type 0 where
   pub clearance : IsShortClearance advised.clearance
   pub number : advised.probe < 2 ^ 64
 
--- what is advised: at most 16 clearances, the eight levels and the eight fixes that are tried
+-- at most 16 advised clearances. The eight levels and the eight fixes that are tried.
 pub record IsShortAdvice (advice : List AdviceItem) (call : List ℕ) (eff version : ℕ) : Type 0 where
   pub few : length advice ≤ 16
   pub each : All IsShortAdvised advice
@@ -92,8 +92,8 @@ pub record IsShortAdvice (advice : List AdviceItem) (call : List ℕ) (eff versi
   pub second : eff < 2 ^ 32
   pub at_version : version < 2 ^ 64
 
--- A reply that carries no list of conflicts or entries: its numbers are of 64 bits, its names of at most 7 letters, the name of a field has
--- at most 10,000 bytes, a probe has at most 1,023 hits, and due flights are at most 1,024.
+-- a reply without a list of conflicts or entries, of bounded size. Its numbers are of 64 bits, its names of at most 7 letters, the name of a
+-- field has at most 10,000 bytes, a probe has at most 1,023 hits, and due flights are at most 1,024.
 --
 -- The longest is the refusal of a field: its name, whose bytes are written with at most 6 each, and 26 bytes more make 60,026. A hit has at
 -- most 56 bytes (`{"first":4294967295,"last":4294967295,"with":"AAAAAAA"},`), so a probe has 57,381. A callsign has at most 10 (`"AAAAAAA",`),

@@ -5,13 +5,13 @@ use Rattle.tungstenite.specs.Socket.{Socket}
 use Rattle.mt_ws.specs.declared.ws_link.WsLink.{WsLink}
 use Rattle.mt_ws.specs.Linking.{IsNew}
 
--- it refuses messages and frames of more than 131,072 bytes, and frames that aren't masked
+-- messages up to 131,072 bytes, frames masked
 pub record HasLimits {S : Type 0} (socket : Socket S) : Type 0 where
   pub message : socket.conn.config.max_message_size ≡ Some 131072
   pub frame : socket.conn.config.max_frame_size ≡ Some 131072
   pub masked : socket.conn.config.accept_unmasked_frames ≡ false
 
--- a link that a handshake made just now
+-- a link fresh from its handshake
 pub record IsFromHandshake {S : Type 0} (link : WsLink S) : Type 0 where
   pub serves : Serves link.socket
   pub bounded : HasLimits link.socket

@@ -1,7 +1,7 @@
 -- A stream with its first byte put back.
 use Rattle.std.specs.Prelude.{ℕ, List, ◌∷◌, Option, None, Some}
 
--- what is left: the byte that was put back, if one was, and then what the stream has left, where that is told
+-- the byte put back, then what the stream has left
 abbrev pub put_back : Option ℕ → Option (List ℕ) → Option (List ℕ)
 put_back None left = left
 put_back (Some first) None = None

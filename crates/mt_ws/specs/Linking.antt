@@ -14,7 +14,7 @@ use Rattle.mt_ws.specs.declared.ws_link.WsLink.{WsLink}
 use Rattle.mt_ws.specs.Messages.{IsData, payload_of, with_ending, line_content, is_memory}
 use Rattle.mt_ws.specs.Pulling.{AnswersAfterPings, ClosesSocket, FailsBy}
 
--- a piece up to its first 0x0A, which is left out, or, where there is none, all of it
+-- a piece up to its first 0x0A, or all
 pub record Cuts (piece part : List ℕ) (whole : Bool) : Type 0 where
   pub is_part : IsPart part
   pub rest : List ℕ
@@ -22,14 +22,14 @@ pub record Cuts (piece part : List ℕ) (whole : Bool) : Type 0 where
   pub all : whole ≡ false → rest ≡ []
 
 module _ {S : Type 0} (remaining contents : S → Option (List ℕ)) where
-  -- a message is begun: the front of its bytes was given
+  -- more of a message that was begun
   pub record GivesRest (old new : WsLink S) (bytes : List ℕ) : Type 0 where
     pub some : 0 < length bytes
     pub bytes_are : old.ungiven ≡ bytes ++ new.ungiven
     pub socket : new.socket ≡ old.socket
     pub ended : new.ended ≡ old.ended
 
-  -- none was begun: the next one was read, and the front of its bytes was given
+  -- the front of the next message
   pub record GivesNext (old new : WsLink S) (bytes : List ℕ) : Type 0 where
     pub none : old.ungiven ≡ []
     pub going : (old.ended ≡ false) × (new.ended ≡ false)
@@ -39,7 +39,7 @@ module _ {S : Type 0} (remaining contents : S → Option (List ℕ)) where
     pub some : 0 < length bytes
     pub bytes_are : with_ending (payload_of message) ≡ bytes ++ new.ungiven
 
-  -- the end: met before, or in this call
+  -- `GivesEnd`, `GivesFault`, `ReadsLink`: the end of the link, its fault, and what a read does
   pub record GivesEnd (old new : WsLink S) (bytes : List ℕ) : Type 0 where
     pub no_bytes : bytes ≡ []
     pub none : (old.ungiven ≡ []) × (new.ungiven ≡ [])
@@ -59,7 +59,7 @@ module _ {S : Type 0} (remaining contents : S → Option (List ℕ)) where
   ReadsLink old new buf (Ok n) = GivesRest old new (take n buf) ⊎ GivesNext old new (take n buf) ⊎ GivesEnd old new (take n buf)
   ReadsLink old new buf (Err fault) = GivesFault old new
 
-  -- a line was sent as one message, or why it wasn't
+  -- a line sent as one message, or why not
   abbrev pub SendsMessage : Socket S → Socket S → List ℕ → Result (Unit {0}) WsCause → Type 0
   SendsMessage old new line (Ok done) = Writes contents old new (write_step old.conn (line_content line)) × (new.output ≡ [])
   SendsMessage old new line (Err (Cause.Read e)) = ⊥
@@ -69,7 +69,7 @@ module _ {S : Type 0} (remaining contents : S → Option (List ℕ)) where
   SendsMessage old new line (Err Cause.Long) = ⊥
   SendsMessage old new line (Err Cause.Memory) = new ≡ old
 
-  -- no line ends in the piece, which was kept
+  -- a piece without a line's end, kept
   pub record KeepsPiece (old new : WsLink S) (piece : List ℕ) (n : ℕ) : Type 0 where
     pub part : List ℕ
     pub cut : Cuts piece part false
@@ -95,7 +95,7 @@ module _ {S : Type 0} (remaining contents : S → Option (List ℕ)) where
   SendFailsBy old new line Cause.Long = (131072 < length line) × (new ≡ old)
   SendFailsBy old new line Cause.Memory = (length line ≤ 131072) × (new ≡ old)
 
-  -- nothing of the piece was taken
+  -- `SendFault`, `WritesLink`: nothing of the piece was taken; what a write does
   pub record SendFault (old new : WsLink S) (piece : List ℕ) : Type 0 where
     pub part : List ℕ
     pub whole : Bool
@@ -109,7 +109,7 @@ module _ {S : Type 0} (remaining contents : S → Option (List ℕ)) where
   WritesLink old new piece (Ok n) = KeepsPiece old new piece n ⊎ SendsLine old new piece n
   WritesLink old new piece (Err fault) = SendFault old new piece
 
--- a link over this socket that has read and written nothing
+-- a link that has read and written nothing
 pub record IsNew {S : Type 0} (socket : Socket S) (link : WsLink S) : Type 0 where
   pub over : link.socket ≡ socket
   pub none : link.ungiven ≡ []

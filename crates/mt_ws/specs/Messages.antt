@@ -8,7 +8,7 @@ use Rattle.tungstenite.specs.declared.error.Error.{Error}
 use Rattle.tungstenite.specs.declared.error.Error.TheVariants.{ConnectionClosed, OutOfMemory}
 use Rattle.mt_io.specs.Gathering.{ending_of}
 
--- a text or binary message's bytes
+-- `payload_of`, `IsData`, `is_beat`: a data message's bytes; a data message; a ping or pong
 abbrev pub payload_of : Message → List ℕ
 payload_of (MessageKind.Text bytes) = bytes
 payload_of (MessageKind.Binary bytes) = bytes
@@ -32,20 +32,20 @@ is_beat m = false
 abbrev pub is_unended : List ℕ → Bool
 is_unended bytes = (length bytes == 0) || not (slice_index bytes (length bytes - 1) == 10)
 
--- a message's bytes with their ending: 0x0A is added unless they end with one
+-- a message's bytes, ending with 0x0A
 abbrev pub with_ending : List ℕ → List ℕ
 with_ending bytes = bytes ++ ending_of (is_unended bytes)
 
--- the message of a line: text where it is UTF-8, and else binary
+-- a line's message, text where UTF-8, else binary
 abbrev pub line_content : List ℕ → Content
 line_content line = if is_utf8 line then text line else binary line
 
--- no memory
+-- an error for want of memory
 abbrev pub is_memory : Error → Bool
 is_memory OutOfMemory = true
 is_memory e = false
 
--- what comes after a close
+-- an error after a close
 abbrev pub is_after_close : Error → Bool
 is_after_close ConnectionClosed = true
 is_after_close e = false

@@ -16,18 +16,18 @@ abbrev pub IsStreamUnread : {S : Type 0} → S → Opening S → Type 0
 IsStreamUnread stream opening = (opening.fresh ≡ Some stream) × (opening.kind ≡ Broken)
 
 module _ {S : Type 0} (remaining contents : S → Option (List ℕ)) where
-  -- A stream was opened. A line session still has the byte that was read; of a WebSocket's handshake nothing is told.
+  -- a stream was opened. A line session still has the byte that was read; of a WebSocket's handshake nothing is said.
   abbrev pub BeginsLink : S → LinkKind S → Type 0
   BeginsLink stream (Lines front) = (first : ℕ) × (first ≢ 71) × (front.first ≡ Some first) × Consumes (remaining stream) (remaining front.stream) (first ∷ [])
   BeginsLink stream (Web link) = ((rest : Option (List ℕ)) × Consumes (remaining stream) rest (71 ∷ [])) × IsFromHandshake link
   BeginsLink stream Over = IsAtEnd (remaining stream)
   BeginsLink stream Broken = ⊤
 
-  -- where nothing was read yet, the stream is opened
+  -- the first read opens the stream
   abbrev pub Opens : Opening S → Opening S → Type 0
   Opens old new = MatchOption old.fresh (new ≡ old) (λ stream. (new.fresh ≡ None) × BeginsLink stream new.kind)
 
-  -- what a read does
+  -- `ReadsKind`, `ReadsOpening`: what a read does, by the kind of link
   abbrev pub ReadsKind : LinkKind S → LinkKind S → List ℕ → Result ℕ Failed → Type 0
   ReadsKind (Lines front) new buf result =
       (after : Front S) × (new ≡ Lines after) × ReadConsumes (put_back front.first (remaining front.stream)) (put_back after.first (remaining after.stream)) result buf
@@ -43,7 +43,7 @@ module _ {S : Type 0} (remaining contents : S → Option (List ℕ)) where
     pub opened : new.fresh ≡ None
     pub reads : ReadsKind middle.kind new.kind buf result
 
-  -- what a write does
+  -- what a write does, by the kind of link
   abbrev pub WritesKind : LinkKind S → LinkKind S → List ℕ → Result ℕ Failed → Type 0
   WritesKind (Lines front) new piece result =
       (after : Front S) × (new ≡ Lines after) × (after.first ≡ front.first) × WriteAppends (contents front.stream) (contents after.stream) result piece
@@ -53,6 +53,6 @@ module _ {S : Type 0} (remaining contents : S → Option (List ℕ)) where
   WritesKind Over new piece result = (new ≡ Over) × IsErr result
   WritesKind Broken new piece result = (new ≡ Broken) × IsErr result
 
-  -- no write opens a stream
+  -- what a write does; none opens a stream
   abbrev pub WritesOpening : Opening S → Opening S → List ℕ → Result ℕ Failed → Type 0
   WritesOpening old new piece result = WritesKind old.kind new.kind piece result × (new.fresh ≡ old.fresh)

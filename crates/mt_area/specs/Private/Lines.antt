@@ -16,15 +16,15 @@ side_of row i j = record {
   c = cross (row.x -ℤ i.0) (row.y -ℤ i.1) (j.0 -ℤ i.0) (j.1 -ℤ i.1);
 }
 
--- how far the height is below a level, and above one
+-- `floor_of`, `line_to_ceiling`: how far the height is below a level, and above one
 abbrev pub floor_of : Row → ℕ → Linear
 floor_of row level = record { b = neg_ℤ row.vz; c = pos (6000 * level) -ℤ row.z }
 
 abbrev pub line_to_ceiling : Row → ℕ → Linear
 line_to_ceiling row level = record { b = row.vz; c = row.z -ℤ pos (6000 * level) }
 
--- What the place of a line among the eighteen says of the instant n/d: that the position is to the left of the side of that number, that it
--- is above the bottom, or below the top. Places between say nothing.
+-- what a line says of instant n/d, by its place among the eighteen. That the position is to the left of the side of that number, that it is above the
+-- bottom, or below the top. Places between say nothing.
 pub record Says (area : Area) (row : Row) (i : ℕ) (n d : ℤ) : Type 0 where
   pub left : i < length area.corners
       → LiesLeft (corner area.corners i) (corner area.corners (place_after area.corners i)) (value_at row.x row.vx n d) (value_at row.y row.vy n d) d
@@ -41,7 +41,7 @@ pub record IsDuringOrAtEnd (seconds : ℕ) (n d : ℤ) : Type 0 where
   pub begun : pos 0 ≤ℤ n
   pub within : n ≤ℤ (pos seconds *ℤ d)
 
--- a line is below 0 at both ends of that time, or at neither
+-- `value_after`, `StaysBelow`, `StaysAboveLine`: a line's value at the end of that time; it is below 0 at both ends, or at neither
 abbrev pub value_after : Linear → ℕ → ℤ
 value_after line seconds = line.b *ℤ pos seconds +ℤ line.c
 
@@ -51,7 +51,7 @@ StaysBelow line seconds = (line.c <ℤ pos 0) × (value_after line seconds <ℤ 
 abbrev pub StaysAboveLine : Linear → ℕ → Type 0
 StaysAboveLine line seconds = (pos 0 ≤ℤ line.c) × (pos 0 ≤ℤ value_after line seconds)
 
--- these lines are all below 0 exactly where the position is inside, during that time
+-- the lines are all below 0 exactly where the position is inside, during that time
 pub record AreCrossed (area : Area) (row : Row) (seconds : ℕ) (lines : List Linear) : Type 0 where
   pub bounded : All IsBoundedSide lines
   pub inside : (n d : ℤ) → IsDuringOrAtEnd seconds n d → AreBelow lines n d ↔ IsInsideAt area row n d

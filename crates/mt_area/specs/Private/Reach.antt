@@ -9,7 +9,7 @@ use Rattle.mt_base.specs.Trajectory.{Trajectory, row_at}
 use Rattle.mt_area.specs.declared.reach.Extent.{Extent}
 use Rattle.mt_area.specs.declared.reach.Reach.{Reach}
 
--- a number is within an extent; and so is a value with a gain at the instant n/d
+-- `IsWithinExtent`, `HoldsAt`: a number is within an extent, and a value with a gain is at instant n/d
 pub record IsWithinExtent (e : Extent) (z : ℤ) : Type 0 where
   pub low : e.low ≤ℤ z
   pub high : z ≤ℤ e.high
@@ -27,7 +27,7 @@ pub record IsWiderExtent (e wider : Extent) : Type 0 where
 abbrev pub IsPlaced : Row → Type 0
 IsPlaced row = IsInPlane row.x row.y × IsHeight row.z
 
--- the position and the height of a row are within a reach, at the start of its second and at the instant n/d of it
+-- `HoldsRow`, `HoldsRowAt`: a reach holds a row at the start of its second, and at instant n/d of it
 pub record HoldsRow (reach : Reach) (row : Row) : Type 0 where
   pub x : IsWithinExtent reach.x row.x
   pub y : IsWithinExtent reach.y row.y
@@ -38,7 +38,7 @@ pub record HoldsRowAt (reach : Reach) (row : Row) (n d : ℤ) : Type 0 where
   pub y : HoldsAt reach.y row.y row.vy n d
   pub z : HoldsAt reach.z row.z row.vz n d
 
--- and at each instant of second k of a trajectory, if it covers that second
+-- `HoldsSecond`, `IsWiderReach`: a reach holds a trajectory's second k, if it is covered; a reach holds all of another
 abbrev pub HoldsSecond : Reach → Trajectory → ℕ → Type 0
 HoldsSecond reach t k = (row : Row) → row_at t k ≡ Some row → (n d : ℤ) → pos 0 ≤ℤ n → n <ℤ d → HoldsRowAt reach row n d
 
@@ -51,7 +51,7 @@ pub record IsWiderReach (reach wider : Reach) : Type 0 where
 abbrev pub AreHeightsApart : Area → Extent → Type 0
 AreHeightsApart area z = (z.high ≤ℤ pos (6000 * area.bottom)) ⊎ (pos (6000 * area.top) ≤ℤ z.low)
 
--- all corners lie on one side of some positions
+-- `AreWestOrEast`, `AreSouthOrNorth`: all corners lie on one side of some positions
 abbrev pub AreWestOrEast : List (ℤ × ℤ) → Extent → Type 0
 AreWestOrEast corners x = All (λ (c : ℤ × ℤ). c.0 <ℤ x.low) corners ⊎ All (λ (c : ℤ × ℤ). x.high <ℤ c.0) corners
 

@@ -7,11 +7,11 @@ use Rattle.mt_base.specs.declared.area.Pierced.{Pierced}
 use Rattle.mt_base.specs.Picture.{NamedTrajectory}
 use Rattle.mt_base.specs.Pierced.{IsPiercedBy}
 
--- a list now has besides what it had exactly what is P
+-- a list now has exactly the pierces that are P, besides what it had
 abbrev pub AddsPierced : (Pierced → Type 0) → List Pierced → List Pierced → Type 0
 AddsPierced P old new = (p : Pierced) → Contains new p ↔ (Contains old p ⊎ P p)
 
--- the trajectory passes through one of these areas so
+-- the trajectory pierces one of these areas so
 pub record IsPiercedByOne (now : ℕ) (areas : List Area) (t : NamedTrajectory) (p : Pierced) : Type 0 where
   pub area : Area
   pub area_in : Contains areas area
@@ -23,7 +23,7 @@ pub record IsInOne (parts : List (List Pierced)) (p : Pierced) : Type 0 where
   pub part_in : Contains parts part
   pub within : Contains part p
 
--- each part was told, and these are all that they tell
+-- the parts together are the whole answer
 pub record AreOfAll (tries : List (Result (List Pierced) Memory)) (found : List Pierced) : Type 0 where
   pub parts : List (List Pierced)
   pub all : tries ≡ map Ok parts

@@ -6,6 +6,6 @@ use Rattle.mt_base.specs.History.{checks, look_at}
 use Rattle.mt_base.specs.Picture.{State}
 use Rattle.mt_base.specs.Tables.{Setup}
 
--- each check of an actor's command is passed in a state
+-- an actor's command passes each check in a state
 abbrev pub PassesChecks : Setup → State → ℕ → Command → Type 0
 PassesChecks setup s who command = AllByRecursion (λ c. c.1 ≡ true) (checks setup (look_at s command) who command)

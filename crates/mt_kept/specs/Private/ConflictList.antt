@@ -3,7 +3,7 @@
 use Rattle.std.specs.Prelude.{ℕ, List}
 use Rattle.mt_base.specs.declared.conflict.Conflict.{Conflict}
 
--- conflicts in the order of publishing, each once, and how many may be put in before the next `reserve`
+-- conflicts in the order of publishing, each once, and the room left before the next `reserve`
 pub record Ordered : Type 0 where
   pub conflicts : List Conflict
   pub spare : ℕ

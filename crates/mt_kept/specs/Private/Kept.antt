@@ -10,7 +10,7 @@ use Rattle.mt_kept.specs.Private.Losing.{AreKept}
 use Rattle.mt_kept.specs.Places.{HaveOwnSlots}
 use Rattle.mt_kept.specs.Private.Window.{AreOpen, Shows}
 
--- How it is kept: the pairs of the places, those that are open, and published is what these show. Each flight has one slot.
+-- the pairs of the places are kept, those that are open, and what these show is published. Each flight has one slot.
 pub record ArePairsKept (rules : Rules) (now : ℕ) (places : List (Option NamedTrajectory)) (edges : List Edge) (ends : ℕ)
     (open_pairs : List OpenPair) (published : List Conflict) : Type 0 where
   pub bounds : AreWithinBounds rules

@@ -7,7 +7,7 @@ use Rattle.mt_edges.specs.Pairs.{AreDistinctPairs}
 use Rattle.mt_kept.specs.Places.{slot_of}
 use Rattle.mt_kept.specs.Losing.{IsPair, Joins, LoseSeparation}
 
--- The pairs of the places: no others, each once, and each two places with a loss second have one.
+-- `AreKept`, `AvoidsSlot`: exactly the pairs of the places, each once; a pair without a place of a slot. Each two places with a loss second have one.
 pub record AreKept (rules : Rules) (places : List (Option NamedTrajectory)) (edges : List Edge) : Type 0 where
   pub sound : (e : Edge) → Contains edges e → IsPair rules places e
   pub complete : (a b k : ℕ) → a < b → LoseSeparation rules places a b k → Joins edges a b

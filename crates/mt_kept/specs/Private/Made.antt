@@ -22,14 +22,14 @@ use Rattle.mt_base.specs.Tally.{raised_by}
 use Rattle.mt_kept.specs.Window.{IsFoundOf, IsOpen, edge_of, straddles}
 use Rattle.mt_kept.specs.Made.{is_open_pair}
 
--- a pair doesn't end before the moment; it is open; it is not
+-- `is_lasting`, `is_closed_pair`: a pair doesn't end before the moment; it is not open
 abbrev pub is_lasting : ℕ → Edge → Bool
 is_lasting now e = nat_le now e.last
 
 abbrev pub is_closed_pair : ℕ → Edge → Bool
 is_closed_pair now e = not (is_open_pair now e)
 
--- of an open pair: that it is open, that no end is a place of that slot, that some end is, that one end is that place
+-- `opens`, `avoids`, `meets`, `touches_place`: of an open pair: it is open; no end is in that slot; some end is; one end is that place
 abbrev pub opens : ℕ → OpenPair → Bool
 opens now o = is_open_pair now o.edge
 
@@ -46,7 +46,7 @@ touches_place place o = touches place o.edge
 abbrev pub quiet : Edge → OpenPair
 quiet e = record { edge = e; conflict = None }
 
--- the conflict of two trajectories over that span, the one with the lesser callsign first
+-- `conflict_of`, `IsInOrder`: the conflict of two trajectories over a span, the lesser callsign first
 abbrev pub conflict_of : NamedTrajectory → NamedTrajectory → ℕ → ℕ → Conflict
 conflict_of left right first last =
     record { first = first; a = left.call; b = right.call; ka = left.kind; kb = right.kind; last = last }
@@ -54,23 +54,23 @@ conflict_of left right first last =
 abbrev pub IsInOrder : NamedTrajectory → NamedTrajectory → ℕ × ℕ → Conflict → Type 0
 IsInOrder left right span c = (slice_cmp nat_cmp left.call right.call ≡ Less) × (c ≡ conflict_of left right span.0 span.1)
 
--- Of these pairs, each of which was to be tested once if it straddles an edge of the window, some first ones were.
+-- some first ones of these pairs were tested, each once if it straddles an edge of the look-ahead
 pub record WereTested (now : ℕ) (edges : List Edge) (old new : ℕ) : Type 0 where
   pub first : ℕ
   pub is : new ≡ raised_by (count_by (straddles now) (take first edges)) old
 
--- Of the pairs those of a slot were taken out, and the found ones put in.
+-- the pairs of a slot were taken out, and the found ones put in
 abbrev pub AreReplaced : ℕ → List OpenPair → List Edge → List Edge → Type 0
 AreReplaced slot finds old new = (e : Edge) → Contains new e ↔ ((Contains old e × AvoidsSlot slot e) ⊎ Contains (map edge_of finds) e)
 
--- a pair of a slot, and at most six steps for each of these, and two
+-- `touches_slot`, `WereDropped`: a pair of a slot; at most six steps for each of these, and two
 abbrev pub touches_slot : ℕ → Edge → Bool
 touches_slot slot e = touches (2 * slot) e || touches (2 * slot + 1) e
 
 abbrev pub WereDropped : ℕ → List Edge → ℕ → ℕ → Type 0
 WereDropped slot edges old new = new ≤ old + 6 * length (filter (touches_slot slot) edges) + 2
 
--- what is known is that
+-- this is what is known
 abbrev pub IsKnownAs : Knowledge → Option (ℕ × ℕ) → Type 0
 IsKnownAs Unknown span = ⊤
 IsKnownAs (Known known) span = span ≡ known
@@ -80,7 +80,7 @@ abbrev pub tests_if_unknown : Knowledge → ℕ
 tests_if_unknown Unknown = 1
 tests_if_unknown (Known span) = 0
 
--- the pair between two places, the lesser first, with that span
+-- `IsEdgeBetween`, `IsEdgeOf`: the pair between two places, the lesser first, with that span
 abbrev pub IsEdgeBetween : ℕ → ℕ → Edge → Type 0
 IsEdgeBetween place other e = ((e.a ≡ place) × (e.b ≡ other) × (place < other)) ⊎ ((e.a ≡ other) × (e.b ≡ place) × (other < place))
 
@@ -99,7 +99,7 @@ IsFindAdded rules now place other_place mine other old new =
     ((new ≡ old) × ((k : ℕ) → k < horizon → ¬ IsLossSecond rules mine.path other.path k))
     ⊎ ((o : OpenPair) × IsFind rules now place other_place mine other o × (new ≡ old ++ o ∷ []))
 
--- The same of a candidate, where a trajectory of another flight stands in its place; else nothing is added.
+-- what one candidate adds, where a trajectory of another flight stands in its place; else nothing
 abbrev pub IsAddedAt : Rules → ℕ → List (Option NamedTrajectory) → ℕ → NamedTrajectory → Candidate → List OpenPair → List OpenPair
     → Type 0
 IsAddedAt rules now places place mine x old new =

@@ -5,7 +5,7 @@ use Rattle.std.specs.declared.cmp.Ordering.TheVariants.{Less}
 use Rattle.mt_base.specs.declared.conflict.Conflict.{Conflict}
 use Rattle.mt_base.specs.Picture.{conflict_cmp}
 
--- one conflict comes before another; each of a list comes before those after it, and before each of another list
+-- `ComesBefore`, `Rise`, `LieBefore`: one conflict comes before another; each of a list before those after it; each before each of another list
 abbrev pub ComesBefore : Conflict → Conflict → Type 0
 ComesBefore x y = conflict_cmp x y ≡ Less
 
@@ -26,7 +26,7 @@ pub record IsParted (x : Conflict) (list before after : List Conflict) : Type 0 
   pub whole : (c : Conflict) → Contains list c → Contains before c ⊎ ((x ≡ c) ⊎ Contains after c)
   pub short : length before + length after ≤ length list
 
--- how far two lists are made one: the first n of the others and what of the list comes before them, in order; and the rest of the list
+-- how far two lists are merged. The first n of the others and what of the list comes before them, in order; and the rest of the list.
 pub record AreMerging (list others : List Conflict) (n : ℕ) (merged rest : List Conflict) : Type 0 where
   pub rise : Rise merged
   pub rest_rise : Rise rest

@@ -7,7 +7,7 @@ use Rattle.mt_edges.specs.declared.edge.Edge.{Edge}
 use Rattle.mt_kept.specs.declared.open_pair.OpenPair.{OpenPair}
 use Rattle.mt_kept.specs.Window.{IsOpen, ShowsInWindow, edge_of}
 
--- The open pairs: exactly the kept pairs that are open, each once, each with what it shows.
+-- exactly the kept pairs that are open, each once, with what it shows
 pub record AreOpen (rules : Rules) (places : List (Option NamedTrajectory)) (now : ℕ) (edges : List Edge)
     (open_pairs : List OpenPair) : Type 0 where
   pub sound : (o : OpenPair) → Contains open_pairs o

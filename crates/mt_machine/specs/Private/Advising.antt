@@ -16,7 +16,7 @@ AreCandidatesOrRefused setup s call (Ok tried) =
     × (tried ≡ candidates_in setup s call)
     × All (CanBeTried setup s call) tried
 
--- Each of some clearances was tried and found free or not, and these are the free ones, in order.
+-- each of some clearances was tried, and these are the free ones, in order
 pub record AreFreeAmong (setup : Setup) (s : State) (call : List ℕ) (clearances free : List Clearance) : Type 0 where
   pub tried : List Tried
   pub all : map (λ t. t.clearance) tried ≡ clearances

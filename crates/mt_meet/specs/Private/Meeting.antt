@@ -7,6 +7,6 @@ hull_on hull false first last = hull
 hull_on (Some span) true first last = Some (span.0, last)
 hull_on None true first last = Some (first, last)
 
--- that of a second before another one
+-- the hull of earlier seconds lies before that of later ones
 abbrev pub Before : (ℕ → Type 0) → ℕ → ℕ → Type 0
 Before P at k = (k < at) × P k

@@ -10,7 +10,7 @@ use Rattle.mt_meet.specs.declared.reach.Reach.{Reach}
 use Rattle.mt_meet.specs.declared.table.Met.{Met}
 use Rattle.mt_meet.specs.Meeting.{IsFirstMet, MeetNone}
 
--- the heights of all slices, and their first and last seconds; and those of none
+-- `reach_of`, `nowhere`, `reach_in`: the heights of all slices with their first and last second, and those of none
 abbrev pub reach_of : Sliced → Reach
 reach_of s = record { layer = layer_over s.list; from = s.from; to = s.to; rvsm = s.rvsm }
 
@@ -21,13 +21,13 @@ abbrev pub reach_in : Option Sliced → Reach
 reach_in None = nowhere
 reach_in (Some s) = reach_of s
 
--- they have a second in common, and don't lie apart in height
+-- two reaches have a second in common, and don't lie apart in height
 pub record AreClose (rules : Rules) (a b : Reach) : Type 0 where
   pub left : a.from < b.to
   pub right : b.from < a.to
   pub heights : ¬ LieApart rules (level_of (a.rvsm && b.rvsm)) a.layer b.layer
 
--- heights that are wider by the greater vertical minimum, and what lies above or below them
+-- `IsGuard`, `LiesBeyond`: heights wider by the greater vertical minimum, and what lies above or below them
 pub record IsGuard (rules : Rules) (layer guard : Layer) : Type 0 where
   pub low : guard.low ≡ layer.low -ℤ rules.sv2
   pub high : guard.high ≡ layer.high +ℤ rules.sv2

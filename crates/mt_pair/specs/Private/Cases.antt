@@ -11,7 +11,7 @@ use Rattle.mt_pair.specs.Private.Below.{AreBelowAt, AreBelowWithAt}
 use Rattle.mt_pair.specs.Private.Gap.{above_of, excess_of}
 use Rattle.mt_pair.specs.Private.High.{AreLow}
 
--- by the greater minimum, while the one or the other is high
+-- `IsHighAt`, `IsHighLoss`: loss by the greater minimum, while the one or the other aircraft is high
 abbrev pub IsHighAt : Quad → High → ℤ → ℤ → Type 0
 IsHighAt gap high n d = AreBelowWithAt gap high.over high.under high.left n d ⊎ AreBelowWithAt gap high.over high.under high.right n d
 
@@ -19,7 +19,7 @@ abbrev pub IsHighLoss : Quad → Option High → ℤ → ℤ → Type 0
 IsHighLoss gap None n d = ⊥
 IsHighLoss gap (Some high) n d = IsHighAt gap high n d
 
--- by the lesser minimum, or by the greater
+-- loss by the lesser minimum, or by the greater
 abbrev pub IsLoss : Approach → ℤ → ℤ → Type 0
 IsLoss x n d = AreBelowAt x.gap x.over x.under n d ⊎ IsHighLoss x.gap (option_copied x.high) n d
 
@@ -30,7 +30,7 @@ pub record AreHighOf (rules : Rules) (level : ℤ) (a b : Row) (high : High) : T
   pub left : high.left ≡ above_of level a
   pub right : high.right ≡ above_of level b
 
--- for that many seconds: none where neither is above the level in them
+-- the lines of the greater minimum for so many seconds. None where neither aircraft is above the level in them.
 abbrev pub IsHighOf : Rules → ℤ → Row → Row → ℕ → Option High → Type 0
 IsHighOf rules level a b seconds None = AreLow level a b seconds
 IsHighOf rules level a b seconds (Some high) = AreHighOf rules level a b high

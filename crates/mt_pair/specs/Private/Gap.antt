@@ -27,7 +27,8 @@ pub record IsOffsetWithin (most : ℕ) (o : Offset) : Type 0 where
 abbrev pub product : Offset → Offset → ℤ
 product p q = p.x *ℤ q.x +ℤ p.y *ℤ q.y -ℤ p.width *ℤ q.width
 
--- the square of the distance less that of the minimum, over time, from the offset at the start and what that gains in a second
+-- `square_over_time`, `gap_of`: the square of the distance less that of the minimum, over time. It goes by the offset at the start and what that
+-- gains in a second.
 abbrev pub square_over_time : Offset → Offset → Quad
 square_over_time offset gain = record { a = product gain gain; b = pos 2 *ℤ product offset gain; c = product offset offset }
 

@@ -12,21 +12,21 @@ pub record LosesAbove (rules : Rules) (level : ℤ) (a b : Row) (n d : ℤ) : Ty
       <ℤ (width rules a b n d *ℤ width rules a b n d)
   pub vertical : IsNearAt rules.sv a b n d ⊎ (IsNearAt rules.sv2 a b n d × IsOneAboveAt level a b n d)
 
--- a line is at least 0 at the start, and that many seconds later
+-- a line is at least 0 at the start, and so many seconds later
 pub record StaysAbove (line : Linear) (seconds : ℕ) : Type 0 where
   pub start : pos 0 ≤ℤ line.c
   pub end : pos 0 ≤ℤ (line.b *ℤ pos seconds +ℤ line.c)
 
--- a row isn't above a level at the start of its second, nor that many seconds later if it keeps its gain
+-- a row isn't above a level at the start of its second, nor so many seconds later. It keeps its gains until then.
 pub record IsLow (level : ℤ) (a : Row) (seconds : ℕ) : Type 0 where
   pub start : a.z ≤ℤ level
   pub end : (a.z +ℤ a.vz *ℤ pos seconds) ≤ℤ level
 
--- nor is the other of two
+-- neither of two rows is above that level
 abbrev pub AreLow : ℤ → Row → Row → ℕ → Type 0
 AreLow level a b seconds = IsLow level a seconds × IsLow level b seconds
 
--- one of two rows is above the other by the lesser minimum, at the start and that many seconds later
+-- one of two rows is above the other by the lesser minimum, at the start and so many seconds later
 abbrev pub AreFar : Rules → Row → Row → ℕ → Type 0
 AreFar rules a b seconds = StaysAbove (excess_of rules.sv a b) seconds ⊎ StaysAbove (excess_of rules.sv b a) seconds
 

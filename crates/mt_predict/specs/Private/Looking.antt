@@ -10,12 +10,12 @@ use Rattle.mt_base.specs.Tables.{Setup}
 use Rattle.mt_base.specs.WhatIf.{course_in}
 use Rattle.mt_predict.specs.declared.judging.Looked.{Looked}
 
--- The trajectory that a course flies is at hand, along a route of at most 64 names.
+-- the trajectory that a course flies is at hand, along a route of at most 64 names
 pub record HasStrandOf (setup : Setup) (looked : Looked) (course : Course) : Type 0 where
   pub strand : option_copied looked.strand ≡ Some (trajectory_of setup (Planned course))
   pub short : length course.route ≤ 64
 
--- the trajectory of the flight that the command names is at hand, where that flight is there and planned
+-- the trajectory of the flight that the command names is at hand, where it is planned
 abbrev pub HasStrandOfPlanned : Setup → Looked → Type 0
 HasStrandOfPlanned setup looked = IfSome (course_in (option_copied looked.flight)) (HasStrandOf setup looked)
 

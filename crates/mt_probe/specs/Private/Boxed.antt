@@ -29,13 +29,13 @@ pub record HoldsSlices (rules : Rules) (slots : List (Option Flight)) (table : L
   pub items : length table ≡ 2 * length slots
   pub held : (item : ℕ) → get_or table item None ≡ slices_at rules slots item
 
--- a snapshot is sound, its table has the slices of its trajectories, and its index tells who is there
+-- a snapshot is sound, its table has the slices of its trajectories, and its index has its flights
 pub record IsSnapshotKept (shot : Shot) (table : List (Option Sliced)) (index : Indexed) : Type 0 where
   pub sound : IsSoundShot shot
   pub holds : HoldsSlices shot.setup.rules shot.slots table
   pub indexed : IsIndexOf shot.slots index
 
--- with the slices of what is put at a place
+-- the table with the slices of what is put at a place
 abbrev pub table_with : Rules → ℕ → Option Flight → List (Option Sliced) → List (Option Sliced)
 table_with rules slot x table =
     slice_set (slice_set table (2 * slot) (slices_by rules Actual x)) (2 * slot + 1) (slices_by rules Tentative x)

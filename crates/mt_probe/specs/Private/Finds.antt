@@ -8,11 +8,11 @@ use Rattle.mt_probe.specs.declared.finding.Found.{Found}
 use Rattle.mt_base.specs.Trajectory.{horizon}
 use Rattle.mt_probe.specs.Finds.{AreDifferentFinds, IsFindListed, IsFound}
 
--- and so are two trajectories
+-- two trajectories differ in callsign or kind
 abbrev pub AreCalledApart : NamedTrajectory → NamedTrajectory → Type 0
 AreCalledApart a b = ¬ ((a.call ≡ b.call) × (a.kind ≡ b.kind))
 
--- it is what is found with one of these trajectories, which has a loss second with the new one
+-- the find of one of these trajectories, which has a loss second with the new one
 pub record IsFoundAmong (rules : Rules) (now : ℕ) (t : Trajectory) (others : List NamedTrajectory) (found : Found) : Type 0 where
   pub other : NamedTrajectory
   pub among : Contains others other

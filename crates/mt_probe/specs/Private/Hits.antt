@@ -5,7 +5,7 @@ use Rattle.mt_base.specs.declared.conflict.Kind.TheVariants.{Actual, Tentative}
 use Rattle.mt_base.specs.declared.hit.Hit.{Hit}
 use Rattle.mt_probe.specs.declared.finding.Found.{Found}
 
--- the hit with a trajectory that is flown, where it has a conflict in the window
+-- `hit_by`, `hit_of`: the hit with an actual trajectory, where it has a conflict in the look-ahead
 abbrev pub hit_by : List ℕ → Kind → Option (ℕ × ℕ) → Option Hit
 hit_by call Actual (Some span) = Some (record { first = span.0; with = call; last = span.1 })
 hit_by call Actual None = None

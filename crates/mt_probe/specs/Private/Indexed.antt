@@ -6,7 +6,7 @@ use Rattle.mt_names.specs.Naming.{AreNamed, CanStand}
 use Rattle.mt_probe.specs.declared.flight.Flight.{Flight}
 use Rattle.mt_probe.specs.Shot.{flights_in}
 
--- the callsign at a place, and those at all places
+-- `call_at_place`, `calls_in`: the callsign at a place, and those at all places
 abbrev pub call_at_place : Option Flight → Option (List ℕ)
 call_at_place at = option_map (λ f. f.card.call) at
 
@@ -17,13 +17,13 @@ calls_in slots = map call_at_place slots
 abbrev pub AreFilled : List (Option Flight) → ℕ → Type 0
 AreFilled slots n = (i : ℕ) → i < n → is_some (get_or slots i None) ≡ true
 
--- Who is there: callsigns with their places, how many flights there are, and how many places, from the first one on, are known to be filled.
+-- callsigns with their places, how many flights there are, and how many places are known to be filled. The filled ones are from the first place on.
 pub record Indexed : Type 0 where
   pub names : List Named
   pub held : ℕ
   pub filled : ℕ
 
--- it tells who is there at some places
+-- the index has exactly the flights at some places
 pub record IsIndexOf (slots : List (Option Flight)) (index : Indexed) : Type 0 where
   pub names : AreNamed index.names (calls_in slots)
   pub held : index.held ≡ length (flights_in slots)

@@ -7,7 +7,7 @@ use Rattle.mt_probe.specs.declared.finding.Found.{Found}
 use Rattle.mt_probe.specs.Shot.{Shot, state_in_shot}
 use Rattle.mt_probe.specs.Prepared.{Prepared}
 
--- as contracts see it
+-- a preparation, as contracts see it
 abbrev pub prepared_of : Shot → ℕ → Command → Record → Trajectory → List Found → Prepared
 prepared_of shot who command card strand finds = record {
   setup = shot.setup;

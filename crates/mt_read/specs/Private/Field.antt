@@ -12,7 +12,7 @@ use Rattle.mt_read.specs.Field.{bound, count, form_check, is_of, number}
 abbrev pub there : {A : Type 0} → Key → (Data → Option A) → Members → Fault × Bool
 there key kind ms = form_check key false true (is_of kind) ms
 
--- the number at a key, within bounds
+-- `within`, `count_within`: the number at a key, within bounds
 unfoldable pub within : Key → ℤ → ℤ → Members → Result ℤ Fault
 within key low high ms = next (check (bound key low high (number key ms))) (Ok (number key ms))
 
@@ -24,13 +24,13 @@ abbrev pub ReadsChecked : {A : Type 0} → Result A Fault → Result ⊤ Fault �
 ReadsChecked (Ok y) r x = (r ≡ Ok (tt {0})) × (y ≡ x)
 ReadsChecked (Err e) r x = r ≡ Err e
 
--- the same, or memory is wanting
+-- a value that was read where a check passed, its refusal, or want of memory
 abbrev pub ReadsUnlessMemory : {A : Type 0} → Result A Stop → Result ⊤ Fault → A → Type 0
 ReadsUnlessMemory (Ok y) r x = (r ≡ Ok (tt {0})) × (y ≡ x)
 ReadsUnlessMemory (Err (stop.Fault e)) r x = r ≡ Err e
 ReadsUnlessMemory (Err stop.Memory) r x = ⊤
 
--- the answer is this one, or memory is wanting
+-- this answer, or want of memory
 abbrev pub IsUnlessMemory : {A : Type 0} → Result A Stop → Result A Fault → Type 0
 IsUnlessMemory (Ok y) r = r ≡ Ok y
 IsUnlessMemory (Err (stop.Fault e)) r = r ≡ Err e

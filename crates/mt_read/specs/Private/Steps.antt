@@ -11,6 +11,7 @@ use Rattle.mt_read.specs.Line.{◌>>=◌}
 use Rattle.mt_read.specs.Private.Field.{count_within, within}
 use Rattle.mt_read.specs.Table.{ends}
 
+-- `row_steps`, `external_steps`: a row, and an external flight's stretch, read field by field
 unfoldable pub row_steps : Members → Result Row Fault
 row_steps ms = do
   x ← within key.X (neg_ℤ (pos 3686400)) (pos 3686400) ms

@@ -8,10 +8,10 @@ use Rattle.mt_base.specs.Trajectory.{Trajectory}
 use Rattle.mt_probe.specs.Items.{path_of}
 use Rattle.mt_probe.specs.Shot.{Shot, flight_at, kept_of}
 
--- the one of a kind, where there is a flight that has one
+-- the trajectory of a kind at a place, where there is one
 abbrev pub path_at : Shot → ℕ → Kind → Option Trajectory
 path_at shot place kind = option_and_then (path_of kind) (flight_at shot place)
 
--- all of them
+-- all trajectories kept at a place
 abbrev pub kept_at : Shot → ℕ → List NamedTrajectory
 kept_at shot place = option_map_or kept_of (flight_at shot place) []

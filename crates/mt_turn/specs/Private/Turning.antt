@@ -14,11 +14,12 @@ use Rattle.mt_turn.specs.Views.{entries_of, Extends, up_to}
 use Rattle.mt_turn.specs.Lending.{HaveOwnNumbers}
 
 module _ {E : Type 0} where
+  -- a view that is not spent
   abbrev pub IsUnspent : Phase E → Type 0
   IsUnspent Spent = ⊥
   IsUnspent _ = Unit {0}
 
-  -- how many tickets a seat is out with
+  -- `tickets`, `HasTicket`: how many tickets a seat is out with; it is out with this one
   abbrev pub tickets : Phase E → ℕ
   tickets (Waits t) = 1
   tickets (Holds t lent) = 1
@@ -42,8 +43,8 @@ module _ {E : Type 0} where
   numbers_drawn (Splits n) = 1
   numbers_drawn _ = 0
 
-  -- what is true of a phase, where the history is `log`, the tickets from `served` on and below `next` are out, there are `seats` seats, and
-  -- the seat has seen `seen`
+  -- what a phase says of the turn. The history is `log`, the tickets from `served` on and below `next` are out, there are `seats` seats, and the seat
+  -- has seen `seen`.
   abbrev pub IsInPhase : List E → ℕ → ℕ → ℕ → List E → Phase E → Type 0
   IsInPhase log served next seats seen (Splits n) = n ≡ seats
   IsInPhase log served next seats seen (Waits t) = (served ≤ t) × (t < next)
@@ -57,7 +58,7 @@ module _ {E F : Type 0} where
   out [] = 0
   out (v ∷ vs) = tickets v.phase + out vs
 
-  -- of each unspent view v at the place id
+  -- what each unspent view v at the place id knows
   pub record Knows (number : E → ℕ) (plain : F) (log : List E) (served next seats id : ℕ) (v : View E F) : Type 0 where
     pub own : v.number ≡ id
     pub begins : Extends v.seen log
@@ -67,13 +68,13 @@ module _ {E F : Type 0} where
     pub at : IsInPhase log served next seats v.seen v.phase
     pub later : 0 < id → (v.gave ≡ []) × (v.joined ≡ []) × (numbers_drawn v.phase ≡ 0)
 
-  -- of each joined seat: the same, and its view is spent
+  -- what each joined seat knew, whose view is spent
   pub record Taken (number : E → ℕ) (log : List E) (views : List (View E F)) (j : Joined E) : Type 0 where
     pub begins : Extends j.seen log
     pub mine : entries_of number j.number log ≡ j.mine
     pub gone : (w : View E F) × (get_elem? views j.number ≡ some w) × (w.phase ≡ Spent)
 
-  -- of the first seat, which alone splits and joins
+  -- what the first seat, which alone splits and joins, has given and joined
   pub record Rooted (number : E → ℕ) (log : List E) (numbers : ℕ) (views : List (View E F)) : Type 0 where
     pub root : View E F
     pub place : get_elem? views 0 ≡ some root
@@ -97,6 +98,7 @@ module _ {E F : Type 0} where
     pub empty : s.homes ≡ none ∷ []
     pub by_whom : (i : ℕ) × (v : View E F) × (get_elem? s.views i ≡ some v) × HasSlot v.phase
 
+  -- the rule of a turn, at every moment
   pub record Turning {S : Type 0} (history : S → List E) (number : E → ℕ) (fixed : S → F) (plain : F) (s : State (Option S) (View E F)) : Type 0 where
     pub log : List E
     pub served : ℕ

@@ -4,7 +4,7 @@ use Rattle.mt_turn.specs.declared.view.Phase.{Phase}
 use Rattle.mt_turn.specs.declared.view.Phase.TheVariants.{Holds, Spent}
 use Rattle.mt_turn.specs.declared.view.View.{View}
 
--- While it has the turn, a seat has the place of the value, which is empty
+-- `carried_of`, `spent`: the place of the value, which the seat with the turn has, empty; a view that is spent
 abbrev pub carried_of : {E T : Type 0} → Phase E → List (ℕ × Option T)
 carried_of (Holds t lent) = (0, None) ∷ []
 carried_of _ = []

@@ -28,8 +28,8 @@ numbers_text (n ∷ ns) = number_text n.0.now n.1 ++ numbers_text ns
 abbrev pub approval_text : Bool → List ℕ
 approval_text rvsm = codes ",\"rvsm\":" ++ compact_text (boolean rvsm)
 
--- The members of an external flight after its first second, in the byte order of their keys: the gains of its margins, its horizontal
--- margin and its approval; then its other numbers, and the closing bracket.
+-- `external_gains`, `external_middle`, `external_numbers`: an external flight's members after its first second, in the byte order of their keys. The
+-- gains of its margins, its horizontal margin and its approval; then its other numbers, and the closing bracket.
 abbrev pub external_gains : Straight → List ℕ
 external_gains straight = number_text (codes "gr") straight.first.gr ++ number_text (codes "gw") straight.first.gw
 
@@ -48,7 +48,7 @@ external_numbers who straight =
     number_text (codes "y") straight.first.y ++ (
     number_text (codes "z") straight.first.z ++ 125 ∷ []))))))))
 
--- what stands before them
+-- an external flight's members up to its first second
 abbrev pub external_front : List ℕ → ℕ → List ℕ
 external_front call from = codes "{\"call\":\"" ++ (escape call ++ (codes "\",\"do\":\"external\",\"from\":" ++ decimal from))
 
@@ -56,7 +56,8 @@ external_front call from = codes "{\"call\":\"" ++ (escape call ++ (codes "\",\"
 abbrev pub external_text : ℕ → List ℕ → Straight → List ℕ
 external_text who call straight = external_front call straight.from ++ (external_middle straight ++ external_numbers who straight)
 
--- what is told of a flight, in parts: up to its last second; its level and row; its first second and tentative clearance; the version
+-- `flight_front`, `flight_flown`, `flight_marked`, `flight_text`: a flight's view in parts. Up to its last second; its level and row; its first
+-- second and tentative clearance; then the version.
 abbrev pub flight_front : FlightView → List ℕ
 flight_front view =
     codes "{\"call\":\"" ++ (escape view.call ++ (codes "\",\"due\":" ++ (compact_text (boolean view.due) ++ number_text (codes "end") (pos view.end))))
@@ -71,7 +72,7 @@ flight_marked view = (codes ",\"start\":" ++ compact_text (whole (pos view.start
 abbrev pub flight_text : FlightView → List ℕ
 flight_text view = flight_front view ++ (flight_flown view ++ (flight_marked view ++ (codes ",\"version\":" ++ (decimal view.version ++ codes "}\n"))))
 
--- a plan up to its first level, then its level and route, then, after its approval, the rest
+-- `plan_front`, `plan_route`, `plan_back`: a plan in parts. Up to its first level; its level and route; and, after its approval, the rest.
 abbrev pub plan_front : List ℕ → ℕ → ℕ → List ℕ
 plan_front call at from = codes "{\"at\":" ++ (decimal at ++ (codes ",\"call\":\"" ++ (escape call ++ (codes "\",\"do\":\"plan\",\"from\":" ++ decimal from))))
 
@@ -81,8 +82,8 @@ plan_route level route = number_text (codes "level") (pos level) ++ (codes ",\"r
 abbrev pub plan_back : ℕ → List ℕ → List ℕ
 plan_back who kind = codes ",\"type\":\"" ++ (escape kind ++ (codes "\",\"who\":" ++ (decimal who ++ codes "}")))
 
--- a clearance in parts: the callsign, the fix to fly direct to, the second from which it holds, after the command's
--- word, and the level
+-- `call_text`, `fix_text`, `eff_text`, `level_text`: a clearance in parts. The callsign; the fix to fly direct to; the second from which it holds,
+-- after the command's word; and the level.
 abbrev pub call_text : List ℕ → List ℕ
 call_text call = codes "{\"call\":\"" ++ escape call
 
@@ -95,7 +96,8 @@ eff_text front eff = front ++ decimal eff
 abbrev pub level_text : ℕ → List ℕ
 level_text level = number_text (codes "level") (pos level)
 
--- all of it, then the rest of its entry
+-- `clearance_text`, `clear_front`, `tentative_front`, `accept_front`, `who_text`, `probed_text`: a clearance's whole text, and the rest of its entry.
+-- What stands between a clearance's fix and its second, for each of the three commands; who asked; and the version of the probe with who asked.
 abbrev pub clearance_text : List ℕ → List ℕ → Clearance → ℕ → List ℕ
 clearance_text front call (Level level) eff = call_text call ++ (eff_text front eff ++ level_text level)
 clearance_text front call (Direct fix) eff = call_text call ++ (fix_text fix ++ eff_text front eff)
@@ -125,7 +127,7 @@ abbrev pub advised_for : List ℕ → ℕ → ℕ → List ℕ
 advised_for call eff version =
     codes ",\"call\":\"" ++ (escape call ++ (codes "\",\"eff\":" ++ (decimal eff ++ (codes ",\"version\":" ++ (decimal version ++ codes "}\n")))))
 
--- a report up to who sent it, then its position
+-- `report_front`, `report_numbers`, `report_text`: a report up to who sent it, then its position
 abbrev pub report_front : ℕ → List ℕ → ℕ → List ℕ
 report_front who call at =
     codes "{\"at\":" ++ (decimal at ++ (codes ",\"call\":\"" ++ (escape call ++ (codes "\",\"do\":\"report\",\"who\":" ++ decimal who))))
@@ -141,7 +143,7 @@ report_text who call report = report_front who call report.at ++ report_numbers 
 abbrev pub flag_text : Bool → List ℕ → Bool → List ℕ
 flag_text later name holds = if holds then comma_if later ++ (34 ∷ (name ++ 34 ∷ [])) else []
 
--- one such after the other, and the closing bracket
+-- some flags one after the other, and the closing bracket
 abbrev pub flags_text : Bool → List (Bor (List ℕ) × Bool) → List ℕ
 flags_text later [] = 93 ∷ []
 flags_text later (f ∷ fs) = flag_text later f.0.now f.1 ++ flags_text (later || f.1) fs
@@ -155,7 +157,7 @@ verdict_text v =
     flag_text ((v.lateral || v.along) || v.vertical) (codes "aged") v.aged ++ (
     flag_text (((v.lateral || v.along) || v.vertical) || v.aged) (codes "outside") v.outside ++ 93 ∷ []))))
 
--- a withdrawal in parts: whether another than the owner may, after the command's word
+-- `force_text`, `withdraw_text`: a withdrawal in parts: whether another than the owner may, after the command's word
 abbrev pub force_text : Bool → List ℕ
 force_text force = codes "\",\"do\":\"withdraw\",\"force\":" ++ compact_text (boolean force)
 

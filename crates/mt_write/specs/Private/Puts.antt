@@ -4,7 +4,7 @@ use Rattle.std.specs.Prelude.{◌≡◌, ℕ, ◌+◌, ◌<◌, ◌≤◌, List,
 use Rattle.std.specs.Global.{Vec}
 use Rattle.mt_memory.specs.declared.Memory.{Memory}
 
--- The text was put after what stood there, and the room didn't shrink; or there wasn't room enough for the text.
+-- the text was appended, and the room didn't shrink; or there wasn't room enough for it
 abbrev pub Puts : Result ⊤ Memory → Vec ℕ → Vec ℕ → List ℕ → Type 0
 Puts (Ok _) old new text = (new.items ≡ old.items ++ text) × (vec_len new ≡ vec_len old + length text) × (vec_capacity old ≤ vec_capacity new)
 Puts (Err _) old new text = vec_capacity old < vec_len old + length text

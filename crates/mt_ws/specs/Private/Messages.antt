@@ -3,7 +3,7 @@ use Rattle.std.specs.Prelude.{⊤, ℕ, if◌then◌else◌, Option, None, Some,
 use Rattle.tungstenite.specs.declared.message.Message.{Message}
 use Rattle.mt_ws.specs.Messages.{payload_of}
 
--- the same of a message that may be there
+-- the bytes of a data message, if there is one
 abbrev pub bytes_in : Option Message → List ℕ
 bytes_in None = []
 bytes_in (Some message) = payload_of message

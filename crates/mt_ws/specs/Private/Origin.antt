@@ -3,13 +3,14 @@
 use Rattle.std.specs.Prelude.{◌≡◌, ◌≢◌, ◌≤◌, ◌⊎◌, ℕ, List, [], ◌∷◌, ◌++◌, All, Option, None, Some, codes}
 use Rattle.http_header.specs.FieldValue.{FieldValue}
 
+-- `IsScheme`, `IsName`: the scheme of a web page; this machine's name
 abbrev pub IsScheme : List ℕ → Type 0
 IsScheme scheme = (scheme ≡ codes "http://") ⊎ (scheme ≡ codes "https://")
 
 abbrev pub IsName : List ℕ → Type 0
 IsName host = (host ≡ codes "127.0.0.1") ⊎ (host ≡ codes "localhost")
 
--- this machine
+-- `IsHost`, `IsDigit`: this machine; an ASCII digit
 abbrev pub IsHost : List ℕ → Type 0
 IsHost host = IsName host ⊎ (host ≡ codes "[::1]")
 

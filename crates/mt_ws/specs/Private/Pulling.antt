@@ -7,6 +7,7 @@ use Rattle.mt_ws.specs.Messages.{IsData}
 use Rattle.mt_ws.specs.Pulling.{AnswersAfterPings, ClosesSocket, FailsBy}
 
 module _ {S : Type 0} (remaining contents : S → Option (List ℕ)) where
+  -- what a pull gives: a data message, the end, or a fault
   abbrev pub Pulls : Socket S → Socket S → Pulled → Type 0
   Pulls old new (Data m) = IsData m × AnswersAfterPings remaining contents old new (Ok m)
   Pulls old new (End failure) = ClosesSocket remaining contents failure old new
