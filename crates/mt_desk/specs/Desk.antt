@@ -8,22 +8,22 @@ use Rattle.mt_turn.specs.declared.view.Phase.TheVariants.{Idle}
 use Rattle.mt_turn.specs.declared.view.View.{View}
 use Rattle.mt_turn.specs.Seats.{SeatNow}
 
--- A desk: the turn that its seats are of, and the rules and tables, which never change.
+-- a desk's turn, with rules and tables that never change
 pub record Desk : Type 0 where
   pub home : TableId
   pub fixed : Setup
 
--- A seat is one of the desk's, with its rules and tables, and doesn't have the turn.
+-- a seat of the desk, without the turn
 pub record IsSeatOfDesk (d : Desk) (p : SeatNow Entry Setup) : Type 0 where
   pub home_is : p.home ≡ d.home
   pub idle : p.view.phase ≡ Idle
   pub fixed_is : p.view.fixed ≡ Some d.fixed
 
--- what a board tells of a seat
+-- a seat as a board has it
 abbrev pub seat_of : Setup → View Entry Setup → Seat
 seat_of fixed v = record { number = v.number; seen = v.seen; mine = v.mine; fixed = fixed }
 
--- A hand: its desk, and what its seat knows.
+-- a desk, and what its seat knows
 pub record Hand : Type 0 where
   pub desk : Desk
   pub view : View Entry Setup

@@ -9,7 +9,7 @@ use Rattle.mt_grid.specs.declared.placed.Placed.{Placed}
 abbrev pub list_at : List (List Placed) → ℕ → List Placed
 list_at grid cell = slice_index_or grid cell []
 
--- each cell of some stays is one of the grid's
+-- each stay's cell is one of the grid's
 abbrev pub AreInGrid : List Stay → Type 0
 AreInGrid stays = All (λ stay. stay.cell < 4096) stays
 
@@ -17,14 +17,14 @@ AreInGrid stays = All (λ stay. stay.cell < 4096) stays
 abbrev pub placed : ℕ → Stay → Placed
 placed item stay = record { item = item; from = stay.from; to = stay.to }
 
--- with an item at the end of the list of a stay's cell, and of each of some stays
+-- `with_stay`, `with_stays`: the grid with an item added at a stay, and at some
 abbrev pub with_stay : ℕ → List (List Placed) → Stay → List (List Placed)
 with_stay item grid stay = slice_set grid stay.cell (list_at grid stay.cell ++ placed item stay ∷ [])
 
 abbrev pub with_stays : ℕ → List (List Placed) → List Stay → List (List Placed)
 with_stays item grid stays = fold (with_stay item) grid stays
 
--- without an item, in the list of a stay's cell, and of each of some stays
+-- `others`, `without_stay`, `without_stays`: the grid without an item at a stay, and at some
 abbrev pub others : ℕ → List Placed → List Placed
 others item list = filter (λ p. not (nat_eq p.item item)) list
 
@@ -34,7 +34,7 @@ without_stay item grid stay = slice_set grid stay.cell (others item (list_at gri
 abbrev pub without_stays : ℕ → List (List Placed) → List Stay → List (List Placed)
 without_stays item grid stays = fold (without_stay item) grid stays
 
--- an item is that of what is placed: in some second both it and a stay count to their cell
+-- what is placed is this item, in a common second
 pub record IsItemOf (p : Placed) (stay : Stay) (item : ℕ) : Type 0 where
   pub is : p.item ≡ item
   pub common : Overlap stay p.from p.to
@@ -45,7 +45,7 @@ pub record IsNearIn (list : List Placed) (stay : Stay) (item : ℕ) : Type 0 whe
   pub of : Contains list by
   pub item_of : IsItemOf by stay item
 
--- an item shares a cell with some stays, in a common second
+-- an item shares a cell with stays, in a common second
 pub record IsNear (grid : List (List Placed)) (stays : List Stay) (item : ℕ) : Type 0 where
   pub stay : Stay
   pub of : Contains stays stay
@@ -56,25 +56,25 @@ pub record AreNear (grid : List (List Placed)) (stays : List Stay) (items : List
   pub rising : IsStrictlyIncreasing items
   pub same : (item : ℕ) → Contains items item ↔ IsNear grid stays item
 
--- an item was put into the list of a cell for one of some stays
+-- an item was put into a cell's list for a stay
 pub record IsPutBy (item : ℕ) (stays : List Stay) (cell : ℕ) (p : Placed) : Type 0 where
   pub stay : Stay
   pub of : Contains stays stay
   pub there : stay.cell ≡ cell
   pub is : placed item stay ≡ p
 
--- The lists after a put: what was there, and the item for each stay.
+-- a put adds exactly the item for each stay
 abbrev pub PutAdds : Type 0
 PutAdds = (item : ℕ) (grid : List (List Placed)) (stays : List Stay) (cell : ℕ) (p : Placed) → All (λ (stay : Stay). stay.cell < length grid) stays
     → Contains (list_at (with_stays item grid stays) cell) p ↔ (Contains (list_at grid cell) p ⊎ IsPutBy item stays cell p)
 
--- The lists after a take: what was there, but for the item in the cells of the stays.
+-- a take removes exactly the item at the stays
 abbrev pub TakeLeaves : Type 0
 TakeLeaves = (item : ℕ) (grid : List (List Placed)) (stays : List Stay) (cell : ℕ) (p : Placed) → All (λ (stay : Stay). stay.cell < length grid) stays
     → Contains (list_at (without_stays item grid stays) cell) p
     ↔ (Contains (list_at grid cell) p × ((stay : Stay) → Contains stays stay → stay.cell ≡ cell → ¬ (p.item ≡ item)))
 
--- An item whose stays stand in the lists is near each cover that shares a cell with them in a second.
+-- items that share a cell in a second are near
 abbrev pub SharersAreNear : Type 0
 SharersAreNear = (grid : List (List Placed)) (mine theirs : List Stay) (item k : ℕ) → ShareAt mine theirs k
     → ((stay : Stay) → Contains theirs stay → Contains (list_at grid stay.cell) (placed item stay)) → IsNear grid mine item

@@ -8,15 +8,15 @@ use Rattle.mt_write.specs.Entry.{entry_text}
 use Rattle.mt_history.specs.declared.reading.BadHistory.{BadHistory}
 use Rattle.mt_history.specs.declared.reading.BadHistory.TheVariants.{Line, Memory}
 
--- the texts of entries, one after the other; each ends with its 0x0A
+-- the texts of entries, each with its 0x0A
 abbrev pub printed : List Entry → List ℕ
 printed entries = flat_map entry_text entries
 
--- each line, in order, is read as the entry of its place, and there are as many. (Opaque, so that a proof opens no reading.)
+-- each line is read as the entry of its place. There are as many lines as entries. It is opaque, so that a proof opens no reading.
 unfoldable pub AreReadAsEntries : List (List ℕ) → List Entry → Type 0
 AreReadAsEntries lines entries = map entry lines ≡ map Ok entries
 
--- The line at a place, counted from 0, is read as no entry, and each before it as one.
+-- the first line that is no entry
 pub record IsFirstBad (bytes : List ℕ) (place : ℕ) : Type 0 where
   pub line : List ℕ
   pub is : slice_get (lines_of bytes) place ≡ Some line
@@ -25,7 +25,7 @@ pub record IsFirstBad (bytes : List ℕ) (place : ℕ) : Type 0 where
   pub before : List Entry
   pub read : AreReadAsEntries (take place (lines_of bytes)) before
 
--- why bytes are not read: their first line that is no entry, or want of memory
+-- why bytes aren't read: a bad line, or memory
 abbrev pub IsBad : List ℕ → BadHistory → Type 0
 IsBad bytes (Line place) = IsFirstBad bytes place
 IsBad bytes Memory = ⊤

@@ -10,13 +10,12 @@ use Rattle.mt_history.specs.declared.following.FollowNo.TheVariants as no
 use Rattle.mt_history.specs.declared.rebuilding.Wrong.{Wrong}
 use Rattle.mt_history.specs.declared.rebuilding.Wrong.TheVariants.{Illegal, Late, Memory}
 
--- An entry that may be decided anew: its numbers are within their bounds, and its clearance says from when it holds, so that no moment fills
--- that in.
+-- a bounded entry whose clearance says when it holds. So no moment fills that in.
 pub record IsReadyToDecide (e : Entry) : Type 0 where
   pub bounded : IsBoundedCommand e.command
   pub timed : (now : ℕ) → filled now e.command ≡ e.command
 
--- The entries before a place, counted from 0, can be replayed. The one there comes in time, and its command is refused on their state.
+-- the first illegal entry. Those before its place, counted from 0, can be replayed; it comes in time, and its command is refused on their state.
 pub record IsIllegalAt (setup : Setup) (entries : List Entry) (at : ℕ) (refusal : Refusal) : Type 0 where
   pub entry : Entry
   pub is : slice_get entries at ≡ Some entry
@@ -24,20 +23,20 @@ pub record IsIllegalAt (setup : Setup) (entries : List Entry) (at : ℕ) (refusa
   pub in_time : IsInTime at entry.command
   pub refused : IsDecided setup (state_of setup (take at entries)) entry.who entry.command (Err refusal)
 
--- The entries before a place can be replayed. The one there was probed at a version after its place.
+-- the first late entry. Those before it can be replayed; it was probed at a version after its place.
 pub record IsLateAt (setup : Setup) (entries : List Entry) (at : ℕ) : Type 0 where
   pub entry : Entry
   pub is : slice_get entries at ≡ Some entry
   pub before : IsReplayable setup (take at entries)
   pub late : ¬ IsInTime at entry.command
 
--- what is wrong with entries, at the first place where something is; or memory is wanted
+-- what is first wrong with entries, or memory lacks
 abbrev pub IsWrong : Setup → List Entry → Wrong → Type 0
 IsWrong setup entries (Illegal at refusal) = IsIllegalAt setup entries at refusal
 IsWrong setup entries (Late at) = IsLateAt setup entries at
 IsWrong setup entries Memory = ⊤
 
--- why an entry is not put after the history of those before it, as what is wrong at its place
+-- why an entry isn't followed, as what is wrong
 abbrev pub wrong_of : FollowNo → Wrong
 wrong_of (no.Illegal version refusal) = Illegal version refusal
 wrong_of (no.Late version) = Late version

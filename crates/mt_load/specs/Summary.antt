@@ -12,14 +12,14 @@ use Rattle.mt_summary.specs.Sizes.{IsPublishedCount}
 use Rattle.mt_write.specs.Entry.{whole}
 use Rattle.mt_world.specs.World.{World, picture_of, setup_of}
 
--- so many are published of the entries as which the lines of a history, printed, are read
+-- the conflicts of the history printed and read back
 pub record IsCountedAgain (setup : Setup) (history : List Entry) (n : ℕ) : Type 0 where
   pub entries : List Entry
   pub read : AreReadAsEntries (lines_of (printed history)) entries
   pub counted : IsPublishedCount setup entries n
 
--- The summary of a world: how many conflicts are published of its history, and again of the history printed, read back and rebuilt, which is the
--- same number; how many entries there are, and how many flights. (No clause says how many pairs were tested.)
+-- a world's counts of conflicts, again, entries and flights. How many conflicts are published of its history, and again of the history printed, read
+-- back and rebuilt, which is the same number. No clause says how many pairs were tested.
 pub record IsSummary (w : World) (s : Summary) : Type 0 where
   pub conflicts : IsPublishedCount (setup_of w) w.history s.conflicts
   pub again : IsCountedAgain (setup_of w) w.history s.again
@@ -33,7 +33,7 @@ pub record IsLoaded (flights number : ℕ) (s : Summary) : Type 0 where
   pub run : IsLoadRun flights number end
   pub summed : IsSummary end s
 
--- it as an object, its keys in byte order
+-- the summary as an object, keys in byte order
 abbrev pub summary_value : Summary → Data
 summary_value s = object (
     member (codes "again") (whole (pos s.again)) (
@@ -42,6 +42,6 @@ summary_value s = object (
     member (codes "flights") (whole (pos s.flights)) (
     member (codes "tests") (whole (pos s.tests)) no_members)))))
 
--- its line: the object, compact, with 0x0A at its end
+-- the summary's compact line
 abbrev pub summary_text : Summary → List ℕ
 summary_text s = compact_text (summary_value s) ++ 10 ∷ []

@@ -25,7 +25,7 @@ use Rattle.mt_picture.specs.Story.{IsUsable, Story}
 abbrev pub state_now : Story → State
 state_now story = state_of story.setup story.history
 
--- Two trajectories are near each other: they share a cell, with a second in common.
+-- two trajectories share a cell in some second
 pub record AreNearby (rules : Rules) (a b : Trajectory) : Type 0 where
   pub left : Stay
   pub left_of : Contains (cover_of rules a) left
@@ -33,20 +33,20 @@ pub record AreNearby (rules : Rules) (a b : Trajectory) : Type 0 where
   pub right_of : Contains (cover_of rules b) right
   pub meet : Meet left right
 
--- a trajectory of another flight that stands now, near the new one
+-- another flight's current trajectory near the new one
 pub record IsNearNow (story : Story) (mine other : NamedTrajectory) : Type 0 where
   pub stands : Contains (trajectories story.setup (state_now story)) other
   pub apart : other.call ≢ mine.call
   pub near : AreNearby story.setup.rules mine.path other.path
 
--- it was made after version v
+-- one that was made after version v
 pub record IsLaterNow (story : Story) (v : ℕ) (mine other : NamedTrajectory) : Type 0 where
   pub now : IsNearNow story mine other
   pub stamp : ℕ
   pub later : v < stamp
   pub made : IsMadeAt story.setup story.history other stamp
 
--- it was there when the prep was made, and its conflict with the new one over all seconds straddles an edge of the window now
+-- one that a preparation saw, now across an edge. Its conflict with the new one over all seconds straddles an edge of the look-ahead now.
 pub record IsCrossingNow (story : Story) (p : Prepared) (mine other : NamedTrajectory) : Type 0 where
   pub now : IsNearNow story mine other
   pub prepared : Contains (trajectories p.setup p.state) other
@@ -55,7 +55,7 @@ pub record IsCrossingNow (story : Story) (p : Prepared) (mine other : NamedTraje
   pub conflict : IsConflict story.setup.rules mine.path other.path 0 horizon (Some (first, last))
   pub straddling : is_straddling (state_now story).now first last ≡ true
 
--- At most two tests were made for each trajectory of another flight that is near the new one.
+-- at most two tests per nearby trajectory
 pub record WasTestedAnew (story : Story) (mine : NamedTrajectory) (old new : ℕ) : Type 0 where
   pub others : List NamedTrajectory
   pub distinct : AllPairs (λ s t. s ≢ t) others
@@ -64,8 +64,8 @@ pub record WasTestedAnew (story : Story) (mine : NamedTrajectory) (old new : ℕ
   pub within : more ≤ 2 * length others
   pub is : new ≡ raised_by more old
 
--- At most two tests were made for each trajectory of another flight that is near the new one and was made after the prep, and one for each that was
--- there when the prep was made and whose conflict with the new one straddles an edge of the window now. None is counted twice.
+-- few tests, as the preparation is usable. At most two for each nearby trajectory that was made after the preparation, and one for each that was
+-- there when it was made and whose conflict with the new one straddles an edge of the look-ahead now. None is counted twice.
 pub record WasTestedAgain (story : Story) (p : Prepared) (mine : NamedTrajectory) (old new : ℕ) : Type 0 where
   pub later : List NamedTrajectory
   pub later_each : All (IsLaterNow story p.state.version mine) later
@@ -76,8 +76,8 @@ pub record WasTestedAgain (story : Story) (p : Prepared) (mine : NamedTrajectory
   pub within : more ≤ 2 * length later + length crossing
   pub is : new ≡ raised_by more old
 
--- Two trajectories of different flights that stand now, the one of the lesser callsign first, with their conflict over all seconds, which straddles
--- an edge of the window from `now`.
+-- two flights' trajectories in conflict across an edge. They stand now, the one of the lesser callsign first, and their conflict over all seconds
+-- straddles an edge of the look-ahead from `now`.
 pub record IsCrossingPair (story : Story) (now : ℕ) (pair : NamedTrajectory × NamedTrajectory) : Type 0 where
   pub left_stands : Contains (trajectories story.setup (state_now story)) pair.0
   pub right_stands : Contains (trajectories story.setup (state_now story)) pair.1
@@ -87,19 +87,20 @@ pub record IsCrossingPair (story : Story) (now : ℕ) (pair : NamedTrajectory ×
   pub span : IsSpanOfLoss story.setup.rules pair.0.path pair.1.path 0 horizon first last
   pub straddling : is_straddling now first last ≡ true
 
--- One test was made for each of some such pairs, and no other test.
+-- one test per pair across an edge, no other
 pub record WasTestedForTick (story : Story) (now old new : ℕ) : Type 0 where
   pub pairs : List (NamedTrajectory × NamedTrajectory)
   pub distinct : AllPairs (λ p q. p ≢ q) pairs
   pub each : All (IsCrossingPair story now) pairs
   pub is : new ≡ raised_by (length pairs) old
 
--- A new trajectory was tested anew; and where the prep is usable, again.
+-- tested anew, or again where the preparation is usable
 pub record IsWithinBoth (story : Story) (command : Command) (p : Prepared) (mine : NamedTrajectory) (old new : ℕ) : Type 0 where
   pub anew : WasTestedAnew story mine old new
   pub again : IsUsable story command p → WasTestedAgain story p mine old new
 
--- The tests of a command that makes a trajectory, by its prep and the trajectory that it leaves now: none, where it leaves none.
+-- `IsWithinPrep`, `IsWithinPreps`: the tests of a command that makes a trajectory. By its preparation and the trajectory that it leaves now: none,
+-- where it leaves none.
 abbrev pub IsWithinPrep : Story → Command → Option Prepared → Option NamedTrajectory → ℕ → ℕ → Type 0
 IsWithinPrep story command prep None old new = new ≡ old
 IsWithinPrep story command None (Some mine) old new = new ≡ old
@@ -108,12 +109,12 @@ IsWithinPrep story command (Some p) (Some mine) old new = IsWithinBoth story com
 abbrev pub IsWithinPreps : Story → ℕ → Command → Option Prepared → ℕ → ℕ → Type 0
 IsWithinPreps story who command prep old new = IsWithinPrep story command prep (left_made story.setup (state_now story) who command) old new
 
--- The bound of each command:
---   a tick                                    one test for each pair that straddles an edge of its window
+-- each command keeps within its bound of tests. The bounds:
+--   a tick                                    one test for each pair that straddles an edge of its look-ahead
 --   a drop, a report, a withdrawal            none
 --   any other, where it leaves no trajectory  none
 --     where its prep is usable                two for each near trajectory that was made after it, one for each that was there and whose conflict
---                                             straddles an edge of the window now
+--                                             straddles an edge of the look-ahead now
 --     else                                    two for each near trajectory
 abbrev pub IsWithinBound : Story → ℕ → Command → Option Prepared → ℕ → ℕ → Type 0
 IsWithinBound story who (Tick now) prep old new = WasTestedForTick story now old new

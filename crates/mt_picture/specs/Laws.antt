@@ -10,7 +10,7 @@ use Rattle.mt_base.specs.StrikeOut.{Withdrawn, ended_at, history_of, strike_out}
 use Rattle.mt_base.specs.Tables.{Setup}
 use Rattle.mt_base.specs.WhatIf.{AreHits}
 
--- The history ends with the withdrawal of a tentative clearance; without the two it is legal, and the same conflicts are published.
+-- the history without its last withdrawal publishes the same. It ends with the withdrawal of a tentative clearance; without the two it is legal.
 pub record IsRestored (setup : Setup) (h : List Entry) (conflicts : List Conflict) : Type 0 where
   pub withdrawn : Withdrawn
   pub history_is : history_of withdrawn ≡ h
@@ -18,7 +18,7 @@ pub record IsRestored (setup : Setup) (h : List Entry) (conflicts : List Conflic
   pub legal : IsLegal setup (strike_out withdrawn)
   pub published : IsPublished setup (state_of setup (strike_out withdrawn)) conflicts
 
--- A hit of a clearance is none of its hits at the version of its probe, and the version that is named is above that.
+-- a hit that the probe didn't have. The version that is named is above the probe's.
 pub record IsSinceProbe (setup : Setup) (h : List Entry) (call : List ℕ) (clearance : Clearance) (eff probed version : ℕ) (hit : Hit) : Type 0 where
   pub not_then : (hits : List Hit) → AreHits setup (state_of setup (take probed h)) call clearance eff hits → ¬ Contains hits hit
   pub later : probed < version

@@ -8,13 +8,13 @@ use Rattle.mt_base.specs.Picture.{NamedTrajectory, trajectories}
 use Rattle.mt_base.specs.Tables.{Setup}
 use Rattle.mt_probe.specs.Prepared.{MakesStrand, kind_made}
 
--- A command makes a trajectory of that kind, of the flight of that callsign.
+-- a command makes a flight's trajectory of a kind
 pub record Makes (command : Command) (call : List ℕ) (kind : Kind) : Type 0 where
   pub names : call_of command ≡ Some call
   pub makes : MakesStrand command
   pub kind_is : kind_made command ≡ kind
 
--- A trajectory was made by the entry that made version `stamp`, and has stood since.
+-- a trajectory made at version `stamp` stands since
 pub record IsMadeAt (setup : Setup) (h : List Entry) (t : NamedTrajectory) (stamp : ℕ) : Type 0 where
   pub entry : Entry
   pub made : (n : ℕ) → n + 1 ≡ stamp → (slice_get h n ≡ Some entry) × Makes entry.command t.call t.kind

@@ -4,7 +4,7 @@ use Rattle.mt_base.specs.Picture.{State}
 use Rattle.mt_base.specs.Tables.{Setup}
 use Rattle.mt_board.specs.Probing.{Probe}
 
--- A probe with the rules, the tables and the state that it was tried on.
+-- a probe with its rules, tables and state
 pub record PlainTrial : Type 0 where
   pub told : Probe
   pub fixed : Setup

@@ -4,7 +4,7 @@ use Rattle.mt_write.specs.declared.reply.DoneWord.TheVariants as done
 use Rattle.mt_write.specs.declared.reply.Reply.{Reply}
 use Rattle.mt_write.specs.declared.reply.Reply.TheVariants as replies
 
--- `done` of `begin`
+-- the reply that begins the picture
 abbrev pub is_begin : Reply → Bool
 is_begin (replies.Done done.Begin) = true
 is_begin reply = false

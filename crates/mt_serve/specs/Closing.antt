@@ -9,8 +9,8 @@ use Rattle.mt_write.specs.Entry.{whole}
 use Rattle.mt_serve.specs.declared.closing.Closing.{Closing}
 use Rattle.mt_serve.specs.declared.counts.Counts.{Counts}
 
--- The summary of a closed picture and of sessions that were counted: the conflicts published of its history, its entries and its flights; the
--- sessions, those that were faulted, and those that found no memory.
+-- a closed picture's and its sessions' counts. The conflicts published of its history, its entries and its flights; the sessions, those that were
+-- faulted, and those that found no memory.
 pub record IsClosing (closed : Story) (counts : Counts) (c : Closing) : Type 0 where
   pub sizes : Sizes
   pub held : AreSizes closed.setup closed.history sizes
@@ -21,7 +21,7 @@ pub record IsClosing (closed : Story) (counts : Counts) (c : Closing) : Type 0 w
   pub sessions : c.sessions ≡ counts.sessions
   pub starved : c.starved ≡ counts.starved
 
--- it as an object, its keys in byte order
+-- the counts as an object, keys in byte order
 abbrev pub closing_value : Closing → Data
 closing_value c = object (
     member (codes "conflicts") (whole (pos c.conflicts)) (
@@ -31,6 +31,6 @@ closing_value c = object (
     member (codes "sessions") (whole (pos c.sessions)) (
     member (codes "starved") (whole (pos c.starved)) no_members))))))
 
--- its line: the object, compact, with 0x0A at its end
+-- the counts' compact line
 abbrev pub closing_text : Closing → List ℕ
 closing_text c = compact_text (closing_value c) ++ 10 ∷ []

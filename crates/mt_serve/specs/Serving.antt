@@ -12,18 +12,18 @@ use Rattle.mt_turn.specs.Lending.{AreViewsOfOneSeat}
 use Rattle.mt_turn.specs.Seats.{SeatNow}
 use Rattle.mt_workers.specs.Jobs.{Jobs}
 
--- the outbox of a session: with a channel one that tells nothing of its jobs, and none without
+-- a session's outbox, by whether it has a channel. With a channel one whose jobs are unknown, and none without.
 abbrev pub outbox_of : Bool → Option (Option Jobs)
 outbox_of true = Some None
 outbox_of false = None
 
 module _ {L : Type 0} (source : Source.Ghosts L) (sink : Sink.Ghosts L) where
-  -- what is known of a link
+  -- a link's bytes and faults
   abbrev pub link_of : L → Link
   link_of a = record { left = source.left a; held = sink.held a; read_faults = source.faults a; write_faults = sink.faults a }
 
-  -- A session of the link a by the seat `before`, with a channel or without, left the link b and the seat `after`, which is the same seat of the
-  -- same turn and doesn't hold it. Its lines and replies are those of a session by what the seat knew and knows.
+  -- a session of this link and seat ran with this outcome. It had a channel or not; it left the link b and the seat `after`, which is the same seat
+  -- of the same turn and doesn't hold it. Its lines and replies are those of a session by what the seat knew and knows.
   pub record HasServed (a : L) (before : SeatNow Entry Setup) (has_channel : Bool) (b : L) (after : SeatNow Entry Setup) (outcome : Outcome) : Type 0 where
     pub home : after.home ≡ before.home
     pub idle : after.view.phase ≡ Idle

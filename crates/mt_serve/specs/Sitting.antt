@@ -5,13 +5,13 @@ use Rattle.mt_base.specs.Tables.{Setup}
 use Rattle.mt_session.specs.declared.outcome.Outcome.{Outcome}
 use Rattle.mt_turn.specs.Seats.{SeatNow}
 
--- what a session is given: a link, a seat, and a channel for its jobs or none
+-- a session's link, seat, and whether it has a channel
 pub record Start (L : Type 0) : Type 0 where
   pub link : L
   pub seat : SeatNow Entry Setup
   pub has_channel : Bool
 
--- what it was given, and what it gave back
+-- `Met`, `links_of`, `seats_of`, `starts_of`: what a session was given and gave back
 pub record Met (L : Type 0) : Type 0 where
   pub from : Start L
   pub link : L

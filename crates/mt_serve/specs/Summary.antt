@@ -12,7 +12,7 @@ use Rattle.mt_serve.specs.declared.counts.Counts.{Counts}
 use Rattle.mt_serve.specs.Sitting.{Met}
 use Rattle.mt_serve.specs.Tied.{HasServedAll}
 
--- a session that its link ended: a fault, or all bytes that a link may give
+-- a session ended by its link. By a fault, or by all bytes that a link may give.
 abbrev pub is_faulted : Outcome → Bool
 is_faulted Ended = false
 is_faulted ReadFault = true
@@ -20,7 +20,7 @@ is_faulted WriteFault = true
 is_faulted Spent = true
 is_faulted Memory = false
 
--- a session for which there was no memory
+-- a session without memory
 abbrev pub is_starved_session : Outcome → Bool
 is_starved_session Memory = true
 is_starved_session outcome = false
@@ -34,8 +34,8 @@ counted {L} mets = record {
 }
 
 module _ {L : Type 0} (source : Source.Ghosts L) (sink : Sink.Ghosts L) where
-  -- What was served, by the closed picture: its history is legal, by the rules and tables of the picture at first, and it ties all links, which
-  -- the door gave and has back. The counts are those of their sessions.
+  -- the whole service: one legal history ties all links. It is the closed picture's, by the rules and tables of the picture at first; the door gave
+  -- the links and has them back. The counts are those of their sessions.
   pub record HasServedWhole (setup : Setup) (port sessions workers : ℕ) (old new : Count) (still left back now : Option (List L)) (before after : ℕ)
       (faulted : Bool) (picture : Story) (counts : Counts) : Type 0 where
     pub mets : List (Met L)

@@ -13,6 +13,7 @@ use Rattle.mt_serve.specs.Serving.{HasServed}
 use Rattle.mt_serve.specs.Sitting.{HaveNoChannel, Met, links_of, seats_of, starts_of}
 use Rattle.mt_serve.specs.Working.{IsRenewal}
 
+-- `number_of`, `backs_of`: the number of an entry's actor, and links given back
 abbrev pub number_of : Entry → ℕ
 number_of e = e.who
 
@@ -24,8 +25,8 @@ abbrev pub IsSessions : {L : Type 0} → List (Met L) → ℕ → Type 0
 IsSessions {L} mets n = (m : Met L) × Contains mets m × (m.seat.view.number ≡ n)
 
 module _ {L : Type 0} (source : Source.Ghosts L) (sink : Sink.Ghosts L) where
-  -- What one session is to the history: it began with nothing seen and nothing of its own, what it has seen last is a front of the history, and
-  -- the entries of its number in the history are its own.
+  -- one session's part in the history. It began with nothing seen and nothing of its own, what it has seen last is a front of the history, and the
+  -- entries of its number in the history are its own.
   pub record IsInHistory (setup : Setup) (h : List Entry) (m : Met L) : Type 0 where
     pub number : m.seat.view.number ≡ m.from.seat.view.number
     pub fixed : m.from.seat.view.fixed ≡ Some setup
@@ -34,15 +35,16 @@ module _ {L : Type 0} (source : Source.Ghosts L) (sink : Sink.Ghosts L) where
     pub begins : Extends m.seat.view.seen h
     pub mine : entries_of number_of m.seat.view.number h ≡ m.seat.view.mine
 
-  -- The history ties all sessions: they have the numbers 1, 2, 3 and so on, and every entry of another number is a renewal.
+  -- one history holds all sessions' entries and renewals. The sessions have the numbers 1, 2, 3 and so on, and every entry of another number is a
+  -- renewal.
   pub record IsTied (setup : Setup) (h : List Entry) (mets : List (Met L)) : Type 0 where
     pub numbers : numbers_of (seats_of (starts_of mets)) ≡ range_with_len 1 (length mets)
     pub each : All (IsInHistory setup h) mets
     pub others : (e : Entry) → Contains h e → IsSessions mets e.who ⊎ IsRenewal e
 
-  -- The door was asked for a port and so many sessions, and gave that many links, or failed while some were to come. Each was served, and all are
-  -- back, in order; one history ties them. Where the door doesn't listen, no link was given. Of so many workers some were started; where none
-  -- was, no session had a channel.
+  -- the door's links were served, tied by one history. The door was asked for a port and so many sessions, and gave that many links, or failed while
+  -- some were to come. Each was served, and all are back, in order. Where the door doesn't listen, no link was given. Of so many workers some were
+  -- started; where none was, no session had a channel.
   pub record HasServedAll (setup : Setup) (port sessions workers : ℕ) (old new : Count) (still left back now : Option (List L)) (before after : ℕ)
       (faulted : Bool) (h : List Entry) (mets : List (Met L)) : Type 0 where
     pub tied : IsTied setup h mets

@@ -21,12 +21,12 @@ abbrev pub reported : Command → Option (List ℕ)
 reported (Report call report) = Some call
 reported command = None
 
--- it, where the verdict has a flag
+-- a flight, where the verdict has a flag
 abbrev pub due_if : Option (List ℕ) → Option Verdict → Option (List ℕ)
 due_if call None = None
 due_if call (Some verdict) = if is_flagged verdict then call else None
 
--- The flight that is to be renewed once a request, or a line, is answered so: that of a report which is entered with a flag.
+-- `job_by`, `job_if`, `job_of`: the flight to renew after a flagged report. It is entered so, by what a request, or a line, is answered.
 abbrev pub job_by : Request → Entered → Option (List ℕ)
 job_by (requests.Change command) entered = due_if (reported command) entered.verdict
 job_by request entered = None
@@ -39,7 +39,7 @@ abbrev pub job_of : Result (ℕ × Request) Reply → Reply → Option (List ℕ
 job_of (Ok asked_in_role) reply = job_if asked_in_role.1 reply
 job_of (Err refusal) reply = None
 
--- A session, and the outbox beside it, as far as it tells its jobs.
+-- a session, and its outbox's jobs where known
 pub record Standing : Type 0 where
   pub session : Session
   pub jobs : Option Jobs
@@ -48,18 +48,18 @@ pub record Standing : Type 0 where
 abbrev pub TouchesNoJob : Standing → List ℕ → Reply → Standing → Type 0
 TouchesNoJob w line reply next = IsRepliedTo w.session line reply next.session × (next.jobs ≡ w.jobs)
 
--- the session asked to renew a flight, whatever it was answered
+-- the session asked to renew a flight. Whatever it was answered.
 pub record HasAskedToRenew (s : Session) (call : List ℕ) (next : Session) : Type 0 where
   pub result : Result Entered No
   pub seat : Seat
   pub changed : IsChanged s.seat (Renew call) result seat
   pub next_is : next ≡ with_seat s seat
 
--- The outbox took the job; or it gave it back, and the session renewed the flight itself.
+-- the outbox took the job, or the session renewed itself. The outbox then gave the job back.
 abbrev pub IsHanded : List ℕ → Standing → Standing → Type 0
 IsHanded call w next = (TakesJob w.jobs call next.jobs × (next.session ≡ w.session)) ⊎ (GivesBack w.jobs next.jobs × HasAskedToRenew w.session call next.session)
 
--- it is done where there is one
+-- a renewal is handed on, where there is one
 abbrev pub IsRenewalDone : Option (List ℕ) → Standing → Standing → Type 0
 IsRenewalDone None w next = next ≡ w
 IsRenewalDone (Some call) w next = IsHanded call w next

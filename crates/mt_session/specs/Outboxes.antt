@@ -5,6 +5,7 @@ use Rattle.std.specs.Borrow.{MutBor}
 use Rattle.mt_workers.specs.Jobs.{Jobs}
 
 module _ {O : Type 0} (jobs : O → Option Jobs) where
+  -- `outbox_before`, `outbox_after`: an outbox's jobs before and after
   abbrev pub outbox_before : Option (MutBor O) → Option (Option Jobs)
   outbox_before None = None
   outbox_before (Some outbox) = Some (jobs outbox.now)

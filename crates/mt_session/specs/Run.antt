@@ -11,9 +11,9 @@ use Rattle.mt_session.specs.declared.outcome.Outcome.TheVariants.{Ended, ReadFau
 use Rattle.mt_session.specs.Following.{IsFollowed, TouchesNoJob, Standing}
 use Rattle.mt_session.specs.Session.{Session, new_session}
 
--- What an outcome says, by the session at first and at last, of the link's whole input, what was left of it, and what was written. A session
--- is lines answered one by one, up to the one that is answered with a farewell. Memory is wanted only before the first line: then nothing
--- was read and nothing written.
+-- what a session's outcome says of its bytes. By the session at first and at last, of the link's whole input, what was left of it, and what was
+-- written. A session is lines answered one by one, up to the one that is answered with a farewell. Memory is wanted only before the first line: then
+-- nothing was read and nothing written.
 abbrev pub SessionMeans : Standing → Standing → Outcome → List ℕ → List ℕ → List ℕ → Type 0
 SessionMeans start end Ended input left written = AnswersAll reply_text is_farewell TouchesNoJob IsFollowed start input left written end
     ⊎ AnswersToLast reply_text is_farewell TouchesNoJob IsFollowed start input left written end
@@ -24,20 +24,20 @@ SessionMeans start end Spent input left written =
 SessionMeans start end WriteFault input left written = AnswersFront reply_text is_farewell TouchesNoJob IsFollowed start input left written end
 SessionMeans start end Memory input left written = (left ≡ input) × (written ≡ []) × (end ≡ start)
 
--- What is known of a link: the bytes left to read and the bytes written, as far as it tells them, and the counts of its faults.
+-- a link's bytes left, bytes written and fault counts
 pub record Link : Type 0 where
   pub left : Option (List ℕ)
   pub held : Option (List ℕ)
   pub read_faults : ℕ
   pub write_faults : ℕ
 
--- the jobs of an outbox that may be there
+-- the jobs of an outbox that may be missing
 abbrev pub jobs_in : Option (Option Jobs) → Option Jobs
 jobs_in None = Some no_jobs
 jobs_in (Some jobs) = jobs
 
--- The run of a session: of the seat, the link and the outbox, if there is one, before and after it, and its outcome. A fault of the link is
--- the outcome only where its count rose, or stands at its last value.
+-- the run of a session, and its outcome. Of the seat, the link and the outbox, if there is one, before and after it. A fault of the link is the
+-- outcome only where its count rose, or stands at its last value.
 pub record IsSession (seat seat_after : Seat) (link link_after : Link) (outbox outbox_after : Option (Option Jobs)) (outcome : Outcome) : Type 0 where
   pub end : Session
   pub seat_is : end.seat ≡ seat_after
@@ -49,7 +49,7 @@ pub record IsSession (seat seat_after : Seat) (link link_after : Link) (outbox o
   pub read_cause : outcome ≡ ReadFault → Rose link.read_faults link_after.read_faults
   pub write_cause : outcome ≡ WriteFault → Rose link.write_faults link_after.write_faults
 
--- no fault of the outside
+-- no fault of the link
 abbrev pub IsNoLinkFault : Outcome → Type 0
 IsNoLinkFault Ended = Unit {0}
 IsNoLinkFault Spent = Unit {0}

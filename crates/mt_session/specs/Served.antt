@@ -26,17 +26,17 @@ use Rattle.mt_write.specs.declared.reply.Reply.{Reply}
 use Rattle.mt_write.specs.declared.reply.Reply.TheVariants as replies
 use Rattle.mt_session.specs.Session.{Session, asked_in_role, with_seat}
 
--- this is the reply, and this the session after it
+-- this is the reply, and this the session after
 pub record IsReplyGiven (given : Reply) (after : Session) (reply : Reply) (next : Session) : Type 0 where
   pub reply_is : reply ≡ given
   pub next_is : next ≡ after
 
--- why a board gives nothing, as a reply
+-- a board's refusal as a reply
 abbrev pub board_no : No → Reply
 board_no (no.Refused refusal version) = replies.Refused refusal version
 board_no no.Memory = replies.Memory
 
--- what a read is answered
+-- a read's answer as a reply
 abbrev pub read_reply : Result Answer No → Reply
 read_reply (Ok (answers.List conflicts version)) = replies.List conflicts version
 read_reply (Ok (answers.Check conflicts version)) = replies.List conflicts version
@@ -45,26 +45,26 @@ read_reply (Ok (answers.Flight view)) = replies.Flight view
 read_reply (Ok (answers.History entries version)) = replies.History entries version
 read_reply (Err denied) = board_no denied
 
--- The reply tells what was asked for, or its refusal.
+-- the reply to a read
 pub record IsReadAnswered (s : Session) (ask : Ask) (reply : Reply) (next : Session) : Type 0 where
   pub result : Result Answer No
   pub seat : Seat
   pub read : IsRead s.seat ask result seat
   pub given : IsReplyGiven (read_reply result) (with_seat s seat) reply next
 
--- what a command is answered
+-- a command's answer as a reply
 abbrev pub board_reply : Result Entered No → Reply
 board_reply (Ok entered) = replies.Entered entered
 board_reply (Err denied) = board_no denied
 
--- The reply says what came of a command.
+-- the reply to a command
 pub record IsCommanded (s : Session) (command : Command) (reply : Reply) (next : Session) : Type 0 where
   pub result : Result Entered No
   pub seat : Seat
   pub changed : IsChanged s.seat command result seat
   pub given : IsReplyGiven (board_reply result) (with_seat s seat) reply next
 
--- A clearance is tried: a probe is told and put in the book, under the number that the reply names; or it is refused, and the book stays.
+-- `IsTrialInSession`, `IsTriedBy`: the reply to a probe, kept under its number. Where it is refused, the book stays.
 abbrev pub IsTrialInSession : Session → List ℕ → Clearance → Option ℕ → Seat → Result Probe No → Reply → Session → Type 0
 IsTrialInSession s call clearance eff seat (Ok probe) reply next = IsProbed s.seat seat call clearance eff probe
     × IsReplyGiven (replies.Probe probe.hits probe.eff (raised s.book.count) probe.version)
@@ -77,12 +77,12 @@ pub record IsTriedBy (s : Session) (call : List ℕ) (clearance : Clearance) (ef
   pub result : Result Probe No
   pub tried : IsTrialInSession s call clearance eff seat result reply next
 
--- the clearances of probes, each with the number that its probe gets after so many
+-- probes' clearances with their numbers. They begin after so many.
 abbrev pub probe_items_from : ℕ → List Probe → List AdviceItem
 probe_items_from count [] = []
 probe_items_from count (p ∷ ps) = record { clearance = p.clearance; probe = raised count } ∷ probe_items_from (raised count) ps
 
--- Advice: the probes are told by their clearances and put in the book, each under the number that the reply names.
+-- the reply with advice, its probes kept under their numbers
 pub record IsAdvisedTo (s : Session) (call : List ℕ) (reply : Reply) (next : Session) : Type 0 where
   pub seat : Seat
   pub eff : ℕ
@@ -92,32 +92,32 @@ pub record IsAdvisedTo (s : Session) (call : List ℕ) (reply : Reply) (next : S
   pub given : IsReplyGiven (replies.Advice (probe_items_from s.book.count probes) call eff version)
       (record s { book = with_all s.book probes; seat = seat }) reply next
 
--- or its refusal
+-- the refusal of advice
 pub record IsAdviceDenied (s : Session) (call : List ℕ) (reply : Reply) (next : Session) : Type 0 where
   pub seat : Seat
   pub denied : No
   pub not_advised : IsNotAdvised s.seat seat call denied
   pub given : IsReplyGiven (board_no denied) (with_seat s seat) reply next
 
--- a number is refused, at a version that is seen then
+-- a probe number is refused, at a version seen
 pub record IsNumberRefused (s : Session) (refusal : Refusal) (reply : Reply) (next : Session) : Type 0 where
   pub seat : Seat
   pub version : ℕ
   pub seen : HasSeen s.seat seat version
   pub given : IsReplyGiven (replies.Refused refusal version) (with_seat s seat) reply next
 
--- whether there are none
+-- a list is empty
 abbrev pub is_none_listed : {A : Type 0} → List A → Bool
 is_none_listed [] = true
 is_none_listed (x ∷ xs) = false
 
--- What the acceptance of a probe is answered: that the book has none of that number; that it had hits; or what came of it now.
+-- the reply to an acceptance: unknown, not free, or decided. The book has no probe of that number; the probe had hits; or what came of it now.
 abbrev pub IsAcceptanceAnswered : Session → Option Probe → Reply → Session → Type 0
 IsAcceptanceAnswered s None reply next = IsNumberRefused s NoProbe reply next
 IsAcceptanceAnswered s (Some probe) reply next = MatchBool (is_none_listed probe.hits)
     (IsCommanded s (acceptance probe) reply next) (IsNumberRefused s NotFree reply next)
 
--- the reply tells the flights that are left, once those that were due are renewed
+-- the reply to a settling, with the flights still due
 pub record IsSettledBy (s : Session) (reply : Reply) (next : Session) : Type 0 where
   pub seat : Seat
   pub left : List (List ℕ)
@@ -129,8 +129,7 @@ pub record IsSettledBy (s : Session) (reply : Reply) (next : Session) : Type 0 w
 abbrev pub IsNotOfSessions : Session → Reply → Session → Type 0
 IsNotOfSessions s reply next = IsReplyGiven (replies.Form (codes "do")) s reply next
 
--- What a request is answered, and the session after it. `hello` takes a role; the other requests leave it, and only probes and advice change
--- the book.
+-- the reply to a request, and the session after. `hello` takes a role; the other requests leave it, and only probes and advice change the book.
 abbrev pub IsServedInSession : Session → Request → Reply → Session → Type 0
 IsServedInSession s (requests.Hello role) reply next = IsReplyGiven (replies.Hello role) (record s { role = Some role }) reply next
 IsServedInSession s requests.Bye reply next = IsReplyGiven (replies.Done done.Bye) s reply next
@@ -152,17 +151,17 @@ IsServedInSession s requests.Take reply next = IsNotOfSessions s reply next
 IsServedInSession s (requests.Area area) reply next = IsNotOfSessions s reply next
 IsServedInSession s requests.Areas reply next = IsNotOfSessions s reply next
 
--- what is answered of a line that asks for this, and the session after it
+-- the reply to a line by what it asks, or its refusal
 abbrev pub IsAskAnswered : Session → Result (ℕ × Request) Reply → Reply → Session → Type 0
 IsAskAnswered s (Err refusal) reply next = IsReplyGiven refusal s reply next
 IsAskAnswered s (Ok asked_in_role) reply next = IsServedInSession s asked_in_role.1 reply next
 
--- What a request leaves that memory was wanted for: more may have been seen, and settling may have renewed some flights.
+-- what a request without memory leaves of a seat. More may have been seen, and settling may have renewed some flights.
 abbrev pub IsSessionLeft : Request → Seat → Seat → Type 0
 IsSessionLeft requests.Settle = IsNotSettled
 IsSessionLeft request = HasLooked
 
--- The reply is `memory`, and nothing but the seat has changed.
+-- `IsStarvedBy`, `IsLooked`, `IsStarvedInSession`, `IsStarvedOf`: `memory` is the reply, and only the seat may have changed
 pub record IsStarvedBy (Left : Seat → Seat → Type 0) (s : Session) (reply : Reply) (next : Session) : Type 0 where
   pub seat : Seat
   pub left : Left s.seat seat
@@ -178,10 +177,10 @@ abbrev pub IsStarvedOf : Session → Result (ℕ × Request) Reply → Reply →
 IsStarvedOf s (Err refusal) reply next = IsLooked s reply next
 IsStarvedOf s (Ok asked_in_role) reply next = IsStarvedInSession s asked_in_role.1 reply next
 
--- in place of any reply but `long`, `memory` may stand
+-- `memory` may replace any reply but `long`
 abbrev pub SessionWantsMemory : Session → List ℕ → Reply → Session → Type 0
 SessionWantsMemory s line reply next = (length line ≤ 65536) × IsStarvedOf s (asked_in_role s.role line) reply next
 
--- this reply is given to a line of a session, and leaves this session
+-- this line, reply and session after belong together
 abbrev pub IsRepliedTo : Session → List ℕ → Reply → Session → Type 0
 IsRepliedTo s line reply next = IsAskAnswered s (asked_in_role s.role line) reply next ⊎ SessionWantsMemory s line reply next

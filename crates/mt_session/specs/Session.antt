@@ -14,26 +14,26 @@ use Rattle.mt_write.specs.declared.reply.Reply.{Reply}
 use Rattle.mt_write.specs.declared.reply.Reply.TheVariants as replies
 use Rattle.mt_wire.specs.Refused.{or_reply}
 
--- A session: its role, its book of probes, and its seat.
+-- a session's role, book of probes and seat
 pub record Session : Type 0 where
   pub role : Option Role
   pub book : Book Probe
   pub seat : Seat
 
--- as it begins
+-- a session as it begins
 abbrev pub new_session : Seat → Session
 new_session seat = record { role = None; book = empty_book; seat = seat }
 
--- with another seat
+-- a session with another seat
 abbrev pub with_seat : Session → Seat → Session
 with_seat s seat = record s { seat = seat }
 
--- where the lines of a role come from
+-- the sender that a role stands for
 abbrev pub role_sender : Option Role → Sender
 role_sender None = senders.Plain
 role_sender (Some Feed) = senders.Feed
 role_sender (Some Position) = senders.Position
 
--- What a line asks for in a role, or its refusal. (No line of a session sets rules, so none is read by the rules that stand.)
+-- what a line asks in a role, or its refusal. No line of a session sets rules, so none is read by the rules that stand.
 abbrev pub asked_in_role : Option Role → List ℕ → Result (ℕ × Request) Reply
 asked_in_role role line = if nat_lt 65536 (length line) then Err replies.Long else or_reply (read_as (role_sender role) usual_rules line)

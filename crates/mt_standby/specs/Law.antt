@@ -13,7 +13,7 @@ use Rattle.mt_write.specs.Reply.{reply_text}
 use Rattle.mt_standby.specs.Standby.{IsFeedAnswered, fed_line}
 use Rattle.mt_world.specs.World.{World, picture_of, setup_of}
 
--- the reply to a line in whose place no `memory` stands
+-- the reply to a line, not `memory`
 abbrev pub IsToLine : World → List ℕ → Reply → World → Type 0
 IsToLine w line reply next = IsFeedAnswered w (fed_line line) reply next
 
@@ -21,12 +21,12 @@ IsToLine w line reply next = IsFeedAnswered w (fed_line line) reply next
 abbrev pub IsLast : World → List ℕ → Reply → World → World → Type 0
 IsLast w line reply answered next = next ≡ answered
 
--- these bytes answer the lines, in order, and none of them by `memory`
+-- lines are answered in order, none with `memory`
 abbrev pub AreAnswered : World → List (List ℕ) → List ℕ → World → Type 0
 AreAnswered w lines bytes end = answering.AreReplied reply_text is_farewell IsToLine IsLast w lines bytes end
 
--- The setup is the primary's, and no entry was followed yet. The lines are the texts of the first n entries of the primary's history, which can be
--- replayed, and were all answered.
+-- a fresh standby was fed the first n entries. It has the primary's setup, and had followed no entry. The lines are the texts of the first n entries
+-- of the primary's history, which can be replayed, and were all answered.
 pub record FollowFirst (setup : Setup) (primary : List Entry) (n : ℕ) (w : World) (lines : List (List ℕ)) (bytes : List ℕ) (end : World) : Type 0 where
   pub begun : w.begun ≡ true
   pub setup_is : setup_of w ≡ setup
@@ -36,7 +36,7 @@ pub record FollowFirst (setup : Setup) (primary : List Entry) (n : ℕ) (w : Wor
   pub short : All (λ line. length line ≤ 65536) lines
   pub answered : AreAnswered w lines bytes end
 
--- The standby has these n entries, and what is published of it is what the primary published at version n.
+-- the standby publishes what the primary did at version n. It has these n entries.
 pub record HasCaughtUp (setup : Setup) (primary : List Entry) (n : ℕ) (end : World) : Type 0 where
   pub setup_is : setup_of end ≡ setup
   pub history : end.history ≡ take n primary

@@ -14,7 +14,7 @@ use Rattle.mt_write.specs.declared.reply.Reply.TheVariants as replies
 use Rattle.mt_world.specs.World.{IsGiven, IsRefused, IsServed, World, new_actor, picture_of, setup_of}
 use Rattle.mt_wire.specs.Refused.{or_reply}
 
--- a picture as the world of a standby
+-- a picture as a standby's world
 abbrev pub world_of : Story → World
 world_of story = record {
   rules = story.setup.rules;
@@ -25,25 +25,25 @@ world_of story = record {
   actors = replicate 16 new_actor;
 }
 
--- an entry that is an acceptance of a version above the number of entries is late, and changes nothing
+-- an acceptance of a future version is late. It changes nothing.
 pub record IsLate (w : World) (e : Entry) (reply : Reply) (next : World) : Type 0 where
   pub ahead : ¬ IsInTime (length w.history) e.command
   pub refused : IsRefused w (replies.Late (length w.history)) reply next
 
--- One that isn't is illegal where its command, asked for by who made it, is refused on the state of the history; it changes nothing.
+-- an entry that is not what is decided is illegal. Its command, asked for by who made it, is refused on the state of the history; it changes nothing.
 pub record IsIllegal (w : World) (e : Entry) (reply : Reply) (next : World) : Type 0 where
   pub in_time : IsInTime (length w.history) e.command
   pub refusal : Refusal
   pub decided : IsDecided (setup_of w) (picture_of w) e.who e.command (Err refusal)
   pub refused : IsRefused w (replies.Illegal (length w.history) refusal) reply next
 
--- It is entered where it is that which is decided: it is put after the history.
+-- an entry that is what is decided is entered
 pub record IsPut (w : World) (e : Entry) (reply : Reply) (next : World) : Type 0 where
   pub in_time : IsInTime (length w.history) e.command
   pub decided : IsDecided (setup_of w) (picture_of w) e.who e.command (Ok e)
   pub given : IsGiven (replies.Entered (entered_by (setup_of w) (picture_of w) e)) (record w { history = w.history ++ e ∷ [] }) reply next
 
--- what an entry is answered
+-- the reply to an entry: late, illegal, or entered
 abbrev pub IsEntryAnswered : World → Entry → Reply → World → Type 0
 IsEntryAnswered w e reply next = IsLate w e reply next ⊎ (IsIllegal w e reply next ⊎ IsPut w e reply next)
 
@@ -51,18 +51,18 @@ IsEntryAnswered w e reply next = IsLate w e reply next ⊎ (IsIllegal w e reply 
 abbrev pub fed_line : List ℕ → Result FeedLine Reply
 fed_line line = if nat_lt 65536 (length line) then Err replies.Long else or_reply (feed line)
 
--- What is answered of it, and the world after it. What holds is told, and the end is said, as in a script, where it doesn't matter who asks.
+-- the reply to a standby's line, and the world after. Reads and the end are answered as in a script, where it doesn't matter who asks.
 abbrev pub IsFeedAnswered : World → Result FeedLine Reply → Reply → World → Type 0
 IsFeedAnswered w (Err refusal) reply next = IsRefused w refusal reply next
 IsFeedAnswered w (Ok (Followed e)) reply next = IsEntryAnswered w e reply next
 IsFeedAnswered w (Ok (Asked request)) reply next = IsServed w 0 request reply next
 IsFeedAnswered w (Ok Ended) reply next = IsServed w 0 requests.Bye reply next
 
--- In place of any reply but `long`, `memory` may stand; then the line changed nothing.
+-- `memory` may replace any reply but `long`. Then the line changed nothing.
 pub record StandbyWantsMemory (w : World) (line : List ℕ) (reply : Reply) (next : World) : Type 0 where
   pub short : length line ≤ 65536
   pub refused : IsRefused w replies.Memory reply next
 
--- this reply is given to a line of a standby, and leaves this world
+-- this line, reply and world after belong together
 abbrev pub IsStandbyReplied : World → List ℕ → Reply → World → Type 0
 IsStandbyReplied w line reply next = IsFeedAnswered w (fed_line line) reply next ⊎ StandbyWantsMemory w line reply next

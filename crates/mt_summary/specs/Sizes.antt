@@ -7,13 +7,13 @@ use Rattle.mt_base.specs.Picture.{IsPublished}
 use Rattle.mt_base.specs.Tables.{Setup}
 use Rattle.mt_summary.specs.declared.sizes.Sizes.{Sizes}
 
--- so many conflicts are published of the state of a history
+-- how many conflicts a history publishes
 pub record IsPublishedCount (setup : Setup) (history : List Entry) (n : ℕ) : Type 0 where
   pub conflicts : List Conflict
   pub published : IsPublished setup (state_of setup history) conflicts
   pub count : n ≡ length conflicts
 
--- the conflicts published of a history, its entries, and the flights of its state, counted
+-- a history's conflicts, entries and flights, counted
 pub record AreSizes (setup : Setup) (history : List Entry) (s : Sizes) : Type 0 where
   pub conflicts : IsPublishedCount setup history s.conflicts
   pub entries : s.entries ≡ length history

@@ -4,6 +4,6 @@ use Rattle.mt_lines.specs.Given.{is_farewell}
 use Rattle.mt_write.specs.declared.reply.Reply.{Reply}
 use Rattle.mt_script.specs.Begun.{is_begin}
 
--- the reply after which no line is answered where the lines set a picture up: a farewell, or that which begins it
+-- the reply that ends or begins a picture. After it no line is answered where the lines set a picture up.
 abbrev pub ends_opening : Reply → Bool
 ends_opening reply = is_farewell reply || is_begin reply

@@ -5,14 +5,14 @@ use Rattle.mt_load.specs.Summary.{IsLoaded, summary_text}
 use Rattle.mt_top.specs.declared.status.Status.{Status}
 use Rattle.mt_top.specs.declared.status.Status.TheVariants.{Done, WriteFault, Memory}
 
--- the line of the summary of a load run
+-- the summary line of a load run
 pub record IsSummaryLine (flights number : ℕ) (line : List ℕ) : Type 0 where
   pub summary : Summary
   pub loaded : IsLoaded flights number summary
   pub line_is : line ≡ summary_text summary
 
--- What the status of a load run says: nothing was read, and its summary line was written, or a front of it where the output failed. Where
--- memory was wanted nothing was written.
+-- what a load run's status says. Nothing was read, and its summary line was written, or a front of it where the output failed. Where memory was
+-- wanted nothing was written.
 abbrev pub LoadMeans : ℕ → ℕ → Status → List ℕ → List ℕ → List ℕ → Type 0
 LoadMeans flights number Done input left written = (left ≡ input) × IsSummaryLine flights number written
 LoadMeans flights number WriteFault input left written = (left ≡ input) × ((unwritten : List ℕ) × IsSummaryLine flights number (written ++ unwritten))

@@ -9,22 +9,22 @@ use Rattle.mt_top.specs.declared.status.Status.TheVariants.{Done, Usage, Setup, 
 use Rattle.mt_top.specs.Script.{NothingFollows, IsReplied}
 use Rattle.mt_world.specs.World.{World, opening_world, setup_of}
 
--- The input was read to the line that begins the picture, the first that does, and the bytes written answer the lines up to it. The picture has
--- the rules and tables that they set up, and no entry.
+-- the lines up to the one that begins the picture are answered. It is the first that does. The picture has the rules and tables that they set up, and
+-- no entry.
 pub record BeginsPicture (input left written : List ℕ) (picture : Story) : Type 0 where
   pub end : World
   pub answers : answering.AnswersToLast reply_text ends_opening IsReplied NothingFollows opening_world input left written end
   pub begun : end.begun ≡ true
   pub picture_is : picture ≡ record { setup = setup_of end; history = [] }
 
--- No line begins the picture: the input was read to its end, or to a farewell, and the bytes written answer the lines up to there.
+-- no line begins the picture; all are answered. The input was read to its end, or to a farewell.
 pub record EndsUnbegun (input left written : List ℕ) : Type 0 where
   pub end : World
   pub answers : answering.AnswersAll reply_text ends_opening IsReplied NothingFollows opening_world input left written end
       ⊎ answering.AnswersToLast reply_text ends_opening IsReplied NothingFollows opening_world input left written end
   pub unbegun : end.begun ≡ false
 
--- What a status says that comes before the picture has begun, of the whole input, of what is left of it, and of the bytes written.
+-- what a status before the picture begins says. Of the whole input, of what is left of it, and of the bytes written.
 abbrev pub OpeningMeans : Status → List ℕ → List ℕ → List ℕ → Type 0
 OpeningMeans Setup input left written = EndsUnbegun input left written
 OpeningMeans ReadFault input left written = (end : World) × (taken : List ℕ)

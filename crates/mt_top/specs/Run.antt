@@ -21,28 +21,28 @@ use Rattle.mt_world.specs.World.{World, opening_world}
 -- Lines are answered one by one, from the opening world on, up to the one that is answered with a farewell: which reply is given to a line of a
 -- world, and which world that leaves, is said by `HasReply`. At the end there is some world.
 module _ (HasReply : World → List ℕ → Reply → World → Type 0) where
-  -- The input was read to its end, and the bytes written answer all its lines.
+  -- all lines of the input are answered
   abbrev pub AnswersAllLines : List ℕ → List ℕ → List ℕ → Type 0
   AnswersAllLines input left written = (end : World)
       × answering.AnswersAll reply_text is_farewell HasReply NothingFollows opening_world input left written end
 
-  -- The input was read to the line that ends the lines, and the bytes written answer those up to it.
+  -- the lines up to `bye` are answered
   abbrev pub AnswersToBye : List ℕ → List ℕ → List ℕ → Type 0
   AnswersToBye input left written = (end : World)
       × answering.AnswersToLast reply_text is_farewell HasReply NothingFollows opening_world input left written end
 
-  -- Of the input these bytes were taken, and the bytes written answer the lines that are whole in them.
+  -- the whole lines of the bytes taken are answered
   abbrev pub AnswersWholeLines : List ℕ → List ℕ → List ℕ → List ℕ → Type 0
   AnswersWholeLines input left taken written = (end : World)
       × answering.AnswersWhole reply_text is_farewell HasReply NothingFollows opening_world input left taken written end
 
-  -- The bytes written answer the lines that were read of the input, but that the last reply is cut short.
+  -- some first lines are answered, the last reply cut short. More may have been read, whose replies are lost.
   abbrev pub AnswersFrontOfLines : List ℕ → List ℕ → List ℕ → Type 0
   AnswersFrontOfLines input left written = (end : World)
       × answering.AnswersFront reply_text is_farewell HasReply NothingFollows opening_world input left written end
 
-  -- What a status says of the whole input, of what is left of it, and of the bytes written. Memory is wanted only before the first line: then
-  -- nothing was read and nothing written.
+  -- what a status says of the bytes. Of the whole input, of what is left of it, and of the bytes written. Memory is wanted only before the first
+  -- line: then nothing was read and nothing written.
   abbrev pub AnswersMean : Status → List ℕ → List ℕ → List ℕ → Type 0
   AnswersMean Done input left written = AnswersAllLines input left written ⊎ AnswersToBye input left written
   AnswersMean ReadFault input left written = (taken : List ℕ) × AnswersWholeLines input left taken written
@@ -53,27 +53,27 @@ module _ (HasReply : World → List ℕ → Reply → World → Type 0) where
   AnswersMean Setup input left written = ⊥
   AnswersMean DoorFault input left written = ⊥
 
--- what a replay's status says: the lines are those of a script
+-- what a replay's status says. The lines are those of a script.
 abbrev pub ReplayMeans : Status → List ℕ → List ℕ → List ℕ → Type 0
 ReplayMeans = AnswersMean IsReplied
 
--- what a standby's status says: the lines are those of a script up to the one that begins the picture, and from then on those of a standby
+-- what a standby's status says. The lines are those of a script up to the one that begins the picture, and from then on those of a standby.
 abbrev pub StandbyMeans : Status → List ℕ → List ℕ → List ℕ → Type 0
 StandbyMeans = AnswersMean IsStoodBy
 
--- the line that is written where the words are no command
+-- the usage line, for words that are no command
 abbrev pub usage_line : List ℕ
 usage_line = codes "usage: mtcd replay | standby | serve [--port P] [--sessions N] [--workers W] | load [--flights N] [--number X]" ++ 10 ∷ []
 
--- what the status says where they are not: nothing was read, and the usage line was written, or a front of it where the output failed
+-- what the usage status says. Nothing was read, and the usage line was written, or a front of it where the output failed.
 abbrev pub UsageMeans : Status → List ℕ → List ℕ → List ℕ → Type 0
 UsageMeans Usage input left written = (left ≡ input) × (written ≡ usage_line)
 UsageMeans WriteFault input left written = (left ≡ input) × ((unwritten : List ℕ) × (usage_line ≡ written ++ unwritten))
 UsageMeans status input left written = ⊥
 
 module _ {L : Type 0} (source : Source.Ghosts L) (sink : Sink.Ghosts L) (old new : Doorway L) (before now : ℕ) where
-  -- What a run's status says, by what its words ask for; only words that ask to serve call the door. `before` and `now` are what the output counts
-  -- of its faults.
+  -- `TaskMeans`, `RunMeans`: what a run's status says, by its words. Only words that ask to serve call the door. `before` and `now` are what the
+  -- output counts of its faults.
   abbrev pub TaskMeans : Option Task → Status → List ℕ → List ℕ → List ℕ → Type 0
   TaskMeans (Some Replay) status input left written = ReplayMeans status input left written × (new ≡ old)
   TaskMeans (Some Standby) status input left written = StandbyMeans status input left written × (new ≡ old)

@@ -12,26 +12,26 @@ use Rattle.mt_wire.specs.Refused.{or_reply}
 abbrev pub asked : World → List ℕ → Result (ℕ × Request) Reply
 asked w line = if nat_lt 65536 (length line) then Err replies.Long else or_reply (read_as Replay w.rules line)
 
--- what is answered of it, and the world after it
+-- the reply to what a line asks, or its refusal
 abbrev pub IsAnswered : World → Result (ℕ × Request) Reply → Reply → World → Type 0
 IsAnswered w (Err refusal) reply next = IsRefused w refusal reply next
 IsAnswered w (Ok asked) reply next = IsServed w asked.0 asked.1 reply next
 
--- what a line leaves for which there was no memory: the world as it was, but for what settling had renewed
+-- what a line without memory leaves of the world. It is as it was, but for what settling had renewed.
 abbrev pub IsLeftBy : World → Result (ℕ × Request) Reply → World → Type 0
 IsLeftBy w (Ok asked) next = IsWorldLeft w asked.0 asked.1 next
 IsLeftBy w (Err refusal) next = next ≡ w
 
--- In place of any reply but `long`, `memory` may stand; then the line changed nothing, but that settling may have renewed some flights.
+-- `memory` may replace any reply but `long`. Then the line changed nothing, but that settling may have renewed some flights.
 pub record WantsMemory (w : World) (line : List ℕ) (reply : Reply) (next : World) : Type 0 where
   pub short : length line ≤ 65536
   pub reply_is : reply ≡ replies.Memory
   pub left : IsLeftBy w (asked w line) next
 
--- this reply is given to a line of a world, and leaves this world
+-- this line, reply and world after belong together
 abbrev pub IsReplied : World → List ℕ → Reply → World → Type 0
 IsReplied w line reply next = IsAnswered w (asked w line) reply next ⊎ WantsMemory w line reply next
 
--- nothing follows the reply to a line of a script
+-- nothing follows the reply to a line
 abbrev pub NothingFollows : World → List ℕ → Reply → World → World → Type 0
 NothingFollows w line reply answered next = next ≡ answered

@@ -13,20 +13,20 @@ use Rattle.mt_top.specs.Opening.{BeginsPicture, OpeningMeans}
 use Rattle.mt_top.specs.declared.status.Status.{Status}
 use Rattle.mt_top.specs.declared.status.Status.TheVariants.{Done, Usage, Setup, ReadFault, WriteFault, DoorFault, Spent, Memory}
 
--- what is known of a door
+-- a door's counts, links left, links back and faults
 pub record Doorway (L : Type 0) : Type 0 where
   pub count : Count
   pub still : Option (List L)
   pub returned : Option (List L)
   pub faults : ℕ
 
--- the line that sums up a closed picture, and sessions by how they ended
+-- the summary line of a closed picture and its sessions
 pub record IsClosingLine (closed : Story) (counts : Counts) (line : List ℕ) : Type 0 where
   pub closing : Closing
   pub summed : IsClosing closed counts closing
   pub line_is : line ≡ closing_text closing
 
--- what was written of it: all of it; a front of it; all of it, or a front where the output failed
+-- `IsFront`, `IsSummaryWritten`: a front of the summary line was written; all of it, or a front
 abbrev pub IsFront : Story → Counts → List ℕ → Type 0
 IsFront closed counts shown = (rest : List ℕ) × IsClosingLine closed counts (shown ++ rest)
 
@@ -34,8 +34,9 @@ abbrev pub IsSummaryWritten : ℕ → ℕ → Story → Counts → List ℕ → 
 IsSummaryWritten before now closed counts shown = IsClosingLine closed counts shown ⊎ (Rose before now × IsFront closed counts shown)
 
 module _ {L : Type 0} (source : Source.Ghosts L) (sink : Sink.Ghosts L) (port sessions workers : ℕ) (old new : Doorway L) where
-  -- Lines of the input up to the one that begins a picture were answered. Links of the door were served over that picture: one legal history, that
-  -- of the closed picture, ties all that each was sent and answered. What sums it up was written after the answers, as far as `Sums` says.
+  -- the picture began, its links were served, a summary written. Lines of the input up to the one that begins a picture were answered. One legal
+  -- history, that of the closed picture, ties all that each link was sent and answered. What sums it up was written after the answers, as far as
+  -- `Sums` says.
   pub record AreServed (faulted : Bool) (Sums : Story → Counts → List ℕ → Type 0) (input left written : List ℕ) : Type 0 where
     pub picture : Story
     pub opened : List ℕ
@@ -48,11 +49,11 @@ module _ {L : Type 0} (source : Source.Ghosts L) (sink : Sink.Ghosts L) (port se
     pub sums : Sums closed counts shown
     pub written_is : written ≡ opened ++ shown
 
-  -- the picture has begun, and the door wasn't called
+  -- the picture began, and the door wasn't called
   abbrev pub AreUnserved : List ℕ → List ℕ → List ℕ → Type 0
   AreUnserved input left written = (picture : Story) × BeginsPicture input left written picture × (new ≡ old)
 
-  -- What a status says of serving, of the input, of what is left of it, and of the bytes written: before the picture has begun it is that of the
+  -- what a status says of serving. Of the input, of what is left of it, and of the bytes written: before the picture has begun it is that of the
   -- lines so far, and the door wasn't called; nor was it where memory is wanted. `before` and `now` are what the output counts of its faults.
   abbrev pub ServeMeans : ℕ → ℕ → Status → List ℕ → List ℕ → List ℕ → Type 0
   ServeMeans before now Done input left written = AreServed false IsClosingLine input left written

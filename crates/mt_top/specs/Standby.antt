@@ -6,11 +6,11 @@ use Rattle.mt_write.specs.declared.reply.Reply.{Reply}
 use Rattle.mt_top.specs.Script.{IsReplied}
 use Rattle.mt_world.specs.World.{World, setup_of}
 
--- what a line leaves of a script: once its picture has begun, the world of the standby with what was set up
+-- the standby's world once a script's picture begins. It has what was set up.
 abbrev pub opened : World → World
 opened w = if w.begun then world_of (record { setup = setup_of w; history = w.history }) else w
 
--- this reply is given to a line of a standby's world, and leaves this world
+-- this line, reply and standby's world after belong together
 abbrev pub IsStoodBy : World → List ℕ → Reply → World → Type 0
 IsStoodBy w line reply next = MatchBool w.begun
     (standby.IsStandbyReplied w line reply next)

@@ -5,13 +5,13 @@ use Rattle.mt_base.specs.History.{state_of}
 use Rattle.mt_picture.specs.Story.{Story}
 use Rattle.mt_probe.specs.Prepared.{Prepared}
 
--- A story that begins as an earlier one: it has the same rules and tables, and its history is that one's with entries after them.
+-- a story that continues an earlier one. It has the same rules and tables, and its history is that one's with entries after them.
 pub record IsLaterStory (before after : Story) : Type 0 where
   pub same : after.setup ≡ before.setup
   pub entries : List Entry
   pub longer : after.history ≡ before.history ++ entries
 
--- A prep of the story's past: it has the same rules and tables, and its state is that of the first entries, as many as its version says.
+-- a preparation of the story's past. It has the same rules and tables, and its state is that of the first entries, as many as its version says.
 pub record IsOfPast (story : Story) (p : Prepared) : Type 0 where
   pub setup_is : p.setup ≡ story.setup
   pub within : p.state.version ≤ length story.history

@@ -11,7 +11,7 @@ pub record IsSameSeatNow (p q : SeatNow Entry Setup) : Type 0 where
   pub gave : q.view.gave ≡ p.view.gave
   pub joined : q.view.joined ≡ p.view.joined
 
--- the same for a hand, of the same desk
+-- the same hand, of the same desk
 pub record IsSameHand (h k : Hand) : Type 0 where
   pub home : k.desk.home ≡ h.desk.home
   pub fixed : k.desk.fixed ≡ h.desk.fixed

@@ -5,7 +5,7 @@ use Rattle.mt_board.specs.declared.no.No.{No}
 use Rattle.mt_board.specs.Seat.{Seat}
 use Rattle.mt_board.specs.Settling.{AreRenewalsAsked}
 
--- all jobs were
+-- all jobs were done. The seat asked to renew the flight of each, in order.
 pub record HasWorkedAll (left : Option (List (List ℕ))) (s t : Seat) : Type 0 where
   pub calls : List (List ℕ)
   pub all : IfSome left (λ jobs. jobs ≡ calls)

@@ -39,21 +39,20 @@ use Rattle.mt_write.specs.declared.reply.Reply.{Reply}
 use Rattle.mt_write.specs.declared.reply.Reply.TheVariants as replies
 use Rattle.mt_read.specs.Rules.{rules_with}
 
--- whether there are none
+-- a list is empty
 abbrev pub is_empty : {A : Type 0} → List A → Bool
 is_empty [] = true
 is_empty (x ∷ xs) = false
 
--- An actor of a script: how many entries of the history it has taken, and its book of probes.
+-- `Actor`, `new_actor`: a script's actor: entries taken, and book of probes
 pub record Actor : Type 0 where
   pub taken : ℕ
   pub book : Book Probe
 
--- as it is at first
 abbrev pub new_actor : Actor
 new_actor = record { taken = 0; book = empty_book }
 
--- The world of a script: the rules, the tables and the restricted areas, whether the picture has begun, its history, and its sixteen actors.
+-- a script's world: rules, tables, areas, history, sixteen actors. And whether the picture has begun.
 pub record World : Type 0 where
   pub rules : Rules
   pub tables : Tables
@@ -62,11 +61,11 @@ pub record World : Type 0 where
   pub history : List Entry
   pub actors : List Actor
 
--- as it is before the first line
+-- the world before the first line
 abbrev pub opening_world : World
 opening_world = record { rules = usual_rules; tables = no_tables; areas = []; begun = false; history = []; actors = replicate 16 new_actor }
 
--- what its lines before `begin` fix, and the state of its history
+-- `setup_of`, `picture_of`: a world's rules and tables, and its state
 abbrev pub setup_of : World → Setup
 setup_of w = record { rules = w.rules; tables = w.tables }
 
@@ -77,50 +76,50 @@ picture_of w = state_of (setup_of w) w.history
 abbrev pub with_areas : World → List Area → World
 with_areas w areas = record w { areas = areas }
 
--- an actor by its number; the state of the entries that it has taken
+-- `actor_of`, `picture_taken`: an actor, and the state that it has taken
 abbrev pub actor_of : World → ℕ → Actor
 actor_of w who = get_or w.actors who new_actor
 
 abbrev pub picture_taken : World → ℕ → State
 picture_taken w who = state_of (setup_of w) (take (actor_of w who).taken w.history)
 
--- a world with another book of an actor, and with all entries taken by it
+-- `with_book`, `with_all_taken`: a world with an actor's new book, or with all entries taken by it
 abbrev pub with_book : World → ℕ → Book Probe → World
 with_book w who book = record w { actors = slice_set w.actors who (record (actor_of w who) { book = book }) }
 
 abbrev pub with_all_taken : World → ℕ → World
 with_all_taken w who = record w { actors = slice_set w.actors who (record (actor_of w who) { taken = length w.history }) }
 
--- the refusal is the reply, and nothing has changed
+-- this refusal is the reply, nothing changed
 pub record IsRefused (w : World) (refusal reply : Reply) (next : World) : Type 0 where
   pub reply_is : reply ≡ refusal
   pub same : next ≡ w
 
--- this is the reply, and this the world after it
+-- this is the reply, and this the world after
 pub record IsGiven (given : Reply) (after : World) (reply : Reply) (next : World) : Type 0 where
   pub reply_is : reply ≡ given
   pub next_is : next ≡ after
 
--- the reply is what is published of the history, and nothing has changed
+-- the reply is what is published, nothing changed
 pub record IsListAnswered (w : World) (reply : Reply) (next : World) : Type 0 where
   pub conflicts : List Conflict
   pub published : IsPublished (setup_of w) (picture_of w) conflicts
   pub reply_is : reply ≡ replies.List conflicts (length w.history)
   pub same : next ≡ w
 
--- the refusal of a line that adds a fix or a type
+-- why a fix or type is not added, as a reply
 abbrev pub not_added : Reply → AddNo → Reply
 not_added taken add.Taken = taken
 not_added taken add.Bands = replies.Bands
 not_added taken add.Full = replies.TablesFull
 not_added taken add.Memory = replies.Memory
 
--- what such a line is answered: the tables with one name more, or its refusal
+-- a fix or type is added, or refused
 abbrev pub IsAdded : World → Result ⊤ AddNo → DoneWord → Reply → Tables → Reply → World → Type 0
 IsAdded w (Ok _) word taken tables reply next = IsGiven (replies.Done word) (record w { tables = tables }) reply next
 IsAdded w (Err refusal) word taken tables reply next = IsRefused w (not_added taken refusal) reply next
 
--- what a line that adds an area is answered: the areas with one more at the end, or its refusal
+-- `IsAreaGiven`, `IsAreaAdded`: an area is added at the end, or refused
 abbrev pub IsAreaGiven : World → Area → Result ⊤ AreaNo → Reply → World → Type 0
 IsAreaGiven w area (Ok _) reply next = IsGiven (replies.Done done.Area) (with_areas w (w.areas ++ area ∷ [])) reply next
 IsAreaGiven w area (Err area_no.Taken) reply next = IsRefused w (replies.TakenFix area.name) reply next
@@ -133,31 +132,31 @@ pub record IsAreaAdded (w : World) (area : Area) (reply : Reply) (next : World) 
   pub answer : IsAnswer w.areas area result
   pub given : IsAreaGiven w area result reply next
 
--- the reply tells each trajectory of the state of the history that passes through an area in the window, and nothing has changed
+-- the reply is all pierces in the look-ahead, nothing changed
 pub record AreAreasTold (w : World) (reply : Reply) (next : World) : Type 0 where
   pub told : List Pierced
   pub are : ArePierced (setup_of w) (picture_of w) w.areas told
   pub reply_is : reply ≡ replies.Areas told (length w.history)
   pub same : next ≡ w
 
--- what is told of the flight of a callsign, where there is one
+-- the reply is a flight's view, where there is one
 abbrev pub IsFlightTold : World → List ℕ → Option ℕ → Option Record → Reply → World → Type 0
 IsFlightTold w call sec (Some flight) reply next = IsGiven (replies.Flight (view_of (setup_of w) (picture_of w) sec flight)) w reply next
 IsFlightTold w call sec None reply next = IsRefused w (replies.Refused (UnknownCall call) (length w.history)) reply next
 
--- what a decision answers: an entry is put after the history, a refusal changes nothing
+-- the reply to a decision: entered, or refused
 abbrev pub IsOutcome : World → Result Entry Refusal → Reply → World → Type 0
 IsOutcome w (Ok entry) reply next =
     IsGiven (replies.Entered (entered_by (setup_of w) (picture_of w) entry)) (record w { history = w.history ++ entry ∷ [] }) reply next
 IsOutcome w (Err refusal) reply next = IsRefused w (replies.Refused refusal (length w.history)) reply next
 
--- what an actor's command is answered: what is decided of it on the state of the history
+-- the reply to a command, as decided now
 pub record IsCommandAnswered (w : World) (who : ℕ) (command : Command) (reply : Reply) (next : World) : Type 0 where
   pub decision : Result Entry Refusal
   pub decided : IsDecided (setup_of w) (picture_of w) who command decision
   pub outcome : IsOutcome w decision reply next
 
--- the reply carries what would follow from a clearance, or its refusal; a probe that isn't refused is put in the actor's book
+-- the reply with hits, the probe kept; or a refusal
 abbrev pub IsTrialAnswered : World → ℕ → List ℕ → Clearance → ℕ → Result (List Hit) Refusal → Reply → World → Type 0
 IsTrialAnswered w who call clearance eff (Ok hits) reply next =
     IsGiven (replies.Probe hits eff (raised (actor_of w who).book.count) (actor_of w who).taken)
@@ -165,13 +164,14 @@ IsTrialAnswered w who call clearance eff (Ok hits) reply next =
     (record { call = call; clearance = clearance; eff = eff; version = (actor_of w who).taken; hits = hits }))) reply next
 IsTrialAnswered w who call clearance eff (Err refusal) reply next = IsRefused w (replies.Refused refusal (actor_of w who).taken) reply next
 
--- what a probe is answered: what would follow on the state that its actor has taken
+-- the reply to a probe on the state taken. Its actor took it.
 pub record IsProbeAnswered (w : World) (who : ℕ) (call : List ℕ) (clearance : Clearance) (eff : Option ℕ) (reply : Reply) (next : World) : Type 0 where
   pub result : Result (List Hit) Refusal
   pub follows : IsWhatIf (setup_of w) (picture_taken w who) call clearance eff result
   pub tried : IsTrialAnswered w who call clearance (unwrap_or eff (picture_taken w who).now) result reply next
 
--- what the acceptance of a probe is answered: that the book has none of that number, that it had hits, or what is decided of it now
+-- `IsAcceptedOf`, `IsAccepted`: the reply to an acceptance: unknown, not free, or decided. The book has no probe of that number; the probe had hits;
+-- or what is decided of it now.
 abbrev pub IsAcceptedOf : World → ℕ → Option Probe → Reply → World → Type 0
 IsAcceptedOf w who None reply next = IsRefused w (replies.Refused NoProbe (length w.history)) reply next
 IsAcceptedOf w who (Some probe) reply next = MatchBool (is_empty probe.hits)
@@ -181,32 +181,32 @@ IsAcceptedOf w who (Some probe) reply next = MatchBool (is_empty probe.hits)
 abbrev pub IsAccepted : World → ℕ → ℕ → Reply → World → Type 0
 IsAccepted w who number reply next = IsAcceptedOf w who (probe_at (actor_of w who).book number) reply next
 
--- advised clearances, each with the number that its probe gets after so many
+-- advised clearances with their probes' numbers. They begin after so many.
 abbrev pub items_from : ℕ → List Clearance → List AdviceItem
 items_from count [] = []
 items_from count (c ∷ cs) = record { clearance = c; probe = raised count } ∷ items_from (raised count) cs
 
--- The reply carries the advice, each clearance of which is put in the actor's book; or the refusal.
+-- the reply with advice, its probes kept; or a refusal
 abbrev pub IsAdvisedAs : World → ℕ → List ℕ → ℕ → Result (List Clearance) Refusal → Reply → World → Type 0
 IsAdvisedAs w who call eff (Ok advised) reply next =
     IsGiven (replies.Advice (items_from (actor_of w who).book.count advised) call eff (actor_of w who).taken)
     (with_book w who (with_all (actor_of w who).book (map (free_probe call eff (actor_of w who).taken) advised))) reply next
 IsAdvisedAs w who call eff (Err refusal) reply next = IsRefused w (replies.Refused refusal (actor_of w who).taken) reply next
 
--- what is answered where advice is asked for: the advice on the state that its actor has taken
+-- the reply to a request for advice on the state taken
 pub record IsAdviceAnswered (w : World) (who : ℕ) (call : List ℕ) (reply : Reply) (next : World) : Type 0 where
   pub result : Result (List Clearance) Refusal
   pub advice : IsAdvice (setup_of w) (picture_taken w who) call result
   pub told : IsAdvisedAs w who call (picture_taken w who).now result reply next
 
--- what settling is answered: the flights that are due after the renewals of those that were due at first
+-- the reply to a settling, with the flights still due
 pub record IsSettling (w : World) (who : ℕ) (reply : Reply) (next : World) : Type 0 where
   pub history : List Entry
   pub settled : IsSettled (setup_of w) who w.history history
   pub given : IsGiven (replies.Settled (due_calls (state_of (setup_of w) history).records) (length history)) (record w { history = history }) reply next
 
--- What an actor's request is answered, and the world after it. Fixes, types, areas and rules are set and the picture is begun once, at first;
--- `hello` and `bye` are answered always, and the other requests once the picture has begun.
+-- the reply to a request, and the world after. Fixes, types, areas and rules are set and the picture is begun once, at first; `hello` and `bye` are
+-- answered always, and the other requests once the picture has begun.
 abbrev pub IsServed : World → ℕ → Request → Reply → World → Type 0
 IsServed w who (requests.Fix name x y) reply next = MatchBool w.begun (IsRefused w replies.Begun reply next)
     (IsAdded w (judged (fix_adding w.tables name) (tt {0})) done.Fix (replies.TakenFix name)
@@ -243,13 +243,13 @@ IsServed w who requests.Settle reply next = MatchBool w.begun
     (IsSettling w who reply next) (IsRefused w replies.Unbegun reply next)
 IsServed w who requests.Areas reply next = MatchBool w.begun (AreAreasTold w reply next) (IsRefused w replies.Unbegun reply next)
 
--- it asks for areas, or adds one
+-- a request that asks for areas, or adds one
 abbrev pub IsOfAreas : Request → Type 0
 IsOfAreas (requests.Area area) = ⊤
 IsOfAreas requests.Areas = ⊤
 IsOfAreas request = ⊥
 
--- A request that found no memory changed nothing, but that settling may have renewed some of the flights.
+-- `IsSettledSoFar`, `IsWorldLeft`, `IsStarved`: `memory` is the reply; only settling may have renewed some
 pub record IsSettledSoFar (w : World) (who : ℕ) (next : World) : Type 0 where
   pub history : List Entry
   pub part : IsSettledInPart (setup_of w) who w.history history

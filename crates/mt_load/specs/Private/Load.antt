@@ -13,7 +13,7 @@ probes_of w who = (actor_of w who).book.count
 abbrev pub CanBeNamed : AdviceItem → Type 0
 CanBeNamed item = (1 ≤ item.probe) × (item.probe < 2 ^ 63)
 
--- each clearance that a reply advises has one
+-- each clearance that a reply advises has such a number
 abbrev pub HaveProbeNumbers : Reply → Type 0
 HaveProbeNumbers (Advice advice call eff version) = All CanBeNamed advice
 HaveProbeNumbers reply = ⊤

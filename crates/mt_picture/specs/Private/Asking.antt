@@ -18,16 +18,16 @@ pub record AreCandidatesAsked (shot : Shot) (p : Prepared) (known : Bool) (place
   pub near : AreNearCandidates shot mine.path p known xs
   pub rose : RoseUpTo (sum_by (cost (all_places shot.slots) place mine.call shot.now) xs) old new
 
--- or nothing was
+-- the candidates were asked for, or nothing was
 abbrev pub WasAsked : Shot → Prepared → Bool → ℕ → NamedTrajectory → ℕ → ℕ → Type 0
 WasAsked shot p known place mine old new = (new ≡ old) ⊎ AreCandidatesAsked shot p known place mine old new
 
--- the same in some place
+-- the candidates were asked for in some place
 pub record WasAskedOf (shot : Shot) (p : Prepared) (known : Bool) (mine : NamedTrajectory) (old new : ℕ) : Type 0 where
   pub place : ℕ
   pub was : WasAsked shot p known place mine old new
 
--- and of what a command makes of a flight
+-- the candidates of what a command makes of a flight were asked for
 abbrev pub WasAskedFor : Shot → Prepared → Bool → ℕ → Command → ℕ → ℕ → Type 0
 WasAskedFor shot p known who command old new =
     (mine : NamedTrajectory) → left_made shot.setup (state_in_shot shot) who command ≡ Some mine → WasAskedOf shot p known mine old new

@@ -17,8 +17,9 @@ use Rattle.mt_picture.specs.Private.Places.{first_of, place_kind, place_other, s
 use Rattle.mt_picture.specs.Private.Stamps.{HaveStood}
 use Rattle.mt_picture.specs.Private.Known.{IsPreps}
 
--- A flight comes into a slot, an empty one or its own, with a new trajectory of a kind, that of its prep where that is known to be of use; of the
--- other kind it has what it had, or nothing. Each trajectory that was made by the prep's version is one of the prep's state.
+-- a flight with a new trajectory comes into a slot. The slot is empty or its own. The trajectory is that of its preparation where that is known to be
+-- of use; of the other kind it has what it had, or nothing. Each trajectory that was made by the preparation's version is one of the preparation's
+-- state.
 pub record BringsNew (shot : Shot) (slot : ℕ) (f : Flight) (kind : Kind) (p : Prepared) (known : Bool) : Type 0 where
   pub inside : slot < length shot.slots
   pub was : (g : Flight) → flight_at shot slot ≡ Some g → g.card.call ≡ f.card.call
@@ -28,13 +29,13 @@ pub record BringsNew (shot : Shot) (slot : ℕ) (f : Flight) (kind : Kind) (p : 
   pub other : (m : NamedTrajectory) → place_other kind (Some f) ≡ Some m → place_other kind (flight_at shot slot) ≡ Some m
   pub stood : HaveStood shot p
 
--- The change of the kept conflicts where a flight is put into a slot: what stands in its two places then, and the pairs of these.
+-- the change of the kept conflicts where a flight is put into a slot. What stands in its two places then, and the pairs of these.
 pub record IsChangeFor (kept : Watched) (slot : ℕ) (f : Flight) (change : Change) : Type 0 where
   pub first_is : seen change.first ≡ first_of (Some f)
   pub second_is : seen change.second ≡ second_of (Some f)
   pub finds_are : AreFindsOfSlot kept.rules (with_slot kept.places slot (first_of (Some f)) (second_of (Some f))) kept.moment slot change.finds.items
 
--- A command leaves a flight with this record, and the prep is of it: the record is the prep's, where that is known to be of use.
+-- a command leaves a flight with this record, and the preparation is of it. The record is the preparation's, where that is known to be of use.
 pub record IsPreparedNow (shot : Shot) (who : ℕ) (command : Command) (card : Record) (p : Prepared) (known : Bool) : Type 0 where
   pub left : IsLeftByEntry shot.setup (state_in shot) who command card
   pub setup_is : p.setup ≡ shot.setup

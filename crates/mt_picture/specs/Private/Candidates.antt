@@ -14,7 +14,7 @@ use Rattle.mt_probe.specs.declared.flight.Made.{Made}
 use Rattle.mt_probe.specs.Items.{AreNearItems, IsNearItem, kind_at}
 use Rattle.mt_probe.specs.Shot.{Shot, made_of}
 
--- In a place stands the trajectory of that kind of the flight of that callsign, made at that version.
+-- in a place stands that kind of trajectory of that flight, made at that version
 pub record StandsInPlace (slots : List (Option Flight)) (place : ℕ) (call : List ℕ) (kind : Kind) (stamp : ℕ) : Type 0 where
   pub flight : Flight
   pub made : Made
@@ -24,7 +24,7 @@ pub record StandsInPlace (slots : List (Option Flight)) (place : ℕ) (call : Li
   pub made_is : made_of flight kind ≡ Some made
   pub stamp_is : made.stamp ≡ stamp
 
--- a candidate with what was found, in the place where that stands, made by that version
+-- a find's candidate, in the place where its trajectory stands, made by that version
 pub record IsStill (slots : List (Option Flight)) (version : ℕ) (found : Found) (x : Candidate) : Type 0 where
   pub stamp : ℕ
   pub stands : StandsInPlace slots x.place found.call found.kind stamp
@@ -37,7 +37,7 @@ pub record IsStillOne (slots : List (Option Flight)) (version : ℕ) (finds : Li
   pub held : Contains finds found
   pub is : IsStill slots version found x
 
--- Of these finds those that stand, made by that version, each once, with what was found.
+-- of these finds those that stand, made by that version, each once, with what was found
 pub record AreStill (slots : List (Option Flight)) (version : ℕ) (finds : List Found) (xs : List Candidate) : Type 0 where
   pub sound : (x : Candidate) → Contains xs x → IsStillOne slots version finds x
   pub complete : (found : Found) (place stamp : ℕ) → Contains finds found → StandsInPlace slots place found.call found.kind stamp → stamp ≤ version
@@ -52,21 +52,21 @@ pub record IsMadeSince (slots : List (Option Flight)) (version place : ℕ) : Ty
   pub stands : StandsInPlace slots place call kind stamp
   pub later : version < stamp
 
--- Some places with others, where what stands was made after that version: with that of this kind of this flight, if that is one.
+-- some places with others, where what stands was made after that version. With that of this kind of this flight, if that is one.
 pub record AreLaterMore (slots : List (Option Flight)) (version : ℕ) (call : List ℕ) (kind : Kind) (old new : List ℕ) : Type 0 where
   pub kept : (place : ℕ) → Contains old place → Contains new place
   pub sound : (place : ℕ) → Contains new place → Contains old place ⊎ IsMadeSince slots version place
   pub named : (place stamp : ℕ) → StandsInPlace slots place call kind stamp → version < stamp → Contains new place
   pub once : AllPairs (λ i j. i ≢ j) old → AllPairs (λ i j. i ≢ j) new
 
--- with those of both kinds of this flight
+-- the same, with both kinds of this flight
 pub record AreFlightMore (slots : List (Option Flight)) (version : ℕ) (call : List ℕ) (old new : List ℕ) : Type 0 where
   pub kept : (place : ℕ) → Contains old place → Contains new place
   pub sound : (place : ℕ) → Contains new place → Contains old place ⊎ IsMadeSince slots version place
   pub named : (kind : Kind) (place stamp : ℕ) → StandsInPlace slots place call kind stamp → version < stamp → Contains new place
   pub once : AllPairs (λ i j. i ≢ j) old → AllPairs (λ i j. i ≢ j) new
 
--- Places where what stands was made after that version, each once: with those of all flights that the entries from there until `end` name.
+-- the places where what stands was made after that version, each once. With those of all flights that the entries from there until `end` name.
 pub record AreLater (slots : List (Option Flight)) (h : List Entry) (version end : ℕ) (places : List ℕ) : Type 0 where
   pub sound : (place : ℕ) → Contains places place → IsMadeSince slots version place
   pub named : (n : ℕ) (entry : Entry) (call : List ℕ) (kind : Kind) (place stamp : ℕ) → version ≤ n → n < end → slice_get h n ≡ Some entry

@@ -5,13 +5,13 @@ use Rattle.mt_base.specs.declared.command.Command.{Command}
 use Rattle.mt_base.specs.declared.command.Command.TheVariants.{Plan, External, Renew, Clear, Accept, Tentative, Withdraw, Commit}
 use Rattle.mt_base.specs.declared.command.Command.TheVariants as commands
 
--- it files a flight
+-- a command files a flight
 abbrev pub IsFiling : Command → Type 0
 IsFiling (Plan call kind route at from level rvsm) = ⊤
 IsFiling (External call straight) = ⊤
 IsFiling command = ⊥
 
--- it makes a trajectory of a flight that is there
+-- a command makes a trajectory of a flight that is there
 abbrev pub IsRemaking : Command → Type 0
 IsRemaking (Renew call) = ⊤
 IsRemaking (Clear call clearance eff) = ⊤
@@ -20,7 +20,7 @@ IsRemaking (Tentative call clearance eff) = ⊤
 IsRemaking (Commit call) = ⊤
 IsRemaking command = ⊥
 
--- it is a report; it withdraws a tentative clearance; it accepts what was probed
+-- `IsReport`, `IsWithdrawal`, `is_probed`: a report; a withdrawal of a tentative clearance; an acceptance of what was probed
 abbrev pub IsReport : Command → Type 0
 IsReport (commands.Report call report) = ⊤
 IsReport command = ⊥

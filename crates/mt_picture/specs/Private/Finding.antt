@@ -7,7 +7,7 @@ use Rattle.mt_kept.specs.declared.open_pair.OpenPair.{OpenPair}
 use Rattle.mt_kept.specs.Finds.{Agree, AreFindsAt}
 use Rattle.mt_kept.specs.Places.{at}
 
--- They are those of that place after each change that leaves this there, and the places of other flights as they are.
+-- these are a place's finds after each change that leaves its trajectory there. And the places of other flights as they are.
 abbrev pub AreFindsFor : Rules → List (Option NamedTrajectory) → ℕ → ℕ → Option NamedTrajectory → List OpenPair → Type 0
 AreFindsFor rules places now place mine finds = (after : List (Option NamedTrajectory)) → at after place ≡ mine
     → ((m : NamedTrajectory) → mine ≡ Some m → Agree places after place m) → AreFindsAt rules after now place finds

@@ -14,7 +14,7 @@ abbrev pub conflict_hit : List ℕ → Option Conflict → Option Hit
 conflict_hit call None = None
 conflict_hit call (Some c) = Some (record { first = c.first; with = if bytes_eq c.a call then c.b else c.a; last = c.last })
 
--- both trajectories are flown, and the pair is open
+-- `is_flown`, `pair_hit`: both trajectories are actual; the hit of an open pair of such
 abbrev pub is_flown : OpenPair → Bool
 is_flown o = nat_eq (o.edge.a % 2) 0 && nat_eq (o.edge.b % 2) 0
 
@@ -32,7 +32,7 @@ pub record AreHitsAmong (finds : List OpenPair) (call : List ℕ) (now : ℕ) (h
   pub members : (hit : Hit) → Contains hits hit ↔ IsHitOfOnePair finds call now hit
   pub sorted : IsStrictlySortedBy hit_cmp hits
 
--- the first of them
+-- the first hit of some finds
 pub record IsFirstAmong (finds : List OpenPair) (call : List ℕ) (now : ℕ) (first : Option Hit) : Type 0 where
   pub hits : List Hit
   pub all : AreHitsAmong finds call now hits

@@ -13,13 +13,13 @@ use Rattle.mt_probe.specs.Shot.{state_in_shot as state_in}
 use Rattle.mt_picture.specs.Private.Putting.{history_after}
 use Rattle.mt_picture.specs.Story.{Story}
 
--- What a picture holds, as its functions see it: the snapshot now, the history, and what is kept.
+-- what a picture holds: the snapshot now, the history, and the kept conflicts
 pub record Holding : Type 0 where
   pub snapshot : Shot
   pub history : List Entry
   pub kept : Watched
 
--- what callers see of that
+-- a picture's holding as callers see it
 abbrev pub held_story : Holding → Story
 held_story holding = record { setup = holding.snapshot.setup; history = holding.history }
 
@@ -35,22 +35,22 @@ entry_now shot who command = record { who = who; command = filled shot.now comma
 abbrev pub story_after : Story → Entry → Option Hit → Story
 story_after story entry first = record { setup = story.setup; history = history_after story.history entry first }
 
--- The entry was added, or a hit stopped it; where memory was wanted, all that callers see is as it was.
+-- the entry was added, or a hit stopped it. Where memory lacked, all that callers see is as it was.
 abbrev pub AddsOrStops : {E : Type 0} → Holding → Holding → Entry → Result (Option Hit) E → Type 0
 AddsOrStops before after entry result =
     MatchResult result (λ first. held_story after ≡ story_after (held_story before) entry first) (λ err. held_story after ≡ held_story before)
 
--- The entry was added; where memory was wanted, all that callers see is as it was.
+-- the entry was added. Where memory lacked, all that callers see is as it was.
 abbrev pub AddsEntry : {T E : Type 0} → Holding → Holding → Entry → Result T E → Type 0
 AddsEntry before after entry result =
     MatchResult result (λ done. held_story after ≡ story_after (held_story before) entry None) (λ err. held_story after ≡ held_story before)
 
--- A command has entered; or it has stopped at its first hit, where it was probed and has one, and all that callers see is as it was.
+-- a command has entered, or has stopped at its first hit. It was probed and has one, and all that callers see is as it was.
 pub record HasEnteredOrStopped (before after : Holding) (who : ℕ) (command : Command) (first : Option Hit) : Type 0 where
   pub story : held_story after ≡ story_after (held_story before) (entry_now before.snapshot who command) first
   pub hits : IsFirstHit before.snapshot.setup (state_in before.snapshot) command first
 
--- It has; where memory was wanted, all that callers see is as it was.
+-- a command has entered or stopped. Where memory lacked, all that callers see is as it was.
 abbrev pub EntersOrStops : {E : Type 0} → Holding → Holding → ℕ → Command → Result (Option Hit) E → Type 0
 EntersOrStops before after who command result =
     MatchResult result (HasEnteredOrStopped before after who command) (λ err. held_story after ≡ held_story before)

@@ -19,7 +19,7 @@ use Rattle.mt_probe.specs.Prepared.{Prepared}
 use Rattle.mt_probe.specs.Shot.{Shot, made_of}
 use Rattle.mt_picture.specs.Private.Places.{all_places, made_of_kind}
 
--- A new trajectory is the prep's, where the prep is known to be of use.
+-- a new trajectory is the preparation's, where that is known to be of use
 abbrev pub IsPreps : Prepared → Bool → Trajectory → Type 0
 IsPreps p known mine = known ≡ true → mine ≡ p.strand
 
@@ -28,23 +28,23 @@ abbrev pub IsRightAt : Prepared → Bool → Option Flight → Kind → Knowledg
 IsRightAt p known slot kind knowledge = (f : Flight) (made : Made) (mine : NamedTrajectory) → slot ≡ Some f → made_of f kind ≡ Some made
     → f.card.call ≢ p.card.call → IsPreps p known mine.path → IsRight p.setup.rules mine (made_of_kind f kind made) knowledge
 
--- the trajectory of a kind of the flight at a place was made after the prep
+-- that trajectory was made after the preparation
 abbrev pub IsLaterAt : Prepared → Option Flight → Kind → Type 0
 IsLaterAt p slot kind = (f : Flight) (made : Made) → slot ≡ Some f → made_of f kind ≡ Some made → p.state.version < made.stamp
 
--- it was made before it
+-- that trajectory was made before it
 abbrev pub IsEarlierAt : Prepared → Option Flight → Kind → Type 0
 IsEarlierAt p slot kind = (f : Flight) (made : Made) → slot ≡ Some f → made_of f kind ≡ Some made → made.stamp ≤ p.state.version
 
--- What is known of a candidate is right, and the candidate was made before the prep; where nothing is known of it though the prep is of use, it
--- was made after the prep.
+-- what is known of a candidate made before the preparation is right. Where nothing is known of it though the preparation is of use, it was made
+-- after.
 pub record IsKnown (p : Prepared) (known : Bool) (slots : List (Option Flight)) (x : Candidate) : Type 0 where
   pub right : IsRightAt p known (get_or slots (x.place / 2) None) (kind_at x.place) x.knowledge
   pub earlier : (span : Option (ℕ × ℕ)) → x.knowledge ≡ Known span → IsEarlierAt p (get_or slots (x.place / 2) None) (kind_at x.place)
   pub later : known ≡ true → x.knowledge ≡ Unknown → IsLaterAt p (get_or slots (x.place / 2) None) (kind_at x.place)
 
--- The candidates of a trajectory: each is near it and is listed once, with what is known of it. What stands of another flight and has a loss second
--- with it is one.
+-- the candidates of a trajectory, each near it, listed once, with what is known of it. What stands of another flight and has a loss second with it is
+-- one.
 pub record AreNearCandidates (shot : Shot) (t : Trajectory) (p : Prepared) (known : Bool) (xs : List Candidate) : Type 0 where
   pub near : (x : Candidate) → Contains xs x → IsNearItem shot (cover_of shot.setup.rules t) x.place
   pub known_is : (x : Candidate) → Contains xs x → IsKnown p known shot.slots x

@@ -18,7 +18,7 @@ use Rattle.mt_probe.specs.Shot.{made_of}
 abbrev pub made_of_kind : Flight → Kind → Made → NamedTrajectory
 made_of_kind f kind made = record { call = f.card.call; kind = kind; path = arc_value made.strand }
 
--- what the two places of a slot have
+-- `first_of`, `second_of`: what the two places of a slot have
 abbrev pub first_of : Option Flight → Option NamedTrajectory
 first_of None = None
 first_of (Some f) = Some (made_of_kind f Actual f.actual)
@@ -27,7 +27,8 @@ abbrev pub second_of : Option Flight → Option NamedTrajectory
 second_of None = None
 second_of (Some f) = option_map (made_of_kind f Tentative) f.mark
 
--- what the place of a kind has, and that of the other kind
+-- `place_kind`, `place_other`, `places_of`, `all_places`: what the place of a kind has, and that of the other; both places of a slot, and of all
+-- slots
 abbrev pub place_kind : Kind → Option Flight → Option NamedTrajectory
 place_kind Actual slot = first_of slot
 place_kind Tentative slot = second_of slot
@@ -52,7 +53,7 @@ abbrev pub stamped_at : Kind → Option Flight → Option (NamedTrajectory × �
 stamped_at kind None = None
 stamped_at kind (Some f) = stamped f kind (made_of f kind)
 
--- of a kind a flight has what the slot had, or what that command makes at that version, or nothing
+-- of a kind a flight has what the slot had, what that command makes at that version, or nothing
 abbrev pub IsNewOrStays : Option Flight → ℕ → Command → Flight → Kind → Type 0
 IsNewOrStays old version command f kind =
     ((made : Made) → made_of f kind ≡ Some made → (made.stamp ≡ version) × MakesStrand command × (kind_made command ≡ kind))

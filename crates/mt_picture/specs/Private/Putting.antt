@@ -20,8 +20,8 @@ use Rattle.mt_probe.specs.Putting.{Fits, records_put}
 use Rattle.mt_probe.specs.Shot.{Shot, flight_at, records_in}
 use Rattle.mt_picture.specs.Private.Places.{IsNewOrStays, stamped_at}
 
--- The entry names the flight and leaves it in the slot, which was empty or its own: it fits there, the records with it are those that the entry
--- leaves, and each of its trajectories is made now or stays with its stamp.
+-- the entry leaves this flight in the slot, which was empty or its own. It fits there, the records with it are those that the entry leaves, and each
+-- of its trajectories is made now or stays with its stamp.
 pub record IsFlightPut (shot : Shot) (slot : ℕ) (f : Flight) (e : Entry) : Type 0 where
   pub inside : slot < length shot.slots
   pub fits : Fits shot slot f
@@ -50,7 +50,7 @@ RestIs (Tentative call clearance eff) old f = stamped_at kinds.Actual (Some f) �
 RestIs (Commit call) old f = f.mark ≡ None
 RestIs command old f = stamped_at kinds.Tentative (Some f) ≡ stamped_at kinds.Tentative old
 
--- A flight with a new trajectory, of the kind that the command makes, in the place of the old one.
+-- a flight with a new trajectory, of the kind that the command makes, in the place of the old one
 pub record IsRemade (old : Option Flight) (version : ℕ) (command : Command) (card : Record) (t : Trajectory) (f : Flight) : Type 0 where
   pub card_is : f.card ≡ card
   pub filed_is : Some f.filed ≡ option_map (λ g. g.filed) old
@@ -58,7 +58,7 @@ pub record IsRemade (old : Option Flight) (version : ℕ) (command : Command) (c
   pub stamp : stamped_at (kind_made command) (Some f) ≡ Some (record { call = card.call; kind = kind_made command; path = t }, version)
   pub rest : RestIs command old f
 
--- A flight with this record and all else that the old one has.
+-- a flight with this record and all else that the old one has
 pub record IsKeptFlight (old : Option Flight) (card : Record) (f : Flight) : Type 0 where
   pub card_is : f.card ≡ card
   pub filed_is : Some f.filed ≡ option_map (λ g. g.filed) old

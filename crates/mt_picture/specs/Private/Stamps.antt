@@ -20,8 +20,8 @@ abbrev pub AreStamped : Setup → List Entry → List (Option Flight) → Type 0
 AreStamped setup h slots = (i : ℕ) (f : Flight) (kind : Kind) (made : Made) → get_or slots i None ≡ Some f → made_of f kind ≡ Some made
     → IsMadeAt setup h (made_of_kind f kind made) made.stamp
 
--- The snapshot stands for the state of the history, whose entries are complete; each trajectory has stood since its stamp, and what is kept is kept
--- of the snapshot's places.
+-- what every picture keeps. The snapshot stands for the state of the history, whose entries are complete; each trajectory has stood since its stamp,
+-- and what is kept is kept of the snapshot's places.
 pub record IsPicture (shot : Shot) (h : List Entry) (kept : Watched) : Type 0 where
   pub stands : state_in shot ≡ state_of shot.setup h
   pub stamped : AreStamped shot.setup h shot.slots
@@ -31,7 +31,7 @@ pub record IsPicture (shot : Shot) (h : List Entry) (kept : Watched) : Type 0 wh
   pub moment_is : kept.moment ≡ shot.now
   pub places_are : kept.places ≡ all_places shot.slots
 
--- each trajectory that was made by the prep's version is one of the prep's state
+-- each trajectory that was made by the preparation's version is one of its state
 abbrev pub HaveStood : Shot → Prepared → Type 0
 HaveStood shot p = (i : ℕ) (f : Flight) (kind : Kind) (made : Made) → flight_at shot i ≡ Some f → made_of f kind ≡ Some made
     → made.stamp ≤ p.state.version → Contains (trajectories p.setup p.state) (made_of_kind f kind made)

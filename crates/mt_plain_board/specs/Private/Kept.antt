@@ -15,14 +15,14 @@ use Rattle.mt_board.specs.Short.{AreShortHits}
 use Rattle.mt_change.specs.Sound.{IsSoundState}
 use Rattle.mt_plain_board.specs.Kept.{PlainTrial}
 
--- The state is that of the history, which is legal, and sound for the rules and tables; the rules are within their bounds.
+-- the state is that of the history, which is legal, and sound for the rules and tables. The rules are within their bounds.
 pub record IsStateKept (fixed : Setup) (history : List Entry) (state : State) : Type 0 where
   pub rules : AreWithinBounds fixed.rules
   pub legal : IsLegal fixed history
   pub state_is : state ≡ state_of fixed history
   pub sound : IsSoundState fixed state
 
--- its hits are those on that state, whose version it names, and its numbers are within their bounds
+-- a probe's hits are those on its version's state, and its numbers are bounded
 pub record IsKeptProbe (t : PlainTrial) : Type 0 where
   pub follows : IsWhatIf t.fixed t.state t.told.call t.told.clearance (Some t.told.eff) (Ok t.told.hits)
   pub version_is : t.told.version ≡ t.state.version
@@ -31,7 +31,7 @@ pub record IsKeptProbe (t : PlainTrial) : Type 0 where
   pub counted : t.told.version ≤ 4194304
   pub short : AreShortHits t.told.hits
 
--- what is told of a history at its version, and why nothing is
+-- `IsToldOf`, `IsNotToldOf`: what a history's version answers, and why nothing is
 pub record IsToldOf (fixed : Setup) (h : List Entry) (asked : Ask) (answer : Answer) : Type 0 where
   pub told : IsTold fixed h asked answer
   pub version_is : version_of answer ≡ length h

@@ -17,7 +17,7 @@ use Rattle.mt_serve.specs.Tied.{backs_of}
 use Rattle.mt_serve.specs.Private.Tied.{AreOver, ends_of, gave_back}
 use Rattle.mt_serve.specs.Private.Working.{IsRested, Worked, rests_of}
 
--- the first seats of a list are joined, and others are left
+-- `JoinsSeats`, `JoinsWorkers`, `JoinsSessions`: the first seats of a list are joined, and others are left; so for workers, and for sessions
 pub record JoinsSeats (desk : Desk) (v w : View Entry Setup) (all rest : List (SeatNow Entry Setup)) : Type 0 where
   pub past : List (SeatNow Entry Setup)
   pub parts : all ≡ past ++ rest

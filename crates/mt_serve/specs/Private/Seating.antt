@@ -11,7 +11,7 @@ use Rattle.mt_turn.specs.Seats.{SeatNow}
 use Rattle.mt_turn.specs.Views.{joined_as, first_view}
 use Rattle.mt_serve.specs.Seating.{numbers_of}
 
--- a seat that was split off a first seat which knew v, and that did nothing yet
+-- `IsNewSeat`, `views_of`: a seat just split off, which did nothing yet; what some seats know. The first seat knew v then.
 pub record IsNewSeat (desk : Desk) (v : View Entry Setup) (s : SeatNow Entry Setup) : Type 0 where
   pub ready : IsSeatOfDesk desk s
   pub seen : s.view.seen ≡ v.seen
@@ -20,7 +20,8 @@ pub record IsNewSeat (desk : Desk) (v : View Entry Setup) (s : SeatNow Entry Set
 abbrev pub views_of : List (SeatNow Entry Setup) → List (View Entry Setup)
 views_of seats = map (λ (s : SeatNow Entry Setup). s.view) seats
 
--- These seats were split off the first one, which knew v and knows w now. Their numbers follow those that it gave before.
+-- `HasSplit`, `joined_of`: these seats were split off the first one; what is remembered of joined seats. The first one knew v and knows w now; their
+-- numbers follow those that it gave before.
 pub record HasSplit (desk : Desk) (v w : View Entry Setup) (seats : List (SeatNow Entry Setup)) : Type 0 where
   pub number : w.number ≡ v.number
   pub seen : w.seen ≡ v.seen
@@ -34,7 +35,7 @@ pub record HasSplit (desk : Desk) (v w : View Entry Setup) (seats : List (SeatNo
 abbrev pub joined_of : List (View Entry Setup) → List (Joined Entry)
 joined_of views = map joined_as views
 
--- seats that knew these views were joined into the first one, which knew v and knows w now
+-- seats that knew these views were joined into the first one. It knew v and knows w now.
 pub record HasJoined (v w : View Entry Setup) (views : List (View Entry Setup)) : Type 0 where
   pub number : w.number ≡ v.number
   pub mine : w.mine ≡ v.mine
@@ -42,8 +43,8 @@ pub record HasJoined (v w : View Entry Setup) (views : List (View Entry Setup)) 
   pub idle : w.phase ≡ Idle
   pub joined : w.joined ≡ v.joined ++ joined_of views
 
--- All seats are split off a new first seat, which knows w and has joined none: those for sessions have the numbers from 1 on, and those for
--- workers come after them.
+-- all seats are split off a new first seat. It knows w and has joined none: those for sessions have the numbers from 1 on, and those for workers come
+-- after them.
 pub record AllSplit (desk : Desk) (w : View Entry Setup) (seats hands : List (SeatNow Entry Setup)) : Type 0 where
   pub number : w.number ≡ 0
   pub mine : w.mine ≡ []

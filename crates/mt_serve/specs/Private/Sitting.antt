@@ -8,7 +8,7 @@ use Rattle.mt_io.specs.Door.{Count, LosesFront}
 use Rattle.mt_turn.specs.Seats.{SeatNow}
 use Rattle.mt_serve.specs.Sitting.{Met, Start, links_of, seats_of}
 
--- The door gave these links, and each went with the next seat.
+-- the door gave these links, and each went with the next seat
 pub record HasSeatedLinks {L : Type 0} (old new : Count) (still left : Option (List L)) (seats rest : List (SeatNow Entry Setup)) (starts : List (Start L)) : Type 0 where
   pub port : new.port ≡ old.port
   pub sessions : new.sessions ≡ old.sessions
@@ -25,7 +25,7 @@ IsSeated count seats = count.given + length seats ≡ count.sessions
 abbrev pub IsDoorOver : Bool → Count → ℕ → ℕ → Type 0
 IsDoorOver faulted count before now = MatchBool faulted (Rose before now × (count.given < count.sessions)) (count.given ≡ count.sessions)
 
--- What it takes to serve links: a seat of this desk for each, and room for so many sessions that run and so many that have ended.
+-- what it takes to serve links. A seat of this desk for each, and room for so many sessions that run and so many that have ended.
 pub record IsReadyToServe {L : Type 0} (desk : Desk) (count : Count) (seats : List (SeatNow Entry Setup)) (many running ended : ℕ)
     (sittings : List (Start L)) (dones : List (Met L)) : Type 0 where
   pub ready : All (IsSeatOfDesk desk) seats

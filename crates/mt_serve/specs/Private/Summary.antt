@@ -5,10 +5,10 @@ use Rattle.mt_serve.specs.declared.counts.Counts.{Counts}
 use Rattle.mt_base.specs.StrikeOut.{one_if}
 use Rattle.mt_serve.specs.Summary.{is_faulted, is_starved_session}
 
+-- `no_counts`, `with_outcome`: no sessions counted, and one session more, of that outcome
 abbrev pub no_counts : Counts
 no_counts = record { sessions = 0; faulted = 0; starved = 0 }
 
--- with one session more, of that outcome
 abbrev pub with_outcome : Outcome → Counts → Counts
 with_outcome outcome counts = record {
   sessions = counts.sessions + 1;

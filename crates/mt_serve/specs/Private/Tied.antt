@@ -9,10 +9,10 @@ use Rattle.mt_turn.specs.Seats.{SeatNow}
 use Rattle.mt_serve.specs.Serving.{HasServed}
 use Rattle.mt_serve.specs.Sitting.{Met}
 
+-- `ends_of`, `gave_back`: the seats that sessions gave back; the counts with so many links back more
 abbrev pub ends_of : {L : Type 0} → List (Met L) → List (SeatNow Entry Setup)
 ends_of {L} mets = map (λ (m : Met L). m.seat) mets
 
--- with so many links back more
 abbrev pub gave_back : Count → ℕ → Count
 gave_back c n = record c { back = c.back + n }
 

@@ -9,8 +9,8 @@ use Rattle.mt_turn.specs.Lending.{AreViewsOfOneSeat}
 use Rattle.mt_turn.specs.Seats.{SeatNow}
 use Rattle.mt_serve.specs.Working.{IsRenewal}
 
--- A worker with the seat `before` gave back `after`, the same seat of the same turn, which doesn't hold it. Each entry that it made is a
--- renewal.
+-- a worker gave back its seat, without the turn. With the seat `before` it gave back `after`, the same seat of the same turn. Each entry that it made
+-- is a renewal.
 pub record HasWorkedInSeat (before after : SeatNow Entry Setup) : Type 0 where
   pub home : after.home ≡ before.home
   pub idle : after.view.phase ≡ Idle
@@ -20,7 +20,7 @@ pub record HasWorkedInSeat (before after : SeatNow Entry Setup) : Type 0 where
   pub mine : after.view.mine ≡ before.view.mine ++ added
   pub renewals : All IsRenewal added
 
--- the seat that a worker was given, and the one that it gave back
+-- `Worked`, `froms_of`, `rests_of`, `IsRested`: the seat that a worker was given, and the one that it gave back
 pub record Worked : Type 0 where
   pub from : SeatNow Entry Setup
   pub seat : SeatNow Entry Setup
@@ -34,7 +34,7 @@ rests_of works = map (λ (w : Worked). w.seat) works
 abbrev pub IsRested : Worked → Type 0
 IsRested w = HasWorkedInSeat w.from w.seat
 
--- What it takes to start workers: seats of this desk, and room for so many that work and so many that have ended.
+-- what it takes to start workers. Seats of this desk, and room for so many that work and so many that have ended.
 pub record IsStaffed (desk : Desk) (seats : List (SeatNow Entry Setup)) (many working ended : ℕ) (workings : List (SeatNow Entry Setup)) (resteds : List Worked) : Type 0 where
   pub ready : All (IsSeatOfDesk desk) seats
   pub first : many ≤ working

@@ -7,7 +7,7 @@ use Rattle.mt_board.specs.Probing.{IsPast, Probe}
 use Rattle.mt_board.specs.Seat.{GoesOn, IsSameSeat, Seat}
 use Rattle.mt_session.specs.Session.{Session}
 
--- a session, and what tells the turn that its seat is of
+-- a session, and the turn that its seat is of
 pub record Held (H : Type 0) : Type 0 where
   pub session : Session
   pub home : H

@@ -8,7 +8,7 @@ use Rattle.mt_board.specs.declared.no.No.{No}
 use Rattle.mt_read.specs.declared.request.Request.{Request}
 use Rattle.mt_read.specs.declared.request.Request.TheVariants as requests
 
--- the version at which entries are told
+-- the version at which entries are answered
 abbrev pub told_version : Result Answer No → Option ℕ
 told_version (Ok (answers.History entries version)) = Some version
 told_version result = None

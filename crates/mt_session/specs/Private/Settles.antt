@@ -14,12 +14,12 @@ abbrev pub is_starved : Result Entered No → Bool
 is_starved (Err no.Memory) = true
 is_starved result = false
 
--- the flights that were told as due, and the version
+-- the flights that were answered as due, and the version
 abbrev pub told_due : Result Answer No → Option (List (List ℕ) × ℕ)
 told_due (Ok (answers.Due calls version)) = Some (calls, version)
 told_due result = None
 
--- what it gives: the flights left and the version, or that memory was wanted
+-- what settling gives: the flights left and the version, or want of memory
 abbrev pub Settles : Seat → Option (List (List ℕ) × ℕ) → Seat → Type 0
 Settles s (Some told) t = HasSettled s t told.0 told.1
 Settles s None t = IsNotSettled s t

@@ -19,6 +19,7 @@ use Rattle.mt_session.specs.Following.{IsRenewalDone, IsFollowed, TouchesNoJob, 
 use Rattle.mt_session.specs.Served.{IsRepliedTo}
 use Rattle.mt_session.specs.Session.{Session, asked_in_role}
 
+-- a session's run so far, up to the lines answered
 abbrev pub HasRun : Standing → Option (List ℕ) → Option (List ℕ) → Option (List ℕ) → Option (List ℕ) → Reading → Standing → Type 0
 HasRun start before now held held_now reader w = SoFar reply_text is_farewell TouchesNoJob IsFollowed start before now held held_now reader w
 

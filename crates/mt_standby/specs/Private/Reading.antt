@@ -14,14 +14,14 @@ use Rattle.mt_read.specs.declared.request.Request.TheVariants as requests
 use Rattle.mt_write.specs.declared.reply.Reply.{Reply}
 use Rattle.mt_write.specs.declared.reply.Reply.TheVariants as replies
 
--- what a request that asks for what holds is, as what a read asks for
+-- a request that asks for what holds, as a read
 abbrev pub read_ask : Request → Ask
 read_ask requests.Check = asks.Check
 read_ask (requests.Flight call sec) = asks.Flight call sec
 read_ask requests.Due = asks.Due
 read_ask request = asks.List
 
--- what a read is answered, as a reply
+-- a read's answer as a reply
 abbrev pub read_answer_reply : Result Answer No → Reply
 read_answer_reply (Ok (answers.List conflicts version)) = replies.List conflicts version
 read_answer_reply (Ok (answers.Check conflicts version)) = replies.List conflicts version
@@ -31,7 +31,7 @@ read_answer_reply (Ok (answers.History entries version)) = replies.History entri
 read_answer_reply (Err (nos.Refused refusal version)) = replies.Refused refusal version
 read_answer_reply (Err nos.Memory) = replies.Memory
 
--- what an entry is answered, as a reply
+-- an entry's answer as a reply
 abbrev pub follow_reply : Result Entered FollowNo → Reply
 follow_reply (Ok entered) = replies.Entered entered
 follow_reply (Err (follow.Late version)) = replies.Late version

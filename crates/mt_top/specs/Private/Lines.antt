@@ -25,9 +25,9 @@ module _ (HasReply : World → List ℕ → Reply → World → Type 0) (until_b
   LinesSoFar before now bytes reader w =
       SoFar reply_text (is_last until_begun) HasReply NothingFollows opening_world before now (Some []) (Some bytes) reader w
 
-  -- What a status says of lines of which no more will be answered, which leave this world: the last one was answered, which is that at the input's
-  -- end where no reply was the last; or the input failed; or the output did, which may have cut off replies, so that some world is left after those
-  -- that were written.
+  -- what a status says of lines of which no more will be answered. They leave this world: the last one was answered, which is that at the input's end
+  -- where no reply was the last; or the input failed; or the output did, which may have cut off replies, so that some world is left after those that
+  -- were written.
   abbrev pub LinesMean : World → Status → List ℕ → List ℕ → List ℕ → Type 0
   LinesMean w Done input left written =
       (answering.AnswersAll reply_text (is_last until_begun) HasReply NothingFollows opening_world input left written w × (until_begun ≡ true → w.begun ≡ false))
@@ -43,7 +43,7 @@ module _ (HasReply : World → List ℕ → Reply → World → Type 0) (until_b
   LinesMean w DoorFault input left written = ⊥
   LinesMean w Memory input left written = ⊥
 
-  -- No more lines will be answered. What the status says is true of the bytes that were written, and none waits; or the last line was answered, and
+  -- no more lines will be answered. What the status says is true of the bytes that were written, and none waits; or the last line was answered, and
   -- of its replies some wait.
   abbrev pub HaveEnded : Status → Option (List ℕ) → Option (List ℕ) → List ℕ → List ℕ → World → Type 0
   HaveEnded status before now written waiting w =
@@ -56,7 +56,7 @@ module _ (HasReply : World → List ℕ → Reply → World → Type 0) (until_b
   GoOnOrEnd None before now written waiting reader w = LinesSoFar before now (written ++ waiting) reader w
   GoOnOrEnd (Some status) before now written waiting reader w = HaveEnded status before now written waiting w
 
-  -- What a turn leaves, before which these bytes were sent: it wrote more, and others wait.
+  -- what a turn of the loop leaves, before which these bytes were sent. It wrote more, and others wait.
   pub record Turned (result : Option Status) (before now : Option (List ℕ)) (sent : List ℕ) (held held_now : Option (List ℕ)) (waiting : List ℕ) (reader : Reading) (w : World) : Type 0 where
     pub more : List ℕ
     pub written : Appends held held_now more

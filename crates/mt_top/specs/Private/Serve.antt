@@ -7,7 +7,7 @@ use Rattle.mt_top.specs.declared.status.Status.{Status}
 use Rattle.mt_top.specs.declared.status.Status.TheVariants.{Done, Usage, Setup, ReadFault, WriteFault, DoorFault, Spent, Memory}
 use Rattle.mt_top.specs.Serve.{IsClosingLine, IsFront, IsSummaryWritten}
 
--- what is told once links were served, and what was appended of what sums it up
+-- `Appended`, `SaysClosing`: what was appended of the summary line once links were served, and what the status says of it
 abbrev pub Appended : (List ℕ → Type 0) → Option (List ℕ) → Option (List ℕ) → Type 0
 Appended Sums held after = (shown : List ℕ) × Sums shown × Appends held after shown
 

@@ -6,7 +6,7 @@ use Rattle.mt_board.specs.Seat.{Seat}
 use Rattle.mt_board.specs.Settling.{AreRenewalsAsked}
 use Rattle.mt_workers.specs.Jobs.{AreTaken}
 
--- These jobs were taken, and its seat asked to renew the flight of each, in order, whatever it was answered.
+-- these jobs were taken, and the seat asked to renew the flight of each, in order, whatever it was answered
 pub record HasWorked (left now : Option (List (List ℕ))) (s t : Seat) : Type 0 where
   pub calls : List (List ℕ)
   pub taken : AreTaken left now calls

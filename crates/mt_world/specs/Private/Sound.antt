@@ -23,7 +23,7 @@ use Rattle.mt_world.specs.World.{World, actor_of, picture_taken, setup_of}
 abbrev pub story_of : World → Story
 story_of w = record { setup = setup_of w; history = w.history }
 
--- A snapshot, and the state of a probe that is kept, are those of the first entries, as many as the version says.
+-- `IsTakenOf`, `IsKeptOf`: a snapshot, and a kept probe's state, are those of the first entries. As many as the version says.
 pub record IsTakenOf (setup : Setup) (h : List Entry) (shot : Shot) : Type 0 where
   pub setup_is : shot.setup ≡ setup
   pub past : shot.version ≤ length h
@@ -34,12 +34,12 @@ pub record IsKeptOf (setup : Setup) (h : List Entry) (p : Trial) : Type 0 where
   pub past : p.prep.state.version ≤ length h
   pub state_is : p.prep.state ≡ state_of setup (take p.prep.state.version h)
 
--- An actor has taken a snapshot of the history, and its book has probes of it.
+-- an actor has taken a snapshot of the history, and its book has probes of it
 pub record IsSoundActor (setup : Setup) (h : List Entry) (actor : Actor) : Type 0 where
   pub taken : IsTakenOf setup h actor.taken
   pub kept : All (IsKeptOf setup h) actor.book.last
 
--- The history is legal, and there are sixteen actors, each of which is sound.
+-- the history is legal, and there are sixteen actors, each of which is sound
 pub record IsSoundWorld (story : Story) (actors : List Actor) : Type 0 where
   pub legal : IsLegal story.setup story.history
   pub sixteen : length actors ≡ 16
@@ -53,7 +53,7 @@ actor_shown actor = record { taken = actor.taken.version; book = told_book told_
 abbrev pub clearances_of : List Trial → List Clearance
 clearances_of ps = map (λ (p : Trial). p.clearance) ps
 
--- A clearance was tried on the snapshot that an actor has taken, and this is its probe; or it is refused there.
+-- `IsProbeOf`, `IsUnprobedOf`: a clearance's probe on the snapshot that an actor has taken, or its refusal there
 pub record IsProbeOf (w : World) (who : ℕ) (call : List ℕ) (clearance : Clearance) (eff : Option ℕ) (p : Trial) : Type 0 where
   pub call_is : p.call ≡ call
   pub clearance_is : p.clearance ≡ clearance
@@ -66,7 +66,7 @@ IsUnprobedOf w who call clearance eff (nos.Refused refusal version) =
     IsWhatIf (setup_of w) (picture_taken w who) call clearance eff (Err refusal) × (version ≡ (actor_of w who).taken)
 IsUnprobedOf w who call clearance eff nos.Memory = ⊤
 
--- These probes are the clearances that are advised on that snapshot, in order; or advice is refused there.
+-- `IsAdvisedOf`, `IsUnadvisedOf`: the probes advised on that snapshot, in order, or the refusal of advice there
 pub record IsAdvisedOf (w : World) (who : ℕ) (call : List ℕ) (eff version : ℕ) (probes : List Trial) : Type 0 where
   pub eff_is : eff ≡ (picture_taken w who).now
   pub version_is : version ≡ (actor_of w who).taken
