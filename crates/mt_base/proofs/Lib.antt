@@ -10,6 +10,7 @@ pub mod OneAdvice
 pub mod OneConflict
 pub mod OneHits
 pub mod OneOrder
+pub mod OneSolution
 pub mod Others
 pub mod RuleLemmas
 pub mod Tallies

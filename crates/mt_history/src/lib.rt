@@ -9,7 +9,7 @@ mod reading;
 mod rebuilding;
 
 pub use following::{FollowNo, follow_entry};
-pub use laws::history_printed_law;
+pub use laws::{history_printed_law, history_rebuilt_law};
 pub use mt_memory::Memory;
 pub use printing::print;
 pub use reading::{BadHistory, read_all};

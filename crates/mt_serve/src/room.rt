@@ -46,6 +46,21 @@ fn receivers_of(
     Ok(receivers)
 }
 
+// The ends of the job channel: one for each session and one for each worker. Without workers no channel is made.
+fn ends_of(
+    alloc: Global,
+    sessions: u32,
+    workers: u32,
+) -> Result<(VecDeque<JobSender>, VecDeque<JobReceiver>), Memory> {
+    if workers == 0 {
+        return Ok((VecDeque::new(alloc), VecDeque::new(alloc)));
+    }
+    let (sender, receiver) = jobs(alloc, PLACES)?;
+    let senders = senders_of(alloc, &sender, sessions)?;
+    let receivers = receivers_of(alloc, &receiver, workers)?;
+    Ok((senders, receivers))
+}
+
 /// Takes all room. Without workers there is no channel.
 pub(crate) fn take_room<L: Duplex + Drop>(
     alloc: Global,
@@ -56,14 +71,13 @@ pub(crate) fn take_room<L: Duplex + Drop>(
     ensures sessions { IfOk result (λ r. (sessions ≤ deque_capacity r.sittings) × (sessions ≤ deque_capacity r.dones)) }
     ensures workers { IfOk result (λ r. (workers ≤ deque_capacity r.workings) × (workers ≤ deque_capacity r.resteds)) }
 {
-    let (sender, receiver) = jobs(alloc, PLACES)?;
-    let served = if workers == 0 { 0 } else { sessions };
+    let (senders, receivers) = ends_of(alloc, sessions, workers)?;
     Ok(Room {
         sittings: VecDeque::with_capacity(alloc, sessions as usize)?,
         dones: VecDeque::with_capacity(alloc, sessions as usize)?,
         workings: VecDeque::with_capacity(alloc, workers as usize)?,
         resteds: VecDeque::with_capacity(alloc, workers as usize)?,
-        senders: senders_of(alloc, &sender, served)?,
-        receivers: receivers_of(alloc, &receiver, workers)?,
+        senders,
+        receivers,
     })
 }

@@ -21,7 +21,7 @@ use Rattle.mt_standby.specs.Law.{AreAnswered, FollowFirst, HasCaughtUp}
 use Rattle.mt_standby.specs.Standby.{IsFeedAnswered, IsEntryAnswered, fed_line}
 use Rattle.mt_read.proofs.FeedEntries.{entry_followed}
 use Rattle.mt_world.specs.World.{World, picture_of, setup_of}
-use Rattle.mt_world.proofs.OneSolution.{one_decision}
+use Rattle.mt_base.proofs.OneSolution.{one_decision}
 
 abbrev read_as : Entry → Result Entry LineNo
 read_as e = Ok e

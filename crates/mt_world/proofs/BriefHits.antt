@@ -12,7 +12,7 @@ use Rattle.mt_base.specs.WhatIf.{AreHitsOf, IsWhatIf, course_in, trajectory_clea
 use Rattle.mt_board.specs.Short.{AreShortHits}
 use Rattle.mt_write.specs.Short.{IsShortHit}
 use Rattle.mt_lines.specs.Fit.{AreBrief}
-use Rattle.mt_world.proofs.OneSolution.{planned_if}
+use Rattle.mt_base.proofs.OneSolution.{planned_if}
 
 -- the seconds of a hit lie in the window
 short_hit : (setup : Setup) (s : State) (call : List ℕ) (t : Trajectory) (hits : List Hit) (k : ℕ) (d : Hit) → AreHitsOf setup s call t hits

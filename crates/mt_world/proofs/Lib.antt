@@ -5,7 +5,6 @@ pub mod Beside
 pub mod BriefHits
 pub mod Entering
 pub mod OneAnswer
-pub mod OneSolution
 pub mod Renewing
 pub mod Taking
 pub mod Viewed

@@ -30,7 +30,7 @@ use Rattle.mt_write.specs.declared.reply.Reply.TheVariants.{Areas as areas_told,
 use Rattle.mt_board.specs.Probing.{Probe}
 use Rattle.mt_base.proofs.Cases.{on_both}
 use Rattle.mt_world.specs.World.{AreAreasTold, IsAcceptedOf, IsAdded, IsAdviceAnswered, IsAdvisedAs, IsAreaAdded, IsAreaGiven, IsCommandAnswered, IsGiven, IsListAnswered, IsOutcome, IsProbeAnswered, IsRefused, IsServed, IsSettling, IsFlightTold, IsTrialAnswered, World, actor_of, is_empty, picture_of, picture_taken, setup_of}
-use Rattle.mt_world.proofs.OneSolution.{one_advised, one_decision, one_renewal, one_what_if}
+use Rattle.mt_base.proofs.OneSolution.{one_advised, one_decision, one_renewal, one_what_if}
 
 -- the same reply, and the same world after it
 abbrev AreOne : Reply → Reply → World → World → Type 0
