@@ -21,7 +21,7 @@ use Rattle.mt_base.specs.declared.route.RouteNo.{RouteNo}
 use Rattle.mt_base.specs.Bounds.{AreBoundedBands, AreBoundedTables, IsBoundedBand, IsBoundedClearance, IsSoundCourse}
 use Rattle.mt_base.specs.Checks.{check, judged}
 use Rattle.mt_base.specs.Cleared.{place_further_on}
-use Rattle.mt_base.specs.History.{refusal_of, route_checks}
+use Rattle.mt_base.specs.Decision.{refusal_of, route_checks}
 use Rattle.mt_base.specs.Picture.{State, flight_of}
 use Rattle.mt_base.specs.Tables.{Setup, Tables, bands_of, ceiling_of, fix_of, fix_checks, length_checks}
 use Rattle.mt_base.specs.WhatIf.{what_if_checks}

@@ -7,7 +7,9 @@ use Rattle.std.specs.Prelude.{slice_get, fold}
 use Rattle.mt_base.specs.declared.command.Command.{Command}
 use Rattle.mt_base.specs.declared.command.Command.TheVariants.{Accept}
 use Rattle.mt_base.specs.declared.command.Entry.{Entry}
-use Rattle.mt_base.specs.History.{IsDecided, IsInTime, IsLegal, IsReplayable, WasFree, effect, state_of}
+use Rattle.mt_base.specs.Decision.{IsDecided}
+use Rattle.mt_base.specs.Effect.{effect, state_of}
+use Rattle.mt_base.specs.History.{IsInTime, IsLegal, IsReplayable, WasFree}
 use Rattle.mt_base.specs.Picture.{State, opening}
 use Rattle.mt_base.specs.Tables.{Setup}
 use Rattle.mt_base.specs.WhatIf.{IsWhatIf}

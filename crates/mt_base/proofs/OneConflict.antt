@@ -3,7 +3,7 @@ use Rattle.std.proofs.Common.{◌≡◌, ℕ, sym, ◌∙◌, arith}
 use Rattle.mt_base.specs.declared.conflict.Conflict.{Conflict}
 use Rattle.mt_base.specs.declared.rules.Rules.{Rules}
 use Rattle.mt_base.specs.Conflict.{IsSpanOfLoss}
-use Rattle.mt_base.specs.Picture.{IsOf, NamedTrajectory, window_end}
+use Rattle.mt_base.specs.Picture.{IsConflictOf, NamedTrajectory, window_end}
 use Rattle.mt_base.specs.Trajectory.{Trajectory}
 
 -- there is one span
@@ -17,7 +17,7 @@ one_span rules a b from to first last first' last' s t =
     (omega arith, omega arith)
 
 -- there is one conflict of two trajectories in the window
-pub one_conflict : (rules : Rules) (now : ℕ) (left right : NamedTrajectory) (c d : Conflict) → IsOf rules now left right c → IsOf rules now left right d → c ≡ d
+pub one_conflict : (rules : Rules) (now : ℕ) (left right : NamedTrajectory) (c d : Conflict) → IsConflictOf rules now left right c → IsConflictOf rules now left right d → c ≡ d
 one_conflict rules now left right c d is other =
     let e = one_span rules left.path right.path now (window_end now) c.first c.last d.first d.last is.span other.span in
     λ i. record {

@@ -11,7 +11,8 @@ use Rattle.mt_base.specs.declared.flight.Course.{Course}
 use Rattle.mt_base.specs.declared.hit.Hit.{Hit}
 use Rattle.mt_base.specs.Checks.{judged}
 use Rattle.mt_base.specs.Advice.{IsAdvice}
-use Rattle.mt_base.specs.History.{HasHits, IsDecided, IsStale, checks, filled, judge, look_at, state_of}
+use Rattle.mt_base.specs.Decision.{HasHits, IsDecided, IsStale, checks, filled, judge, look_at}
+use Rattle.mt_base.specs.Effect.{state_of}
 use Rattle.mt_base.specs.Picture.{State, flight_of}
 use Rattle.mt_base.specs.Settled.{AreRenewed, IsPassedOver, IsRenewed}
 use Rattle.mt_base.specs.Tables.{Setup}

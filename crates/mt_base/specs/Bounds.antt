@@ -18,7 +18,7 @@ use Rattle.mt_base.specs.declared.place.Point.{Point}
 use Rattle.mt_base.specs.declared.row.Row.{Row}
 use Rattle.mt_base.specs.declared.rules.Rules.{Rules}
 use Rattle.mt_base.specs.Checks.{judged}
-use Rattle.mt_base.specs.History.{route_checks}
+use Rattle.mt_base.specs.Decision.{route_checks}
 use Rattle.mt_base.specs.Tables.{Setup, Tables, bands_of}
 
 -- at least `low` and at most `high`

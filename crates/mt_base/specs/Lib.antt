@@ -5,6 +5,8 @@ pub mod Checks
 pub mod Cleared
 pub mod Complete
 pub mod Conflict
+pub mod Decision
+pub mod Effect
 pub mod History
 pub mod Instant
 pub mod Loss

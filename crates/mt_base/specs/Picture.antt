@@ -73,19 +73,19 @@ abbrev pub window_end : ℕ → ℕ
 window_end now = now + 1200
 
 -- two trajectories have this conflict within the look-ahead. The lesser callsign stands first.
-pub record IsOf (rules : Rules) (now : ℕ) (left right : NamedTrajectory) (c : Conflict) : Type 0 where
+pub record IsConflictOf (rules : Rules) (now : ℕ) (left right : NamedTrajectory) (c : Conflict) : Type 0 where
   pub calls : (c.a ≡ left.call) × (c.b ≡ right.call)
   pub kinds : (c.ka ≡ left.kind) × (c.kb ≡ right.kind)
   pub apart : slice_cmp nat_cmp left.call right.call ≡ Less
   pub span : IsSpanOfLoss rules left.path right.path now (window_end now) c.first c.last
 
 -- some two of these trajectories have this conflict
-pub record IsOfSome (rules : Rules) (now : ℕ) (all : List NamedTrajectory) (c : Conflict) : Type 0 where
+pub record IsConflictAmong (rules : Rules) (now : ℕ) (all : List NamedTrajectory) (c : Conflict) : Type 0 where
   pub left : NamedTrajectory
   pub right : NamedTrajectory
   pub left_in : Contains all left
   pub right_in : Contains all right
-  pub is : IsOf rules now left right c
+  pub is : IsConflictOf rules now left right c
 
 -- actual before tentative
 abbrev pub kind_cmp : Kind → Kind → Ordering
@@ -102,7 +102,7 @@ conflict_cmp c d = ordering_then (nat_cmp c.first d.first) (ordering_then (slice
 
 -- exactly the conflicts of these trajectories, each once, in order
 pub record IsPublishedOf (rules : Rules) (now : ℕ) (all : List NamedTrajectory) (cs : List Conflict) : Type 0 where
-  pub exact : (c : Conflict) → Contains cs c ↔ IsOfSome rules now all c
+  pub exact : (c : Conflict) → Contains cs c ↔ IsConflictAmong rules now all c
   pub sorted : IsStrictlySortedBy conflict_cmp cs
 
 -- what is published of a state

@@ -7,7 +7,7 @@ use Rattle.mt_base.specs.declared.command.Entry.{Entry}
 use Rattle.mt_base.specs.declared.conflict.Conflict.{Conflict}
 use Rattle.mt_base.specs.declared.conflict.Kind.TheVariants.{Actual}
 use Rattle.mt_base.specs.declared.flight.Record.{Record}
-use Rattle.mt_base.specs.History.{bare_path, changed, state_of}
+use Rattle.mt_base.specs.Effect.{bare_path, changed, state_of}
 use Rattle.mt_base.specs.Picture.{IsPublishedOf, NamedTrajectory, State, trajectory_of}
 use Rattle.mt_base.specs.Tables.{Setup}
 

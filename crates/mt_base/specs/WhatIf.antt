@@ -1,5 +1,5 @@
 -- What would follow from a clearance: the conflicts of the trajectory that it would leave.
-use Rattle.std.specs.Prelude.{◌≡◌, ◌≢◌, ◌↔◌, ℕ, Bool, List, [], ◌∷◌, Contains, Option, Some, None, is_some, unwrap_or, IfSome, Result, Ok, Err}
+use Rattle.std.specs.Prelude.{◌≡◌, ◌≢◌, ◌↔◌, ℕ, Bool, List, [], ◌∷◌, Contains, Option, Some, None, is_some, unwrap_or, IfSome, Result, Ok, Err, ⊤}
 use Rattle.std.specs.Option.{option_map_or}
 use Rattle.std.specs.List.Sorted.{IsStrictlySortedBy}
 use Rattle.std.specs.Cmp.Lexicographic.{slice_cmp}
@@ -82,16 +82,20 @@ abbrev pub AreHits : Setup → State → List ℕ → Clearance → ℕ → List
 AreHits setup s call clearance eff hits =
     IfSome (course_in (flight_of s.records call)) (λ course. AreHitsOf setup s call (trajectory_cleared setup course clearance eff) hits)
 
+-- the first refusal of a clearance, or none. It holds from second `eff` on, by default the moment.
+abbrev pub what_if_judged : Setup → State → List ℕ → Clearance → Option ℕ → Result ⊤ Refusal
+what_if_judged setup s call clearance eff =
+    judged (what_if_checks setup s.now (flight_of s.records call) call clearance (unwrap_or eff s.now)) (tt {0})
+
 -- a what-if: the clearance's first refusal, or its hits. The clearance holds from second `eff` on, by default the moment.
 abbrev pub IsWhatIf : Setup → State → List ℕ → Clearance → Option ℕ → Result (List Hit) Refusal → Type 0
-IsWhatIf setup s call clearance eff (Err refusal) =
-    judged (what_if_checks setup s.now (flight_of s.records call) call clearance (unwrap_or eff s.now)) (tt {0}) ≡ Err refusal
+IsWhatIf setup s call clearance eff (Err refusal) = what_if_judged setup s call clearance eff ≡ Err refusal
 IsWhatIf setup s call clearance eff (Ok hits) =
-    (judged (what_if_checks setup s.now (flight_of s.records call) call clearance (unwrap_or eff s.now)) (tt {0}) ≡ Ok (tt {0}))
+    (what_if_judged setup s call clearance eff ≡ Ok (tt {0}))
     × AreHits setup s call clearance (unwrap_or eff s.now) hits
 
 -- no check refuses the clearance, and it has hits. It holds from second `eff` on, by default the moment.
 abbrev pub IsConflicting : Setup → State → List ℕ → Clearance → Option ℕ → Type 0
 IsConflicting setup s call clearance eff =
-    (judged (what_if_checks setup s.now (flight_of s.records call) call clearance (unwrap_or eff s.now)) (tt {0}) ≡ Ok (tt {0}))
+    (what_if_judged setup s call clearance eff ≡ Ok (tt {0}))
     × IfSome (course_in (flight_of s.records call)) (λ course. HasHit setup s call (trajectory_cleared setup course clearance (unwrap_or eff s.now)))

@@ -1,5 +1,5 @@
 ghost use Rattle.std.specs.Prelude.{◌≡◌, IfOk};
-ghost use Rattle.mt_base.specs.History.{call_of, filled};
+ghost use Rattle.mt_base.specs.Decision.{call_of, filled};
 
 use crate::callsign::Callsign;
 use crate::clearance::Clearance;
@@ -324,7 +324,7 @@ pub enum Refusal {
 }
 
 impl From<RouteNo> for Refusal {
-    ghost use Rattle.mt_base.specs.History.{refusal_of};
+    ghost use Rattle.mt_base.specs.Decision.{refusal_of};
 
     ghost from_gives = { λ no refusal. refusal ≡ refusal_of no };
 

@@ -2,7 +2,9 @@ ghost use Rattle.std.specs.Prelude.{◌≡◌, ℕ, List, [], ◌∷◌, ◌++�
 ghost use Rattle.mt_base.specs.declared.conflict.Conflict.{Conflict};
 ghost use Rattle.mt_base.specs.declared.command.Entry.{Entry};
 ghost use Rattle.mt_base.specs.declared.rules.Rules.{Rules};
-ghost use Rattle.mt_base.specs.History.{IsDecided, IsInTime, IsLegal, IsReplayable, WasFree, state_of};
+ghost use Rattle.mt_base.specs.Decision.{IsDecided};
+ghost use Rattle.mt_base.specs.Effect.{state_of};
+ghost use Rattle.mt_base.specs.History.{IsInTime, IsLegal, IsReplayable, WasFree};
 ghost use Rattle.mt_base.specs.Picture.{IsPublishedOf, NamedTrajectory};
 ghost use Rattle.mt_base.specs.Tables.{Setup};
 

@@ -8,7 +8,7 @@ use Rattle.mt_base.specs.declared.command.Command.TheVariants.{Renew}
 use Rattle.mt_base.specs.declared.command.Entered.{Entered}
 use Rattle.mt_base.specs.declared.command.Entry.{Entry}
 use Rattle.mt_base.specs.declared.command.Refusal.{Refusal}
-use Rattle.mt_base.specs.History.{IsDecided, checks, filled, look_at}
+use Rattle.mt_base.specs.Decision.{IsDecided, checks, filled, look_at}
 use Rattle.mt_base.specs.Picture.{State}
 use Rattle.mt_base.specs.Tables.{Setup}
 use Rattle.mt_board.specs.declared.ask.Answer.{Answer}

@@ -3,7 +3,7 @@ use Rattle.std.specs.Prelude.{◌≡◌, ℕ, ◌-◌, List, take, drop, Some, N
 use Rattle.mt_base.specs.declared.command.Entry.{Entry}
 use Rattle.mt_base.specs.declared.command.Refusal.{Refusal}
 use Rattle.mt_base.specs.declared.command.Refusal.TheVariants.{UnknownCall}
-use Rattle.mt_base.specs.History.{state_of}
+use Rattle.mt_base.specs.Effect.{state_of}
 use Rattle.mt_base.specs.Picture.{IsPublished, flight_of}
 use Rattle.mt_base.specs.Settled.{due_calls}
 use Rattle.mt_base.specs.Tables.{Setup}

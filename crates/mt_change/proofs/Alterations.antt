@@ -15,7 +15,8 @@ use Rattle.mt_base.specs.declared.flight.Path.TheVariants.{Planned, Outer}
 use Rattle.mt_base.specs.declared.flight.Record.{Record}
 use Rattle.mt_base.specs.Checks.{judged}
 use Rattle.mt_base.specs.Cleared.{aim_checks, clearance_checks}
-use Rattle.mt_base.specs.History.{Look, call_of, changed, checks, filled, records_after}
+use Rattle.mt_base.specs.Decision.{Look, call_of, checks, filled}
+use Rattle.mt_base.specs.Effect.{changed, records_after}
 use Rattle.mt_base.specs.Picture.{trajectory_of}
 use Rattle.mt_base.specs.Tables.{Setup}
 use Rattle.mt_base.specs.WhatIf.{course_in, mark_in, what_if_checks}

@@ -10,7 +10,7 @@ use Rattle.std.specs.Str.{bytes_eq}
 use Rattle.mt_base.specs.declared.flight.Path.{Path}
 use Rattle.mt_base.specs.declared.flight.Record.{Record}
 use Rattle.mt_base.specs.Bounds.{IsSoundFlight, IsSoundPath}
-use Rattle.mt_base.specs.History.{changed}
+use Rattle.mt_base.specs.Effect.{changed}
 use Rattle.mt_base.specs.Picture.{HaveOwnCalls, State, flight_of}
 use Rattle.mt_base.specs.Tables.{Setup}
 use Rattle.mt_change.specs.Sound.{IsSoundState}

@@ -3,7 +3,7 @@ use Rattle.std.proofs.Common.{◌≡◌, ℕ, ◌≤◌, Some, None, refl}
 use Rattle.mt_base.specs.declared.command.Command.{Command}
 use Rattle.mt_base.specs.declared.command.Command.TheVariants.{Clear, Accept, Tentative}
 use Rattle.mt_base.specs.Bounds.{IsBoundedCommand}
-use Rattle.mt_base.specs.History.{Look, call_of, checks, filled}
+use Rattle.mt_base.specs.Decision.{Look, call_of, checks, filled}
 use Rattle.mt_base.specs.Tables.{Setup}
 use Rattle.mt_change.specs.Altered.{Alters, IsBoundedBesides}
 

@@ -10,7 +10,8 @@ use Rattle.mt_base.specs.declared.flight.Course.{Course}
 use Rattle.mt_base.specs.declared.route.RouteNo.{RouteNo}
 use Rattle.mt_base.specs.Bounds.{AreWithinBounds, IsInPlane, IsSoundCourse}
 use Rattle.mt_base.specs.Checks.{judged}
-use Rattle.mt_base.specs.History.{course_of, first_of_points, refusal_of, route_checks}
+use Rattle.mt_base.specs.Decision.{refusal_of, route_checks}
+use Rattle.mt_base.specs.Effect.{course_of, first_of_points}
 use Rattle.mt_base.specs.Predictor.{points_of}
 use Rattle.mt_base.specs.Tables.{Setup, Tables, bands_of, fix_checks, length_checks}
 use Rattle.mt_base.proofs.CheckLemmas.{all_pass, all_passed}

@@ -11,7 +11,7 @@ use Rattle.mt_base.specs.declared.verdict.Verdict.{Verdict}
 use Rattle.mt_base.specs.Bounds.{IsBoundedClearance, IsBoundedCommand, IsSoundCourse}
 use Rattle.mt_base.specs.Checks.{judged}
 use Rattle.mt_base.specs.Cleared.{clearance_checks}
-use Rattle.mt_base.specs.History.{bare_path, cleared_path, committed, committed_path, marked_path, renewed_path, reported_path, verdict_on, with_aim}
+use Rattle.mt_base.specs.Effect.{bare_path, cleared_path, committed, committed_path, marked_path, renewed_path, reported_path, verdict_on, with_aim}
 use Rattle.mt_base.specs.Picture.{trajectory_of}
 use Rattle.mt_base.specs.Tables.{Setup}
 use Rattle.mt_base.specs.Verdict.{is_flagged}

@@ -3,7 +3,7 @@ ghost use Rattle.std.specs.Prelude.{◌≡◌, ◌≤◌, Ok, length, map};
 ghost use Rattle.mt_base.specs.Bounds.{AreWithinBounds, IsBoundedClearance, IsRightAim, IsSoundCourse};
 ghost use Rattle.mt_base.specs.Checks.{judged};
 ghost use Rattle.mt_base.specs.Cleared.{aim_of, clearance_checks};
-ghost use Rattle.mt_base.specs.History.{changed, committed};
+ghost use Rattle.mt_base.specs.Effect.{changed, committed};
 ghost use Rattle.mt_base.specs.Picture.{trajectory_of};
 ghost use Rattle.mt_base.specs.Tables.{setup_with};
 ghost use Rattle.mt_base.specs.declared.flight.Path.TheVariants.{Planned};

@@ -1,7 +1,7 @@
 //! The course that a plan files.
 ghost use Rattle.std.specs.Prelude.{◌≡◌, ◌≤◌, IfOk};
 ghost use Rattle.mt_base.specs.Bounds.{IsInPlane};
-ghost use Rattle.mt_base.specs.History.{base_of, course_of, first_of_points};
+ghost use Rattle.mt_base.specs.Effect.{base_of, course_of, first_of_points};
 ghost use Rattle.mt_base.specs.Predictor.{points_of};
 ghost use Rattle.mt_base.specs.Tables.{setup_with};
 

@@ -14,7 +14,8 @@ use Rattle.mt_base.specs.declared.flight.Path.TheVariants.{Outer, Planned}
 use Rattle.mt_base.specs.declared.flight.Record.{Record}
 use Rattle.mt_base.specs.declared.hit.Hit.{Hit}
 use Rattle.mt_base.specs.Advice.{IsAdvice}
-use Rattle.mt_base.specs.History.{WasFree, state_of}
+use Rattle.mt_base.specs.Effect.{state_of}
+use Rattle.mt_base.specs.History.{WasFree}
 use Rattle.mt_base.specs.Picture.{IsPublished, State, flight_of}
 use Rattle.mt_base.specs.Settled.{due_calls}
 use Rattle.mt_base.specs.Tables.{Setup}

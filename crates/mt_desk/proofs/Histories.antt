@@ -7,7 +7,8 @@ use Rattle.mt_base.specs.declared.command.Command.TheVariants.{Accept}
 use Rattle.mt_base.specs.declared.command.Entered.{Entered}
 use Rattle.mt_base.specs.declared.command.Entry.{Entry}
 use Rattle.mt_base.specs.Bounds.{AreWithinBounds, IsAskedFor, IsBoundedCommand}
-use Rattle.mt_base.specs.History.{IsInTime, IsLegal, WasFree, state_of}
+use Rattle.mt_base.specs.Effect.{state_of}
+use Rattle.mt_base.specs.History.{IsInTime, IsLegal, WasFree}
 use Rattle.mt_base.specs.Tables.{Setup}
 use Rattle.mt_base.specs.WhatIf.{IsWhatIf}
 use Rattle.mt_board.specs.declared.no.No.{No}

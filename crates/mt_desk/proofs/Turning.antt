@@ -5,7 +5,7 @@ use Rattle.std.proofs.lemmas.List.{length-append}
 use Rattle.mt_base.specs.declared.command.Command.{Command}
 use Rattle.mt_base.specs.declared.command.Entered.{Entered}
 use Rattle.mt_base.specs.declared.command.Entry.{Entry}
-use Rattle.mt_base.specs.History.{state_of}
+use Rattle.mt_base.specs.Effect.{state_of}
 use Rattle.mt_base.specs.Tables.{Setup}
 use Rattle.mt_board.specs.declared.no.No.{No}
 use Rattle.mt_board.specs.declared.no.No.TheVariants.{Memory, Refused}

@@ -1,6 +1,7 @@
 //! The value behind a desk's turn.
 ghost use Rattle.std.specs.Prelude.{◌≡◌, ◌-◌, [], drop, length, take, IfOk, IfErr, OnErr, option_copied};
-ghost use Rattle.mt_base.specs.History.{IsInTime, WasFree, state_of};
+ghost use Rattle.mt_base.specs.Effect.{state_of};
+ghost use Rattle.mt_base.specs.History.{IsInTime, WasFree};
 ghost use Rattle.mt_base.specs.Picture.{IsPublished};
 ghost use Rattle.mt_change.specs.Altered.{IsBoundedBesides};
 ghost use Rattle.mt_picture.specs.Story.{IsEntered, IsPrepGivenFor, IsCommandRefused};

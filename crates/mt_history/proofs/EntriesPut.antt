@@ -6,7 +6,9 @@ use Rattle.std.proofs.lemmas.List.{length-take-le, take_all}
 use Rattle.mt_base.specs.declared.command.Command.{Command}
 use Rattle.mt_base.specs.declared.command.Entered.{Entered}
 use Rattle.mt_base.specs.declared.command.Entry.{Entry}
-use Rattle.mt_base.specs.History.{IsDecided, IsInTime, IsReplayable, checks, entered_by, filled, look_at, state_of}
+use Rattle.mt_base.specs.Decision.{IsDecided, checks, filled, look_at}
+use Rattle.mt_base.specs.Effect.{entered_by, state_of}
+use Rattle.mt_base.specs.History.{IsInTime, IsReplayable}
 use Rattle.mt_base.specs.Picture.{State}
 use Rattle.mt_base.specs.Tables.{Setup}
 use Rattle.mt_base.proofs.CheckLemmas.{answer_is}

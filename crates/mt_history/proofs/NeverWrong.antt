@@ -2,7 +2,8 @@
 use Rattle.std.proofs.Common.{◌≡◌, ℕ, List, Ok, Err, refl, take}
 use Rattle.mt_base.specs.declared.command.Entry.{Entry}
 use Rattle.mt_base.specs.declared.command.Refusal.{Refusal}
-use Rattle.mt_base.specs.History.{IsReplayable, state_of}
+use Rattle.mt_base.specs.Effect.{state_of}
+use Rattle.mt_base.specs.History.{IsReplayable}
 use Rattle.mt_base.specs.Tables.{Setup}
 use Rattle.mt_base.proofs.OneSolution.{one_decision}
 use Rattle.mt_history.specs.declared.rebuilding.Wrong.{Wrong}

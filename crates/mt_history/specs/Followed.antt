@@ -2,7 +2,9 @@
 use Rattle.std.specs.Prelude.{◌≡◌, [], ◌∷◌, ◌++◌, length, Ok, Err, ⊤}
 use Rattle.mt_base.specs.declared.command.Entered.{Entered}
 use Rattle.mt_base.specs.declared.command.Entry.{Entry}
-use Rattle.mt_base.specs.History.{IsDecided, IsInTime, entered_by, state_of}
+use Rattle.mt_base.specs.Decision.{IsDecided}
+use Rattle.mt_base.specs.Effect.{entered_by, state_of}
+use Rattle.mt_base.specs.History.{IsInTime}
 use Rattle.mt_history.specs.declared.following.FollowNo.{FollowNo}
 use Rattle.mt_history.specs.declared.following.FollowNo.TheVariants.{Illegal, Late, Memory}
 use Rattle.mt_picture.specs.Story.{Story}

@@ -3,7 +3,9 @@ use Rattle.std.specs.Prelude.{◌≡◌, ℕ, List, take, slice_get, Some, Err, 
 use Rattle.mt_base.specs.declared.command.Entry.{Entry}
 use Rattle.mt_base.specs.declared.command.Refusal.{Refusal}
 use Rattle.mt_base.specs.Bounds.{IsBoundedCommand}
-use Rattle.mt_base.specs.History.{IsDecided, IsInTime, IsReplayable, filled, state_of}
+use Rattle.mt_base.specs.Decision.{IsDecided, filled}
+use Rattle.mt_base.specs.Effect.{state_of}
+use Rattle.mt_base.specs.History.{IsInTime, IsReplayable}
 use Rattle.mt_base.specs.Tables.{Setup}
 use Rattle.mt_history.specs.declared.following.FollowNo.{FollowNo}
 use Rattle.mt_history.specs.declared.following.FollowNo.TheVariants as no

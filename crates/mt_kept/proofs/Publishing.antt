@@ -14,7 +14,7 @@ use Rattle.std.specs.declared.cmp.Ordering.TheVariants.{Less, Equal, Greater}
 use Rattle.mt_base.specs.declared.conflict.Conflict.{Conflict}
 use Rattle.mt_base.specs.declared.rules.Rules.{Rules}
 use Rattle.mt_base.specs.Conflict.{IsLossSecond, IsSpanOfLoss}
-use Rattle.mt_base.specs.Picture.{IsOf, IsOfSome, IsPublishedOf, NamedTrajectory, conflict_cmp, window_end}
+use Rattle.mt_base.specs.Picture.{IsConflictOf, IsConflictAmong, IsPublishedOf, NamedTrajectory, conflict_cmp, window_end}
 use Rattle.mt_edges.specs.declared.edge.Edge.{Edge}
 use Rattle.mt_base.proofs.OneConflict.{one_conflict}
 use Rattle.mt_kept.specs.declared.open_pair.OpenPair.{OpenPair}
@@ -63,7 +63,7 @@ pub before_or_after : (s t : List ℕ) → s ≢ t → (slice_cmp nat_cmp s t �
 before_or_after s t apart = one_before s t (slice_cmp nat_cmp s t) refl apart
 
 -- what is found of two trajectories, whichever comes first, is the conflict that they have
-pub found_is : (rules : Rules) (now : ℕ) (left right : NamedTrajectory) (c : Conflict) (shown : Option Conflict) → IsOf rules now left right c
+pub found_is : (rules : Rules) (now : ℕ) (left right : NamedTrajectory) (c : Conflict) (shown : Option Conflict) → IsConflictOf rules now left right c
     → IsFoundOf rules now left right shown ⊎ IsFoundOf rules now right left shown → shown ≡ Some c
 found_is rules now left right c None is either =
     let low = is.span.inside.0 in
@@ -71,8 +71,8 @@ found_is rules now left right c None is either =
     ⊎_elim (λ none. absurd (none c.first low high is.span.first_is))
     (λ none. absurd (none c.first low high (IsLossSecond-sym rules left.path right.path c.first is.span.first_is))) either
 found_is rules now left right c (Some d) is either =
-    let same : IsOf rules now left right d → Some d ≡ Some c = λ other. ap Some (one_conflict rules now left right d c other is) in
-    let swapped : IsOf rules now right left d → Some d ≡ Some c = λ other. absurd (not_both left.call right.call is.apart other.apart) in
+    let same : IsConflictOf rules now left right d → Some d ≡ Some c = λ other. ap Some (one_conflict rules now left right d c other is) in
+    let swapped : IsConflictOf rules now right left d → Some d ≡ Some c = λ other. absurd (not_both left.call right.call is.apart other.apart) in
     ⊎_elim (λ found. ⊎_elim same swapped found) (λ found. ⊎_elim swapped same found) either
 
 -- an open pair of two places, one of whose trajectories is the left one and one the right one, shows their conflict
@@ -94,7 +94,7 @@ found_between rules places now e left right shown h between = ⊎_elim
 shows_between : (rules : Rules) (places : List (Option NamedTrajectory)) (now : ℕ) (edges : List Edge) (open_pairs : List OpenPair) (c : Conflict)
     (left right : NamedTrajectory) (a b : ℕ) (first second : NamedTrajectory) → now ≤ 10000000 → AreKept rules places edges
     → AreOpen rules places now edges open_pairs → a < b → at places a ≡ Some first → at places b ≡ Some second → first.call ≢ second.call
-    → IsLossSecond rules first.path second.path c.first → now ≤ c.first → c.first < window_end now → IsOf rules now left right c
+    → IsLossSecond rules first.path second.path c.first → now ≤ c.first → c.first < window_end now → IsConflictOf rules now left right c
     → ((first ≡ left) × (second ≡ right)) ⊎ ((first ≡ right) × (second ≡ left)) → Shows open_pairs c
 shows_between rules places now edges open_pairs c left right a b first second early kept opened before first_at second_at apart loss low high is names =
     let loses : LoseSeparation rules places a b c.first = record {
@@ -133,7 +133,7 @@ shows_between rules places now edges open_pairs c left right a b first second ea
     }
 
 pub shows : (rules : Rules) (places : List (Option NamedTrajectory)) (now : ℕ) (edges : List Edge) (open_pairs : List OpenPair) (c : Conflict)
-    → now ≤ 10000000 → AreKept rules places edges → AreOpen rules places now edges open_pairs → IsOfSome rules now (held places) c → Shows open_pairs c
+    → now ≤ 10000000 → AreKept rules places edges → AreOpen rules places now edges open_pairs → IsConflictAmong rules now (held places) c → Shows open_pairs c
 shows rules places now edges open_pairs c early kept opened some =
     let is = some.is in
     let l = stands places some.left some.left_in in
@@ -152,7 +152,7 @@ shows rules places now edges open_pairs c early kept opened some =
 
 -- what an open pair shows is a conflict of two of the trajectories
 shown_is : (rules : Rules) (places : List (Option NamedTrajectory)) (now : ℕ) (e : Edge) (c : Conflict) → ShowsInWindow rules places now e (Some c)
-    → IsOfSome rules now (held places) c
+    → IsConflictAmong rules now (held places) c
 shown_is rules places now e c shown =
     let l = held_at places e.a shown.left shown.left_is in
     let r = held_at places e.b shown.right shown.right_is in
@@ -202,8 +202,8 @@ pub found_pair : (rules : Rules) (now : ℕ) (left right : NamedTrajectory) (spa
     → IsSpanOfLoss rules left.path right.path now (window_end now) span.0 span.1 → IsInOrder left right span c ⊎ IsInOrder right left span c
     → IsFoundOf rules now left right (Some c)
 found_pair rules now left right span c is order = ⊎_elim
-    (λ o. inl (subst (IsOf rules now left right) (sym o.1) (record { calls = (refl, refl); kinds = (refl, refl); apart = o.0; span = is })))
-    (λ o. inr (subst (IsOf rules now right left) (sym o.1)
+    (λ o. inl (subst (IsConflictOf rules now left right) (sym o.1) (record { calls = (refl, refl); kinds = (refl, refl); apart = o.0; span = is })))
+    (λ o. inr (subst (IsConflictOf rules now right left) (sym o.1)
     (record { calls = (refl, refl); kinds = (refl, refl); apart = o.0; span = IsSpanOfLoss-sym rules left.path right.path now (window_end now) span.0 span.1 is })))
     order
 

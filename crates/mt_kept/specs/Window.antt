@@ -3,7 +3,7 @@ use Rattle.std.specs.Prelude.{◌≡◌, ◌≢◌, ℕ, ◌<◌, ◌≤◌, ◌
 use Rattle.mt_base.specs.declared.conflict.Conflict.{Conflict}
 use Rattle.mt_base.specs.declared.rules.Rules.{Rules}
 use Rattle.mt_base.specs.Conflict.{IsLossSecond}
-use Rattle.mt_base.specs.Picture.{NamedTrajectory, IsOf, window_end}
+use Rattle.mt_base.specs.Picture.{NamedTrajectory, IsConflictOf, window_end}
 use Rattle.mt_pair.specs.Crossing.{crosses_one}
 use Rattle.mt_edges.specs.declared.edge.Edge.{Edge}
 use Rattle.mt_kept.specs.declared.open_pair.OpenPair.{OpenPair}
@@ -25,7 +25,7 @@ straddles now e = is_straddling now e.first e.last
 
 -- two trajectories' conflict in the look-ahead, or none. Either of them may have the lesser callsign.
 abbrev pub IsFoundOf : Rules → ℕ → NamedTrajectory → NamedTrajectory → Option Conflict → Type 0
-IsFoundOf rules now left right (Some c) = IsOf rules now left right c ⊎ IsOf rules now right left c
+IsFoundOf rules now left right (Some c) = IsConflictOf rules now left right c ⊎ IsConflictOf rules now right left c
 IsFoundOf rules now left right None = (k : ℕ) → now ≤ k → k < window_end now → ¬ IsLossSecond rules left.path right.path k
 
 -- `ShowsInWindow`, `edge_of`: what a pair shows in the look-ahead

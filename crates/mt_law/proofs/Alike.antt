@@ -7,7 +7,7 @@ use Rattle.mt_base.specs.declared.command.Refusal.{Refusal}
 use Rattle.mt_base.specs.declared.conflict.Conflict.{Conflict}
 use Rattle.mt_base.specs.declared.flight.Record.{Record}
 use Rattle.mt_base.specs.declared.hit.Hit.{Hit}
-use Rattle.mt_base.specs.History.{bare_path, changed}
+use Rattle.mt_base.specs.Effect.{bare_path, changed}
 use Rattle.mt_base.specs.Picture.{IsPublished, IsPublishedOf, NamedTrajectory, State}
 use Rattle.mt_base.specs.StrikeOut.{AreAlike, AreConflictsFlown, AreSameButVersions, all_flown, flown_by, without}
 use Rattle.mt_base.specs.Tables.{Setup}

@@ -15,7 +15,8 @@ use Rattle.mt_base.specs.declared.flight.Path.TheVariants.{Planned, Outer}
 use Rattle.mt_base.specs.declared.flight.Record.{Record}
 use Rattle.mt_base.specs.declared.flight.Report.{Report}
 use Rattle.mt_base.specs.Checks.{judged}
-use Rattle.mt_base.specs.History.{Look, bare_path, call_of, changed, checks, cleared_path, committed_path, course_of, effect, filled, judge, marked_path, records_after, renewed_path, reported_path}
+use Rattle.mt_base.specs.Decision.{Look, call_of, checks, filled, judge}
+use Rattle.mt_base.specs.Effect.{bare_path, changed, cleared_path, committed_path, course_of, effect, marked_path, records_after, renewed_path, reported_path}
 use Rattle.mt_base.specs.Picture.{State, flight_of}
 use Rattle.mt_base.specs.StrikeOut.{handled_by, without}
 use Rattle.mt_base.specs.Tables.{Setup}

@@ -13,7 +13,8 @@ use Rattle.mt_base.specs.declared.flight.Path.TheVariants.{Planned}
 use Rattle.mt_base.specs.declared.flight.Record.{Record}
 use Rattle.mt_base.specs.Checks.{judged}
 use Rattle.mt_base.specs.Cleared.{aim_checks, is_below_ceiling}
-use Rattle.mt_base.specs.History.{HasHits, IsDecided, Look, call_of, checks, effect, filled, has_history, has_room, judge, now_after, owner_of, records_after, route_checks}
+use Rattle.mt_base.specs.Decision.{HasHits, IsDecided, Look, call_of, checks, filled, has_history, has_room, judge, owner_of, route_checks}
+use Rattle.mt_base.specs.Effect.{effect, now_after, records_after}
 use Rattle.mt_base.specs.Picture.{State, flight_of, trajectory_of}
 use Rattle.mt_base.specs.StrikeOut.{AreSameButVersions, entry_renumbered, renumbered}
 use Rattle.mt_base.specs.Tables.{Setup}

@@ -11,7 +11,9 @@ use Rattle.mt_base.specs.declared.command.Entry.{Entry}
 use Rattle.mt_base.specs.declared.flight.Path.{Path}
 use Rattle.mt_base.specs.declared.flight.Path.TheVariants.{Planned, Outer}
 use Rattle.mt_base.specs.declared.flight.Record.{Record}
-use Rattle.mt_base.specs.History.{IsReplayable, bare_path, changed, cleared_path, committed_path, course_of, judge, marked_path, records_after, renewed_path, reported_path, state_of}
+use Rattle.mt_base.specs.Decision.{judge}
+use Rattle.mt_base.specs.Effect.{bare_path, changed, cleared_path, committed_path, course_of, marked_path, records_after, renewed_path, reported_path, state_of}
+use Rattle.mt_base.specs.History.{IsReplayable}
 use Rattle.mt_base.specs.Picture.{State, flight_of}
 use Rattle.mt_base.specs.Tables.{Setup}
 use Rattle.mt_base.proofs.HistoryLemmas.{state_of-push}

@@ -6,7 +6,7 @@ use Rattle.mt_base.specs.declared.command.Command.TheVariants.{Accept}
 use Rattle.mt_base.specs.declared.command.Entry.{Entry}
 use Rattle.mt_base.specs.declared.command.Refusal.{Refusal}
 use Rattle.mt_base.specs.declared.hit.Hit.{Hit}
-use Rattle.mt_base.specs.History.{HasHits, IsDecided}
+use Rattle.mt_base.specs.Decision.{HasHits, IsDecided}
 use Rattle.mt_base.specs.Picture.{State}
 use Rattle.mt_base.specs.StrikeOut.{handled_by, without}
 use Rattle.mt_base.specs.Tables.{Setup}

@@ -5,7 +5,7 @@ use Rattle.std.specs.Prelude.{option_map}
 use Rattle.std.specs.Str.{bytes_eq}
 use Rattle.mt_base.specs.declared.flight.Path.{Path}
 use Rattle.mt_base.specs.declared.flight.Record.{Record}
-use Rattle.mt_base.specs.History.{changed}
+use Rattle.mt_base.specs.Effect.{changed}
 use Rattle.mt_base.specs.Picture.{flight_of}
 use Rattle.mt_base.specs.WhatIf.{mark_in, mark_on}
 

@@ -14,7 +14,8 @@ use Rattle.mt_base.specs.declared.flight.Record.{Record}
 use Rattle.mt_base.specs.declared.hit.Hit.{Hit}
 use Rattle.mt_base.specs.Checks.{judged}
 use Rattle.mt_base.specs.Conflict.{IsSpanOfLoss}
-use Rattle.mt_base.specs.History.{HasHits, IsDecided, bare_path, changed}
+use Rattle.mt_base.specs.Decision.{HasHits, IsDecided}
+use Rattle.mt_base.specs.Effect.{bare_path, changed}
 use Rattle.mt_base.specs.Picture.{State, flight_of, trajectory_of, window_end}
 use Rattle.mt_base.specs.StrikeOut.{handled_by, without}
 use Rattle.mt_base.specs.Tables.{Setup}

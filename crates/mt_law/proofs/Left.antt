@@ -6,7 +6,9 @@ use Rattle.std.specs.List.{AllByRecursion}
 use Rattle.mt_base.specs.declared.command.Command.{Command}
 use Rattle.mt_base.specs.declared.command.Command.TheVariants.{Accept}
 use Rattle.mt_base.specs.declared.command.Entry.{Entry}
-use Rattle.mt_base.specs.History.{IsDecided, IsInTime, IsLegal, WasFree, effect, state_of}
+use Rattle.mt_base.specs.Decision.{IsDecided}
+use Rattle.mt_base.specs.Effect.{effect, state_of}
+use Rattle.mt_base.specs.History.{IsInTime, IsLegal, WasFree}
 use Rattle.mt_base.specs.Picture.{State}
 use Rattle.mt_base.specs.StrikeOut.{AreAlike, entry_renumbered, renumbered}
 use Rattle.mt_base.specs.Tables.{Setup}

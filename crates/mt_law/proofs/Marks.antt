@@ -15,7 +15,8 @@ use Rattle.mt_base.specs.declared.flight.Path.TheVariants.{Planned, Outer}
 use Rattle.mt_base.specs.declared.flight.Record.{Record}
 use Rattle.mt_base.specs.declared.flight.Report.{Report}
 use Rattle.mt_base.specs.Cleared.{aim_checks}
-use Rattle.mt_base.specs.History.{bare_path, changed, cleared_path, committed_path, course_of, has_history, judge, look_at, marked_path, owner_of, records_after, renewed_path, reported_path}
+use Rattle.mt_base.specs.Decision.{has_history, judge, look_at, owner_of}
+use Rattle.mt_base.specs.Effect.{bare_path, changed, cleared_path, committed_path, course_of, marked_path, records_after, renewed_path, reported_path}
 use Rattle.mt_base.specs.Picture.{State, flight_of, trajectory_of}
 use Rattle.mt_base.specs.StrikeOut.{ended_by, handled_by}
 use Rattle.mt_base.specs.Tables.{Setup}

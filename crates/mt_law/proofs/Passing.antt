@@ -6,7 +6,7 @@ use Rattle.std.specs.Prelude.{Result, int_lt, pos, ℤ}
 use Rattle.mt_base.specs.declared.command.Command.{Command}
 use Rattle.mt_base.specs.declared.command.Entry.{Entry}
 use Rattle.mt_base.specs.Checks.{judged}
-use Rattle.mt_base.specs.History.{checks, filled, judge, look_at}
+use Rattle.mt_base.specs.Decision.{checks, filled, judge, look_at}
 use Rattle.mt_base.specs.Picture.{State}
 use Rattle.mt_base.specs.Tables.{Setup}
 use Rattle.mt_base.proofs.CheckLemmas.{all_pass, all_passed, answer_is}

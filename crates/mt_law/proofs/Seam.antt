@@ -3,7 +3,9 @@ use Rattle.std.proofs.Common.{◌≡◌, List, [], ◌∷◌, ◌++◌, length, 
 use Rattle.std.proofs.Math.Seq.{take-append_seam}
 use Rattle.std.specs.Prelude.{slice_get}
 use Rattle.mt_base.specs.declared.command.Entry.{Entry}
-use Rattle.mt_base.specs.History.{IsDecided, IsReplayable, state_of}
+use Rattle.mt_base.specs.Decision.{IsDecided}
+use Rattle.mt_base.specs.Effect.{state_of}
+use Rattle.mt_base.specs.History.{IsReplayable}
 use Rattle.mt_base.specs.Tables.{Setup}
 
 pub slice_get_seam : (h : List Entry) (e : Entry) (t : List Entry) → slice_get (h ++ e ∷ t) (length h) ≡ Some e

@@ -13,7 +13,8 @@ use Rattle.mt_base.specs.declared.flight.Mark.{Mark}
 use Rattle.mt_base.specs.declared.flight.Path.{Path}
 use Rattle.mt_base.specs.declared.flight.Path.TheVariants.{Planned, Outer}
 use Rattle.mt_base.specs.declared.flight.Record.{Record}
-use Rattle.mt_base.specs.History.{IsReplayable, bare_path, changed, committed, committed_path, effect, records_after, state_of}
+use Rattle.mt_base.specs.Effect.{bare_path, changed, committed, committed_path, effect, records_after, state_of}
+use Rattle.mt_base.specs.History.{IsReplayable}
 use Rattle.mt_base.specs.Picture.{flight_of}
 use Rattle.mt_base.specs.StrikeOut.{Withdrawn, ended_at, ended_by, handled_by, history_of, marking, withdrawal}
 use Rattle.mt_base.specs.Tables.{Setup}

@@ -5,7 +5,8 @@ use Rattle.mt_base.specs.declared.command.Entry.{Entry}
 use Rattle.mt_base.specs.declared.flight.Path.{Path}
 use Rattle.mt_base.specs.declared.flight.Path.TheVariants.{Planned, Outer}
 use Rattle.mt_base.specs.declared.flight.Record.{Record}
-use Rattle.mt_base.specs.History.{IsDecided, bare_path, changed, effect}
+use Rattle.mt_base.specs.Decision.{IsDecided}
+use Rattle.mt_base.specs.Effect.{bare_path, changed, effect}
 use Rattle.mt_base.specs.Picture.{State}
 use Rattle.mt_base.specs.StrikeOut.{AreAlike, ended_by, entry_renumbered, handled_by, renumbered, without}
 use Rattle.mt_base.specs.Tables.{Setup}

@@ -10,7 +10,9 @@ use Rattle.mt_base.specs.declared.command.Entry.{Entry}
 use Rattle.mt_base.specs.declared.command.Refusal.{Refusal}
 use Rattle.mt_base.specs.declared.conflict.Conflict.{Conflict}
 use Rattle.mt_base.specs.declared.hit.Hit.{Hit}
-use Rattle.mt_base.specs.History.{IsDecided, IsLegal, effect, state_of}
+use Rattle.mt_base.specs.Decision.{IsDecided}
+use Rattle.mt_base.specs.Effect.{effect, state_of}
+use Rattle.mt_base.specs.History.{IsLegal}
 use Rattle.mt_base.specs.Picture.{IsPublished, State}
 use Rattle.mt_base.specs.StrikeOut.{AreAlike, AreConflictsFlown, AreSameButVersions, Withdrawn, all_flown, ended, ended_at, ended_by, entry_renumbered, history_of, lowered_in, made, made_at, renumbered, state_at, strike_out, struck_state_at}
 use Rattle.mt_base.specs.Tables.{Setup}

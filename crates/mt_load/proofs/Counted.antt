@@ -4,7 +4,7 @@ use Rattle.std.specs.Prelude.{All}
 use Rattle.mt_base.specs.declared.command.Entry.{Entry}
 use Rattle.mt_base.specs.declared.conflict.Conflict.{Conflict}
 use Rattle.mt_base.specs.Complete.{IsComplete}
-use Rattle.mt_base.specs.History.{state_of}
+use Rattle.mt_base.specs.Effect.{state_of}
 use Rattle.mt_base.specs.Picture.{IsPublished, State}
 use Rattle.mt_base.proofs.ConflictOrder.{total}
 use Rattle.mt_base.proofs.OneOrder.{one_order}

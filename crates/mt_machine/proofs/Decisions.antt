@@ -7,7 +7,7 @@ use Rattle.mt_base.specs.declared.command.Refusal.{Refusal}
 use Rattle.mt_base.specs.declared.command.Refusal.TheVariants.{Stale}
 use Rattle.mt_base.specs.declared.hit.Hit.{Hit}
 use Rattle.mt_base.specs.Checks.{judged, next}
-use Rattle.mt_base.specs.History.{HasHits, IsDecided, checks, filled, judge, look_at}
+use Rattle.mt_base.specs.Decision.{HasHits, IsDecided, checks, filled, judge, look_at}
 use Rattle.mt_base.specs.Picture.{State}
 use Rattle.mt_base.specs.Tables.{Setup}
 use Rattle.mt_base.proofs.CheckLemmas.{judged-answer}

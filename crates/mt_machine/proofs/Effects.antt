@@ -16,7 +16,8 @@ use Rattle.mt_base.specs.declared.flight.Path.{Path}
 use Rattle.mt_base.specs.declared.flight.Path.TheVariants.{Planned, Outer}
 use Rattle.mt_base.specs.declared.flight.Straight.{Straight}
 use Rattle.mt_base.specs.Bounds.{AreWithinBounds, IsBoundedCommand, IsInPlane, IsSoundFlight, IsSoundPath}
-use Rattle.mt_base.specs.History.{IsDecided, checks, course_of, filled, first_of_points, look_at, route_checks}
+use Rattle.mt_base.specs.Decision.{IsDecided, checks, filled, look_at, route_checks}
+use Rattle.mt_base.specs.Effect.{course_of, first_of_points}
 use Rattle.mt_base.specs.Cleared.{aim_checks}
 use Rattle.mt_base.specs.Picture.{State, flight_of, opening, trajectory_of}
 use Rattle.mt_base.specs.Predictor.{points_of}

@@ -5,7 +5,8 @@ use Rattle.mt_base.specs.declared.command.Command.TheVariants.{Clear, Tentative}
 use Rattle.mt_base.specs.declared.command.Entry.{Entry}
 use Rattle.mt_base.specs.declared.hit.Hit.{Hit}
 use Rattle.mt_base.specs.Bounds.{IsBoundedCommand}
-use Rattle.mt_base.specs.History.{HasHits, IsDecided, IsInTime, WasFree, checks, filled, judge, look_at}
+use Rattle.mt_base.specs.Decision.{HasHits, IsDecided, checks, filled, judge, look_at}
+use Rattle.mt_base.specs.History.{IsInTime, WasFree}
 use Rattle.mt_base.specs.Picture.{State}
 use Rattle.mt_base.specs.Tables.{Setup}
 use Rattle.mt_base.proofs.CheckLemmas.{answer_is}

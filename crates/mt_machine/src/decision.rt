@@ -1,7 +1,7 @@
 //! What is decided of a command.
 ghost use Rattle.std.specs.Prelude.{◌≡◌, ◌≤◌, ℕ, length, option_copied, IfOk};
 ghost use Rattle.mt_base.specs.Bounds.{AreWithinBounds, IsBoundedCommand};
-ghost use Rattle.mt_base.specs.History.{IsDecided, look_at};
+ghost use Rattle.mt_base.specs.Decision.{IsDecided, look_at};
 ghost use Rattle.mt_base.specs.Picture.{flight_of};
 ghost use Rattle.mt_machine.specs.Private.Deciding.{IsFirstHit, IsPlannedStrand, IsStrandFor};
 ghost use Rattle.mt_change.specs.Sound.{IsSoundState};

@@ -1,7 +1,8 @@
 //! What an entry leaves.
 ghost use Rattle.std.specs.Prelude.{◌≡◌, ◌∷◌, ◌++◌, [], IfOk, OnOk, OnErr, Ok};
 ghost use Rattle.mt_base.specs.Bounds.{AreWithinBounds, IsBoundedCommand};
-ghost use Rattle.mt_base.specs.History.{IsDecided, effect, entered_by, filled, now_after, records_after, verdict_in};
+ghost use Rattle.mt_base.specs.Decision.{IsDecided, filled};
+ghost use Rattle.mt_base.specs.Effect.{effect, entered_by, now_after, records_after, verdict_in};
 ghost use Rattle.mt_change.specs.Altered.{Alters};
 ghost use Rattle.mt_change.specs.Sound.{IsSoundState};
 ghost use Rattle.mt_change.specs.Private.Sound.{PassesChecks};

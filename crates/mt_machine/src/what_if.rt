@@ -1,7 +1,7 @@
 //! What would follow from a clearance.
 ghost use Rattle.std.specs.Prelude.{◌≡◌, ◌≤◌, length, IfOk, IfSome};
 ghost use Rattle.mt_base.specs.Bounds.{AreWithinBounds, IsBoundedClearance, IsRightAim, IsSoundCourse};
-ghost use Rattle.mt_base.specs.History.{with_aim};
+ghost use Rattle.mt_base.specs.Effect.{with_aim};
 ghost use Rattle.mt_base.specs.WhatIf.{IsWhatIf, aimed};
 ghost use Rattle.mt_board.specs.Short.{AreShortHits};
 ghost use Rattle.mt_change.specs.Sound.{IsSoundState};

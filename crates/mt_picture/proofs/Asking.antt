@@ -8,7 +8,7 @@ use Rattle.std.proofs.lemmas.Slice.Eq.{bytes_eq-Decides}
 use Rattle.std.specs.List.{filter, sum_by}
 use Rattle.std.specs.Str.{bytes_eq}
 use Rattle.mt_base.specs.declared.rules.Rules.{Rules}
-use Rattle.mt_base.specs.History.{state_of}
+use Rattle.mt_base.specs.Effect.{state_of}
 use Rattle.mt_base.specs.Picture.{NamedTrajectory, State, trajectories}
 use Rattle.mt_base.specs.Tables.{Setup}
 use Rattle.mt_cover.specs.declared.stays.Stay.{Stay}

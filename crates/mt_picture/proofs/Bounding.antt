@@ -4,7 +4,7 @@ use Rattle.mt_base.specs.declared.command.Command.{Command}
 use Rattle.mt_base.specs.declared.command.Command.TheVariants.{Accept, Clear, Commit, Drop, External, Plan, Renew, Tentative, Tick, Withdraw}
 use Rattle.mt_base.specs.declared.command.Command.TheVariants as commands
 use Rattle.mt_base.specs.declared.flight.Record.{Record}
-use Rattle.mt_base.specs.History.{state_of}
+use Rattle.mt_base.specs.Effect.{state_of}
 use Rattle.mt_base.specs.Picture.{NamedTrajectory, State}
 use Rattle.mt_base.specs.Tables.{Setup}
 use Rattle.mt_base.specs.Trajectory.{Trajectory}

@@ -9,7 +9,7 @@ use Rattle.std.proofs.lemmas.List.Elements.{All-contains, Contains-append_left, 
 use Rattle.mt_base.specs.declared.command.Entry.{Entry}
 use Rattle.mt_base.specs.declared.conflict.Kind.{Kind}
 use Rattle.mt_base.specs.declared.conflict.Kind.TheVariants.{Actual, Tentative}
-use Rattle.mt_base.specs.History.{call_of}
+use Rattle.mt_base.specs.Decision.{call_of}
 use Rattle.mt_base.proofs.Members.{Contains-cases, Contains-none, distinct_append}
 use Rattle.mt_cover.specs.declared.stays.Stay.{Stay}
 use Rattle.mt_kept.specs.declared.finds.Candidate.{Candidate}

@@ -4,7 +4,7 @@ use Rattle.mt_base.specs.declared.command.Command.{Command}
 use Rattle.mt_base.specs.declared.command.Command.TheVariants.{Clear, Tentative}
 use Rattle.mt_base.specs.Bounds.{IsBoundedCommand}
 use Rattle.mt_base.specs.Complete.{HasNames, IsComplete, IsTimed}
-use Rattle.mt_base.specs.History.{filled}
+use Rattle.mt_base.specs.Decision.{filled}
 use Rattle.mt_machine.proofs.Filled.{filled_bounded}
 
 filled_named : (now : ℕ) (c : Command) → HasNames c → HasNames (filled now c)

@@ -6,7 +6,9 @@ use Rattle.std.proofs.lemmas.Option.{slice_get_cases}
 use Rattle.std.specs.Prelude.{int_lt, slice_get}
 use Rattle.mt_base.specs.declared.command.Entry.{Entry}
 use Rattle.mt_base.specs.Bounds.{AreWithinBounds}
-use Rattle.mt_base.specs.History.{IsReplayable, checks, filled, look_at, state_of}
+use Rattle.mt_base.specs.Decision.{checks, filled, look_at}
+use Rattle.mt_base.specs.Effect.{state_of}
+use Rattle.mt_base.specs.History.{IsReplayable}
 use Rattle.mt_base.specs.Picture.{State}
 use Rattle.mt_base.specs.Tables.{Setup}
 use Rattle.mt_base.proofs.CheckLemmas.{all_passed}

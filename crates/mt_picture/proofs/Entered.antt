@@ -14,7 +14,8 @@ use Rattle.mt_base.specs.declared.flight.Path.{Path}
 use Rattle.mt_base.specs.declared.flight.Path.TheVariants.{Outer, Planned}
 use Rattle.mt_base.specs.declared.flight.Record.{Record}
 use Rattle.mt_base.specs.Bounds.{IsSoundFlight}
-use Rattle.mt_base.specs.History.{changed, course_of, filled, now_after, records_after}
+use Rattle.mt_base.specs.Decision.{filled}
+use Rattle.mt_base.specs.Effect.{changed, course_of, now_after, records_after}
 use Rattle.mt_base.specs.Picture.{NamedTrajectory, State, flight_of, tentative_of, trajectory_of}
 use Rattle.mt_base.specs.Tables.{Setup}
 use Rattle.mt_base.specs.Trajectory.{Trajectory}

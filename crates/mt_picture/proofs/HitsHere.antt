@@ -13,7 +13,7 @@ use Rattle.mt_base.specs.declared.flight.Record.{Record}
 use Rattle.mt_base.specs.declared.hit.Hit.{Hit}
 use Rattle.mt_base.specs.declared.rules.Rules.{Rules}
 use Rattle.mt_base.specs.Conflict.{IsLossSecond, IsSpanOfLoss}
-use Rattle.mt_base.specs.Picture.{IsOf, NamedTrajectory, trajectory_of, window_end}
+use Rattle.mt_base.specs.Picture.{IsConflictOf, NamedTrajectory, trajectory_of, window_end}
 use Rattle.mt_base.specs.Trajectory.{Trajectory}
 use Rattle.mt_base.specs.WhatIf.{AreHitsOf, IsHit}
 use Rattle.mt_edges.specs.declared.edge.Edge.{Edge}
@@ -190,7 +190,7 @@ module _ (shot : Shot) (slot : ℕ) (f : Flight) (finds : List OpenPair) (sound 
   call = f.card.call
 
   abbrev Either : NamedTrajectory → NamedTrajectory → Conflict → Type 0
-  Either m t c = IsOf rules shot.now m t c ⊎ IsOf rules shot.now t m c
+  Either m t c = IsConflictOf rules shot.now m t c ⊎ IsConflictOf rules shot.now t m c
 
   swap : (m t : NamedTrajectory) (c : Conflict) → Either m t c → Either t m c
   swap m t c either = ⊎_elim (λ one. inr one) (λ other. inl other) either

@@ -5,7 +5,8 @@ use Rattle.mt_base.specs.declared.command.Command.{Command}
 use Rattle.mt_base.specs.declared.command.Command.TheVariants.{Tentative}
 use Rattle.mt_base.specs.declared.command.Entry.{Entry}
 use Rattle.mt_base.specs.Bounds.{IsSoundFlight}
-use Rattle.mt_base.specs.History.{call_of, state_of}
+use Rattle.mt_base.specs.Decision.{call_of}
+use Rattle.mt_base.specs.Effect.{state_of}
 use Rattle.mt_base.specs.Picture.{State}
 use Rattle.mt_base.specs.Tables.{Setup}
 use Rattle.mt_base.proofs.HistoryLemmas.{version_is}

@@ -10,7 +10,7 @@ use Rattle.mt_base.specs.declared.flight.Path.TheVariants.{Planned}
 use Rattle.mt_base.specs.declared.flight.Record.{Record}
 use Rattle.mt_base.specs.declared.flight.Report.{Report}
 use Rattle.mt_base.specs.declared.verdict.Verdict.{Verdict}
-use Rattle.mt_base.specs.History.{verdict_in, verdict_on}
+use Rattle.mt_base.specs.Effect.{verdict_in, verdict_on}
 use Rattle.mt_base.specs.Picture.{flight_of, trajectory_of}
 use Rattle.mt_base.specs.Trajectory.{Trajectory}
 use Rattle.mt_base.specs.Verdict.{verdict_of}

@@ -4,7 +4,7 @@ use Rattle.mt_base.specs.declared.command.Command.{Command}
 use Rattle.mt_base.specs.declared.command.Command.TheVariants.{Clear, Drop, External, Plan, Tentative, Tick, Withdraw}
 use Rattle.mt_base.specs.declared.command.Command.TheVariants as commands
 use Rattle.mt_base.specs.declared.conflict.Kind.TheVariants.{Actual}
-use Rattle.mt_base.specs.History.{filled}
+use Rattle.mt_base.specs.Decision.{filled}
 use Rattle.mt_probe.specs.Prepared.{MakesStrand, kind_made}
 use Rattle.mt_picture.specs.Private.Entries.{IsFiling, IsRemaking}
 

@@ -9,7 +9,7 @@ use Rattle.mt_base.specs.declared.command.Entry.{Entry}
 use Rattle.mt_base.specs.declared.flight.Record.{Record}
 use Rattle.mt_base.specs.declared.rules.Rules.{Rules}
 use Rattle.mt_base.specs.Complete.{IsComplete}
-use Rattle.mt_base.specs.History.{effect, state_of}
+use Rattle.mt_base.specs.Effect.{effect, state_of}
 use Rattle.mt_base.specs.Picture.{NamedTrajectory, State}
 use Rattle.mt_base.specs.Tables.{Setup}
 use Rattle.mt_base.proofs.HistoryLemmas.{state_of-push}

@@ -14,7 +14,7 @@ use Rattle.mt_base.specs.declared.flight.Record.{Record}
 use Rattle.mt_base.specs.Bounds.{AreWithinBounds}
 use Rattle.mt_base.specs.Checks.{judged}
 use Rattle.mt_base.specs.Cleared.{aim_checks}
-use Rattle.mt_base.specs.History.{checks, look_at, route_checks}
+use Rattle.mt_base.specs.Decision.{checks, look_at, route_checks}
 use Rattle.mt_base.specs.Picture.{State, flight_of, trajectory_of}
 use Rattle.mt_base.specs.Tables.{Setup}
 use Rattle.mt_base.specs.WhatIf.{course_in, what_if_checks}

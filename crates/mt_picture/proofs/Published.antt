@@ -13,7 +13,9 @@ use Rattle.mt_base.specs.declared.hit.Hit.{Hit}
 use Rattle.mt_base.specs.declared.rules.Rules.{Rules}
 use Rattle.mt_base.specs.declared.verdict.Verdict.{Verdict}
 use Rattle.mt_base.specs.Checks.{judged}
-use Rattle.mt_base.specs.History.{IsDecided, IsInTime, IsLegal, IsReplayable, WasFree, checks, entered_by, filled, look_at, state_of, verdict_in}
+use Rattle.mt_base.specs.Decision.{IsDecided, checks, filled, look_at}
+use Rattle.mt_base.specs.Effect.{entered_by, state_of, verdict_in}
+use Rattle.mt_base.specs.History.{IsInTime, IsLegal, IsReplayable, WasFree}
 use Rattle.mt_base.specs.Picture.{IsPublished, IsPublishedOf, NamedTrajectory, State, trajectories}
 use Rattle.mt_base.specs.Tables.{Setup}
 use Rattle.mt_base.proofs.HistoryLemmas.{legal_push, replayable_push, version_is}

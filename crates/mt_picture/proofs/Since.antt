@@ -17,7 +17,9 @@ use Rattle.mt_base.specs.declared.flight.Path.TheVariants.{Planned}
 use Rattle.mt_base.specs.declared.hit.Hit.{Hit}
 use Rattle.mt_base.specs.Checks.{check, judged, next}
 use Rattle.mt_base.specs.Cleared.{aim_checks, clearance_checks}
-use Rattle.mt_base.specs.History.{IsStale, Look, WasFree, checks, judge, look_at, state_of}
+use Rattle.mt_base.specs.Decision.{IsStale, Look, checks, judge, look_at}
+use Rattle.mt_base.specs.Effect.{state_of}
+use Rattle.mt_base.specs.History.{WasFree}
 use Rattle.mt_base.specs.Picture.{State, flight_of, trajectory_of}
 use Rattle.mt_base.specs.Tables.{Setup, Tables}
 use Rattle.mt_base.specs.Trajectory.{Trajectory}

@@ -11,7 +11,8 @@ use Rattle.mt_base.specs.declared.command.Command.TheVariants as commands
 use Rattle.mt_base.specs.declared.command.Entry.{Entry}
 use Rattle.mt_base.specs.declared.flight.Path.{Path}
 use Rattle.mt_base.specs.declared.flight.Record.{Record}
-use Rattle.mt_base.specs.History.{call_of, changed, effect, filled, records_after, state_of}
+use Rattle.mt_base.specs.Decision.{call_of, filled}
+use Rattle.mt_base.specs.Effect.{changed, effect, records_after, state_of}
 use Rattle.mt_base.specs.Picture.{State, flight_of}
 use Rattle.mt_base.specs.Tables.{Setup}
 use Rattle.mt_base.specs.WhatIf.{course_in}

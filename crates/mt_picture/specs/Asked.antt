@@ -8,7 +8,7 @@ use Rattle.mt_base.specs.declared.command.Command.TheVariants.{Drop, Tick, Withd
 use Rattle.mt_base.specs.declared.command.Command.TheVariants as commands
 use Rattle.mt_base.specs.Conflict.{IsConflict, IsSpanOfLoss}
 use Rattle.mt_base.specs.declared.rules.Rules.{Rules}
-use Rattle.mt_base.specs.History.{state_of}
+use Rattle.mt_base.specs.Effect.{state_of}
 use Rattle.mt_base.specs.Picture.{NamedTrajectory, State, trajectories}
 use Rattle.mt_base.specs.Trajectory.{Trajectory}
 use Rattle.mt_cover.specs.declared.stays.Stay.{Stay}

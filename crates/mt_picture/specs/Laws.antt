@@ -4,7 +4,8 @@ use Rattle.mt_base.specs.declared.clearance.Clearance.{Clearance}
 use Rattle.mt_base.specs.declared.command.Entry.{Entry}
 use Rattle.mt_base.specs.declared.conflict.Conflict.{Conflict}
 use Rattle.mt_base.specs.declared.hit.Hit.{Hit}
-use Rattle.mt_base.specs.History.{IsLegal, state_of}
+use Rattle.mt_base.specs.Effect.{state_of}
+use Rattle.mt_base.specs.History.{IsLegal}
 use Rattle.mt_base.specs.Picture.{IsPublished}
 use Rattle.mt_base.specs.StrikeOut.{Withdrawn, ended_at, history_of, strike_out}
 use Rattle.mt_base.specs.Tables.{Setup}

@@ -3,7 +3,8 @@ use Rattle.std.specs.Prelude.{◌≡◌, ℕ, ◌+◌, ◌<◌, ◌≤◌, List,
 use Rattle.mt_base.specs.declared.command.Command.{Command}
 use Rattle.mt_base.specs.declared.command.Entry.{Entry}
 use Rattle.mt_base.specs.declared.conflict.Kind.{Kind}
-use Rattle.mt_base.specs.History.{call_of, state_of}
+use Rattle.mt_base.specs.Decision.{call_of}
+use Rattle.mt_base.specs.Effect.{state_of}
 use Rattle.mt_base.specs.Picture.{NamedTrajectory, trajectories}
 use Rattle.mt_base.specs.Tables.{Setup}
 use Rattle.mt_probe.specs.Prepared.{MakesStrand, kind_made}

@@ -4,7 +4,7 @@ ghost use Rattle.std.specs.Arc.{arc_value};
 ghost use Rattle.mt_base.specs.declared.command.Command.TheVariants.{Drop, Tick};
 ghost use Rattle.mt_base.specs.Bounds.{AreWithinBounds};
 ghost use Rattle.mt_base.specs.Complete.{IsComplete};
-ghost use Rattle.mt_base.specs.History.{state_of};
+ghost use Rattle.mt_base.specs.Effect.{state_of};
 ghost use Rattle.mt_base.specs.Picture.{IsPublished};
 ghost use Rattle.mt_kept.specs.Window.{WasTestedOnce};
 ghost use Rattle.mt_probe.specs.Shot.{flight_at};

@@ -3,7 +3,8 @@ ghost use Rattle.std.specs.Prelude.{◌≡◌, [], All, IfErr, IfOk, OnErr, OnOk
 ghost use Rattle.std.specs.Arc.{arc_value};
 ghost use Rattle.mt_base.specs.Bounds.{AreWithinBounds, IsBoundedCommand};
 ghost use Rattle.mt_base.specs.Complete.{IsComplete};
-ghost use Rattle.mt_base.specs.History.{IsInTime, IsLegal, IsReplayable, WasFree, state_of};
+ghost use Rattle.mt_base.specs.Effect.{state_of};
+ghost use Rattle.mt_base.specs.History.{IsInTime, IsLegal, IsReplayable, WasFree};
 ghost use Rattle.mt_base.specs.Picture.{IsPublished};
 ghost use Rattle.mt_probe.specs.Shot.{state_in_shot as state_in};
 ghost use Rattle.mt_picture.specs.Asked.{IsWithinBound};

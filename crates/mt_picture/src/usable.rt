@@ -1,6 +1,6 @@
 //! Whether a prep of an earlier version is of use.
 ghost use Rattle.std.specs.Prelude.{◌≡◌, ◌↔◌, IsTrue, Some, false, true};
-ghost use Rattle.mt_base.specs.History.{call_of, filled};
+ghost use Rattle.mt_base.specs.Decision.{call_of, filled};
 ghost use Rattle.mt_picture.specs.Private.Holding.{held_story};
 ghost use Rattle.mt_picture.specs.Story.{IsNamedAfter, IsPrepFor, IsUsable};
 

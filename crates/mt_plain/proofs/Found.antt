@@ -9,7 +9,7 @@ use Rattle.std.specs.declared.cmp.Ordering.TheVariants.{Less}
 use Rattle.mt_base.specs.declared.conflict.Conflict.{Conflict}
 use Rattle.mt_base.specs.declared.rules.Rules.{Rules}
 use Rattle.mt_base.specs.Conflict.{IsConflict, IsSpanOfLoss}
-use Rattle.mt_base.specs.Picture.{IsOf, IsOfSome, IsPublishedOf, NamedTrajectory, conflict_cmp, window_end}
+use Rattle.mt_base.specs.Picture.{IsConflictOf, IsConflictAmong, IsPublishedOf, NamedTrajectory, conflict_cmp, window_end}
 use Rattle.mt_base.proofs.OneConflict.{one_conflict}
 use Rattle.mt_plain.specs.Private.Added.{AddsConflicts, IsOfRight}
 
@@ -35,7 +35,7 @@ Adds-more P Q R old mid new parts first second = λ c. (
 
 -- the pair test found nothing, or this conflict and no other
 pub none_found : (rules : Rules) (now : ℕ) (left right : NamedTrajectory) → IsConflict rules left.path right.path now (window_end now) None
-    → (c : Conflict) → ¬ IsOf rules now left right c
+    → (c : Conflict) → ¬ IsConflictOf rules now left right c
 none_found rules now left right none c is =
     none c.first is.span.inside.0 (omega (arith, is.span.inside.1, is.span.inside.2)) is.span.first_is
 
@@ -44,19 +44,19 @@ conflict_of left right first last = record { first = first; a = left.call; b = r
 
 pub Adds-found : (rules : Rules) (now : ℕ) (left right : NamedTrajectory) (first last : ℕ) (old new : List Conflict)
     → slice_cmp nat_cmp left.call right.call ≡ Less → IsSpanOfLoss rules left.path right.path now (window_end now) first last
-    → new ≡ old ++ conflict_of left right first last ∷ [] → AddsConflicts (IsOf rules now left right) old new
+    → new ≡ old ++ conflict_of left right first last ∷ [] → AddsConflicts (IsConflictOf rules now left right) old new
 Adds-found rules now left right first last old new before span pushed =
-    let is : IsOf rules now left right (conflict_of left right first last) =
+    let is : IsConflictOf rules now left right (conflict_of left right first last) =
     record { calls = (refl, refl); kinds = (refl, refl); apart = before; span = span } in
-    rw pushed (Adds-one (IsOf rules now left right) old _ is (λ d other. one_conflict rules now left right _ d is other))
+    rw pushed (Adds-one (IsConflictOf rules now left right) old _ is (λ d other. one_conflict rules now left right _ d is other))
 
 -- with one right trajectory more
 pub IsOfRight-push : (rules : Rules) (now : ℕ) (left : NamedTrajectory) (rights : List NamedTrajectory) (right : NamedTrajectory) (c : Conflict)
-    → IsOfRight rules now left (rights ++ right ∷ []) c ↔ (IsOfRight rules now left rights c ⊎ IsOf rules now left right c)
+    → IsOfRight rules now left (rights ++ right ∷ []) c ↔ (IsOfRight rules now left rights c ⊎ IsConflictOf rules now left right c)
 IsOfRight-push rules now left rights right c = (
   (λ some. ⊎_elim
       (λ before. inl (record { right = some.right; right_in = before; is = some.is }))
-      (λ e. inr (subst (λ (t : NamedTrajectory). IsOf rules now left t c) (sym e) some.is)) (Contains-push_cases rights right some.right some.right_in)),
+      (λ e. inr (subst (λ (t : NamedTrajectory). IsConflictOf rules now left t c) (sym e) some.is)) (Contains-push_cases rights right some.right some.right_in)),
   (λ either. ⊎_elim
       (λ some. record { right = some.right; right_in = Contains-append_left rights (right ∷ []) some.right some.right_in; is = some.is })
       (λ is. record { right = right; right_in = Contains-push rights right; is = is }) either),
@@ -79,8 +79,8 @@ IsOfTwo-push rules now lefts rights left c = (
       (λ is. record { left = left; left_in = Contains-push lefts left; with_right = is }) either),
 )
 
-pub IsOfSome-two : (rules : Rules) (now : ℕ) (all : List NamedTrajectory) (c : Conflict) → IsOfTwo rules now all all c ↔ IsOfSome rules now all c
-IsOfSome-two rules now all c = (
+pub IsConflictAmong-two : (rules : Rules) (now : ℕ) (all : List NamedTrajectory) (c : Conflict) → IsOfTwo rules now all all c ↔ IsConflictAmong rules now all c
+IsConflictAmong-two rules now all c = (
   (λ two. record { left = two.left; right = two.with_right.right; left_in = two.left_in; right_in = two.with_right.right_in; is = two.with_right.is }),
   (λ some. record { left = some.left; left_in = some.left_in; with_right = record { right = some.right; right_in = some.right_in; is = some.is } }),
 )
@@ -90,8 +90,8 @@ pub IsPublishedOf-all : (rules : Rules) (now : ℕ) (all : List NamedTrajectory)
     → ((c : Conflict) → Contains ordered c ↔ Contains found c) → IsStrictlySortedBy conflict_cmp ordered → IsPublishedOf rules now all ordered
 IsPublishedOf-all rules now all found ordered adds same sorted = record {
   exact = λ c. (
-    (λ held. ⊎_elim (λ none. absurd (omega (arith, none.1))) (λ two. (IsOfSome-two rules now all c).0 two) ((adds c).0 ((same c).0 held))),
-    (λ some. (same c).1 ((adds c).1 (inr ((IsOfSome-two rules now all c).1 some)))),
+    (λ held. ⊎_elim (λ none. absurd (omega (arith, none.1))) (λ two. (IsConflictAmong-two rules now all c).0 two) ((adds c).0 ((same c).0 held))),
+    (λ some. (same c).1 ((adds c).1 (inr ((IsConflictAmong-two rules now all c).1 some)))),
   );
   sorted = sorted;
 }

@@ -1,6 +1,6 @@
 ghost use Rattle.std.specs.Prelude.{◌≤◌, map, IfOk, OnOk, OnErr, ◌≡◌};
 ghost use Rattle.mt_base.specs.Bounds.{AreWithinBounds};
-ghost use Rattle.mt_base.specs.Picture.{IsOf, IsPublishedOf};
+ghost use Rattle.mt_base.specs.Picture.{IsConflictOf, IsPublishedOf};
 ghost use Rattle.mt_track.specs.Named.{named};
 ghost use Rattle.mt_plain.specs.Private.Added.{AddsConflicts, IsOfRight};
 ghost use Rattle.mt_base.specs.Tally.{RoseUpTo, raised_by};
@@ -30,7 +30,7 @@ fn add_pair(
 ) -> Result<(), Memory>
     requires rules_kept { AreWithinBounds rules.now }
     requires early { now ≤ 10000000 }
-    ensures found { OnOk result (AddsConflicts (IsOf rules.now now (named left.now) (named right.now)) found.old found.new) }
+    ensures found { OnOk result (AddsConflicts (IsConflictOf rules.now now (named left.now) (named right.now)) found.old found.new) }
     ensures counted { tests.new ≡ raised_by (tests_of_pair (named left.now) (named right.now)) tests.old }
 {
     if !are_pair(left, right) {

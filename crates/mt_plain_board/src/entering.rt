@@ -1,7 +1,9 @@
 //! Entering what is decided.
 ghost use Rattle.std.specs.Prelude.{◌≡◌, ◌++◌, ◌∷◌, [], length, Ok, IfOk, OnOk, OnErr};
 ghost use Rattle.mt_base.specs.Bounds.{IsBoundedCommand};
-ghost use Rattle.mt_base.specs.History.{IsDecided, IsInTime, WasFree, entered_by};
+ghost use Rattle.mt_base.specs.Decision.{IsDecided};
+ghost use Rattle.mt_base.specs.Effect.{entered_by};
+ghost use Rattle.mt_base.specs.History.{IsInTime, WasFree};
 ghost use Rattle.mt_board.specs.Changing.{IsChanged};
 ghost use Rattle.mt_board.specs.Seat.{state_seen};
 

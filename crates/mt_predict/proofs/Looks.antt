@@ -9,7 +9,7 @@ use Rattle.mt_base.specs.declared.flight.Course.{Course}
 use Rattle.mt_base.specs.declared.flight.Path.TheVariants.{Planned}
 use Rattle.mt_base.specs.Checks.{judged}
 use Rattle.mt_base.specs.Cleared.{aim_checks, clearance_checks}
-use Rattle.mt_base.specs.History.{checks}
+use Rattle.mt_base.specs.Decision.{checks}
 use Rattle.mt_base.specs.Picture.{trajectory_of}
 use Rattle.mt_base.specs.Tables.{Setup}
 use Rattle.mt_base.specs.Trajectory.{Trajectory}

@@ -5,7 +5,7 @@ use Rattle.std.specs.Prelude.{⊤}
 use Rattle.mt_base.specs.declared.command.Refusal.{Refusal}
 use Rattle.mt_base.specs.declared.route.RouteNo.{RouteNo}
 use Rattle.mt_base.specs.Checks.{judged}
-use Rattle.mt_base.specs.History.{refusal_of, route_checks}
+use Rattle.mt_base.specs.Decision.{refusal_of, route_checks}
 use Rattle.mt_base.specs.Tables.{Tables, fix_checks, length_checks}
 use Rattle.mt_base.proofs.CheckLemmas.{all_passed, judged-map, renamed}
 use Rattle.mt_predict.proofs.Remains.{enough_from}

@@ -7,7 +7,7 @@ use Rattle.mt_base.specs.declared.command.Refusal.{Refusal}
 use Rattle.mt_base.specs.declared.command.Refusal.TheVariants.{Fixed, Future, HistoryFull, TentativeHeld, UnknownCall}
 use Rattle.mt_base.specs.declared.flight.Course.{Course}
 use Rattle.mt_base.specs.Cleared.{aim_checks, clearance_checks}
-use Rattle.mt_base.specs.History.{Look, checks, has_history, owner_of}
+use Rattle.mt_base.specs.Decision.{Look, checks, has_history, owner_of}
 use Rattle.mt_base.specs.Tables.{Setup, Tables}
 use Rattle.mt_base.specs.Trajectory.{Trajectory}
 use Rattle.mt_base.specs.WhatIf.{course_in, mark_in}

@@ -2,7 +2,7 @@ ghost use Rattle.std.specs.Prelude.{◌≡◌, ℕ, Bool, List, pos, int_lt, is_
 ghost use Rattle.std.specs.Option.{option_map_or};
 ghost use Rattle.mt_base.specs.Checks.{judged};
 ghost use Rattle.mt_base.specs.Cleared.{aim_checks, is_below_ceiling};
-ghost use Rattle.mt_base.specs.History.{checks, has_history, has_room, is_later, route_checks};
+ghost use Rattle.mt_base.specs.Decision.{checks, has_history, has_room, is_later, route_checks};
 ghost use Rattle.mt_base.specs.Tables.{bands_of, setup_with};
 ghost use Rattle.mt_base.specs.WhatIf.{course_in, mark_in};
 ghost use Rattle.mt_predict.specs.Looking.{HasSomeStrand, HasSomeStrandOfPlanned, checks_along, look_of, strand_in};

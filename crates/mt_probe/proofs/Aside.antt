@@ -11,7 +11,7 @@ use Rattle.mt_base.specs.declared.flight.Path.TheVariants.{Planned}
 use Rattle.mt_base.specs.Bounds.{AreWithinBounds}
 use Rattle.mt_base.specs.Checks.{check, judged, next}
 use Rattle.mt_base.specs.Cleared.{aim_checks}
-use Rattle.mt_base.specs.History.{IsDecided, checks, filled, look_at, route_checks}
+use Rattle.mt_base.specs.Decision.{IsDecided, checks, filled, look_at, route_checks}
 use Rattle.mt_base.specs.Picture.{State, flight_of, trajectory_of}
 use Rattle.mt_base.specs.Tables.{Setup}
 use Rattle.mt_base.specs.WhatIf.{course_in, what_if_checks}

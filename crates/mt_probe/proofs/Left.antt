@@ -17,7 +17,8 @@ use Rattle.mt_base.specs.declared.flight.Record.{Record}
 use Rattle.mt_base.specs.declared.flight.Straight.{Straight}
 use Rattle.mt_base.specs.Bounds.{AreWithinBounds, IsBoundedStretch, IsInPlane, IsSoundFlight}
 use Rattle.mt_base.specs.Checks.{judged, next}
-use Rattle.mt_base.specs.History.{call_of, changed, checks, course_of, filled, first_of_points, records_after, route_checks}
+use Rattle.mt_base.specs.Decision.{call_of, checks, filled, route_checks}
+use Rattle.mt_base.specs.Effect.{changed, course_of, first_of_points, records_after}
 use Rattle.mt_base.specs.Picture.{NamedTrajectory, State, flight_of}
 use Rattle.mt_base.specs.Predictor.{points_of}
 use Rattle.mt_base.specs.Tables.{Setup}

@@ -11,7 +11,8 @@ use Rattle.mt_base.specs.declared.flight.Record.{Record}
 use Rattle.mt_base.specs.declared.hit.Hit.{Hit}
 use Rattle.mt_base.specs.Bounds.{AreWithinBounds}
 use Rattle.mt_base.specs.Checks.{judged}
-use Rattle.mt_base.specs.History.{call_of, changed, cleared_path}
+use Rattle.mt_base.specs.Decision.{call_of}
+use Rattle.mt_base.specs.Effect.{changed, cleared_path}
 use Rattle.mt_base.specs.Picture.{State, flight_of, trajectory_of}
 use Rattle.mt_base.specs.Tables.{Setup}
 use Rattle.mt_base.specs.Trajectory.{Trajectory}

@@ -10,7 +10,8 @@ use Rattle.mt_base.specs.declared.flight.Path.TheVariants.{Outer, Planned}
 use Rattle.mt_base.specs.declared.flight.Record.{Record}
 use Rattle.mt_base.specs.Bounds.{AreWithinBounds, IsSoundFlight}
 use Rattle.mt_base.specs.Checks.{judged}
-use Rattle.mt_base.specs.History.{Look, call_of, checks, effect, filled, look_at}
+use Rattle.mt_base.specs.Decision.{Look, call_of, checks, filled, look_at}
+use Rattle.mt_base.specs.Effect.{effect}
 use Rattle.mt_base.specs.Picture.{HaveOwnCalls, NamedTrajectory, State, flight_of, trajectories, trajectory_marked, trajectory_of}
 use Rattle.mt_base.specs.Tables.{Setup}
 use Rattle.mt_base.specs.Trajectory.{Trajectory}

@@ -9,7 +9,7 @@ use Rattle.mt_base.specs.declared.clearance.Clearance.{Clearance}
 use Rattle.mt_base.specs.declared.command.Command.{Command}
 use Rattle.mt_base.specs.declared.command.Command.TheVariants.{Clear, Tentative}
 use Rattle.mt_base.specs.Checks.{judged}
-use Rattle.mt_base.specs.History.{filled}
+use Rattle.mt_base.specs.Decision.{filled}
 use Rattle.mt_base.proofs.CheckLemmas.{all_passed}
 use Rattle.mt_json.specs.Field.{as_whole}
 use Rattle.mt_read.specs.declared.key.Fault.{Fault}

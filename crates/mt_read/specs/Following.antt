@@ -3,7 +3,7 @@ use Rattle.std.specs.Prelude.{◌≡◌, ℕ, List, [], ◌∷◌, Option, Some,
 use Rattle.serde_json.specs.Data.{Members}
 use Rattle.mt_base.specs.declared.command.Entry.{Entry}
 use Rattle.mt_base.specs.Bounds.{IsBoundedCommand}
-use Rattle.mt_base.specs.History.{filled}
+use Rattle.mt_base.specs.Decision.{filled}
 use Rattle.mt_read.specs.declared.following.FeedLine.{FeedLine}
 use Rattle.mt_read.specs.declared.following.FeedLine.TheVariants.{Followed, Asked, Ended}
 use Rattle.mt_read.specs.declared.following.Reading.{Reading}

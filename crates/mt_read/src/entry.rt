@@ -2,7 +2,7 @@
 ghost use Rattle.std.specs.Prelude.{◌≡◌, ℕ, [], IfOk, option_and_then};
 ghost use Rattle.mt_base.specs.Bounds.{IsBoundedCommand};
 ghost use Rattle.mt_base.specs.declared.command.Entry.{Entry as Kept};
-ghost use Rattle.mt_base.specs.History.{filled};
+ghost use Rattle.mt_base.specs.Decision.{filled};
 ghost use Rattle.mt_json.specs.Shown.{members};
 ghost use Rattle.mt_read.specs.Entry.{entry, held_in};
 ghost use Rattle.mt_read.specs.Private.Field.{IsUnlessMemory};

@@ -6,7 +6,8 @@ use Rattle.mt_base.proofs.CheckLemmas.{answer_is}
 use Rattle.mt_base.specs.declared.command.Command.TheVariants.{Renew}
 use Rattle.mt_base.specs.declared.command.Entered.{Entered}
 use Rattle.mt_base.specs.declared.command.Entry.{Entry}
-use Rattle.mt_base.specs.History.{checks, filled, look_at, state_of}
+use Rattle.mt_base.specs.Decision.{checks, filled, look_at}
+use Rattle.mt_base.specs.Effect.{state_of}
 use Rattle.mt_board.specs.declared.no.No.{No}
 use Rattle.mt_board.specs.declared.no.No.TheVariants.{Memory, Refused}
 use Rattle.mt_board.specs.Changing.{IsChanged}

@@ -7,7 +7,9 @@ use Rattle.std.proofs.lemmas.List.{take-append-drop}
 use Rattle.std.proofs.lemmas.List.Elements.{All-head, All-tail}
 use Rattle.mt_base.specs.declared.command.Entry.{Entry}
 use Rattle.mt_base.specs.declared.command.Refusal.{Refusal}
-use Rattle.mt_base.specs.History.{IsDecided, IsInTime, IsReplayable, state_of}
+use Rattle.mt_base.specs.Decision.{IsDecided}
+use Rattle.mt_base.specs.Effect.{state_of}
+use Rattle.mt_base.specs.History.{IsInTime, IsReplayable}
 use Rattle.mt_base.specs.Picture.{IsPublished}
 use Rattle.mt_base.specs.Tables.{Setup}
 use Rattle.mt_history.proofs.LinesRead.{slice_get_at}

@@ -9,7 +9,8 @@ use Rattle.mt_base.specs.declared.flight.FlightView.{FlightView}
 use Rattle.mt_base.specs.declared.flight.Path.{Path}
 use Rattle.mt_base.specs.declared.flight.Path.TheVariants.{Planned, Outer}
 use Rattle.mt_base.specs.declared.flight.Record.{Record}
-use Rattle.mt_base.specs.History.{IsReplayable, state_of}
+use Rattle.mt_base.specs.Effect.{state_of}
+use Rattle.mt_base.specs.History.{IsReplayable}
 use Rattle.mt_base.specs.Picture.{flight_of, trajectory_of}
 use Rattle.mt_base.specs.Trajectory.{Trajectory}
 use Rattle.mt_base.specs.View.{view_of, view_of_path}

@@ -3,7 +3,9 @@
 use Rattle.std.specs.Prelude.{◌⊎◌, ◌≤◌, ℕ, true, List, [], ◌∷◌, ◌++◌, length, nat_lt, replicate, Result, Ok, Err, if◌then◌else◌}
 use Rattle.mt_base.specs.declared.command.Entry.{Entry}
 use Rattle.mt_base.specs.declared.command.Refusal.{Refusal}
-use Rattle.mt_base.specs.History.{IsDecided, IsInTime, entered_by}
+use Rattle.mt_base.specs.Decision.{IsDecided}
+use Rattle.mt_base.specs.Effect.{entered_by}
+use Rattle.mt_base.specs.History.{IsInTime}
 use Rattle.mt_picture.specs.Story.{Story}
 use Rattle.mt_read.specs.declared.following.FeedLine.{FeedLine}
 use Rattle.mt_read.specs.declared.following.FeedLine.TheVariants.{Followed, Asked, Ended}

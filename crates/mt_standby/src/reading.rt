@@ -1,6 +1,6 @@
 //! What is told of the picture that follows.
 ghost use Rattle.std.specs.Prelude.{◌≡◌, option_map, IfErr, IfOk};
-ghost use Rattle.mt_base.specs.History.{state_of};
+ghost use Rattle.mt_base.specs.Effect.{state_of};
 ghost use Rattle.mt_base.specs.Picture.{flight_of};
 ghost use Rattle.mt_base.specs.View.{view_of};
 ghost use Rattle.mt_board.specs.declared.ask.Ask.TheVariants as asks;

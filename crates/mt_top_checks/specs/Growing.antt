@@ -1,7 +1,7 @@
 -- How a story goes on, and what was prepared in its past.
 use Rattle.std.specs.Prelude.{◌≡◌, ◌≤◌, ◌++◌, List, length, take}
 use Rattle.mt_base.specs.declared.command.Entry.{Entry}
-use Rattle.mt_base.specs.History.{state_of}
+use Rattle.mt_base.specs.Effect.{state_of}
 use Rattle.mt_picture.specs.Story.{Story}
 use Rattle.mt_probe.specs.Prepared.{Prepared}
 

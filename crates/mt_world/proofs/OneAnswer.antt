@@ -14,7 +14,7 @@ use Rattle.mt_base.specs.declared.clearance.Clearance.{Clearance}
 use Rattle.mt_base.specs.declared.flight.Record.{Record}
 use Rattle.mt_base.specs.declared.hit.Hit.{Hit}
 use Rattle.mt_base.specs.Picture.{flight_of}
-use Rattle.mt_base.specs.History.{state_of}
+use Rattle.mt_base.specs.Effect.{state_of}
 use Rattle.mt_base.specs.Settled.{due_calls}
 use Rattle.mt_base.specs.Tables.{Tables}
 use Rattle.mt_base.proofs.ConflictOrder.{total}

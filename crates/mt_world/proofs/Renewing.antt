@@ -4,7 +4,7 @@ use Rattle.std.specs.Prelude.{OnErr}
 use Rattle.mt_memory.specs.declared.Memory.{Memory}
 use Rattle.mt_base.specs.declared.command.Entry.{Entry}
 use Rattle.mt_base.specs.Settled.{AreRenewed, IsPassedOver, IsRenewed, due_calls}
-use Rattle.mt_base.specs.History.{state_of}
+use Rattle.mt_base.specs.Effect.{state_of}
 use Rattle.mt_base.specs.Tables.{Setup}
 use Rattle.mt_world.specs.World.{IsSettledSoFar, World, setup_of}
 

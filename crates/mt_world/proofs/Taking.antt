@@ -3,7 +3,7 @@ use Rattle.std.proofs.Common.{◌≡◌, ◌⊎◌, inl, inr, ℕ, ◌<◌, true
 use Rattle.mt_base.specs.declared.clearance.Clearance.{Clearance}
 use Rattle.mt_base.specs.declared.hit.Hit.{Hit}
 use Rattle.mt_base.specs.Advice.{IsAdvice}
-use Rattle.mt_base.specs.History.{state_of}
+use Rattle.mt_base.specs.Effect.{state_of}
 use Rattle.mt_base.specs.Picture.{State}
 use Rattle.mt_base.specs.Tables.{Setup}
 use Rattle.mt_base.specs.Tally.{raised}

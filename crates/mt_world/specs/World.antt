@@ -16,7 +16,8 @@ use Rattle.mt_base.specs.declared.hit.Hit.{Hit}
 use Rattle.mt_base.specs.declared.flight.Record.{Record}
 use Rattle.mt_base.specs.Checks.{judged}
 use Rattle.mt_base.specs.Advice.{IsAdvice}
-use Rattle.mt_base.specs.History.{IsDecided, entered_by, state_of}
+use Rattle.mt_base.specs.Decision.{IsDecided}
+use Rattle.mt_base.specs.Effect.{entered_by, state_of}
 use Rattle.mt_base.specs.Picture.{IsPublished, State, flight_of}
 use Rattle.mt_base.specs.Pierced.{ArePierced}
 use Rattle.mt_base.specs.Rules.{usual_rules}

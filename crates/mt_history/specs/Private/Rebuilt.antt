@@ -1,7 +1,9 @@
 -- No public contract names these: they are of private steps and of proofs.
 use Rattle.std.specs.Prelude.{◌≡◌, length, Err, ⊤}
 use Rattle.mt_base.specs.declared.command.Entry.{Entry}
-use Rattle.mt_base.specs.History.{IsDecided, IsInTime, state_of}
+use Rattle.mt_base.specs.Decision.{IsDecided}
+use Rattle.mt_base.specs.Effect.{state_of}
+use Rattle.mt_base.specs.History.{IsInTime}
 use Rattle.mt_picture.specs.Story.{Story}
 use Rattle.mt_history.specs.declared.rebuilding.Wrong.{Wrong}
 use Rattle.mt_history.specs.declared.rebuilding.Wrong.TheVariants.{Illegal, Late, Memory}

@@ -3,7 +3,7 @@
 use Rattle.std.specs.Prelude.{◌≡◌, ◌≢◌, ◌<◌, ◌≤◌, ◌/◌, ◌⊎◌, ℕ, List, map, get_or, slice_get, AllPairs, Contains, Option, Some, None}
 use Rattle.mt_base.specs.declared.command.Entry.{Entry}
 use Rattle.mt_base.specs.declared.conflict.Kind.{Kind}
-use Rattle.mt_base.specs.History.{call_of}
+use Rattle.mt_base.specs.Decision.{call_of}
 use Rattle.mt_cover.specs.declared.stays.Stay.{Stay}
 use Rattle.mt_kept.specs.declared.finds.Candidate.{Candidate}
 use Rattle.mt_kept.specs.declared.finds.Knowledge.TheVariants.{Known, Unknown}

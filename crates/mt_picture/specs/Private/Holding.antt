@@ -5,7 +5,7 @@ use Rattle.mt_base.specs.declared.command.Command.{Command}
 use Rattle.mt_base.specs.declared.command.Entry.{Entry}
 use Rattle.mt_base.specs.declared.hit.Hit.{Hit}
 use Rattle.mt_base.specs.Checks.{judged}
-use Rattle.mt_base.specs.History.{checks, filled, look_at}
+use Rattle.mt_base.specs.Decision.{checks, filled, look_at}
 use Rattle.mt_kept.specs.Kept.{Watched}
 use Rattle.mt_machine.specs.Private.Deciding.{IsFirstHit}
 use Rattle.mt_probe.specs.Shot.{Shot}

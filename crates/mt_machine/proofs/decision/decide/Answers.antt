@@ -1,5 +1,5 @@
 use Rattle.std.proofs.Common.{◌∙◌, refl, sym}
-use Rattle.mt_base.specs.History.{checks, look_at}
+use Rattle.mt_base.specs.Decision.{checks, look_at}
 use Rattle.mt_base.specs.Tables.{Setup, setup_with}
 use Rattle.mt_base.proofs.CheckLemmas.{all_passed}
 use Rattle.mt_predict.proofs.Looks.{judged_flown, some_strand}

@@ -1,7 +1,7 @@
 use Rattle.std.proofs.Common.{◌≡◌, Some, slice_get, ap, sym, ◌∙◌}
 use Rattle.std.proofs.lemmas.Option.{get_or_from_slice_get}
 use Rattle.mt_base.specs.declared.command.Entry.{Entry}
-use Rattle.mt_base.specs.History.{call_of}
+use Rattle.mt_base.specs.Decision.{call_of}
 use Rattle.mt_picture.proofs.Candidacy.{entry_more, entry_same, later_none, later_whole}
 use Rattle.mt_picture.proofs.later.later_places.Goals as goal
 use Rattle.mt_picture.proofs.later.later_places.Goals.{in-Some+in_ok-add_flight, in_default}

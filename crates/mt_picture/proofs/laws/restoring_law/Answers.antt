@@ -1,7 +1,9 @@
 use Rattle.std.proofs.Common.{◌≡◌, ◌∙◌, List, [], ◌∷◌, ◌++◌, length, sym, ap, subst, arith, length-append}
 use Rattle.mt_base.specs.declared.command.Command.TheVariants.{Withdraw}
 use Rattle.mt_base.specs.declared.command.Entry.{Entry}
-use Rattle.mt_base.specs.History.{IsLegal, checks, look_at, state_of}
+use Rattle.mt_base.specs.Decision.{checks, look_at}
+use Rattle.mt_base.specs.Effect.{state_of}
+use Rattle.mt_base.specs.History.{IsLegal}
 use Rattle.mt_base.specs.Picture.{IsPublished, State}
 use Rattle.mt_base.specs.StrikeOut.{withdrawal}
 use Rattle.mt_base.proofs.CheckLemmas.{answer_is}

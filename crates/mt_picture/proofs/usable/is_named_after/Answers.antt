@@ -1,7 +1,7 @@
 use Rattle.std.proofs.Common.{◌≡◌, ◌<◌, Some, slice_get, true≢false, sym, ap, ◌∙◌, refl, arith}
 use Rattle.std.proofs.lemmas.Option.{get_or_from_slice_get, slice_get_read, slice_get_within}
 use Rattle.mt_base.specs.declared.command.Entry.{Entry}
-use Rattle.mt_base.specs.History.{call_of}
+use Rattle.mt_base.specs.Decision.{call_of}
 use Rattle.mt_picture.proofs.usable.is_named_after.Goals as goal
 
 pub loop-i-preserved : goal.loop-i-preserved

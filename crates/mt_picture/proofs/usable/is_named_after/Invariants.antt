@@ -1,6 +1,6 @@
 use Rattle.std.proofs.Common.{◌≡◌, ◌≢◌, ◌≤◌, ◌<◌, ℕ, Some, slice_get}
 use Rattle.mt_base.specs.declared.command.Entry.{Entry}
-use Rattle.mt_base.specs.History.{call_of}
+use Rattle.mt_base.specs.Decision.{call_of}
 use Rattle.mt_picture.proofs.usable.is_named_after.Given as goal
 
 abbrev pub invariant-loop-i : goal.invariant-loop-i

@@ -1,5 +1,5 @@
 use Rattle.std.proofs.Common.{ℕ, List, sym, ◌∙◌, ap, subst}
-use Rattle.mt_base.specs.History.{filled}
+use Rattle.mt_base.specs.Decision.{filled}
 use Rattle.mt_base.specs.Picture.{State}
 use Rattle.mt_picture.specs.Story.{IsNamedAfter}
 use Rattle.std.proofs.lemmas.Option.{same_Some}

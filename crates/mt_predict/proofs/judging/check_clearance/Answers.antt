@@ -3,7 +3,7 @@ use Rattle.std.proofs.lemmas.Result.{err_from_is_err_and}
 use Rattle.std.specs.Prelude.{is_some, nat_le}
 use Rattle.mt_base.specs.declared.command.Refusal.TheVariants.{Future, HistoryFull, UnknownCall}
 use Rattle.mt_base.specs.Cleared.{aim_checks}
-use Rattle.mt_base.specs.History.{Look, has_history}
+use Rattle.mt_base.specs.Decision.{Look, has_history}
 use Rattle.mt_base.specs.Tables.{Setup, setup_with}
 use Rattle.mt_base.specs.WhatIf.{course_in}
 use Rattle.mt_base.proofs.CheckLemmas.{next-ok}

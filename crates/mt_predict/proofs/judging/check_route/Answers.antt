@@ -1,6 +1,6 @@
 use Rattle.std.proofs.Common.{◌++◌, refl}
 use Rattle.std.proofs.lemmas.Result.{err_from_is_err_and}
-use Rattle.mt_base.specs.History.{refusal_of}
+use Rattle.mt_base.specs.Decision.{refusal_of}
 use Rattle.mt_base.specs.Tables.{fix_checks, length_checks}
 use Rattle.mt_base.proofs.CheckLemmas.{judged-map}
 use Rattle.mt_predict.proofs.judging.check_route.Goals as goal

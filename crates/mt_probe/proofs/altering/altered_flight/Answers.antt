@@ -1,6 +1,6 @@
 use Rattle.std.proofs.Common.{◌∙◌, sym}
 use Rattle.mt_base.specs.declared.flight.Path.TheVariants.{Planned}
-use Rattle.mt_base.specs.History.{filled}
+use Rattle.mt_base.specs.Decision.{filled}
 use Rattle.mt_base.specs.Picture.{flight_of}
 use Rattle.mt_change.specs.Altered.{IsAlterationBy, altered}
 use Rattle.mt_change.proofs.Filling.{filled_bounded_besides}

@@ -1,5 +1,5 @@
 use Rattle.std.proofs.Common.{get_or, sym, ◌∙◌, ap}
-use Rattle.mt_base.specs.History.{changed}
+use Rattle.mt_base.specs.Effect.{changed}
 use Rattle.mt_change.specs.Altered.{altered_path}
 use Rattle.mt_change.proofs.Changed.{changed_one, changed_other, element_is, one_changed}
 use Rattle.mt_change.proofs.altering.Alteration.alter_each.Goals as goal

@@ -1,5 +1,5 @@
 use Rattle.std.proofs.Common.{◌≡◌, ◌++◌, drop, map, take}
-use Rattle.mt_base.specs.History.{changed}
+use Rattle.mt_base.specs.Effect.{changed}
 use Rattle.mt_change.specs.Altered.{altered_path}
 use Rattle.mt_change.proofs.altering.Alteration.alter_each.Given as goal
 

@@ -4,7 +4,8 @@ use Rattle.std.specs.Prelude.{option_and_then}
 use Rattle.std.specs.Vec.{with_items}
 use Rattle.mt_base.specs.declared.flight.Record.{Record}
 use Rattle.mt_base.specs.Bounds.{IsSoundPath}
-use Rattle.mt_base.specs.History.{changed, look_at}
+use Rattle.mt_base.specs.Decision.{look_at}
+use Rattle.mt_base.specs.Effect.{changed}
 use Rattle.mt_base.specs.Picture.{State, flight_of}
 use Rattle.mt_base.specs.Tables.{Setup, setup_with}
 use Rattle.mt_change.specs.Altered.{CanAlter, altered_path, path_after}

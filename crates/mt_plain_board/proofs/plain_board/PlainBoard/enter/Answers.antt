@@ -1,7 +1,7 @@
 use Rattle.std.proofs.Common.{◌∷◌, [], ◌++◌, ◌∙◌, ap, refl, arith}
 use Rattle.std.proofs.lemmas.List.{length-append}
 use Rattle.std.proofs.lemmas.Result.{err_from_is_err_and}
-use Rattle.mt_base.specs.History.{effect}
+use Rattle.mt_base.specs.Effect.{effect}
 use Rattle.mt_board.specs.Seat.{Seat}
 use Rattle.mt_base.specs.Tables.{Setup}
 use Rattle.mt_board.proofs.SeatLemmas.{entries_push}

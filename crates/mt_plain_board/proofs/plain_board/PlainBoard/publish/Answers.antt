@@ -1,7 +1,7 @@
 use Rattle.std.proofs.Common.{refl, subst, Result, Ok}
 use Rattle.mt_base.specs.declared.command.Entry.{Entry}
 use Rattle.mt_base.specs.declared.command.Refusal.{Refusal}
-use Rattle.mt_base.specs.History.{IsDecided}
+use Rattle.mt_base.specs.Decision.{IsDecided}
 use Rattle.mt_base.specs.Picture.{State}
 use Rattle.mt_base.specs.Tables.{Setup}
 use Rattle.mt_board.specs.Seat.{Seat, entries_by}

@@ -1,6 +1,6 @@
 use Rattle.std.proofs.Common.{ap, inl, refl, subst, sym, List}
 use Rattle.mt_base.specs.declared.conflict.Conflict.{Conflict}
-use Rattle.mt_base.specs.History.{state_of}
+use Rattle.mt_base.specs.Effect.{state_of}
 use Rattle.mt_base.specs.Picture.{IsPublished}
 use Rattle.mt_write.specs.declared.reply.Reply.TheVariants as replies
 use Rattle.mt_world.specs.World.{picture_of, setup_of}
