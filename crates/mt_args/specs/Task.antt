@@ -55,7 +55,7 @@ pub record Loading : Type 0 where
   pub flights : Option ℕ
   pub number : Option ℕ
 
--- the options of `serve`. The port, 1 to 65,535; the sessions, 1 to 64; the workers, 0 to 8. There is no other.
+-- the options of `serve`: port 1 to 65,535, sessions 1 to 64, workers 0 to 8. There is no other.
 abbrev pub serving_with : Serving → CommandOption → Option Serving
 serving_with set s =
     if bytes_eq s.name (codes "--port")
@@ -66,7 +66,7 @@ serving_with set s =
     then option_map (λ workers. record set { workers = Some workers }) (once (is_some set.workers) 0 8 s.value)
     else None))
 
--- the options of `load`. The flights, 1 to 1,024; the number that its input is made from, of 32 bits. There is no other.
+-- the options of `load`: flights 1 to 1,024, a number of 32 bits. Its input is made from the number. There is no other option.
 abbrev pub loading_with : Loading → CommandOption → Option Loading
 loading_with set s =
     if bytes_eq s.name (codes "--flights")
@@ -75,7 +75,7 @@ loading_with set s =
     then option_map (λ number. record set { number = Some number }) (once (is_some set.number) 0 4294967295 s.value)
     else None)
 
--- `and_then`, `all_set`, `set_by`: a value passed on; all options of some words
+-- `and_then`, `all_set`, `set_by`: a step after a value that is there; all options set; those of some words
 abbrev pub and_then : {A B : Type 0} → Option A → (A → Option B) → Option B
 and_then None next = None
 and_then (Some x) next = next x
@@ -89,7 +89,7 @@ module _ {S : Type 0} (with : S → CommandOption → Option S) where
   abbrev pub set_by : S → List (List ℕ) → Option S
   set_by set words = and_then (options_of words) (all_set set)
 
--- `serve_task`, `load_task`: what is not set is usual. Port 7700, 16 sessions, 2 workers; 40 flights, number 1.
+-- `serve_task`, `load_task`: defaults: port 7700, 16 sessions, 2 workers; 40 flights, number 1
 abbrev pub serve_task : Serving → Task
 serve_task set = Serve (unwrap_or set.port 7700) (unwrap_or set.sessions 16) (unwrap_or set.workers 2)
 
@@ -107,7 +107,7 @@ no_loading = record { flights = None; number = None }
 abbrev pub alone : Task → List (List ℕ) → Option Task
 alone task words = if length words == 0 then Some task else None
 
--- what the words of the command line mean. `replay` or `standby` alone; `serve` or `load` and its options. Nothing else is read.
+-- what the command line asks for: `replay`, `standby`, `serve` or `load` with options. The first two stand alone. Nothing else is read.
 abbrev pub task_of : List (List ℕ) → Option Task
 task_of [] = None
 task_of (command ∷ words) =

@@ -31,14 +31,13 @@ HasAllLeft corners i = (k : ℕ) → k < length corners → k ≢ i → k ≢ pl
 abbrev pub AreConvex : List (ℤ × ℤ) → Type 0
 AreConvex corners = (i : ℕ) → i < length corners → HasAllLeft corners i
 
--- an area has its bottom below its top, hours, convex corners
+-- an area's bottom is below its top, its hours aren't empty, its corners are convex
 pub record HasRightShape (area : Area) : Type 0 where
   pub levels : area.bottom < area.top
   pub hours : area.from < area.to
   pub convex : AreConvex area.corners
 
--- an area's numbers are within bounds. It has 3 to 16 corners in the plane, levels up to flight level 600, and hours that begin by second 10,000,000
--- and end by 10,014,400.
+-- 3 to 16 corners in the plane, levels up to 600, bounded hours. The hours begin by second 10,000,000 and end by 10,014,400.
 pub record IsBoundedArea (area : Area) : Type 0 where
   pub some : 3 ≤ length area.corners
   pub few : length area.corners ≤ 16
@@ -55,7 +54,7 @@ pub record IsInsideAt (area : Area) (row : Row) (n d : ℤ) : Type 0 where
   pub left : (i : ℕ) → i < length area.corners
       → LiesLeft (corner area.corners i) (corner area.corners (place_after area.corners i)) (value_at row.x row.vx n d) (value_at row.y row.vy n d) d
 
--- at some instant of the second it is inside
+-- the position is inside at some instant of the second
 pub record IsInside (area : Area) (row : Row) : Type 0 where
   pub n : ℤ
   pub d : ℤ
@@ -70,6 +69,6 @@ pub record IsInsideSecond (t : Trajectory) (area : Area) (k : ℕ) : Type 0 wher
   pub hours : (area.from ≤ k) × (k < area.to)
   pub inside : IsInside area row
 
--- the first and last second inside of a range, or none
+-- the first and the last second inside the area, of a range, or none
 abbrev pub IsPierce : Trajectory → Area → ℕ → ℕ → Option (ℕ × ℕ) → Type 0
 IsPierce t area from to span = IsSpan (IsInsideSecond t area) from to span

@@ -26,14 +26,14 @@ pub record IsWithin (low high z : ℤ) : Type 0 where
   pub least : low ≤ℤ z
   pub most : z ≤ℤ high
 
--- a value, its gain, and the value seconds later, within bounds
+-- a value, its gain, and its value after some seconds are within bounds
 pub record IsKeptOver (low high least most z gain : ℤ) (seconds : ℕ) : Type 0 where
   pub value : IsWithin low high z
   pub growth : IsWithin least most gain
   pub end : IsWithin low high (z +ℤ gain *ℤ pos seconds)
 
--- a row stays within bounds for so many seconds. x and y are within 1,024 NM of the origin and 1,000 knots, z from 0 to flight level 600 and 10,000
--- feet a minute, the margins from 0 to 20 NM and 10,000 feet.
+-- for so many seconds a row stays in the plane, at rates that aircraft fly. x and y are within 1,024 NM of the origin and 1,000 knots, z from 0 to
+-- flight level 600 and 10,000 feet a minute, the margins from 0 to 20 NM and 10,000 feet.
 pub record IsBoundedOver (row : Row) (seconds : ℕ) : Type 0 where
   pub x : IsKeptOver (neg_ℤ (pos 3686400)) (pos 3686400) (neg_ℤ (pos 1000)) (pos 1000) row.x row.vx seconds
   pub y : IsKeptOver (neg_ℤ (pos 3686400)) (pos 3686400) (neg_ℤ (pos 1000)) (pos 1000) row.y row.vy seconds
@@ -60,8 +60,7 @@ IsInPlane x y = IsWithin (neg_ℤ (pos 3686400)) (pos 3686400) x × IsWithin (ne
 abbrev pub IsHeight : ℤ → Type 0
 IsHeight z = IsWithin (pos 0) (pos 3600000) z
 
--- a band up to flight level 600 with bounded speed and rates. Its top is flight level 1 to 600, its speed 1 to 1,000 knots, its rates 1 to 10,000
--- feet a minute.
+-- a band's top is flight level 1 to 600, its speed up to 1,000 knots, its rates up to 10,000 feet a minute. Speed and rates are at least 1.
 pub record IsBoundedBand (b : Band) : Type 0 where
   pub top : (1 ≤ b.top) × (b.top ≤ 600)
   pub speed : IsWithin (pos 1) (pos 1000) b.speed
@@ -79,8 +78,7 @@ pub record AreBoundedTables (tables : Tables) : Type 0 where
   pub fixes : All (λ (fix : List ℕ × Point). IsInPlane fix.1.x fix.1.y) tables.fixes
   pub types : All (λ (kind : List ℕ × List Band). AreBoundedBands kind.1) tables.types
 
--- a base fits the rules and a route's length. It begins by second 10,000,000, in the plane, with margins up to the greatest, and flies to a place of
--- the route.
+-- a base in the plane, with margins within the rules, flying to a place of the route. It begins by second 10,000,000.
 pub record IsRightBase (rules : Rules) (names : ℕ) (base : Base) : Type 0 where
   pub early : base.at ≤ 10000000
   pub plane : IsInPlane base.x base.y
@@ -105,8 +103,8 @@ pub record IsRightAim (rules : Rules) (names : ℕ) (aim : Aim) : Type 0 where
   pub base : IsRightBase rules names aim.base
   pub level : aim.level ≤ 600
 
--- a planned course fits rules and tables. Its type and fixes are known; it has 2 to 64 fixes, no two neighbours equal; its level and base are right,
--- and so is its tentative clearance; it is due only with a report.
+-- a planned course fits rules and tables: type, route, level, base, tentative clearance. It has 2 to 64 fixes, no two neighbours equal; it is due
+-- only with a report.
 pub record IsSoundCourse (setup : Setup) (course : Course) : Type 0 where
   pub kind : is_some (bands_of setup.tables course.kind) ≡ true
   pub route : judged (route_checks setup.tables course.route) (tt {0}) ≡ Ok (tt {0})

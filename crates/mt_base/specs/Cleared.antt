@@ -1,4 +1,4 @@
--- What a clearance makes of a planned flight.
+-- What a clearance changes of a planned flight.
 use Rattle.std.specs.Prelude.{ℕ, ◌+◌, suc, Bool, List, [], ◌∷◌, ◌++◌, drop, position, nat_le, nat_lt, Option, Some, is_some, unwrap_or, option_and_then, option_map, Result, if◌then◌else◌}
 use Rattle.std.specs.Str.{bytes_eq}
 use Rattle.mt_base.specs.declared.clearance.Aim.{Aim}
@@ -17,8 +17,7 @@ use Rattle.mt_base.specs.Trajectory.{Trajectory, row_at}
 abbrev pub base_by : ℕ → Row → Base
 base_by at row = record { at = at; x = row.x; y = row.y; z = row.z; r = row.r; w = row.w; next = row.leg }
 
--- the base from which a clearance holds. The flight's own before its trajectory begins, the row of that second within it, and none at or past its
--- end.
+-- the base from which a clearance holds: the flight's own before it begins, then the row of that second. None at or past the trajectory's end.
 abbrev pub base_from : Base → Trajectory → ℕ → Option Base
 base_from base t eff = if nat_lt eff t.start then Some base else option_map (base_by eff) (row_at t eff)
 
@@ -34,14 +33,14 @@ is_below_ceiling tables kind level = nat_le level (ceiling_of (unwrap_or (bands_
 abbrev pub is_ahead : Course → Trajectory → ℕ → List ℕ → Bool
 is_ahead course t eff fix = is_some (option_and_then (λ (base : Base). place_further_on course.route base.next fix) (base_from course.base t eff))
 
--- `aim_checks`, `clearance_checks`: what is checked of a clearance that holds from second `eff`. In order: what it leaves; then, in
--- `clearance_checks`, that `eff` is not after the moment `now`.
+-- what is checked of a clearance from second `eff` on: its base, the ceiling, its fix
 abbrev pub aim_checks : Tables → Course → Trajectory → Clearance → ℕ → List (Refusal × Bool)
 aim_checks tables course t (Level level) eff =
     (Ended, is_some (base_from course.base t eff)) ∷ (Ceiling, is_below_ceiling tables course.kind level) ∷ []
 aim_checks tables course t (Direct fix) eff =
     (UnknownFix fix, is_some (fix_of tables fix)) ∷ (Ended, is_some (base_from course.base t eff)) ∷ (NotAhead, is_ahead course t eff fix) ∷ []
 
+-- the same, and last that `eff` isn't ahead of the moment
 abbrev pub clearance_checks : Tables → Course → Trajectory → Clearance → ℕ → ℕ → List (Refusal × Bool)
 clearance_checks tables course t clearance eff now = aim_checks tables course t clearance eff ++ (Future, nat_le eff now) ∷ []
 
@@ -49,7 +48,7 @@ clearance_checks tables course t clearance eff now = aim_checks tables course t 
 abbrev pub direct_to : List (List ℕ) → List ℕ → Base → Base
 direct_to route fix base = record base { next = unwrap_or (place_further_on route base.next fix) base.next }
 
--- the base and level that a clearance leaves. A level replaces the level; a fix is flown to next.
+-- the base and level that a clearance leaves: a new level, or a new next fix
 abbrev pub aim_of : Course → Trajectory → Clearance → ℕ → Aim
 aim_of course t (Level level) eff = record { base = unwrap_or (base_from course.base t eff) course.base; level = level }
 aim_of course t (Direct fix) eff =

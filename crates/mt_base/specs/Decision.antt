@@ -65,7 +65,7 @@ refusal_of route_no.Short = RouteShort
 refusal_of route_no.Long = RouteLong
 refusal_of route_no.Twice = RouteTwice
 
--- what is checked of a route. Each of its names, then how many there are and that they differ from their neighbours.
+-- what is checked of a route: each name, how many, no two neighbours equal
 abbrev pub route_checks : Tables → List (List ℕ) → List (Refusal × Bool)
 route_checks tables route = map (λ c. (refusal_of c.0, c.1)) (fix_checks tables route ++ length_checks route)
 
@@ -135,7 +135,7 @@ filled now command = command
 abbrev pub judge : Setup → State → ℕ → Command → Result Entry Refusal
 judge setup s who command = judged (checks setup (look_at s command) who command) (record { who = who; command = filled s.now command })
 
--- the hits of an accepted probe in the state. No other command has any.
+-- the hits of an accepted probe in the state, none for any other command
 abbrev pub HasHits : Setup → State → Command → List Hit → Type 0
 HasHits setup s (Accept call clearance eff probed) hits = AreHits setup s call clearance eff hits
 HasHits setup s command hits = hits ≡ []
@@ -149,7 +149,7 @@ pub record IsStale (setup : Setup) (s : State) (who : ℕ) (command : Command) (
   pub hits : HasHits setup s command (first ∷ others)
   pub refusal_is : refusal ≡ Stale first
 
--- what is decided of a command: its first refusal, or its entry. The last refusal is that the clearance was probed and is no longer free.
+-- what is decided of a command: its first refusal, staleness last, or its entry. It is stale where it was probed and is no longer free.
 abbrev pub IsDecided : Setup → State → ℕ → Command → Result Entry Refusal → Type 0
 IsDecided setup s who command (Ok entry) = (judge setup s who command ≡ Ok entry) × HasHits setup s command []
 IsDecided setup s who command (Err refusal) = (judge setup s who command ≡ Err refusal) ⊎ IsStale setup s who command refusal

@@ -26,7 +26,7 @@ use Rattle.mt_base.specs.Verdict.{is_flagged, verdict_of}
 use Rattle.mt_base.specs.WhatIf.{course_in}
 use Rattle.mt_base.specs.Tables.{Setup}
 
--- where a plan begins. At its second, over the route's first fix, at its first level, with the first margins, and flying to the next fix.
+-- where a plan begins: its second, first fix, first level and the first margins. It flies to the next fix.
 abbrev pub base_of : Rules → Point → ℕ → ℕ → Base
 base_of rules fix at from = record { at = at; x = fix.x; y = fix.y; z = pos (6000 * from); r = rules.r0; w = rules.w0; next = 1 }
 
@@ -64,13 +64,13 @@ verdict_on setup course report = verdict_of setup.rules course.base (trajectory_
 abbrev pub changed : List ℕ → (Path → Path) → Record → Record
 changed call change flight = record flight { path = if bytes_eq flight.call call then change flight.path else flight.path }
 
--- a path after a report. The report is the last one, and one with a flag makes the flight due. One without a flag does not clear it.
+-- a path after a report, due for renewal where the report has a flag. The report is the last one. One without a flag does not clear it.
 abbrev pub reported_path : Setup → Report → Path → Path
 reported_path setup report (Planned course) =
     Planned (record course { last = Some report; due = course.due || is_flagged (verdict_on setup course report) })
 reported_path setup report (Outer stretch) = Outer stretch
 
--- a path after its renewal. The base is at the last report, and the flight is no longer due.
+-- a path after its renewal at the last report, no longer due
 abbrev pub renewed_path : Setup → Path → Path
 renewed_path setup (Planned course) =
     Planned (record course { base = unwrap_or (renewed setup.rules course (trajectory_of setup (Planned course))) course.base; due = false })
@@ -80,7 +80,7 @@ renewed_path setup (Outer stretch) = Outer stretch
 abbrev pub mark_by : ℕ → Aim → Mark
 mark_by who aim = record { owner = who; base = aim.base; level = aim.level }
 
--- `marked_path`, `bare_path`, `committed`, `committed_path`: a path with a tentative clearance, without it, and after its commitment
+-- `marked_path`, `bare_path`: a path with a tentative clearance, and without it
 abbrev pub marked_path : Setup → ℕ → Clearance → ℕ → Path → Path
 marked_path setup who clearance eff (Planned course) =
     Planned (record course { mark = Some (mark_by who (aim_of course (trajectory_of setup (Planned course)) clearance eff)) })
@@ -90,6 +90,7 @@ abbrev pub bare_path : Path → Path
 bare_path (Planned course) = Planned (record course { mark = None })
 bare_path (Outer stretch) = Outer stretch
 
+-- `committed`, `committed_path`: a course, and a path, after a tentative clearance's commitment
 abbrev pub committed : Course → Option Mark → Course
 committed course None = course
 committed course (Some mark) = record course { base = mark.base; level = mark.level; mark = None }

@@ -36,9 +36,9 @@ pub record IsNearAt (least : ℤ) (a b : Row) (n d : ℤ) : Type 0 where
 abbrev pub IsOneAboveAt : ℤ → Row → Row → ℤ → ℤ → Type 0
 IsOneAboveAt level a b n d = ((level *ℤ d) <ℤ value_at a.z a.vz n d) ⊎ ((level *ℤ d) <ℤ value_at b.z b.vz n d)
 
--- two rows lose separation at instant n/d. The horizontal distance is below its minimum, and at that one instant the vertical distance is below `sv`;
--- or it is below `sv2` and one of the two is above flight level 410; or it is below `sv2`, not both aircraft are approved for RVSM, and one of the
--- two is above flight level 290. Each is strict.
+-- two rows lose separation at instant n/d: both distances are strictly below their minima, `sv` or up high `sv2`. Vertically: below `sv`; or below
+-- `sv2` and one of the two is above flight level 410; or below `sv2`, not both aircraft are approved for RVSM, and one of the two is above flight
+-- level 290.
 pub record LosesAt (rules : Rules) (pa pb : Bool) (a b : Row) (n d : ℤ) : Type 0 where
   pub horizontal : (apart_x a b n d *ℤ apart_x a b n d +ℤ apart_y a b n d *ℤ apart_y a b n d)
       <ℤ (width rules a b n d *ℤ width rules a b n d)

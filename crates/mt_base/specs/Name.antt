@@ -13,12 +13,14 @@ is_name low high text = nat_le low (length text) && nat_le (length text) high &&
 abbrev pub name_of : ℕ → ℕ → List ℕ → Option (List ℕ)
 name_of low high text = if is_name low high text then Some text else None
 
--- `IsCallsign`, `IsFixName`, `IsTypeName`: a callsign of 1 to 7, a fix of 2 to 5, a type of 2 to 4
+-- 1 to 7 capital letters or digits
 abbrev pub IsCallsign : List ℕ → Type 0
 IsCallsign text = is_name 1 7 text ≡ true
 
+-- 2 to 5 of these
 abbrev pub IsFixName : List ℕ → Type 0
 IsFixName text = is_name 2 5 text ≡ true
 
+-- 2 to 4 of these
 abbrev pub IsTypeName : List ℕ → Type 0
 IsTypeName text = is_name 2 4 text ≡ true

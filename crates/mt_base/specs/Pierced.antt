@@ -1,4 +1,4 @@
--- What is told of some trajectories and some areas.
+-- Which trajectories pierce which restricted areas within the look-ahead.
 use Rattle.std.specs.Prelude.{◌≡◌, ℕ, List, Contains, ◌↔◌}
 use Rattle.std.specs.Cmp.Lexicographic.{slice_cmp}
 use Rattle.std.specs.List.Sorted.{IsStrictlySortedBy}
@@ -11,12 +11,12 @@ use Rattle.mt_base.specs.Picture.{NamedTrajectory, State, kind_cmp, trajectories
 use Rattle.mt_base.specs.Span.{IsSpanOf}
 use Rattle.mt_base.specs.Tables.{Setup}
 
--- within the look-ahead the trajectory pierces this area so
+-- a trajectory is inside an area within the look-ahead, from first to last second
 pub record IsPiercedBy (now : ℕ) (area : Area) (t : NamedTrajectory) (p : Pierced) : Type 0 where
   pub names : (p.area ≡ area.name) × (p.call ≡ t.call) × (p.kind ≡ t.kind)
   pub span : IsSpanOf (IsInsideSecond t.path area) now (window_end now) p.first p.last
 
--- one of these trajectories so pierces one of these areas
+-- one of these trajectories pierces one of these areas, in these seconds
 pub record IsPiercedBySome (now : ℕ) (areas : List Area) (all : List NamedTrajectory) (p : Pierced) : Type 0 where
   pub area : Area
   pub of : NamedTrajectory

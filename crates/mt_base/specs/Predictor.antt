@@ -19,7 +19,7 @@ pub record Manner : Type 0 where
 
 -- ---- the leg law
 
--- the band at a height. The first whose top is not below it, else the last.
+-- the band at a height: the first whose top is not below it, else the last
 abbrev pub band_at : List Band → ℤ → Band
 band_at [] z = record { top = 0; speed = pos 0; climb = pos 0; descent = pos 0 }
 band_at (b ∷ []) z = b
@@ -34,7 +34,7 @@ least_below (suc n) test = if test zero then zero else suc (least_below n (λ t.
 abbrev pub square_of : ℤ → ℤ → ℕ
 square_of dx dy = unsigned_abs (dx *ℤ dx +ℤ dy *ℤ dy)
 
--- the seconds of a leg at speed g. The least T with dx*dx + dy*dy <= T*T*g*g, which is never above dx*dx + dy*dy itself.
+-- the seconds of a leg at speed g, rounded up. The least T with dx*dx + dy*dy <= T*T*g*g, which is never above dx*dx + dy*dy itself.
 unfoldable pub seconds_of : ℤ → ℤ → ℕ → ℕ
 seconds_of dx dy g = least_below (square_of dx dy) (λ t. nat_le (square_of dx dy) (t * t * g * g))
 
@@ -47,8 +47,8 @@ leg_to bands number fix a = record {
   seconds = seconds_of (fix.x -ℤ a.x) (fix.y -ℤ a.y) (unsigned_abs (band_at bands a.z).speed);
 }
 
--- the share of a leg flown in one second. A distance of q*T + r, with 0 <= r < T, is flown in T seconds by q in each, and one more in the last r; n
--- seconds of the leg come after this one.
+-- the share of a leg flown in one second; its last seconds take the remainder. A distance of q*T + r, with 0 <= r < T, is flown in T seconds by q in
+-- each, and one more in the last r; n seconds of the leg come after this one.
 unfoldable pub gain_with : ℤ → ℕ → ℕ → ℤ
 gain_with total seconds n =
     if nat_lt n (unsigned_abs (int_rem_euclid total (pos seconds))) then int_div_euclid total (pos seconds) +ℤ pos 1
@@ -56,12 +56,12 @@ gain_with total seconds n =
 
 -- ---- the vertical law and the margins
 
--- the climb or descent of one second. What is left to the cleared height, at most the rate of climb and at least minus the rate of descent of the
--- band at that height.
+-- the climb or descent of one second, to the cleared height, within the band's rates. What is left to that height, at most the rate of climb and at
+-- least minus the rate of descent of the band at that height.
 unfoldable pub climb_from : Manner → ℤ → ℤ
 climb_from m z = int_max (int_min (pos (6000 * m.level) -ℤ z) (band_at m.bands z).climb) (neg_ℤ (band_at m.bands z).descent)
 
--- `margin_at`, `margin_gain`: the vertical margin of a second, and its gain. A level second resets it.
+-- `margin_at`, `margin_gain`: the vertical margin of a second, and its gain; level flight resets it
 abbrev pub margin_at : Rules → ℤ → ℤ → ℤ
 margin_at rules (pos zero) w = rules.w0
 margin_at rules climb w = w
@@ -111,7 +111,7 @@ abbrev pub rows_along : Manner → ℕ → List Point → Place → List Row
 rows_along m number [] a = []
 rows_along m number (fix ∷ fixes) a = rows_to m number fix a ++ rows_along m (suc number) fixes (end_after a (rows_to m number fix a))
 
--- the predicted rows, at most 14,400
+-- the predicted rows along the fixes ahead, cut off after 14,400
 abbrev pub predicted : Manner → ℕ → List Point → Place → List Row
 predicted m number fixes a = take 14400 (rows_along m number fixes a)
 

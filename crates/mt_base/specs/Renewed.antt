@@ -1,4 +1,4 @@
--- Where the trajectory of a flight begins anew after a report that left it.
+-- Where a flight's new trajectory begins after a report that deviates from the old one.
 use Rattle.std.specs.Prelude.{ℕ, ◌-◌, length, slice_get, nat_lt, Option, None, unwrap_or, option_map, if◌then◌else◌}
 use Rattle.mt_base.specs.declared.flight.Base.{Base}
 use Rattle.mt_base.specs.declared.flight.Course.{Course}
@@ -11,7 +11,7 @@ use Rattle.mt_base.specs.Trajectory.{Trajectory, row_at}
 abbrev pub row_by : Trajectory → ℕ → Option Row
 row_by t k = if nat_lt k t.start then None else if nat_lt (k - t.start) (length t.rows) then row_at t k else slice_get t.rows (length t.rows - 1)
 
--- the base at a report. Its second and position, the first margins, and the fix that is flown to by then.
+-- the base at a report: its position, the first margins, the fix flown to by then. And its second.
 abbrev pub base_at_report : Rules → Base → Trajectory → Report → Base
 base_at_report rules base t report = record {
   at = report.at;

@@ -40,7 +40,7 @@ AreRenewed setup who (call ∷ calls) h next =
 abbrev pub IsSettled : Setup → ℕ → List Entry → List Entry → Type 0
 IsSettled setup who h next = AreRenewed setup who (due_calls (state_of setup h).records) h next
 
--- some of them were renewed before memory ran out
+-- the first of them were renewed before memory ran out
 pub record IsSettledInPart (setup : Setup) (who : ℕ) (h next : List Entry) : Type 0 where
   pub done : List (List ℕ)
   pub left : List (List ℕ)

@@ -18,7 +18,7 @@ ended_by (Withdraw call force) = Some call
 ended_by (Commit call) = Some call
 ended_by command = None
 
--- the flight whose tentative clearance a command makes or ends
+-- the flight whose tentative clearance a command makes, withdraws or commits
 abbrev pub handled_by : Command → Option (List ℕ)
 handled_by (Tentative call clearance eff) = Some call
 handled_by (Withdraw call force) = Some call
@@ -63,8 +63,7 @@ made_at w = length w.before
 abbrev pub ended_at : Withdrawn → ℕ
 ended_at w = length w.before + 1 + length w.between
 
--- `one_if`, `lowered`: a version without the two entries before it. It is lowered by one for each of the two places that is below it, as a version
--- counts the entries at the places below it.
+-- `one_if`, `lowered`: a version, lowered by one for each of two places below it. A version counts the entries at the places below it.
 abbrev pub one_if : Bool → ℕ
 one_if test = if test then 1 else 0
 
@@ -103,7 +102,7 @@ pub record AreSameButVersions (s t : State) : Type 0 where
   pub now : s.now ≡ t.now
   pub records : s.records ≡ t.records
 
--- the same but for versions and that tentative clearance
+-- two states are the same but for versions and that tentative clearance
 abbrev pub AreAlike : List ℕ → State → State → Type 0
 AreAlike call s t = AreSameButVersions (without call s) (without call t)
 

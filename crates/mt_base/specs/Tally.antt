@@ -9,7 +9,7 @@ abbrev pub raised_by : ℕ → ℕ → ℕ
 raised_by zero count = count
 raised_by (suc more) count = raised (raised_by more count)
 
--- it was raised at most so many times
+-- a count was raised at most so many times
 pub record RoseUpTo (most old new : ℕ) : Type 0 where
   pub more : ℕ
   pub within : more ≤ most

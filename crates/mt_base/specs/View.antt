@@ -1,4 +1,4 @@
--- What is told of a flight.
+-- A flight at a second, as a view shows it.
 use Rattle.std.specs.Prelude.{◌+◌, ℕ, List, length, Option, Some, None, false, unwrap_or, option_map}
 use Rattle.mt_base.specs.declared.flight.FlightView.{FlightView}
 use Rattle.mt_base.specs.declared.flight.Mark.{Mark}
@@ -14,8 +14,8 @@ use Rattle.mt_base.specs.Trajectory.{Trajectory, row_at}
 abbrev pub tent_of : Mark → Tent
 tent_of mark = record { level = mark.level; owner = mark.owner; start = mark.base.at }
 
--- a flight at a second, as a view shows it. Its trajectory's first second, the one after its last and its row of that second; and of a planned one
--- its level, whether a new trajectory is due, and its tentative clearance.
+-- a flight at a second, as a view shows it: seconds, row, level, whether it is due, tentative clearance. Its trajectory's first second, the one after
+-- its last and its row of that second; and of a planned one its level, whether a new trajectory is due, and its tentative clearance.
 abbrev pub view_of_path : List ℕ → Path → Trajectory → ℕ → ℕ → FlightView
 view_of_path call (Planned course) t k version = record {
   call = call;

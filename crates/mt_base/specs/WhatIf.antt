@@ -55,7 +55,7 @@ aimed setup course aim = flown setup course.kind course.route aim.base aim.level
 abbrev pub trajectory_cleared : Setup → Course → Clearance → ℕ → Trajectory
 trajectory_cleared setup course clearance eff = aimed setup course (aim_of course (trajectory_of setup (Planned course)) clearance eff)
 
--- a conflict within the look-ahead with another flight's actual trajectory
+-- within the look-ahead the trajectory conflicts with another flight's actual one
 pub record IsHit (setup : Setup) (s : State) (call : List ℕ) (t : Trajectory) (hit : Hit) : Type 0 where
   pub flight : Record
   pub flies : Contains s.records flight

@@ -1,4 +1,4 @@
--- What is told of a history, and what a seat's read is answered.
+-- What a seat's read is answered, by the history that it has seen.
 use Rattle.std.specs.Prelude.{◌≡◌, ℕ, ◌-◌, List, take, drop, Some, None, Result, Ok, Err, option_map, ⊤}
 use Rattle.mt_base.specs.declared.command.Entry.{Entry}
 use Rattle.mt_base.specs.declared.command.Refusal.{Refusal}
@@ -25,7 +25,7 @@ version_of (answers.Due calls version) = version
 version_of (answers.Flight view) = view.version
 version_of (answers.History entries version) = version
 
--- an answer is right for a history. What is published; the flights that are due; a flight's view; some entries.
+-- an answer is right for a history: conflicts published, flights due, a view, or entries
 abbrev pub IsTold : Setup → List Entry → Ask → Answer → Type 0
 IsTold fixed h asks.List (answers.List conflicts version) = IsPublished fixed (state_of fixed h) conflicts
 IsTold fixed h asks.Check (answers.Check conflicts version) = IsPublished fixed (state_of fixed h) conflicts
@@ -35,7 +35,7 @@ IsTold fixed h (asks.Flight call sec) (answers.Flight view) =
 IsTold fixed h (asks.History from to) (answers.History entries version) = entries ≡ take (to - from) (drop from h)
 IsTold fixed h asked answer = ⊥
 
--- no flight has the callsign asked for
+-- the one refusal of a read: no flight has that callsign
 abbrev pub IsNotTold : Setup → List Entry → Ask → Refusal → Type 0
 IsNotTold fixed h (asks.Flight call sec) refusal = (flight_of (state_of fixed h).records call ≡ None) × (refusal ≡ UnknownCall call)
 IsNotTold fixed h asked refusal = ⊥

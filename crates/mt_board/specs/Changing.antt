@@ -10,8 +10,8 @@ use Rattle.mt_board.specs.declared.no.No.{No}
 use Rattle.mt_board.specs.declared.no.No.TheVariants.{Memory, Refused}
 use Rattle.mt_board.specs.Seat.{GoesOn, HasLooked, HasSeen, IsSameSeat, IsSeatSound, Seat, state_seen}
 
--- the seat's command was entered, exactly once. It is the last of what the seat has seen, what is decided on the state of the entries before it, and
--- the one entry more that is its own. It is answered by its version and, of a report, the verdict.
+-- the seat's command was entered, exactly once, as decided on the entries before it. It is the last of what the seat has seen, and the one entry more
+-- that is its own. It is answered by its version and, of a report, the verdict.
 pub record HasEntered (s t : Seat) (command : Command) (entered : Entered) : Type 0 where
   pub same : IsSameSeat s t
   pub front : List Entry
@@ -23,7 +23,7 @@ pub record HasEntered (s t : Seat) (command : Command) (entered : Entered) : Typ
   pub mine : t.mine ≡ s.mine ++ entry ∷ []
   pub sound : IsSeatSound t
 
--- a call is refused at a version seen, or memory lacks. Either way the seat has entered nothing.
+-- a call is refused at a version seen, or memory ran out; the seat entered nothing
 abbrev pub IsDenied : Seat → (Refusal → Type 0) → No → Seat → Type 0
 IsDenied s why (Refused refusal version) t = HasSeen s t version × why refusal
 IsDenied s why Memory t = HasLooked s t

@@ -1,4 +1,4 @@
--- What a seat's probe and its question for advice are answered.
+-- The answers to a seat's probe and to its request for advice.
 use Rattle.std.specs.Prelude.{◌≡◌, ◌≤◌, ℕ, List, [], length, map, take, Option, Ok, Err, unwrap_or}
 use Rattle.mt_base.specs.declared.clearance.Clearance.{Clearance}
 use Rattle.mt_base.specs.declared.command.Command.{Command}
@@ -25,7 +25,7 @@ pub record Probe : Type 0 where
 abbrev pub acceptance : Probe → Command
 acceptance p = Accept p.call p.clearance p.eff p.version
 
--- the probe's hits hold at its version, which was seen
+-- the probe's hits are exact on the version that the seat then saw. By default the clearance was tried from that state's moment on.
 pub record IsProbed (s t : Seat) (call : List ℕ) (clearance : Clearance) (eff : Option ℕ) (probe : Probe) : Type 0 where
   pub seen : HasSeen s t probe.version
   pub call_is : probe.call ≡ call
@@ -47,8 +47,8 @@ pub record IsPast (s : Seat) (fixed : Setup) (state : State) (version : ℕ) : T
 abbrev pub free_probe : List ℕ → ℕ → ℕ → Clearance → Probe
 free_probe call eff version clearance = record { call = call; clearance = clearance; eff = eff; version = version; hits = [] }
 
--- these probes, at most sixteen, are the advice. They are the clearances that are advised on the state of that version, in order, each tried from its
--- moment on and without hits.
+-- these probes, at most sixteen, are the free clearances, in order. They are advised on the state of that version, each tried from its moment on and
+-- without hits.
 pub record IsAdvised (s t : Seat) (call : List ℕ) (eff version : ℕ) (probes : List Probe) : Type 0 where
   pub seen : HasSeen s t version
   pub eff_is : eff ≡ (state_seen t).now

@@ -26,7 +26,7 @@ GoesOn front history = (later : List Entry) × (history ≡ front ++ later)
 abbrev pub entries_by : ℕ → List Entry → List Entry
 entries_by number history = filter (λ (e : Entry). e.who == number) history
 
--- the same number, rules and tables
+-- the same seat: its number, rules and tables
 pub record IsSameSeat (s t : Seat) : Type 0 where
   pub number : t.number ≡ s.number
   pub fixed : t.fixed ≡ s.fixed

@@ -10,13 +10,13 @@ use Rattle.mt_board.specs.Asking.{IsRead}
 use Rattle.mt_board.specs.Changing.{IsChanged}
 use Rattle.mt_board.specs.Seat.{HasLooked, Seat}
 
--- a seat asked to renew flights in turn, so answered
+-- a seat asked to renew some flights in turn, with these answers
 abbrev pub AreRenewalsAsked : Seat → List (List ℕ) → List (Result Entered No) → Seat → Type 0
 AreRenewalsAsked s [] [] t = t ≡ s
 AreRenewalsAsked s (call ∷ calls) (result ∷ results) t = (next : Seat) × IsChanged s (Renew call) result next × AreRenewalsAsked next calls results t
 AreRenewalsAsked s calls results t = ⊥
 
--- no renewal lacked memory. Each flight was renewed, or refused and passed over.
+-- no renewal ran out of memory. Each flight was renewed, or refused and passed over.
 abbrev pub AreMade : List (Result Entered No) → Type 0
 AreMade results = All (λ result. result ≢ Err Memory) results
 
@@ -45,6 +45,6 @@ pub record HasSettledInPart (s t : Seat) : Type 0 where
   pub made : AreMade results
   pub looked : HasLooked last t
 
--- a settling that lacked memory settled none or part
+-- memory ran out: the settling did nothing, or a part. The seat may have seen more.
 abbrev pub IsNotSettled : Seat → Seat → Type 0
 IsNotSettled s t = HasLooked s t ⊎ HasSettledInPart s t

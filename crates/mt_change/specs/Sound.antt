@@ -3,7 +3,7 @@ use Rattle.mt_base.specs.Bounds.{IsSoundFlight}
 use Rattle.mt_base.specs.Picture.{HaveOwnCalls, State}
 use Rattle.mt_base.specs.Tables.{Setup}
 
--- a reachable state's flights are sound, at most 1,024. No two have one callsign, and the moment is within its bound.
+-- at most 1,024 sound flights, no two of one callsign, a bounded moment. So is every state that can be reached.
 pub record IsSoundState (setup : Setup) (s : State) : Type 0 where
   pub sound : All (IsSoundFlight setup) s.records
   pub own_calls : HaveOwnCalls s.records

@@ -32,7 +32,7 @@ cells_in e line = map (λ column. 64 * line + column) (cells_between e)
 abbrev pub cells : Extent → Extent → List ℕ
 cells x y = flat_map (cells_in x) (cells_between y)
 
--- the cells of a box with margin and half the minimum
+-- the cells of a box, widened by its margin and half the minimum
 abbrev pub cells_of : Rules → BoundingBox → List ℕ
 cells_of rules a = cells (wider a.x (a.margin +ℤ half rules)) (wider a.y (a.margin +ℤ half rules))
 

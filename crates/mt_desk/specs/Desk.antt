@@ -8,7 +8,7 @@ use Rattle.mt_turn.specs.declared.view.Phase.TheVariants.{Idle}
 use Rattle.mt_turn.specs.declared.view.View.{View}
 use Rattle.mt_turn.specs.Seats.{SeatNow}
 
--- a desk's turn, with rules and tables that never change
+-- the turn of a desk's seats, with rules and tables that never change
 pub record Desk : Type 0 where
   pub home : TableId
   pub fixed : Setup

@@ -20,7 +20,7 @@ without_end end edges = filter (λ e. not (touches end e)) edges
 abbrev pub degree : ℕ → List Edge → ℕ
 degree end edges = length (filter (touches end) edges)
 
--- a pair that may be kept. Its ends are in order and within range, and its last second is before 10,014,400.
+-- a pair that may be kept: ends in order and in range, last second before 10,014,400
 pub record IsEdge (ends : ℕ) (e : Edge) : Type 0 where
   pub order : e.a < e.b
   pub ends_in : e.b < ends

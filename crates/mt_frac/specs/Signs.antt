@@ -18,7 +18,7 @@ pub record IsBoundedLine (line : Linear) : Type 0 where
   pub b_bounded : unsigned_abs line.b < 2 ^ 18
   pub c_bounded : unsigned_abs line.c < 2 ^ 32
 
--- the quadratic is below 0 somewhere strictly between
+-- the quadratic is below 0 somewhere strictly between lo and hi
 pub record IsBelowZeroIn (quad : Quad) (lo hi : Frac) : Type 0 where
   pub n : ℤ
   pub d : ℤ

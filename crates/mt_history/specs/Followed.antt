@@ -1,4 +1,4 @@
--- What putting an entry after a history means, and why it is not put there.
+-- When a history follows an entry, and why it doesn't.
 use Rattle.std.specs.Prelude.{◌≡◌, [], ◌∷◌, ◌++◌, length, Ok, Err, ⊤}
 use Rattle.mt_base.specs.declared.command.Entered.{Entered}
 use Rattle.mt_base.specs.declared.command.Entry.{Entry}
@@ -9,16 +9,15 @@ use Rattle.mt_history.specs.declared.following.FollowNo.{FollowNo}
 use Rattle.mt_history.specs.declared.following.FollowNo.TheVariants.{Illegal, Late, Memory}
 use Rattle.mt_picture.specs.Story.{Story}
 
--- the entry is what is decided, and now stands last. It comes in time, is decided of its command, asked for by who made it, on the state of the
--- history, and is answered.
+-- the entry is what is decided of its command, and now stands last. It comes in time, is asked for by who made it, on the state of the history, and
+-- is answered.
 pub record HasFollowed (before : Story) (e : Entry) (after : Story) (entered : Entered) : Type 0 where
   pub in_time : IsInTime (length before.history) e.command
   pub decided : IsDecided before.setup (state_of before.setup before.history) e.who e.command (Ok e)
   pub after_is : after ≡ record { setup = before.setup; history = before.history ++ e ∷ [] }
   pub answered : entered ≡ entered_by before.setup (state_of before.setup before.history) e
 
--- why an entry isn't followed: late, illegal, or memory. At the version of the history: it is an acceptance that was probed at a version after it; or
--- its command is refused on the state of the history; or memory is wanted.
+-- why an entry isn't followed: probed at a later version, refused, or no memory. At the version of the history.
 abbrev pub IsNotFollowed : Story → Entry → FollowNo → Type 0
 IsNotFollowed story e (Late version) = (version ≡ length story.history) × (¬ IsInTime (length story.history) e.command)
 IsNotFollowed story e (Illegal version refusal) = (version ≡ length story.history) × IsInTime (length story.history) e.command

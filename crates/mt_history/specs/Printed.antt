@@ -25,7 +25,7 @@ pub record IsFirstBad (bytes : List ℕ) (place : ℕ) : Type 0 where
   pub before : List Entry
   pub read : AreReadAsEntries (take place (lines_of bytes)) before
 
--- why bytes aren't read: a bad line, or memory
+-- why bytes aren't read: their first bad line, or no memory
 abbrev pub IsBad : List ℕ → BadHistory → Type 0
 IsBad bytes (Line place) = IsFirstBad bytes place
 IsBad bytes Memory = ⊤

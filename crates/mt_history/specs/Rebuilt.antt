@@ -17,7 +17,7 @@ pub record IsReadyToDecide (e : Entry) : Type 0 where
   pub bounded : IsBoundedCommand e.command
   pub timed : (now : ℕ) → filled now e.command ≡ e.command
 
--- the first illegal entry. Those before its place, counted from 0, can be replayed; it comes in time, and its command is refused on their state.
+-- the entries before this place can be replayed; this one's command is refused. It comes in time. Places are counted from 0.
 pub record IsIllegalAt (setup : Setup) (entries : List Entry) (at : ℕ) (refusal : Refusal) : Type 0 where
   pub entry : Entry
   pub is : slice_get entries at ≡ Some entry
@@ -25,14 +25,14 @@ pub record IsIllegalAt (setup : Setup) (entries : List Entry) (at : ℕ) (refusa
   pub in_time : IsInTime at entry.command
   pub refused : IsDecided setup (state_of setup (take at entries)) entry.who entry.command (Err refusal)
 
--- the first late entry. Those before it can be replayed; it was probed at a version after its place.
+-- the entries before this place can be replayed; this one was probed later. At a version after its place.
 pub record IsLateAt (setup : Setup) (entries : List Entry) (at : ℕ) : Type 0 where
   pub entry : Entry
   pub is : slice_get entries at ≡ Some entry
   pub before : IsReplayable setup (take at entries)
   pub late : ¬ IsInTime at entry.command
 
--- what is first wrong with entries, or memory lacks
+-- what is first wrong with entries, or no memory
 abbrev pub IsWrong : Setup → List Entry → Wrong → Type 0
 IsWrong setup entries (Illegal at refusal) = IsIllegalAt setup entries at refusal
 IsWrong setup entries (Late at) = IsLateAt setup entries at

@@ -34,8 +34,8 @@ gave_one count = record count { given = count.given + 1 }
 abbrev pub took_one : Count → Count
 took_one count = record count { back = count.back + 1 }
 
--- a session's link, or none when each has one. Where fewer links were given than there are sessions, the first of those still to give, or a failure.
--- But for the link nothing changes.
+-- the next link, or a failure, or none once each session has one. Where fewer links were given than there are sessions, it is the first of those
+-- still to give. But for the link nothing changes.
 abbrev pub GivesLink : {L E : Type 0} → Count → Count → Option (List L) → Option (List L) → Result (Option L) E → Type 0
 GivesLink {L} old new still left result =
     MatchResult result

@@ -1,4 +1,4 @@
--- The parts of a reader's work: reading more, moving a piece to the line, gathering a whole line.
+-- How a line ends.
 use Rattle.std.specs.Prelude.{ℕ, Bool, true, false, List, [], ◌∷◌}
 
 -- 0x0A after any line but the last

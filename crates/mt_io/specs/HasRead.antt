@@ -12,8 +12,8 @@ pub record AreLines (bytes : List ℕ) (lines : List (List ℕ)) : Type 0 where
   pub each : (more : List ℕ) → lines_of (bytes ++ more) ≡ lines ++ lines_of more
   pub whole : (more : List ℕ) → whole_lines_of (bytes ++ more) ≡ lines ++ whole_lines_of more
 
--- these lines were read of the input. The bytes that were taken are those of the lines, and what was taken beyond them. A last line without a 0x0A
--- ends with the input.
+-- these lines were read of the input, of which so much is left. The bytes that were taken are those of the lines, and what was taken beyond them. A
+-- last line without a 0x0A ends with the input.
 pub record AreRead (input left : List ℕ) (lines : List (List ℕ)) : Type 0 where
   pub gone : List ℕ
   pub beyond : List ℕ

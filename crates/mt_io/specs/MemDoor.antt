@@ -3,7 +3,7 @@ use Rattle.std.specs.Prelude.{◌≡◌, ◌<◌, ◌⊎◌, []}
 use Rattle.mt_io.specs.Calls.{FaultPlan, IsNextListed}
 use Rattle.mt_io.specs.declared.mem_door.MemDoor.{MemDoor}
 
--- its calls of `listen` and of `next_link`
+-- the calls of `listen` and of `next_link` on a door
 abbrev pub calls_of : MemDoor → FaultPlan
 calls_of door = door.calls
 

@@ -5,11 +5,11 @@ use Rattle.mt_io.specs.MemSource as sources
 use Rattle.mt_io.specs.MemSink as sinks
 use Rattle.mt_io.specs.declared.mem_link.MemLink.{MemLink}
 
--- how many bytes it can hold
+-- how many bytes a link can hold
 abbrev pub room_of : MemLink → ℕ
 room_of link = sinks.room_of link.sink
 
--- `reads_of`, `writes_of`: the reads and the writes of it
+-- `reads_of`, `writes_of`: the reads of a link, and the writes
 abbrev pub reads_of : MemLink → FaultPlan
 reads_of link = sources.calls_of link.source
 
@@ -23,6 +23,6 @@ most_read link = sources.most_of link.source
 abbrev pub most_written : MemLink → ℕ
 most_written link = sinks.most_of link.sink
 
--- it holds as many bytes as it can
+-- a link holds as many bytes as it can
 abbrev pub IsFull : MemLink → Type 0
 IsFull link = sinks.IsFull link.sink

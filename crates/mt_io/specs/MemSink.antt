@@ -3,11 +3,11 @@ use Rattle.std.specs.Prelude.{◌≡◌, ◌<◌, ◌≤◌, ℕ, vec_len}
 use Rattle.mt_io.specs.Calls.{FaultPlan, GoOn, AreUnlisted}
 use Rattle.mt_io.specs.declared.mem_sink.MemSink.{MemSink}
 
--- how many bytes it can hold
+-- how many bytes a sink can hold
 abbrev pub room_of : MemSink → ℕ
 room_of sink = sink.room
 
--- its calls
+-- the calls on a sink
 abbrev pub calls_of : MemSink → FaultPlan
 calls_of sink = sink.calls
 
@@ -15,7 +15,7 @@ calls_of sink = sink.calls
 abbrev pub most_of : MemSink → ℕ
 most_of sink = sink.most
 
--- it holds as many bytes as it can
+-- a sink holds as many bytes as it can
 abbrev pub IsFull : MemSink → Type 0
 IsFull sink = vec_len sink.bytes ≡ sink.room
 

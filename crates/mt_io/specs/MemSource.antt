@@ -3,7 +3,7 @@ use Rattle.std.specs.Prelude.{◌≡◌, ℕ}
 use Rattle.mt_io.specs.Calls.{FaultPlan, GoOn, AreUnlisted}
 use Rattle.mt_io.specs.declared.mem_source.MemSource.{MemSource}
 
--- its calls
+-- the calls on a source
 abbrev pub calls_of : MemSource → FaultPlan
 calls_of source = source.calls
 

@@ -29,8 +29,8 @@ pub record IsPlainLine (ms : Members) (bytes : List ℕ) : Type 0 where
   pub one_line : IsOneLine (compact_text (object ms))
   pub reads_back : read (compact_text (object ms)) ≡ Some (object ms)
 
--- any object's compact line. The text has the object's pairs, each once and in their order, its whole numbers in decimal, and is read back as that
--- object unless it nests too deep to be read.
+-- any object's compact line, read back unless it nests too deep. The text has the object's pairs, each once and in their order, and its whole numbers
+-- in decimal.
 pub record IsLine (ms : Members) (bytes : List ℕ) : Type 0 where
   pub text : List ℕ
   pub ends : bytes ≡ text ++ 10 ∷ []

@@ -29,7 +29,7 @@ pub record IsOfOtherFlight (places : List (Option NamedTrajectory)) (place : ℕ
 abbrev pub candidate_place : Candidate → ℕ
 candidate_place x = x.place
 
--- every trajectory with a loss second is a candidate. Each place is listed once at most, and what is known of the listed ones is right.
+-- every other flight's trajectory with a loss second is a candidate, listed once. What is known of the listed ones is right.
 pub record AreCandidates (rules : Rules) (places : List (Option NamedTrajectory)) (place : ℕ) (mine : NamedTrajectory)
     (xs : List Candidate) : Type 0 where
   pub right : (x : Candidate) (other : NamedTrajectory) → Contains xs x → IsOfOtherFlight places place mine x.place other
@@ -38,7 +38,7 @@ pub record AreCandidates (rules : Rules) (places : List (Option NamedTrajectory)
       → IsLossSecond rules mine.path other.path k → Contains (map candidate_place xs) j
   pub once : AllPairs (λ x y. x.place ≢ y.place) xs
 
--- one place changed; the others agree for other flights
+-- a place has the new trajectory; other places stay, as far as other flights go
 pub record Agree (places after : List (Option NamedTrajectory)) (place : ℕ) (mine : NamedTrajectory) : Type 0 where
   pub here : at after place ≡ Some mine
   pub there : (i : ℕ) (t : NamedTrajectory) → i ≢ place → mine.call ≢ t.call → (at after i ≡ Some t) ↔ (at places i ≡ Some t)

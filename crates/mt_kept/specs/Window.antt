@@ -1,4 +1,4 @@
--- The pairs that are open in the window from a moment, and what they show in it.
+-- The pairs that are open in the look-ahead from a moment, and what they show in it.
 use Rattle.std.specs.Prelude.{◌≡◌, ◌≢◌, ℕ, ◌<◌, ◌≤◌, ◌⊎◌, List, length, All, AllPairs, Option, Some, None, Bool, true}
 use Rattle.mt_base.specs.declared.conflict.Conflict.{Conflict}
 use Rattle.mt_base.specs.declared.rules.Rules.{Rules}

@@ -1,4 +1,4 @@
--- What a load run is summed up as, and the line that says it.
+-- The summary of a load run, and its line.
 use Rattle.std.specs.Prelude.{◌≡◌, ℕ, pos, List, [], ◌∷◌, ◌++◌, length, codes}
 use Rattle.serde_json.specs.Data.{Data, object, no_members, member}
 use Rattle.serde_json.specs.Written.{compact_text}
@@ -18,8 +18,9 @@ pub record IsCountedAgain (setup : Setup) (history : List Entry) (n : ℕ) : Typ
   pub read : AreReadAsEntries (lines_of (printed history)) entries
   pub counted : IsPublishedCount setup entries n
 
--- a world's counts of conflicts, again, entries and flights. How many conflicts are published of its history, and again of the history printed, read
--- back and rebuilt, which is the same number. No clause says how many pairs were tested.
+-- a world's counts; rebuilding the printed history counts the same conflicts. How many conflicts are published of its history, and again of the
+-- history printed, read back and rebuilt, which is the same number; how many entries there are, and how many flights. No clause says how many pairs
+-- were tested.
 pub record IsSummary (w : World) (s : Summary) : Type 0 where
   pub conflicts : IsPublishedCount (setup_of w) w.history s.conflicts
   pub again : IsCountedAgain (setup_of w) w.history s.again

@@ -1,4 +1,4 @@
--- How an advice is found. Public contracts cite `IsClearanceFree` alone.
+-- A clearance that advice gives.
 use Rattle.std.specs.Prelude.{ℕ, List, [], None, Ok}
 use Rattle.mt_base.specs.declared.clearance.Clearance.{Clearance}
 use Rattle.mt_base.specs.Bounds.{IsBoundedClearance}

@@ -55,7 +55,7 @@ pub record IsCrossingNow (story : Story) (p : Prepared) (mine other : NamedTraje
   pub conflict : IsConflict story.setup.rules mine.path other.path 0 horizon (Some (first, last))
   pub straddling : is_straddling (state_now story).now first last ≡ true
 
--- at most two tests per nearby trajectory
+-- at most two tests per other flight's trajectory near the new one
 pub record WasTestedAnew (story : Story) (mine : NamedTrajectory) (old new : ℕ) : Type 0 where
   pub others : List NamedTrajectory
   pub distinct : AllPairs (λ s t. s ≢ t) others
@@ -64,8 +64,8 @@ pub record WasTestedAnew (story : Story) (mine : NamedTrajectory) (old new : ℕ
   pub within : more ≤ 2 * length others
   pub is : new ≡ raised_by more old
 
--- few tests, as the preparation is usable. At most two for each nearby trajectory that was made after the preparation, and one for each that was
--- there when it was made and whose conflict with the new one straddles an edge of the look-ahead now. None is counted twice.
+-- at most two tests per nearby trajectory made since the preparation, one per crossing one. A crossing one was there when the preparation was made,
+-- and its conflict with the new one straddles an edge of the look-ahead now. None is counted twice.
 pub record WasTestedAgain (story : Story) (p : Prepared) (mine : NamedTrajectory) (old new : ℕ) : Type 0 where
   pub later : List NamedTrajectory
   pub later_each : All (IsLaterNow story p.state.version mine) later
@@ -94,7 +94,7 @@ pub record WasTestedForTick (story : Story) (now old new : ℕ) : Type 0 where
   pub each : All (IsCrossingPair story now) pairs
   pub is : new ≡ raised_by (length pairs) old
 
--- tested anew, or again where the preparation is usable
+-- tested anew; and where the preparation is usable, only as often as that allows
 pub record IsWithinBoth (story : Story) (command : Command) (p : Prepared) (mine : NamedTrajectory) (old new : ℕ) : Type 0 where
   pub anew : WasTestedAnew story mine old new
   pub again : IsUsable story command p → WasTestedAgain story p mine old new

@@ -19,7 +19,7 @@ pub record IsRestored (setup : Setup) (h : List Entry) (conflicts : List Conflic
   pub legal : IsLegal setup (strike_out withdrawn)
   pub published : IsPublished setup (state_of setup (strike_out withdrawn)) conflicts
 
--- a hit that the probe didn't have. The version that is named is above the probe's.
+-- a hit that the probe didn't have, at a later version
 pub record IsSinceProbe (setup : Setup) (h : List Entry) (call : List ℕ) (clearance : Clearance) (eff probed version : ℕ) (hit : Hit) : Type 0 where
   pub not_then : (hits : List Hit) → AreHits setup (state_of setup (take probed h)) call clearance eff hits → ¬ Contains hits hit
   pub later : probed < version

@@ -1,4 +1,4 @@
--- What a picture holds, and what ties its parts together.
+-- Which entry made a trajectory, and since when it stands.
 use Rattle.std.specs.Prelude.{◌≡◌, ℕ, ◌+◌, ◌<◌, ◌≤◌, List, length, take, slice_get, Contains, Some}
 use Rattle.mt_base.specs.declared.command.Command.{Command}
 use Rattle.mt_base.specs.declared.command.Entry.{Entry}

@@ -1,4 +1,4 @@
--- A picture as its callers see it, and what is answered of a command.
+-- A picture as its callers see it, and what a command is answered.
 use Rattle.std.specs.Prelude.{◌≡◌, ℕ, ◌≤◌, List, [], ◌∷◌, ◌++◌, length, take, slice_get, Option, Some, None, Ok, Err, ⊤}
 use Rattle.mt_base.specs.declared.command.Command.{Command}
 use Rattle.mt_base.specs.declared.command.Command.TheVariants.{Tentative}
@@ -21,7 +21,7 @@ abbrev pub IsPreparedFor : Command → ℕ → ℕ → Type 0
 IsPreparedFor (Tentative call clearance eff) who preparer = preparer ≡ who
 IsPreparedFor command who preparer = ⊤
 
--- a preparation of this command on an earlier version
+-- a preparation of this command, on an earlier version of this history
 pub record IsPrepFor (story : Story) (who : ℕ) (command : Command) (p : Prepared) : Type 0 where
   pub makes : MakesStrand command
   pub setup_is : p.setup ≡ story.setup
@@ -30,7 +30,7 @@ pub record IsPrepFor (story : Story) (who : ℕ) (command : Command) (p : Prepar
   pub within : p.state.version ≤ length story.history
   pub state_is : p.state ≡ state_of story.setup (take p.state.version story.history)
 
--- a preparation comes exactly with a trajectory. The command makes one.
+-- a preparation comes exactly with a command that makes a trajectory
 abbrev pub IsPrepGivenFor : Story → ℕ → Command → Option Prepared → Type 0
 IsPrepGivenFor story who command None = MakesStrand command → ⊥
 IsPrepGivenFor story who command (Some p) = IsPrepFor story who command p
@@ -43,8 +43,7 @@ pub record IsNamedAfter (h : List Entry) (n : ℕ) (call : List ℕ) : Type 0 wh
   pub is : slice_get h place ≡ Some entry
   pub names : call_of entry.command ≡ Some call
 
--- no later entry touches the flight or the time. No entry after the preparation names the command's callsign, and a moment that the command leaves
--- open is now that of the preparation.
+-- no entry since names the preparation's flight, and a moment left open is still its own. What the command leaves to the moment is as it was then.
 pub record IsUsable (story : Story) (command : Command) (p : Prepared) : Type 0 where
   pub same_flight : (call : List ℕ) → call_of command ≡ Some call → ¬ IsNamedAfter story.history p.state.version call
   pub same_moment : filled p.state.now command ≡ filled (state_of story.setup story.history).now command
@@ -57,7 +56,7 @@ pub record IsEntered (before after : Story) (who : ℕ) (command : Command) (ent
   pub longer : after.history ≡ before.history ++ entry ∷ []
   pub answered : entered ≡ entered_by before.setup (state_of before.setup before.history) entry
 
--- a command is refused as decided, or memory lacks. The refusal names the version of the history.
+-- a command is refused as decided, at the history's version; or memory ran out
 abbrev pub IsCommandRefused : Story → ℕ → Command → No → Type 0
 IsCommandRefused story who command (nos.Refused refusal version) =
     IsDecided story.setup (state_of story.setup story.history) who command (Err refusal) × (version ≡ length story.history)

@@ -5,10 +5,11 @@ use Rattle.std.specs.Cmp.Lexicographic.{slice_cmp}
 use Rattle.std.specs.Ordering.{nat_cmp, is_lt}
 use Rattle.mt_base.specs.Picture.{NamedTrajectory}
 
--- `is_before`, `tests_of_left`: the first trajectory has the lesser callsign; how many pairs it leads
+-- the first trajectory has the lesser callsign
 abbrev pub is_before : NamedTrajectory → NamedTrajectory → Bool
 is_before left right = is_lt (slice_cmp nat_cmp left.call right.call)
 
+-- how many of these have a greater callsign
 abbrev pub tests_of_left : List NamedTrajectory → NamedTrajectory → ℕ
 tests_of_left rights left = count_by (is_before left) rights
 

@@ -16,6 +16,6 @@ pub record AreFiled (slots : List (Option Flight)) (flights : List Flight) : Typ
   pub sorted : IsStrictlySortedBy filed_cmp flights
   pub members : (f : Flight) → Contains flights f ↔ Contains (flights_in slots) f
 
--- filing order determines a snapshot's records
+-- a snapshot's records are its flights in filing order, however found
 abbrev pub FilingOrderLaw : Type 0
 FilingOrderLaw = (shot : Shot) (flights : List Flight) → IsSoundShot shot → AreFiled shot.slots flights → map (λ f. f.card) flights ≡ records_in shot.slots

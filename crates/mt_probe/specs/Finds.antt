@@ -37,8 +37,7 @@ pub record IsFindListed (rules : Rules) (now : ℕ) (t : Trajectory) (finds : Li
   pub held : Contains finds found
   pub is : IsFound rules now t other found
 
--- exactly the other flights' trajectories that lose separation. Each that has a loss second with the new trajectory is listed, once, and no other;
--- each find is exact.
+-- exactly the other flights' trajectories with a loss second, each once, each find exact
 pub record AreFinds (setup : Setup) (s : State) (call : List ℕ) (t : Trajectory) (finds : List Found) : Type 0 where
   pub exact : (found : Found) → Contains finds found → IsFoundOfAnother setup s call t found
   pub complete : (other : NamedTrajectory) → IsOfAnother setup s call other → (k : ℕ) → k < horizon → IsLossSecond setup.rules t other.path k

@@ -20,7 +20,7 @@ pub record Trial : Type 0 where
   pub eff : ℕ
   pub hits : List Hit
 
--- a trial's hits are exact, and its numbers bounded. It was prepared for the acceptance of its clearance, and has few enough hits for a reply.
+-- a trial's hits are exact, its numbers bounded, and its acceptance prepared. It has few enough hits for a reply.
 pub record IsTried (p : Trial) : Type 0 where
   pub clearance : IsBoundedClearance p.clearance
   pub early : p.eff ≤ 10000000

@@ -66,7 +66,7 @@ other_at call slots item = other_of call (kind_at item) (get_or slots (item / 2)
 abbrev pub others_among : List ℕ → List (Option Flight) → List ℕ → List NamedTrajectory
 others_among call slots items = flat_map (other_at call slots) items
 
--- at most two tests per nearby trajectory
+-- at most two tests per other flight's trajectory near this one
 abbrev pub WasTestedNear : Shot → List ℕ → Trajectory → ℕ → ℕ → Type 0
 WasTestedNear shot call t old new = (items : List ℕ) → AreNearItems shot (cover_of shot.setup.rules t) items
     → new ≤ old + 2 * length (others_among call shot.slots items)

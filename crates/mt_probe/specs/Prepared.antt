@@ -73,8 +73,7 @@ pub record Prepared : Type 0 where
   pub strand : Trajectory
   pub finds : List Found
 
--- what every preparation keeps. The command passes in its state, room aside; the flight is the one that the entry leaves, the trajectory is the one
--- that the command makes of it, and the finds are exact.
+-- a preparation is right for its state: the flight and trajectory that the command leaves, exact finds. The command passes in its state, room aside.
 pub record IsPrepared (p : Prepared) : Type 0 where
   pub passed : judged_aside p.setup p.state p.who p.command ≡ Ok (tt {0})
   pub card_is : flight_left p.setup p.state p.who p.command ≡ Some p.card
@@ -119,11 +118,11 @@ abbrev pub left_made : Setup → State → ℕ → Command → Option NamedTraje
 left_made setup s who command = option_and_then (λ card. option_map (named_trajectory card (kind_made command)) (path_made setup card (kind_made command)))
     (flight_left setup s who command)
 
--- few tests for a trajectory, none without one
+-- at most two tests per trajectory near this one, none without one
 abbrev pub WereFew : Shot → Option NamedTrajectory → ℕ → ℕ → Type 0
 WereFew shot None old new = new ≡ old
 WereFew shot (Some mine) old new = WasTestedNear shot mine.call mine.path old new
 
--- at most two tests per nearby trajectory. Near the one that the command makes on the snapshot.
+-- at most two tests per trajectory near the one that the command makes
 abbrev pub WasTestedFor : Shot → ℕ → Command → ℕ → ℕ → Type 0
 WasTestedFor shot who command old new = WereFew shot (left_made shot.setup (state_in_shot shot) who command) old new

@@ -1,4 +1,4 @@
--- What is left of a snapshot in which one place is changed.
+-- A snapshot after a change at one place.
 use Rattle.std.specs.Prelude.{◌≡◌, ◌≢◌, ◌<◌, ◌+◌, ℕ, List, [], ◌∷◌, ◌++◌, Option, Some, None, map, filter, not, slice_set, if◌then◌else◌}
 use Rattle.std.specs.Str.{bytes_eq}
 use Rattle.mt_base.specs.declared.flight.Record.{Record}
@@ -11,7 +11,7 @@ abbrev pub IsFiledAt : Shot → ℕ → Flight → Option Flight → Type 0
 IsFiledAt shot slot f (Some old) = f.filed ≡ old.filed
 IsFiledAt shot slot f None = (i : ℕ) (g : Flight) → flight_at shot i ≡ Some g → g.filed < f.filed
 
--- a flight may stand at a place of the snapshot. It is sound, its trajectories are its own, no other place has its callsign, and its filing fits.
+-- a flight may stand at a place: sound, no other has its callsign, its filing fits. Its trajectories are its own.
 pub record Fits (shot : Shot) (slot : ℕ) (f : Flight) : Type 0 where
   pub entry : IsSoundEntry shot.setup f
   pub own_call : (i : ℕ) (g : Flight) → i ≢ slot → flight_at shot i ≡ Some g → g.card.call ≢ f.card.call
@@ -29,8 +29,8 @@ with_moment shot now = record shot { version = shot.version + 1; now = now }
 abbrev pub replaced_if : List ℕ → Record → Record → Record
 replaced_if call card flight = if bytes_eq flight.call call then card else flight
 
--- the records after a change at one place. A new flight is filed after the others, or takes the place of the old one in the order; or the old one is
--- taken out.
+-- the records after a change at one place: one added, replaced, or taken out. A new flight is filed after the others, or takes the place of the old
+-- one in the order.
 abbrev pub records_put : Option Flight → Option Flight → List Record → List Record
 records_put None None records = records
 records_put None (Some f) records = records ++ f.card ∷ []

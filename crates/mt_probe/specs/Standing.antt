@@ -17,9 +17,8 @@ pub record AreTwoFlights (f g : Flight) : Type 0 where
   pub calls : f.card.call ≢ g.card.call
   pub filings : f.filed ≢ g.filed
 
--- what every snapshot keeps. The rules are within their bounds, there are as many places as the rules allow flights, each flight is sound and each
--- trajectory that is kept of it is one of segments, no two flights have one callsign or were filed at one version, and the moment is within its
--- bound.
+-- what every snapshot keeps: bounded rules and moment, sound flights, own callsigns and filings. There are as many places as the rules allow flights,
+-- and each trajectory that is kept of a flight is one of segments; no two flights have one callsign or were filed at one version.
 pub record IsSoundShot (shot : Shot) : Type 0 where
   pub rules : AreWithinBounds shot.setup.rules
   pub places : pos (length shot.slots) ≡ shot.setup.rules.flights

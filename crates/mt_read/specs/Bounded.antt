@@ -13,8 +13,8 @@ pub record IsEntrySpan (from to : ℕ) : Type 0 where
   pub forward : from ≤ to
   pub short : to ≤ from + 64
 
--- a request's numbers are within bounds. A fix, the bands of a type, an area, a change that is asked for by itself, a second, a stretch of the
--- history, a clearance, the number of a probe, and the rules as they would stand once they are set.
+-- a request's numbers are within bounds, its rules as they would stand. A fix, the bands of a type, an area, a change that is asked for by itself, a
+-- second, a stretch of the history, a clearance, the number of a probe, and the rules once they are set.
 abbrev pub IsBoundedRequest : Rules → Request → Type 0
 IsBoundedRequest rules (request.Fix name x y) = IsInPlane x y
 IsBoundedRequest rules (request.TypeLine name bands) = AreBoundedBands bands

@@ -19,8 +19,8 @@ of_entry_word ms (Some word) = read_layout origin.Entry [] (entry_layout word) m
 abbrev pub held_in : Members → Result (ℕ × Command) LineNo
 held_in ms = of_entry_word ms (option_and_then entry_word_of (word_text ms))
 
--- `as_entry`, `entry`: what an entry's text is read as. By the checks of a line and in their order: the object has the fields of its command, each of
--- them, and who asked, up to 2^32 - 1.
+-- `as_entry`, `entry`: what an entry's text is read as, by a line's checks. In their order: the object has the fields of its command, each of them,
+-- and who asked, up to 2^32 - 1.
 abbrev pub as_entry : Result (ℕ × Command) LineNo → Result Entry LineNo
 as_entry (Ok held) = Ok (record { who = held.0; command = held.1 })
 as_entry (Err refusal) = Err refusal

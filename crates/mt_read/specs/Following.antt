@@ -54,12 +54,12 @@ of_reading ms None = as_followed (as_entry (held_in ms))
 abbrev pub feed_members : Members → Result FeedLine LineNo
 feed_members ms = of_reading ms (option_and_then reading_word_of (word_text ms))
 
--- what a standby's line is read as. By the checks of a line and in their order: a line that is no entry as in a session, and so without who asks;
--- each other line as the text of an entry.
+-- what a standby's line is read as: a read as in a session, else an entry. By the checks of a line and in their order; a read has no field that says
+-- who asks.
 abbrev pub feed : List ℕ → Result FeedLine LineNo
 feed bytes = read_value feed_members (decoded bytes)
 
--- it asks for what holds
+-- a request asks for what holds
 abbrev pub IsReading : Request → Type 0
 IsReading request.List = ⊤
 IsReading request.Check = ⊤

@@ -56,8 +56,8 @@ who_in origin ms = 0
 abbrev pub kinds : Origin → List Field → Members → Result ⊤ Fault
 kinds origin fields ms = judged (map (kind_check origin ms) fields) (tt {0})
 
--- what a command's members ask for, and who asks. First each field's presence and kind, the actor's last; then each field's bounds, the actor's last;
--- then some checks more.
+-- what a command's members ask for, after presence and kind, bounds, further checks. First each field's presence and kind, the actor's last; then
+-- each field's bounds, the actor's last; then some checks more.
 unfoldable pub checked : {A : Type 0} → Origin → List (Fault × Bool) → Layout A → Members → Result (ℕ × A) Fault
 checked origin more row ms = do
   _ ← kinds origin row.fields ms
@@ -120,7 +120,7 @@ allowed_word sender word = if may_send sender word then Some word else None
 abbrev pub word_in : Sender → Members → Option Word
 word_in sender ms = option_and_then (allowed_word sender) (option_and_then word_of (word_text ms))
 
--- `standing_rules`, `of_word`: the rules as a line would set them, and what is read
+-- `standing_rules`, `of_word`: the checks of the rules as a line would set them, and what its command's row reads
 abbrev pub standing_rules : Word → Rules → Members → List (Fault × Bool)
 standing_rules word.Rule rules ms = rule_bounds (rules_with (set_in ms) rules)
 standing_rules w rules ms = []
@@ -133,12 +133,11 @@ of_word sender rules ms (Some word) = read_layout (Line sender) (standing_rules 
 abbrev pub read_members : Sender → Rules → Members → Result (ℕ × Request) LineNo
 read_members sender rules ms = of_word sender rules ms (word_in sender ms)
 
--- what a sender's line is read as. The rules are those that stand. First that it is JSON, then that it is an object, then its command, then that it
--- has no other key than the command's, then the command's fields.
+-- what a sender's line is read as: JSON, an object, its command, no other key, its fields. In this order; the rules are those that stand.
 abbrev pub line : Sender → Rules → List ℕ → Result (ℕ × Request) LineNo
 line sender rules bytes = read_value (read_members sender rules) (decoded bytes)
 
--- the answer is that reading, or memory lacks
+-- the answer is that reading, or that memory ran out
 abbrev pub GivesReading : {A : Type 0} → Result A LineNo → Result A LineNo → Type 0
 GivesReading (Err Memory) r = ⊤
 GivesReading answer r = answer ≡ r

@@ -45,20 +45,23 @@ layout text group fields bounds asks = record { text = text; group = group; fiel
 
 -- ---- numbers and names that several commands have
 
--- `second_bound`, `level_bound`, `plane_bound`, `height_bound`, `call_in`: a second up to 10,000,000; a level up to 600; a position; a height; a
--- callsign. The position is within 1,024 NM of the origin, the height up to flight level 600.
+-- a second up to 10,000,000
 abbrev pub second_bound : Key → Members → Fault × Bool
 second_bound key ms = bound key (pos 0) (pos 10000000) (number key ms)
 
+-- a flight level up to 600
 abbrev pub level_bound : Key → Members → Fault × Bool
 level_bound key ms = bound key (pos 0) (pos 600) (number key ms)
 
+-- a coordinate within 1,024 NM of the origin
 abbrev pub plane_bound : Key → Members → Fault × Bool
 plane_bound key ms = bound key (neg_ℤ (pos 3686400)) (pos 3686400) (number key ms)
 
+-- a height up to flight level 600
 abbrev pub height_bound : Key → Members → Fault × Bool
 height_bound key ms = bound key (pos 0) (pos 3600000) (number key ms)
 
+-- the callsign of a line
 abbrev pub call_in : Members → List ℕ
 call_in ms = unwrap_or (read_at key.Call as_call ms) []
 
@@ -176,7 +179,7 @@ report_in ms = record { at = count key.At ms; x = number key.X ms; y = number ke
 
 -- ---- clearances
 
--- `clearance_fields`, `clearance_bounds`: a flight, a level or a fix, and the effective second
+-- a flight, a level or a fix, and the effective second
 abbrev pub clearance_fields : List Field
 clearance_fields =
     must key.Call as_call ∷
@@ -184,6 +187,7 @@ clearance_fields =
     second_of_two key.Direct as_fix key.Level ∷
     may key.Eff as_whole ∷ []
 
+-- the bounds of the level and the second
 abbrev pub clearance_bounds : Members → List (Fault × Bool)
 clearance_bounds ms = level_bound key.Level ms ∷ second_bound key.Eff ms ∷ []
 

@@ -48,8 +48,7 @@ word_of text = own_or_change (own_word_of text) (change_word_of text)
 unfoldable pub entry_word_of : List ℕ → Option EntryWord
 entry_word_of text = if bytes_eq text (entry_layout entries.Accepted).text then Some entries.Accepted else option_map entries.Change (change_word_of text)
 
--- `may_give`, `may_send`: who may use which words. A script has every command, a session none that is a script's alone, and the feed's and a
--- position's only in that role.
+-- `may_give`, `may_send`: who may use which words: a script all, a session its role's and those of any. No session has a script's own.
 abbrev pub may_give : Sender → Group → Bool
 may_give sender.Replay g = true
 may_give sender.Feed group.Feed = true

@@ -1,4 +1,4 @@
--- What serving is summed up as, and the line that says it.
+-- The summary of serving, and its line.
 use Rattle.std.specs.Prelude.{◌≡◌, ℕ, pos, List, [], ◌∷◌, ◌++◌, codes}
 use Rattle.serde_json.specs.Data.{Data, object, no_members, member}
 use Rattle.serde_json.specs.Written.{compact_text}
@@ -9,8 +9,8 @@ use Rattle.mt_write.specs.Entry.{whole}
 use Rattle.mt_serve.specs.declared.closing.Closing.{Closing}
 use Rattle.mt_serve.specs.declared.counts.Counts.{Counts}
 
--- a closed picture's and its sessions' counts. The conflicts published of its history, its entries and its flights; the sessions, those that were
--- faulted, and those that found no memory.
+-- the summary's counts: conflicts, entries, flights, sessions, faulted and starved ones. The conflicts published of the closed picture's history, its
+-- entries and its flights; the sessions, those that their link ended, and those that found no memory.
 pub record IsClosing (closed : Story) (counts : Counts) (c : Closing) : Type 0 where
   pub sizes : Sizes
   pub held : AreSizes closed.setup closed.history sizes

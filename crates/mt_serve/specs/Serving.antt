@@ -22,8 +22,8 @@ module _ {L : Type 0} (source : Source.Ghosts L) (sink : Sink.Ghosts L) where
   abbrev pub link_of : L → Link
   link_of a = record { left = source.left a; held = sink.held a; read_faults = source.faults a; write_faults = sink.faults a }
 
-  -- a session of this link and seat ran with this outcome. It had a channel or not; it left the link b and the seat `after`, which is the same seat
-  -- of the same turn and doesn't hold it. Its lines and replies are those of a session by what the seat knew and knows.
+  -- a session of this seat answered this link's lines, and ended with this outcome. It had a channel or not; it left the link b and the seat `after`,
+  -- which is the same seat of the same turn and doesn't hold it. Its lines and replies are those of a session by what the seat knew and knows.
   pub record HasServed (a : L) (before : SeatNow Entry Setup) (has_channel : Bool) (b : L) (after : SeatNow Entry Setup) (outcome : Outcome) : Type 0 where
     pub home : after.home ≡ before.home
     pub idle : after.view.phase ≡ Idle

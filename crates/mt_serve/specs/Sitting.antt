@@ -27,6 +27,6 @@ seats_of {L} starts = map (λ (s : Start L). s.seat) starts
 abbrev pub starts_of : {L : Type 0} → List (Met L) → List (Start L)
 starts_of {L} mets = map (λ (m : Met L). m.from) mets
 
--- none of them has a channel
+-- no session has a channel
 abbrev pub HaveNoChannel : {L : Type 0} → List (Start L) → Type 0
 HaveNoChannel {L} starts = All (λ (s : Start L). s.has_channel ≡ false) starts

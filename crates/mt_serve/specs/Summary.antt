@@ -1,4 +1,4 @@
--- What is told of sessions that are over, and of the history that ties them.
+-- Sessions that are over, counted by their outcomes, and the history that ties them.
 use Rattle.std.specs.Prelude.{◌≡◌, ℕ, Bool, true, false, List, length, filter, Option}
 use Rattle.mt_base.specs.History.{IsLegal}
 use Rattle.mt_base.specs.Tables.{Setup}
@@ -34,8 +34,8 @@ counted {L} mets = record {
 }
 
 module _ {L : Type 0} (source : Source.Ghosts L) (sink : Sink.Ghosts L) where
-  -- the whole service: one legal history ties all links. It is the closed picture's, by the rules and tables of the picture at first; the door gave
-  -- the links and has them back. The counts are those of their sessions.
+  -- the closed picture's legal history ties all links that the door gave and has back. By the rules and tables of the picture at first. The counts
+  -- are those of their sessions.
   pub record HasServedWhole (setup : Setup) (port sessions workers : ℕ) (old new : Count) (still left back now : Option (List L)) (before after : ℕ)
       (faulted : Bool) (picture : Story) (counts : Counts) : Type 0 where
     pub mets : List (Met L)

@@ -25,8 +25,7 @@ abbrev pub IsSessions : {L : Type 0} → List (Met L) → ℕ → Type 0
 IsSessions {L} mets n = (m : Met L) × Contains mets m × (m.seat.view.number ≡ n)
 
 module _ {L : Type 0} (source : Source.Ghosts L) (sink : Sink.Ghosts L) where
-  -- one session's part in the history. It began with nothing seen and nothing of its own, what it has seen last is a front of the history, and the
-  -- entries of its number in the history are its own.
+  -- a session saw a front of the history; the entries of its number are its own. It began with nothing seen and nothing of its own.
   pub record IsInHistory (setup : Setup) (h : List Entry) (m : Met L) : Type 0 where
     pub number : m.seat.view.number ≡ m.from.seat.view.number
     pub fixed : m.from.seat.view.fixed ≡ Some setup
@@ -35,15 +34,14 @@ module _ {L : Type 0} (source : Source.Ghosts L) (sink : Sink.Ghosts L) where
     pub begins : Extends m.seat.view.seen h
     pub mine : entries_of number_of m.seat.view.number h ≡ m.seat.view.mine
 
-  -- one history holds all sessions' entries and renewals. The sessions have the numbers 1, 2, 3 and so on, and every entry of another number is a
-  -- renewal.
+  -- one history holds all sessions, numbered from 1; other entries are renewals
   pub record IsTied (setup : Setup) (h : List Entry) (mets : List (Met L)) : Type 0 where
     pub numbers : numbers_of (seats_of (starts_of mets)) ≡ range_with_len 1 (length mets)
     pub each : All (IsInHistory setup h) mets
     pub others : (e : Entry) → Contains h e → IsSessions mets e.who ⊎ IsRenewal e
 
-  -- the door's links were served, tied by one history. The door was asked for a port and so many sessions, and gave that many links, or failed while
-  -- some were to come. Each was served, and all are back, in order. Where the door doesn't listen, no link was given. Of so many workers some were
+  -- each link that the door gave was served and is back, tied by one history. The door was asked for a port and so many sessions, and gave that many
+  -- links, or failed while some were to come. They are back in order. Where the door doesn't listen, no link was given. Of so many workers some were
   -- started; where none was, no session had a channel.
   pub record HasServedAll (setup : Setup) (port sessions workers : ℕ) (old new : Count) (still left back now : Option (List L)) (before after : ℕ)
       (faulted : Bool) (h : List Entry) (mets : List (Met L)) : Type 0 where

@@ -26,7 +26,7 @@ abbrev pub due_if : Option (List ℕ) → Option Verdict → Option (List ℕ)
 due_if call None = None
 due_if call (Some verdict) = if is_flagged verdict then call else None
 
--- `job_by`, `job_if`, `job_of`: the flight to renew after a flagged report. It is entered so, by what a request, or a line, is answered.
+-- `job_by`, `job_if`, `job_of`: the flight to renew once a flagged report is entered. By what a request, or a line, is answered.
 abbrev pub job_by : Request → Entered → Option (List ℕ)
 job_by (requests.Change command) entered = due_if (reported command) entered.verdict
 job_by request entered = None
@@ -44,7 +44,7 @@ pub record Standing : Type 0 where
   pub session : Session
   pub jobs : Option Jobs
 
--- a reply touches no job
+-- a reply leaves the outbox's jobs alone
 abbrev pub TouchesNoJob : Standing → List ℕ → Reply → Standing → Type 0
 TouchesNoJob w line reply next = IsRepliedTo w.session line reply next.session × (next.jobs ≡ w.jobs)
 

@@ -11,9 +11,8 @@ use Rattle.mt_session.specs.declared.outcome.Outcome.TheVariants.{Ended, ReadFau
 use Rattle.mt_session.specs.Following.{IsFollowed, TouchesNoJob, Standing}
 use Rattle.mt_session.specs.Session.{Session, new_session}
 
--- what a session's outcome says of its bytes. By the session at first and at last, of the link's whole input, what was left of it, and what was
--- written. A session is lines answered one by one, up to the one that is answered with a farewell. Memory is wanted only before the first line: then
--- nothing was read and nothing written.
+-- what an outcome says: lines answered one by one, up to the farewell or a fault. By the session at first and at last, of the link's whole input,
+-- what was left of it, and what was written. Memory can run out only before the first line: then nothing was read and nothing written.
 abbrev pub SessionMeans : Standing → Standing → Outcome → List ℕ → List ℕ → List ℕ → Type 0
 SessionMeans start end Ended input left written = AnswersAll reply_text is_farewell TouchesNoJob IsFollowed start input left written end
     ⊎ AnswersToLast reply_text is_farewell TouchesNoJob IsFollowed start input left written end
@@ -36,8 +35,8 @@ abbrev pub jobs_in : Option (Option Jobs) → Option Jobs
 jobs_in None = Some no_jobs
 jobs_in (Some jobs) = jobs
 
--- the run of a session, and its outcome. Of the seat, the link and the outbox, if there is one, before and after it. A fault of the link is the
--- outcome only where its count rose, or stands at its last value.
+-- a session ran over a link: its bytes mean the outcome, and faults were counted. Of the seat, the link and the outbox, if there is one, before and
+-- after it. A fault of the link is the outcome only where its count rose, or stands at its last value.
 pub record IsSession (seat seat_after : Seat) (link link_after : Link) (outbox outbox_after : Option (Option Jobs)) (outcome : Outcome) : Type 0 where
   pub end : Session
   pub seat_is : end.seat ≡ seat_after

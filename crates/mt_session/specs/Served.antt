@@ -64,7 +64,7 @@ pub record IsCommanded (s : Session) (command : Command) (reply : Reply) (next :
   pub changed : IsChanged s.seat command result seat
   pub given : IsReplyGiven (board_reply result) (with_seat s seat) reply next
 
--- `IsTrialInSession`, `IsTriedBy`: the reply to a probe, kept under its number. Where it is refused, the book stays.
+-- `IsTrialInSession`, `IsTriedBy`: the reply to a probe, which is kept under the number that the reply names. Where it is refused, the book stays.
 abbrev pub IsTrialInSession : Session → List ℕ → Clearance → Option ℕ → Seat → Result Probe No → Reply → Session → Type 0
 IsTrialInSession s call clearance eff seat (Ok probe) reply next = IsProbed s.seat seat call clearance eff probe
     × IsReplyGiven (replies.Probe probe.hits probe.eff (raised s.book.count) probe.version)
@@ -99,7 +99,7 @@ pub record IsAdviceDenied (s : Session) (call : List ℕ) (reply : Reply) (next 
   pub not_advised : IsNotAdvised s.seat seat call denied
   pub given : IsReplyGiven (board_no denied) (with_seat s seat) reply next
 
--- a probe number is refused, at a version seen
+-- a probe's number is refused, at a version then seen
 pub record IsNumberRefused (s : Session) (refusal : Refusal) (reply : Reply) (next : Session) : Type 0 where
   pub seat : Seat
   pub version : ℕ
@@ -181,6 +181,6 @@ IsStarvedOf s (Ok asked_in_role) reply next = IsStarvedInSession s asked_in_role
 abbrev pub SessionWantsMemory : Session → List ℕ → Reply → Session → Type 0
 SessionWantsMemory s line reply next = (length line ≤ 65536) × IsStarvedOf s (asked_in_role s.role line) reply next
 
--- this line, reply and session after belong together
+-- the reply to a line, and the session after
 abbrev pub IsRepliedTo : Session → List ℕ → Reply → Session → Type 0
 IsRepliedTo s line reply next = IsAskAnswered s (asked_in_role s.role line) reply next ⊎ SessionWantsMemory s line reply next

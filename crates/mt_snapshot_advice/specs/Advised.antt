@@ -1,4 +1,4 @@
--- What is answered where advice is asked for on a snapshot.
+-- The answer to a request for advice on a snapshot.
 use Rattle.std.specs.Prelude.{◌≡◌, ◌≤◌, ℕ, List, All, length, map, None, Ok, Err, ⊤}
 use Rattle.mt_base.specs.declared.clearance.Clearance.{Clearance}
 use Rattle.mt_base.specs.Advice.{IsAdvice}
@@ -12,8 +12,8 @@ use Rattle.mt_probe.specs.Shot.{Shot, state_in_shot}
 abbrev pub IsFreeFor : Shot → List ℕ → Trial → Type 0
 IsFreeFor shot call p = IsFreeProbe shot call p.clearance None p
 
--- these probes, at most sixteen, are the snapshot's advice. They are the clearances that are advised on its state, in order, each tried on it from
--- its moment on and without hits.
+-- these probes, at most sixteen, are the snapshot's free clearances, in order. They are advised on its state, each tried on it from its moment on and
+-- without hits.
 pub record IsAdvisedOn (shot : Shot) (call : List ℕ) (eff version : ℕ) (probes : List Trial) : Type 0 where
   pub eff_is : eff ≡ shot.now
   pub version_is : version ≡ shot.version

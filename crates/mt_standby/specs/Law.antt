@@ -14,7 +14,7 @@ use Rattle.mt_write.specs.Reply.{reply_text}
 use Rattle.mt_standby.specs.Standby.{IsFeedAnswered, fed_line}
 use Rattle.mt_world.specs.World.{World, picture_of, setup_of}
 
--- the reply to a line, not `memory`
+-- the reply to a line in whose place no `memory` stands
 abbrev pub IsToLine : World → List ℕ → Reply → World → Type 0
 IsToLine w line reply next = IsFeedAnswered w (fed_line line) reply next
 
@@ -26,8 +26,8 @@ IsLast w line reply answered next = next ≡ answered
 abbrev pub AreAnswered : World → List (List ℕ) → List ℕ → World → Type 0
 AreAnswered w lines bytes end = answering.AreReplied reply_text is_farewell IsToLine IsLast w lines bytes end
 
--- a fresh standby was fed the first n entries. It has the primary's setup, and had followed no entry. The lines are the texts of the first n entries
--- of the primary's history, which can be replayed, and were all answered.
+-- a fresh standby answered the texts of the primary's first n entries. It has the primary's setup, and had followed no entry. The primary's history
+-- can be replayed.
 pub record FollowFirst (setup : Setup) (primary : List Entry) (n : ℕ) (w : World) (lines : List (List ℕ)) (bytes : List ℕ) (end : World) : Type 0 where
   pub begun : w.begun ≡ true
   pub setup_is : setup_of w ≡ setup

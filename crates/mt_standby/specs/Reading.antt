@@ -1,4 +1,4 @@
--- What is told of a standby.
+-- What a standby's read is answered.
 use Rattle.std.specs.Prelude.{◌≡◌, length, ⊤}
 use Rattle.mt_board.specs.declared.ask.Answer.{Answer}
 use Rattle.mt_board.specs.declared.ask.Ask.{Ask}
@@ -12,7 +12,7 @@ pub record IsToldNow (story : Story) (asked : Ask) (answer : Answer) : Type 0 wh
   pub told : IsTold story.setup story.history asked answer
   pub now : version_of answer ≡ length story.history
 
--- no flight has that callsign, or memory lacks. The refusal names the version of the history.
+-- no flight has that callsign, or memory ran out. The refusal names the version of the history.
 abbrev pub IsUntold : Story → Ask → No → Type 0
 IsUntold story asked (nos.Refused refusal version) = IsNotTold story.setup story.history asked refusal × (version ≡ length story.history)
 IsUntold story asked nos.Memory = ⊤

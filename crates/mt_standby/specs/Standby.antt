@@ -53,7 +53,7 @@ IsEntryAnswered w e reply next = IsLate w e reply next ⊎ (IsIllegal w e reply 
 abbrev pub fed_line : List ℕ → Result FeedLine Reply
 fed_line line = if nat_lt 65536 (length line) then Err replies.Long else or_reply (feed line)
 
--- the reply to a standby's line, and the world after. Reads and the end are answered as in a script, where it doesn't matter who asks.
+-- the reply to what a standby's line asks, and the world after. Reads and the end are answered as in a script, where it doesn't matter who asks.
 abbrev pub IsFeedAnswered : World → Result FeedLine Reply → Reply → World → Type 0
 IsFeedAnswered w (Err refusal) reply next = IsRefused w refusal reply next
 IsFeedAnswered w (Ok (Followed e)) reply next = IsEntryAnswered w e reply next
@@ -65,6 +65,6 @@ pub record StandbyWantsMemory (w : World) (line : List ℕ) (reply : Reply) (nex
   pub short : length line ≤ 65536
   pub refused : IsRefused w replies.Memory reply next
 
--- this line, reply and world after belong together
+-- the reply to a line of a standby, and the world after
 abbrev pub IsStandbyReplied : World → List ℕ → Reply → World → Type 0
 IsStandbyReplied w line reply next = IsFeedAnswered w (fed_line line) reply next ⊎ StandbyWantsMemory w line reply next

@@ -28,7 +28,7 @@ with_fix tables name point = record { fixes = tables.fixes ++ (name, point) ∷ 
 abbrev pub with_type : Tables → List ℕ → List Band → Tables
 with_type tables name bands = record { fixes = tables.fixes; types = tables.types ++ (name, bands) ∷ [] }
 
--- the answer is what the checks say. Want of memory comes only where all of them pass.
+-- the answer is what the checks say, or want of memory where all pass
 abbrev pub AnswersAsChecked : Result ⊤ AddNo → Result ⊤ AddNo → Type 0
 AnswersAsChecked checked (Ok _) = checked ≡ Ok (tt {0})
 AnswersAsChecked checked (Err Taken) = checked ≡ Err Taken

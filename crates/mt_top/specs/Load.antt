@@ -11,8 +11,8 @@ pub record IsSummaryLine (flights number : ℕ) (line : List ℕ) : Type 0 where
   pub loaded : IsLoaded flights number summary
   pub line_is : line ≡ summary_text summary
 
--- what a load run's status says. Nothing was read, and its summary line was written, or a front of it where the output failed. Where memory was
--- wanted nothing was written.
+-- what a load run's status says: the summary line was written, or a front of it. Nothing was read. A front only where the output failed. Where memory
+-- was wanted nothing was written.
 abbrev pub LoadMeans : ℕ → ℕ → Status → List ℕ → List ℕ → List ℕ → Type 0
 LoadMeans flights number Done input left written = (left ≡ input) × IsSummaryLine flights number written
 LoadMeans flights number WriteFault input left written = (left ≡ input) × ((unwritten : List ℕ) × IsSummaryLine flights number (written ++ unwritten))

@@ -24,7 +24,7 @@ pub record EndsUnbegun (input left written : List ℕ) : Type 0 where
       ⊎ answering.AnswersToLast reply_text ends_opening IsReplied NothingFollows opening_world input left written end
   pub unbegun : end.begun ≡ false
 
--- what a status before the picture begins says. Of the whole input, of what is left of it, and of the bytes written.
+-- what a status before the picture begins says: the lines so far are answered. Of the whole input, of what is left of it, and of the bytes written.
 abbrev pub OpeningMeans : Status → List ℕ → List ℕ → List ℕ → Type 0
 OpeningMeans Setup input left written = EndsUnbegun input left written
 OpeningMeans ReadFault input left written = (end : World) × (taken : List ℕ)

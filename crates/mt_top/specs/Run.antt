@@ -41,8 +41,8 @@ module _ (HasReply : World → List ℕ → Reply → World → Type 0) where
   AnswersFrontOfLines input left written = (end : World)
       × answering.AnswersFront reply_text is_farewell HasReply NothingFollows opening_world input left written end
 
-  -- what a status says of the bytes. Of the whole input, of what is left of it, and of the bytes written. Memory is wanted only before the first
-  -- line: then nothing was read and nothing written.
+  -- what a status says: which lines of the input the bytes written answer. Of the whole input, of what is left of it, and of the bytes written.
+  -- Memory can run out only before the first line: then nothing was read and nothing written.
   abbrev pub AnswersMean : Status → List ℕ → List ℕ → List ℕ → Type 0
   AnswersMean Done input left written = AnswersAllLines input left written ⊎ AnswersToBye input left written
   AnswersMean ReadFault input left written = (taken : List ℕ) × AnswersWholeLines input left taken written
@@ -53,11 +53,12 @@ module _ (HasReply : World → List ℕ → Reply → World → Type 0) where
   AnswersMean Setup input left written = ⊥
   AnswersMean DoorFault input left written = ⊥
 
--- what a replay's status says. The lines are those of a script.
+-- what a replay's status says; its lines are a script's
 abbrev pub ReplayMeans : Status → List ℕ → List ℕ → List ℕ → Type 0
 ReplayMeans = AnswersMean IsReplied
 
--- what a standby's status says. The lines are those of a script up to the one that begins the picture, and from then on those of a standby.
+-- what a standby's status says; its lines are a script's, then a standby's. The lines are those of a script up to the one that begins the picture,
+-- and from then on those of a standby.
 abbrev pub StandbyMeans : Status → List ℕ → List ℕ → List ℕ → Type 0
 StandbyMeans = AnswersMean IsStoodBy
 
@@ -65,15 +66,15 @@ StandbyMeans = AnswersMean IsStoodBy
 abbrev pub usage_line : List ℕ
 usage_line = codes "usage: mtcd replay | standby | serve [--port P] [--sessions N] [--workers W] | load [--flights N] [--number X]" ++ 10 ∷ []
 
--- what the usage status says. Nothing was read, and the usage line was written, or a front of it where the output failed.
+-- what the usage status says: nothing read, the usage line written. Or a front of it where the output failed.
 abbrev pub UsageMeans : Status → List ℕ → List ℕ → List ℕ → Type 0
 UsageMeans Usage input left written = (left ≡ input) × (written ≡ usage_line)
 UsageMeans WriteFault input left written = (left ≡ input) × ((unwritten : List ℕ) × (usage_line ≡ written ++ unwritten))
 UsageMeans status input left written = ⊥
 
 module _ {L : Type 0} (source : Source.Ghosts L) (sink : Sink.Ghosts L) (old new : Doorway L) (before now : ℕ) where
-  -- `TaskMeans`, `RunMeans`: what a run's status says, by its words. Only words that ask to serve call the door. `before` and `now` are what the
-  -- output counts of its faults.
+  -- `TaskMeans`, `RunMeans`: what a run's status says, by its words; only `serve` calls the door. `before` and `now` are what the output counts of
+  -- its faults.
   abbrev pub TaskMeans : Option Task → Status → List ℕ → List ℕ → List ℕ → Type 0
   TaskMeans (Some Replay) status input left written = ReplayMeans status input left written × (new ≡ old)
   TaskMeans (Some Standby) status input left written = StandbyMeans status input left written × (new ≡ old)

@@ -28,7 +28,7 @@ pub record WantsMemory (w : World) (line : List ℕ) (reply : Reply) (next : Wor
   pub reply_is : reply ≡ replies.Memory
   pub left : IsLeftBy w (asked w line) next
 
--- this line, reply and world after belong together
+-- the reply to a line of a script, and the world after
 abbrev pub IsReplied : World → List ℕ → Reply → World → Type 0
 IsReplied w line reply next = IsAnswered w (asked w line) reply next ⊎ WantsMemory w line reply next
 

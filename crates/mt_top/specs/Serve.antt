@@ -26,17 +26,18 @@ pub record IsClosingLine (closed : Story) (counts : Counts) (line : List ℕ) : 
   pub summed : IsClosing closed counts closing
   pub line_is : line ≡ closing_text closing
 
--- `IsFront`, `IsSummaryWritten`: a front of the summary line was written; all of it, or a front
+-- a front of the summary line was written
 abbrev pub IsFront : Story → Counts → List ℕ → Type 0
 IsFront closed counts shown = (rest : List ℕ) × IsClosingLine closed counts (shown ++ rest)
 
+-- the whole summary line was written, or a front where the output failed
 abbrev pub IsSummaryWritten : ℕ → ℕ → Story → Counts → List ℕ → Type 0
 IsSummaryWritten before now closed counts shown = IsClosingLine closed counts shown ⊎ (Rose before now × IsFront closed counts shown)
 
 module _ {L : Type 0} (source : Source.Ghosts L) (sink : Sink.Ghosts L) (port sessions workers : ℕ) (old new : Doorway L) where
-  -- the picture began, its links were served, a summary written. Lines of the input up to the one that begins a picture were answered. One legal
-  -- history, that of the closed picture, ties all that each link was sent and answered. What sums it up was written after the answers, as far as
-  -- `Sums` says.
+  -- the picture began, its links were served, and a summary was written. Lines of the input up to the one that begins a picture were answered. One
+  -- legal history, that of the closed picture, ties all that each link was sent and answered. What sums it up was written after the answers, as far
+  -- as `Sums` says.
   pub record AreServed (faulted : Bool) (Sums : Story → Counts → List ℕ → Type 0) (input left written : List ℕ) : Type 0 where
     pub picture : Story
     pub opened : List ℕ
@@ -53,8 +54,9 @@ module _ {L : Type 0} (source : Source.Ghosts L) (sink : Sink.Ghosts L) (port se
   abbrev pub AreUnserved : List ℕ → List ℕ → List ℕ → Type 0
   AreUnserved input left written = (picture : Story) × BeginsPicture input left written picture × (new ≡ old)
 
-  -- what a status says of serving. Of the input, of what is left of it, and of the bytes written: before the picture has begun it is that of the
-  -- lines so far, and the door wasn't called; nor was it where memory is wanted. `before` and `now` are what the output counts of its faults.
+  -- what a status says of serving: how the lines, then the links, were answered. Of the input, of what is left of it, and of the bytes written:
+  -- before the picture has begun it is that of the lines so far, and the door wasn't called; nor was it where memory ran out. `before` and `now`
+  -- are what the output counts of its faults.
   abbrev pub ServeMeans : ℕ → ℕ → Status → List ℕ → List ℕ → List ℕ → Type 0
   ServeMeans before now Done input left written = AreServed false IsClosingLine input left written
   ServeMeans before now DoorFault input left written = AreServed true (IsSummaryWritten before now) input left written

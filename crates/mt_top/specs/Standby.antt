@@ -10,7 +10,7 @@ use Rattle.mt_world.specs.World.{World, setup_of}
 abbrev pub opened : World → World
 opened w = if w.begun then world_of (record { setup = setup_of w; history = w.history }) else w
 
--- this line, reply and standby's world after belong together
+-- the reply to a line of a standby's run, and the world after. A script's lines until the picture begins, then a standby's.
 abbrev pub IsStoodBy : World → List ℕ → Reply → World → Type 0
 IsStoodBy w line reply next = MatchBool w.begun
     (standby.IsStandbyReplied w line reply next)

@@ -26,7 +26,7 @@ pub record AreStrandRows (start : ℕ) (rows : List Row) : Type 0 where
   pub short : length rows ≤ 14400
   pub early : start + length rows ≤ 10014400
 
--- a trajectory keeps what every strand keeps
+-- a trajectory of bounded rows that continue one another, as every strand is. At most 14,400 rows, ending by second 10,014,400.
 abbrev pub IsStrand : Trajectory → Type 0
 IsStrand t = AreStrandRows t.start t.rows
 
@@ -52,7 +52,7 @@ pub record Covers (t : Trajectory) (i from to : ℕ) : Type 0 where
   pub begun : segment.from ≤ from
   pub ahead : to ≤ segment.to
 
--- a segment can follow a strand. It begins where the strand ends, its first row continues the last one, and it keeps what every strand keeps.
+-- a segment can follow a strand: it begins at the strand's end and continues its last row. It keeps what every strand keeps.
 pub record Follows (t : Trajectory) (s : Segment) : Type 0 where
   pub adjoins : s.from ≡ t.start + length t.rows
   pub some : s.from < s.to

@@ -7,8 +7,7 @@ use Rattle.mt_turn.specs.declared.view.Joined.{Joined}
 use Rattle.mt_turn.specs.declared.view.View.{View}
 use Rattle.mt_turn.specs.Views.{entries_of, Extends}
 
--- a value lent to a seat continues what it saw. Its history begins with all that the seat has seen and has nothing later of the seat's number, and
--- its plain data is the seat's.
+-- the value lent to a seat begins with what it saw; what is new is others'. Its plain data is the seat's.
 pub record Lent {E F S : Type 0} (history : S → List E) (number : E → ℕ) (fixed : S → F) (v : View E F) (x : S) : Type 0 where
   pub begins : (later : List E) × (history x ≡ v.seen ++ later) × (entries_of number v.number later ≡ [])
   pub mine : entries_of number v.number (history x) ≡ v.mine
@@ -20,16 +19,15 @@ pub record Lent {E F S : Type 0} (history : S → List E) (number : E → ℕ) (
 abbrev pub HasTurn : {E F : Type 0} → View E F → List E → Type 0
 HasTurn v lent = (t : ℕ) × (v.phase ≡ Holds t lent)
 
--- the history lent, or with one own entry more
+-- the history lent, or that with one entry more of the seat's
 abbrev pub Grows : {E : Type 0} → (E → ℕ) → ℕ → List E → List E → Type 0
 Grows {E} number n lent log = (log ≡ lent) ⊎ ((e : E) × (number e ≡ n) × (log ≡ lent ++ e ∷ []))
 
--- one seat's views, no split or join between
+-- two views of one seat, without a split or join between
 abbrev pub AreViewsOfOneSeat : {E F : Type 0} → View E F → View E F → Type 0
 AreViewsOfOneSeat v w = (w.number ≡ v.number) × (w.gave ≡ v.gave) × (w.joined ≡ v.joined) × (w.fixed ≡ v.fixed)
 
--- a seat leaves the history `log` when its turn ends. It was lent `lent`, knew v and knows w: it has seen all of `log`, and its own entries grew by
--- the one that was added, or by none.
+-- a seat leaves the history `log`: it saw all of it, and added at most one entry. It was lent `lent`, knew v and knows w.
 pub record Left {E F : Type 0} (number : E → ℕ) (v : View E F) (lent log : List E) (w : View E F) : Type 0 where
   pub seen : w.seen ≡ log
   pub begins : Extends v.seen log
@@ -49,8 +47,7 @@ HaveOwnNumbers {E} joined = (i j : ℕ) (a b : Joined E) → get_elem? joined i 
 abbrev pub AllJoined : {E F : Type 0} → View E F → Type 0
 AllJoined v = (n : ℕ) → Contains v.gave n → IsJoined v.joined n
 
--- the final history is exactly the seats' entries. It begins with what each seat has seen, each seat's entries are its own, no two seats had one
--- number, and there are no others.
+-- the final history is exactly the seats' entries, and begins with what each saw. No two seats had one number.
 pub record ClosesHistory {E F : Type 0} (number : E → ℕ) (v : View E F) (log : List E) : Type 0 where
   pub begins : Extends v.seen log
   pub mine : entries_of number 0 log ≡ v.mine

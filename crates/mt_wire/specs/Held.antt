@@ -10,6 +10,7 @@ IsWireNumber (negative (negsuc n)) = n + 1 < 2 ^ 63
 IsWireNumber (float x) = ⊥
 
 abbrev mutual
+  -- `HoldsWhole`, `ItemsHoldWhole`, `MembersHoldWhole`: a value, a list, an object whose numbers are whole and of 64 bits
   pub HoldsWhole : Data → Type 0
   HoldsWhole null = ⊤
   HoldsWhole (boolean b) = ⊤

@@ -1,4 +1,4 @@
--- Lines that can't be read, answered.
+-- The reply to a line that can't be read.
 use Rattle.std.specs.Prelude.{Result, Ok, Err}
 use Rattle.mt_read.specs.declared.request.LineNo.{LineNo}
 use Rattle.mt_read.specs.declared.request.LineNo.TheVariants as nos

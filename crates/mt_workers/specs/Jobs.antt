@@ -19,7 +19,7 @@ TakesJob (Some jobs) call after = (length jobs.taken < jobs.room) × (after ≡ 
 abbrev pub GivesBack : Option Jobs → Option Jobs → Type 0
 GivesBack before after = (after ≡ before) × IfSome before (λ jobs. jobs.room ≤ length jobs.taken)
 
--- these jobs were taken from the front, where known
+-- these jobs were taken from the front of those left, where known
 abbrev pub AreTaken : Option (List (List ℕ)) → Option (List (List ℕ)) → List (List ℕ) → Type 0
 AreTaken None after calls = ⊤
 AreTaken (Some left) None calls = ⊥

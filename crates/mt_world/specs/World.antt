@@ -206,8 +206,8 @@ pub record IsSettling (w : World) (who : ℕ) (reply : Reply) (next : World) : T
   pub settled : IsSettled (setup_of w) who w.history history
   pub given : IsGiven (replies.Settled (due_calls (state_of (setup_of w) history).records) (length history)) (record w { history = history }) reply next
 
--- the reply to a request, and the world after. Fixes, types, areas and rules are set and the picture is begun once, at first; `hello` and `bye` are
--- answered always, and the other requests once the picture has begun.
+-- the reply to a request, and the world after; most need a begun picture. Fixes, types, areas and rules are set and the picture is begun once, at
+-- first; `hello` and `bye` are answered always, and the other requests once the picture has begun.
 abbrev pub IsServed : World → ℕ → Request → Reply → World → Type 0
 IsServed w who (requests.Fix name x y) reply next = MatchBool w.begun (IsRefused w replies.Begun reply next)
     (IsAdded w (judged (fix_adding w.tables name) (tt {0})) done.Fix (replies.TakenFix name)

@@ -1,4 +1,4 @@
--- What is told of a flight, as a value.
+-- A flight's view as a JSON value.
 use Rattle.std.specs.Prelude.{pos, [], ◌∷◌, codes, Option, Some, None}
 use Rattle.serde_json.specs.Data.{Data, null, boolean, string, array, object, no_members, member}
 use Rattle.mt_base.specs.declared.flight.FlightView.{FlightView}

@@ -1,4 +1,6 @@
--- What a call on a link does.
+-- What a call on a link does, over any stream below a WebSocket: the bytes that it has left and those that it was given, as far as it tells
+-- them, are the parameters. What a socket is and what its own calls do (`Reads`, `Flushed`, `Writes`, `WriteFails`, `Serves`) are definitions
+-- of the kit's `tungstenite`.
 use Rattle.std.specs.Prelude.{◌≡◌, ◌<◌, ◌≤◌, ◌⊎◌, ℕ, ◌+◌, Bool, true, false, List, [], ◌++◌, length, take, Option, Some, None, Result, Ok, Err}
 use Rattle.tungstenite.specs.Socket.{Socket, Writes}
 use Rattle.tungstenite.specs.Failure.{WriteFails, IsIo}
@@ -39,7 +41,7 @@ module _ {S : Type 0} (remaining contents : S → Option (List ℕ)) where
     pub some : 0 < length bytes
     pub bytes_are : with_ending (payload_of message) ≡ bytes ++ new.ungiven
 
-  -- `GivesEnd`, `GivesFault`, `ReadsLink`: the end of the link, its fault, and what a read does
+  -- `GivesEnd`, `GivesFault`, `ReadsLink`: the end of the link, its fault, and all that a read may do
   pub record GivesEnd (old new : WsLink S) (bytes : List ℕ) : Type 0 where
     pub no_bytes : bytes ≡ []
     pub none : (old.ungiven ≡ []) × (new.ungiven ≡ [])
@@ -95,7 +97,7 @@ module _ {S : Type 0} (remaining contents : S → Option (List ℕ)) where
   SendFailsBy old new line Cause.Long = (131072 < length line) × (new ≡ old)
   SendFailsBy old new line Cause.Memory = (length line ≤ 131072) × (new ≡ old)
 
-  -- `SendFault`, `WritesLink`: nothing of the piece was taken; what a write does
+  -- `SendFault`, `WritesLink`: a write's fault, with nothing taken, and all that a write may do
   pub record SendFault (old new : WsLink S) (piece : List ℕ) : Type 0 where
     pub part : List ℕ
     pub whole : Bool

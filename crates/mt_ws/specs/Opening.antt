@@ -16,7 +16,8 @@ abbrev pub IsStreamUnread : {S : Type 0} → S → Opening S → Type 0
 IsStreamUnread stream opening = (opening.fresh ≡ Some stream) × (opening.kind ≡ Broken)
 
 module _ {S : Type 0} (remaining contents : S → Option (List ℕ)) where
-  -- a stream was opened. A line session still has the byte that was read; of a WebSocket's handshake nothing is said.
+  -- the stream is opened: as lines, as a WebSocket by `G`, or not. A line session still has the byte that was read; of a WebSocket's handshake
+  -- nothing is said.
   abbrev pub BeginsLink : S → LinkKind S → Type 0
   BeginsLink stream (Lines front) = (first : ℕ) × (first ≢ 71) × (front.first ≡ Some first) × Consumes (remaining stream) (remaining front.stream) (first ∷ [])
   BeginsLink stream (Web link) = ((rest : Option (List ℕ)) × Consumes (remaining stream) rest (71 ∷ [])) × IsFromHandshake link

@@ -1,5 +1,5 @@
 -- No public contract names these: they are of private steps and of proofs.
--- What the steps of the telling give.
+-- The pierces of areas, gathered list by list.
 use Rattle.std.specs.Prelude.{◌≡◌, ℕ, List, Contains, ◌↔◌, ◌⊎◌, Result, Ok, map}
 use Rattle.mt_memory.specs.declared.Memory.{Memory}
 use Rattle.mt_base.specs.declared.area.Area.{Area}

@@ -1,5 +1,5 @@
 -- No public contract names these: they are of private steps and of proofs.
--- How the segments of a strand are gone over, slice by slice.
+-- How a walk goes through the segments of a strand, slice by slice.
 use Rattle.std.specs.Prelude.{ℕ, suc, ◌<◌, ◌≤◌, List, length, take, drop}
 use Rattle.mt_track.specs.declared.segment.Segment.{Segment}
 use Rattle.mt_track.specs.Private.Laid.{edge}

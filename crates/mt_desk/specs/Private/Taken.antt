@@ -8,13 +8,13 @@ use Rattle.mt_picture.specs.Story.{Story}
 use Rattle.mt_probe.specs.Shot.{Shot}
 use Rattle.mt_probe.specs.Shot.{state_in_shot as state_in}
 
--- A picture's history is legal, by rules that are within their bounds, and no longer than any rules allow.
+-- a picture's history is legal, by bounded rules, and no longer than any rules allow
 pub record IsLegalStory (story : Story) : Type 0 where
   pub rules : AreWithinBounds story.setup.rules
   pub legal : IsLegal story.setup story.history
   pub short : length story.history ≤ 4194304
 
--- A snapshot stands for all that a seat has seen.
+-- a snapshot stands for all that a seat has seen
 pub record StandsFor (s : Seat) (shot : Shot) : Type 0 where
   pub setup_is : shot.setup ≡ s.fixed
   pub state_is : state_in shot ≡ state_seen s

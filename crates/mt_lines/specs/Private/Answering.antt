@@ -7,7 +7,7 @@ use Rattle.mt_io.specs.Reading.{Reading}
 use Rattle.mt_lines.specs.Answering.{AreReplied}
 
 module _ {W R : Type 0} (text : R → List ℕ) (is_last : R → Bool) (IsReplied : W → List ℕ → R → W → Type 0) (IsFollowed : W → List ℕ → R → W → W → Type 0) where
-  -- A run so far: these lines were read, and these bytes, which answer them, were written.
+  -- a run so far: these lines were read, and these bytes, which answer them, were written
   pub record SoFar (start : W) (before now held_before held_now : Option (List ℕ)) (reader : Reading) (w : W) : Type 0 where
     pub lines : List (List ℕ)
     pub taken : List ℕ

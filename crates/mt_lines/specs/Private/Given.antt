@@ -4,7 +4,7 @@ use Rattle.mt_write.specs.declared.reply.Reply.{Reply}
 use Rattle.mt_write.specs.Reply.{reply_text}
 use Rattle.mt_lines.specs.Given.{IsGivenFor, is_farewell}
 
--- A text is that of what is given, and it is said whether this is the last one.
+-- a given reply's text, and whether it is the last
 pub record IsGivenAs (reply : Reply) (text : List ℕ) (is_last : Bool) : Type 0 where
   pub given : Reply
   pub given_for : IsGivenFor reply given

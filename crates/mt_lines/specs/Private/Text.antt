@@ -3,6 +3,6 @@
 use Rattle.std.specs.Prelude.{ℕ, List, option_map, unwrap_or}
 use Rattle.mt_lines.specs.declared.given_text.GivenText.{GivenText}
 
--- in memory of its own, or else in the room
+-- a text in memory of its own, or else in the room
 abbrev pub text_in : GivenText → List ℕ → List ℕ
 text_in text room = unwrap_or (option_map (λ own. own.items) text.own) room

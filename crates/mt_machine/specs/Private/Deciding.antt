@@ -20,7 +20,7 @@ abbrev pub IsPlannedStrand : Setup → Option Record → Option Trajectory → T
 IsPlannedStrand setup flight strand =
     IfSome (course_in flight) (λ course. (strand ≡ Some (trajectory_of setup (Planned course))) × (length course.route ≤ 64))
 
--- whatever is looked at of a state for a command has at hand what the decision needs, where it has this trajectory
+-- a decision that has this trajectory at hand has what it needs. Whatever else it looks at for that command in a state.
 abbrev pub IsStrandFor : Setup → State → Command → Option Trajectory → Type 0
 IsStrandFor setup s command strand =
     (looked : Looked) → look_of looked ≡ look_at s command → option_copied looked.strand ≡ strand → HasStrand setup looked command

@@ -8,7 +8,7 @@ use Rattle.mt_base.specs.Picture.{trajectory_of, window_end}
 use Rattle.mt_base.specs.Tables.{Setup}
 use Rattle.mt_base.specs.Trajectory.{Trajectory}
 
--- In the window, the trajectory has this conflict with the one that this flight flies.
+-- within the look-ahead the trajectory has this conflict with the one that this flight flies
 pub record IsHitWith (setup : Setup) (now : ℕ) (t : Trajectory) (flight : Record) (hit : Hit) : Type 0 where
   pub with_is : hit.with ≡ flight.call
   pub span : IsSpanOfLoss setup.rules t (trajectory_of setup flight.path) now (window_end now) hit.first hit.last

@@ -35,21 +35,21 @@ pub record IsGuard (rules : Rules) (layer guard : Layer) : Type 0 where
 abbrev pub LiesBeyond : Layer → Layer → Type 0
 LiesBeyond guard layer = (guard.high ≤ℤ layer.low) ⊎ (layer.high ≤ℤ guard.low)
 
--- what is kept of an item are slices
+-- what stands for an item, if anything, are slices
 abbrev pub AreSlicesIn : Option Sliced → Type 0
 AreSlicesIn None = ⊤
 AreSlicesIn (Some s) = AreSlices s
 
--- the reaches on a page; where it is absent, those of nothing
+-- the reaches on a page, those of nothing where it is absent
 abbrev pub page_of : Option (List Reach) → List Reach
 page_of None = replicate 64 nowhere
 page_of (Some page) = page
 
--- the reach of an item, on the pages of some
+-- the reach of an item, on these pages
 abbrev pub reach_at : List (Option (List Reach)) → ℕ → Reach
 reach_at pages item = get_or (page_of (get_or pages (item / 64) None)) (item % 64) nowhere
 
--- so many items, which a u32 counts, of each of which the reach stands on the pages
+-- the pages have the reach of each item. The items are so many that 32 bits count them.
 pub record AreReachesKept (count : ℕ) (table : List (Option Sliced)) (pages : List (Option (List Reach))) : Type 0 where
   pub count_is : count ≡ length table
   pub few : count < 2 ^ 32
@@ -57,7 +57,7 @@ pub record AreReachesKept (count : ℕ) (table : List (Option Sliced)) (pages : 
   pub enough : count ≤ 64 * length pages
   pub reaches_are : (item : ℕ) → reach_at pages item ≡ reach_in (get_or table item None)
 
--- it is the reach of what is kept of an item, and that are slices
+-- this is the reach of an item's slices
 pub record IsReachOf (x : Option Sliced) (reach : Reach) : Type 0 where
   pub is : reach ≡ reach_in x
   pub slices : AreSlicesIn x

@@ -1,5 +1,5 @@
 -- No public contract names these: they are of private steps and of proofs.
--- What the value and the slope at one instant tell of those before and after it.
+-- What the value and the slope at one instant say about those before and after it.
 use Rattle.std.specs.Prelude.{ℤ, pos, ◌<ℤ◌, ◌≤ℤ◌}
 
 -- not below 0 here, and falling

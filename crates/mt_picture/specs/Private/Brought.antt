@@ -1,5 +1,5 @@
 -- No public contract names these: they are of private steps and of proofs.
--- What a command brings into a slot, and the prep that it has of it.
+-- What a command brings into a slot, and its preparation.
 use Rattle.std.specs.Prelude.{◌≡◌, ◌<◌, ℕ, Bool, true, Some, length}
 use Rattle.mt_base.specs.declared.command.Command.{Command}
 use Rattle.mt_base.specs.declared.conflict.Kind.{Kind}

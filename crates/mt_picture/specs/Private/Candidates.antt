@@ -31,7 +31,7 @@ pub record IsStill (slots : List (Option Flight)) (version : ℕ) (found : Found
   pub early : stamp ≤ version
   pub knowledge_is : x.knowledge ≡ Known found.whole
 
--- it is so of one of some finds
+-- so stands the candidate of one of some finds
 pub record IsStillOne (slots : List (Option Flight)) (version : ℕ) (finds : List Found) (x : Candidate) : Type 0 where
   pub found : Found
   pub held : Contains finds found

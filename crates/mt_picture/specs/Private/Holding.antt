@@ -35,12 +35,12 @@ entry_now shot who command = record { who = who; command = filled shot.now comma
 abbrev pub story_after : Story → Entry → Option Hit → Story
 story_after story entry first = record { setup = story.setup; history = history_after story.history entry first }
 
--- the entry was added, or a hit stopped it. Where memory lacked, all that callers see is as it was.
+-- the entry was added, or a hit stopped it. Where memory ran out, all that callers see is as it was.
 abbrev pub AddsOrStops : {E : Type 0} → Holding → Holding → Entry → Result (Option Hit) E → Type 0
 AddsOrStops before after entry result =
     MatchResult result (λ first. held_story after ≡ story_after (held_story before) entry first) (λ err. held_story after ≡ held_story before)
 
--- the entry was added. Where memory lacked, all that callers see is as it was.
+-- the entry was added. Where memory ran out, all that callers see is as it was.
 abbrev pub AddsEntry : {T E : Type 0} → Holding → Holding → Entry → Result T E → Type 0
 AddsEntry before after entry result =
     MatchResult result (λ done. held_story after ≡ story_after (held_story before) entry None) (λ err. held_story after ≡ held_story before)
@@ -50,7 +50,7 @@ pub record HasEnteredOrStopped (before after : Holding) (who : ℕ) (command : C
   pub story : held_story after ≡ story_after (held_story before) (entry_now before.snapshot who command) first
   pub hits : IsFirstHit before.snapshot.setup (state_in before.snapshot) command first
 
--- a command has entered or stopped. Where memory lacked, all that callers see is as it was.
+-- a command has entered or stopped. Where memory ran out, all that callers see is as it was.
 abbrev pub EntersOrStops : {E : Type 0} → Holding → Holding → ℕ → Command → Result (Option Hit) E → Type 0
 EntersOrStops before after who command result =
     MatchResult result (HasEnteredOrStopped before after who command) (λ err. held_story after ≡ held_story before)

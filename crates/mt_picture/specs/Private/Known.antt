@@ -1,5 +1,5 @@
 -- No public contract names these: they are of private steps and of proofs.
--- What a prep says of the trajectories of a snapshot.
+-- What a preparation says of the trajectories of a snapshot.
 use Rattle.std.specs.Prelude.{◌≡◌, ◌≢◌, ◌<◌, ◌≤◌, ◌/◌, ℕ, List, Bool, true, Option, Some, None, AllPairs, Contains, get_or, map}
 use Rattle.mt_base.specs.declared.conflict.Kind.{Kind}
 use Rattle.mt_base.specs.Conflict.{IsLossSecond}

@@ -24,7 +24,7 @@ slices_by rules kind (Some f) = option_map (slices_of rules) (path_of kind f)
 abbrev pub slices_at : Rules → List (Option Flight) → ℕ → Option Sliced
 slices_at rules slots item = slices_by rules (kind_at item) (get_or slots (item / 2) None)
 
--- A table has the slices of each trajectory that is kept, at its item, and of nothing else.
+-- a table has the slices of each kept trajectory, at its item, and of nothing else
 pub record HoldsSlices (rules : Rules) (slots : List (Option Flight)) (table : List (Option Sliced)) : Type 0 where
   pub items : length table ≡ 2 * length slots
   pub held : (item : ℕ) → get_or table item None ≡ slices_at rules slots item
@@ -65,7 +65,7 @@ abbrev pub IsNextMetOf : Shot → Sliced → ℕ → Option Met → Type 0
 IsNextMetOf shot mine from (Some met) = IsFirstMetOf shot mine from met
 IsNextMetOf shot mine from None = (item : ℕ) → from ≤ item → IsNotMet shot mine item
 
--- The items whose trajectories have slices that meet some, rising, each once.
+-- the items whose trajectories have slices that meet some, rising, each once
 pub record AreMetItems (shot : Shot) (mine : Sliced) (list : List Met) : Type 0 where
   pub rising : AllPairs (λ (m n : Met). m.item < n.item) list
   pub exact : (met : Met) → Contains list met → IsMetOf shot mine met

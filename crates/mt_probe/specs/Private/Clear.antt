@@ -7,7 +7,7 @@ use Rattle.mt_base.specs.Trajectory.{Trajectory}
 use Rattle.mt_probe.specs.declared.flight.Flight.{Flight}
 use Rattle.mt_probe.specs.Shot.{Shot, flight_at}
 
--- it has no conflict in the window with the one that the flight at a place flies, where that is another
+-- no conflict in the look-ahead with another flight at this place
 abbrev pub IsClearAt : Shot → List ℕ → Trajectory → ℕ → Type 0
 IsClearAt shot call t slot = (f : Flight) → flight_at shot slot ≡ Some f → f.card.call ≢ call
     → IsConflict shot.setup.rules t (trajectory_of shot.setup f.card.path) shot.now (window_end shot.now) None

@@ -24,7 +24,7 @@ abbrev pub AreOfNone : List NamedTrajectory → List Found → Type 0
 AreOfNone others finds = (found : Found) (other : NamedTrajectory) → Contains finds found → Contains others other
     → ¬ ((found.call ≡ other.call) × (found.kind ≡ other.kind))
 
--- Some finds have more than some others: what is found with those of these trajectories that have a loss second, each once.
+-- some finds have more than others: those of these trajectories with a loss second, each once
 pub record FindsMore (rules : Rules) (now : ℕ) (t : Trajectory) (others : List NamedTrajectory) (old new : List Found) : Type 0 where
   pub kept : (found : Found) → Contains old found → Contains new found
   pub exact : (found : Found) → Contains new found → Contains old found ⊎ IsFoundAmong rules now t others found

@@ -1,5 +1,5 @@
 -- No public contract names these: they are of private steps and of proofs.
--- What the parts of a session are as one.
+-- A session, with the turn that its seat is of.
 use Rattle.std.specs.Prelude.{◌≡◌, List, All}
 use Rattle.mt_base.specs.Picture.{State}
 use Rattle.mt_base.specs.Tables.{Setup}

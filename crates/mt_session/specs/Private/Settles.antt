@@ -9,7 +9,7 @@ use Rattle.mt_board.specs.declared.no.No.TheVariants as no
 use Rattle.mt_board.specs.Seat.{Seat}
 use Rattle.mt_board.specs.Settling.{IsNotSettled, HasSettled}
 
--- memory was wanted
+-- memory ran out
 abbrev pub is_starved : Result Entered No → Bool
 is_starved (Err no.Memory) = true
 is_starved result = false
@@ -19,7 +19,7 @@ abbrev pub told_due : Result Answer No → Option (List (List ℕ) × ℕ)
 told_due (Ok (answers.Due calls version)) = Some (calls, version)
 told_due result = None
 
--- what settling gives: the flights left and the version, or want of memory
+-- what settling gives: the flights left and the version, or that memory ran out
 abbrev pub Settles : Seat → Option (List (List ℕ) × ℕ) → Seat → Type 0
 Settles s (Some told) t = HasSettled s t told.0 told.1
 Settles s None t = IsNotSettled s t

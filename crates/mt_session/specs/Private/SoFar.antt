@@ -45,7 +45,7 @@ abbrev pub IsDoneUnless : Option Outcome → Option (List ℕ) → Standing → 
 IsDoneUnless None job answered next = IsRenewalDone job answered next
 IsDoneUnless (Some outcome) job answered next = next ≡ answered
 
--- A line was answered: its reply was given, and then what follows it was done.
+-- a line's reply was given, and then what follows it was done
 pub record IsLineAnswered (w : Standing) (line : List ℕ) (outcome : Option Outcome) (before after : Option (List ℕ)) (next : Standing) : Type 0 where
   pub reply : Reply
   pub answered : Session

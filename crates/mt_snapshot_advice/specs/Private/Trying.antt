@@ -10,7 +10,7 @@ use Rattle.mt_base.specs.Picture.{flight_of}
 use Rattle.mt_probe.specs.Hits.{Trial}
 use Rattle.mt_probe.specs.Shot.{Shot, state_in_shot}
 
--- No check refuses advice, and these are the candidates, each of which can be tried.
+-- no check refuses advice, and these are the candidates, each of which can be tried
 pub record AreAdviceCandidates (shot : Shot) (call : List ℕ) (list : List Clearance) : Type 0 where
   pub passed : judged (advice_checks shot.setup shot.now (flight_of (state_in_shot shot).records call) call) (tt {0}) ≡ Ok (tt {0})
   pub are : list ≡ candidates_in shot.setup (state_in_shot shot) call
@@ -22,7 +22,7 @@ free_among [] = []
 free_among (None ∷ found) = free_among found
 free_among (Some p ∷ found) = p ∷ free_among found
 
--- Each try found a probe or none, and these are the probes, in order.
+-- each try found a probe or none, and these are the probes, in order
 pub record AreFreeOf (tries : List (Result (Option Trial) Memory)) (free : List Trial) : Type 0 where
   pub found : List (Option Trial)
   pub all : tries ≡ map Ok found

@@ -20,7 +20,7 @@ is_last false = is_farewell
 is_last true = ends_opening
 
 module _ (HasReply : World → List ℕ → Reply → World → Type 0) (until_begun : Bool) where
-  -- The lines so far: some were read, and these bytes answer them.
+  -- some lines were read so far, and these bytes answer them
   abbrev pub LinesSoFar : Option (List ℕ) → Option (List ℕ) → List ℕ → Reading → World → Type 0
   LinesSoFar before now bytes reader w =
       SoFar reply_text (is_last until_begun) HasReply NothingFollows opening_world before now (Some []) (Some bytes) reader w

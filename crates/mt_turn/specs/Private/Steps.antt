@@ -17,24 +17,24 @@ abbrev pub Seated : Type 0 → Type 0 → Type 0 → Type 0
 Seated E F S = Me (Option S) (View E F)
 
 module _ {E F S : Type 0} where
-  -- A ticket was drawn. The word has its remainder
+  -- a ticket was drawn, and the word has its remainder
   abbrev pub Draws : Seated E F S → ℕ → Seated E F S → Type 0
   Draws m r m' = (t : ℕ) × (t % 2 ^ 64 ≡ r) × (m' ≡ (with_phase m.0 (Waits t), m.1))
 
-  -- Where the ticket is the one being served, the seat takes the slot, and is lent its value. Otherwise it goes on waiting
+  -- the seat with the ticket being served takes the slot, and is lent its value. Any other goes on waiting.
   abbrev pub Looks : (S → List E) → (E → ℕ) → (S → F) → Seated E F S → ℕ → Seated E F S → Type 0
   Looks history number fixed m r m' = (t : ℕ) → m.0.phase ≡ Waits t
       → (t % 2 ^ 64 ≡ r → (x : S) × (m' ≡ (with_phase m.0 (Holds t (history x)), (0, Some x) ∷ m.1)) × Lent history number fixed m.0 x) × (t % 2 ^ 64 ≢ r → m' ≡ m)
 
-  -- The value y lies in the slot, which the seat has. The seat has seen its history
+  -- the seat has the slot with the value y, and has seen its history
   abbrev pub SeesHistory : (S → List E) → (E → ℕ) → Seated E F S → ℕ → Seated E F S → Type 0
   SeesHistory history number m r m' = (y : S) (t : ℕ) (lent : List E) → m.1 ≡ (0, Some y) ∷ [] → m.0.phase ≡ Holds t lent
       → (m' ≡ (counted_view number m.0 t (history y), m.1)) × (entries_of number m.0.number lent ≡ m.0.mine) × Extends m.0.seen (history y)
 
-  -- The slot is at home, and the seat outside
+  -- the slot is at home, and the seat outside
   abbrev pub HandsOn : Seated E F S → ℕ → Seated E F S → Type 0
   HandsOn m r m' = m' ≡ (with_phase m.0 Idle, rest m.1)
 
-  -- The next seat's number was drawn. The numbers given so far are 1, 2, 3 and so on
+  -- the next seat's number was drawn. The numbers given so far are 1, 2, 3 and so on.
   abbrev pub Numbers : Seated E F S → ℕ → Seated E F S → Type 0
   Numbers m r m' = (m' ≡ (with_phase m.0 (Splits r), m.1)) × (r ≡ length m.0.gave + 1) × (m.0.gave ≡ up_to (length m.0.gave))

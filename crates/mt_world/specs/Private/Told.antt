@@ -7,12 +7,12 @@ use Rattle.mt_board.specs.declared.no.No.TheVariants as nos
 use Rattle.mt_write.specs.declared.reply.Reply.{Reply}
 use Rattle.mt_write.specs.declared.reply.Reply.TheVariants as replies
 
--- why nothing is given
+-- a picture's refusal as a reply
 abbrev pub no_reply : No → Reply
 no_reply (nos.Refused refusal version) = replies.Refused refusal version
 no_reply nos.Memory = replies.Memory
 
--- what a command is answered
+-- a command's answer as a reply
 abbrev pub entered_reply : Result Entered No → Reply
 entered_reply (Ok entered) = replies.Entered entered
 entered_reply (Err denied) = no_reply denied
