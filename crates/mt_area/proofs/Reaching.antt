@@ -8,7 +8,7 @@ use Rattle.mt_base.specs.declared.row.Row.{Row}
 use Rattle.mt_base.specs.Area.{IsBoundedArea, IsPierce}
 use Rattle.mt_base.specs.Trajectory.{Trajectory, row_at}
 use Rattle.mt_track.specs.declared.segment.Segment.{Segment}
-use Rattle.mt_track.specs.Private.Laid.{CoversSecond, edge}
+use Rattle.mt_track.specs.Laid.{CoversSecond, edge}
 use Rattle.mt_track.specs.Rows.{row_after}
 use Rattle.mt_track.proofs.Straight.{row_after-add}
 use Rattle.mt_area.specs.declared.reach.Reach.{Reach}

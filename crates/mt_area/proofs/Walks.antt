@@ -10,8 +10,7 @@ use Rattle.mt_base.specs.Span.{IsSpan}
 use Rattle.mt_base.specs.Bounds.{IsBoundedOver}
 use Rattle.mt_base.specs.Trajectory.{Trajectory, row_at}
 use Rattle.mt_track.specs.declared.segment.Segment.{Segment}
-use Rattle.mt_track.specs.Laid.{Adjoin, AreSegmentsOf, IsStrand}
-use Rattle.mt_track.specs.Private.Laid.{CoversSecond, IsLaid, edge}
+use Rattle.mt_track.specs.Laid.{Adjoin, AreSegmentsOf, CoversSecond, IsLaid, IsStrand, edge}
 use Rattle.mt_track.specs.Rows.{row_after}
 use Rattle.mt_track.proofs.Apart.{few_segments}
 use Rattle.mt_track.proofs.Joined.{IsBoundedOver-segment}

@@ -5,7 +5,7 @@ use Rattle.std.specs.Int.{int_max, int_min}
 use Rattle.mt_base.specs.declared.row.Row.{Row}
 use Rattle.mt_base.specs.Trajectory.{next_row, straight_rows}
 use Rattle.mt_ring.proofs.Ring.{lin, spread}
-use Rattle.mt_track.specs.declared.layer.Layer.{Layer}
+use Rattle.mt_cover.specs.declared.layer.Layer.{Layer}
 use Rattle.mt_track.specs.Rows.{row_after}
 use Rattle.mt_track.proofs.Straight.{row_after-next, row_after-none}
 use Rattle.mt_cover.specs.declared.bounding_box.BoundingBox.{BoundingBox}

@@ -12,9 +12,9 @@ use Rattle.mt_base.specs.declared.rules.Rules.{Rules}
 use Rattle.mt_base.specs.Bounds.{AreWithinBounds, IsBoundedRow}
 use Rattle.mt_base.specs.Conflict.{IsLossSecond}
 use Rattle.mt_base.specs.Trajectory.{Trajectory, row_at}
-use Rattle.mt_track.specs.declared.layer.Layer.{Layer}
+use Rattle.mt_cover.specs.declared.layer.Layer.{Layer}
 use Rattle.mt_track.specs.Laid.{IsStrand}
-use Rattle.mt_track.specs.Private.Layer.{IsInLayer}
+use Rattle.mt_cover.specs.Layer.{IsInLayer}
 use Rattle.mt_track.proofs.Strands.{IsBoundedRow-row_at}
 use Rattle.mt_cover.specs.declared.bounding_box.BoundingBox.{BoundingBox}
 use Rattle.mt_cover.specs.declared.bounding_box.Extent.{Extent}

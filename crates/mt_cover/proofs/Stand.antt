@@ -6,12 +6,10 @@ use Rattle.mt_base.specs.declared.row.Row.{Row}
 use Rattle.mt_base.specs.Bounds.{IsBoundedOver}
 use Rattle.mt_base.specs.Trajectory.{straight_rows}
 use Rattle.mt_track.specs.declared.segment.Segment.{Segment}
-use Rattle.mt_track.specs.Laid.{all_rows}
-use Rattle.mt_track.specs.Private.Laid.{IsLaid}
+use Rattle.mt_track.specs.Laid.{IsLaid, all_rows, edge}
 use Rattle.mt_track.specs.Rows.{row_after}
 use Rattle.mt_track.proofs.Joined.{IsBoundedOver-segment}
 use Rattle.mt_track.proofs.Segments.{edge-length, edge_from, lies_at, row_in}
-use Rattle.mt_track.specs.Private.Laid.{edge}
 use Rattle.mt_track.proofs.Straight.{IsBoundedRow-row_after, row_after-add}
 use Rattle.mt_cover.specs.declared.bounding_box.BoundingBox.{BoundingBox}
 use Rattle.mt_cover.specs.Box.{box_of, box_over, grown, grown_by}

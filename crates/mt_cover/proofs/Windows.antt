@@ -5,7 +5,7 @@ use Rattle.std.proofs.lemmas.Int.{ints}
 use Rattle.std.proofs.lemmas.List.{get_or_append_left, get_or_push}
 use Rattle.std.proofs.lemmas.List.Elements.{All-push}
 use Rattle.std.specs.Int.{div_ceil}
-use Rattle.mt_track.specs.Layer.{IsLayerKept}
+use Rattle.mt_cover.specs.Layer.{IsLayerKept}
 use Rattle.mt_cover.specs.declared.sliced.Slice.{Slice}
 use Rattle.mt_cover.specs.Sliced.{Holds, no_slice}
 use Rattle.mt_cover.specs.Private.Wide.{AreWideUntil}

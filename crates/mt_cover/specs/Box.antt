@@ -3,7 +3,7 @@ use Rattle.std.specs.Prelude.{ℤ, pos, ◌+ℤ◌, ◌-ℤ◌, int_div, List, [
 use Rattle.std.specs.Int.{int_max, int_min}
 use Rattle.mt_base.specs.declared.row.Row.{Row}
 use Rattle.mt_base.specs.declared.rules.Rules.{Rules}
-use Rattle.mt_track.specs.declared.layer.Layer.{Layer}
+use Rattle.mt_cover.specs.declared.layer.Layer.{Layer}
 use Rattle.mt_cover.specs.declared.bounding_box.BoundingBox.{BoundingBox}
 use Rattle.mt_cover.specs.declared.bounding_box.Extent.{Extent}
 

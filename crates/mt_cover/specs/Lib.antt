@@ -1,4 +1,5 @@
 pub mod Box
 pub mod Cells
+pub mod Layer
 pub mod Private
 pub mod Sliced

@@ -5,8 +5,8 @@ ghost use Rattle.mt_cover.specs.Cells.{place};
 ghost use Rattle.mt_cover.specs.Private.InPlane.{IsBoxInPlane, IsExtentInPlane, IsExtentNearPlane};
 
 use crate::heights::{both, layer_of};
+use crate::layer::Layer;
 use mt_base::{Row, Rules};
-use mt_track::Layer;
 
 /// Coordinates from a least to a greatest one, in units of the plane.
 #[derive(Clone, Copy)]

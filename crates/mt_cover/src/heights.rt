@@ -1,12 +1,12 @@
 //! The heights of rows.
 ghost use Rattle.std.specs.Prelude.{◌≡◌};
 ghost use Rattle.mt_base.specs.Bounds.{IsBoundedRow};
-ghost use Rattle.mt_track.specs.Layer.{IsLayerKept};
+ghost use Rattle.mt_cover.specs.Layer.{IsLayerKept};
 ghost use Rattle.mt_cover.specs.Box.{both, layer_of};
 ghost use Rattle.mt_cover.specs.Sliced.{no_layer};
 
+use crate::layer::Layer;
 use mt_base::Row;
-use mt_track::Layer;
 
 /// The heights of a row at any instant of its second, with the vertical margin below and above.
 pub(crate) fn layer_of(row: &Row) -> Layer

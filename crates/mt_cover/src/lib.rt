@@ -5,6 +5,7 @@
 mod bounding_box;
 mod heights;
 mod laws;
+mod layer;
 mod sliced;
 mod stays;
 mod walk;
@@ -12,6 +13,7 @@ mod wide;
 
 pub use bounding_box::Extent;
 pub use laws::{misses_none_law, touching_is_near_law};
+pub use layer::Layer;
 pub use mt_memory::Memory;
 pub use sliced::{Slice, Slices};
 pub use stays::{Cover, Stay};

@@ -1,13 +1,13 @@
 ghost use Rattle.std.specs.Prelude.{◌≡◌, ◌+◌, ◌-◌, ◌*◌, ◌/◌};
 ghost use Rattle.mt_base.specs.Bounds.{AreWithinBounds};
-ghost use Rattle.mt_track.specs.Layer.{IsLayerKept};
+ghost use Rattle.mt_cover.specs.Layer.{IsLayerKept};
 ghost use Rattle.mt_cover.specs.Private.InPlane.{IsBoxInPlane};
 ghost use Rattle.mt_cover.specs.Sliced.{AreSlices, Have, HoldsWindow, layer_over, slice_at, slice_by};
 
 use crate::bounding_box::{BoundingBox, Extent, half, wider};
+use crate::layer::Layer;
 use crate::wide::WINDOW;
 use mt_base::{Rules, Second};
-use mt_track::Layer;
 use std::marker::Model;
 
 /// Where a trajectory is in some of its seconds, made wider on each side by its greatest horizontal margin there and half of the horizontal

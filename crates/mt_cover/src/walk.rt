@@ -2,8 +2,7 @@ ghost use Rattle.std.specs.Prelude.{◌≡◌, ◌+◌, ◌-◌, ◌<◌, ◌≤
 ghost use Rattle.mt_base.specs.declared.row.Row.{Row};
 ghost use Rattle.mt_base.specs.Bounds.{AreWithinBounds, IsBoundedOver};
 ghost use Rattle.mt_base.specs.Trajectory.{straight_rows};
-ghost use Rattle.mt_track.specs.Laid.{all_rows};
-ghost use Rattle.mt_track.specs.Private.Laid.{IsLaid};
+ghost use Rattle.mt_track.specs.Laid.{IsLaid, all_rows};
 ghost use Rattle.mt_track.specs.Rows.{row_after};
 ghost use Rattle.mt_cover.specs.Box.{box_over, grown_by};
 ghost use Rattle.mt_cover.specs.Cells.{cover_of};

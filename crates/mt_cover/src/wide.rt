@@ -1,7 +1,7 @@
 //! Slices that hold several others: one for each window of 1,024 seconds of the clock.
 ghost use Rattle.std.specs.Prelude.{◌≡◌, ◌≤◌, ◌<◌, ◌-◌, ◌≤ℤ◌, ℕ, All, IfOk, get_or, length};
 ghost use Rattle.std.specs.Int.{div_ceil};
-ghost use Rattle.mt_track.specs.Layer.{IsLayerKept};
+ghost use Rattle.mt_cover.specs.Layer.{IsLayerKept};
 ghost use Rattle.mt_cover.specs.declared.sliced.Slice.{Slice as Cut};
 ghost use Rattle.mt_cover.specs.Sliced.{Holds, Reaches, no_slice};
 ghost use Rattle.mt_cover.specs.Private.Wide.{AreWide};

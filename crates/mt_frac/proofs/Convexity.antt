@@ -2,8 +2,7 @@
 use Rattle.std.proofs.Common.{◌≡◌, ℤ, pos, ◌+ℤ◌, ◌-ℤ◌, ◌*ℤ◌, neg_ℤ, ◌≤ℤ◌, ◌<ℤ◌, arith}
 use Rattle.mt_ring.proofs.Ring.{lin, spread}
 use Rattle.mt_ring.proofs.Signs.{mul_nonneg, mul_pos, square_nonneg, sum_nonneg, neg_nonneg, neg_below, weaken, nonneg_cancel}
-use Rattle.mt_frac.specs.Polynomials.{value}
-use Rattle.mt_frac.specs.Private.Vertex.{slope, discriminant_of}
+use Rattle.mt_frac.specs.Polynomials.{value, slope, discriminant_of}
 use Rattle.mt_frac.proofs.Fractions.{before_trans}
 
 -- the value at n/d from those at the two ends

@@ -1,5 +1,4 @@
 pub mod Fractions
-pub mod Values
 pub mod Openness
 pub mod Seconds
 mod Overflow

@@ -9,7 +9,7 @@ use Rattle.std.specs.Prelude.{◌/◌, ◌%◌}
 use Rattle.mt_ring.proofs.Ring.{lin, spread}
 use Rattle.mt_ring.proofs.Signs.{mul_nonneg}
 use Rattle.mt_frac.specs.declared.linear.Linear.{Linear}
-use Rattle.mt_frac.specs.Private.Instants.{HoldsOver}
+use Rattle.mt_frac.specs.Instants.{HoldsOver}
 use Rattle.mt_frac.specs.Meeting.{AreBelow, MeetBelow}
 use Rattle.mt_frac.specs.Polynomials.{line_value}
 use Rattle.mt_frac.proofs.Openness.{HoldsFrom, HoldsInside, IsOpen, both_open, half_open, line_is_open, same_open}

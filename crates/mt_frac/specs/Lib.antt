@@ -1,4 +1,5 @@
 pub mod FractionOrder
+pub mod Instants
 pub mod Meeting
 pub mod Polynomials
 pub mod Private

@@ -20,5 +20,3 @@ pub record MeetBelow (lines : List Linear) (lo hi : ℤ) : Type 0 where
   pub after : (lo *ℤ d) <ℤ n
   pub until : n <ℤ (hi *ℤ d)
   pub below : AreBelow lines n d
-
--- What the private steps of `meet` say. No public contract cites these.

@@ -1,4 +1,2 @@
 -- What no public contract names: invariants and relations of private steps.
-pub mod Instants
 pub mod Meeting
-pub mod Vertex

@@ -4,7 +4,7 @@
 //!
 //! Nothing is rounded and nothing is searched. The conditions are bounds on the numbers, under
 //! which no product leaves 128 bits. The words of the contracts are in `specs/`; what callers may
-//! cite besides is in `proofs/Fractions`, `proofs/Values`, `proofs/Openness` and `proofs/Seconds`.
+//! cite besides is in `proofs/Fractions`, `proofs/Openness` and `proofs/Seconds`.
 #![tactic(auto)]
 
 mod end;

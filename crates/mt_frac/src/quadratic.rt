@@ -3,9 +3,8 @@
 ghost use Rattle.std.specs.Prelude.{ℤ, true, pos, ◌≡◌, ◌≤ℤ◌, ◌↔◌, IsTrue};
 ghost use Rattle.std.specs.Ordering.{int_cmp};
 ghost use Rattle.mt_frac.specs.FractionOrder.{IsBefore};
-ghost use Rattle.mt_frac.specs.Polynomials.{value};
+ghost use Rattle.mt_frac.specs.Polynomials.{value, slope, discriminant_of};
 ghost use Rattle.mt_frac.specs.Signs.{IsBoundedQuad, IsBelowZeroIn};
-ghost use Rattle.mt_frac.specs.Private.Vertex.{slope, discriminant_of};
 
 use crate::fraction::Frac;
 use std::cmp::Ordering;

@@ -5,17 +5,17 @@ use Rattle.std.proofs.lemmas.Int.{ints, clamps}
 use Rattle.std.proofs.lemmas.List.{get_or_past}
 use Rattle.std.specs.List.{fold}
 use Rattle.mt_base.specs.declared.rules.Rules.{Rules}
-use Rattle.mt_track.specs.declared.layer.Layer.{Layer}
-use Rattle.mt_track.specs.Layer.{IsLayerKept}
-use Rattle.mt_track.specs.Private.Layer.{IsWider}
+use Rattle.mt_cover.specs.declared.layer.Layer.{Layer}
+use Rattle.mt_cover.specs.Layer.{IsLayerKept}
 use Rattle.mt_cover.specs.declared.sliced.Slice.{Slice}
 use Rattle.mt_cover.specs.Sliced.{AreSlices, Have, Sliced, layer_over, no_layer, no_slice, slice_at, with_slice}
 use Rattle.mt_cover.proofs.Law.{cut_by_loss, touching_is_near}
-use Rattle.mt_pair.specs.Heights.{AreApartBy, LieApart}
+use Rattle.mt_meet.specs.Heights.{AreApartBy, LieApart}
 use Rattle.mt_pair.specs.High.{level_of}
-use Rattle.mt_pair.proofs.Layers.{lying_apart}
+use Rattle.mt_meet.proofs.Layers.{lying_apart}
 use Rattle.mt_meet.specs.Meeting.{IsMetAt, LosingMeet, MeetAt, MeetingIsNear, MeetNone}
 use Rattle.mt_meet.specs.declared.reach.Reach.{Reach}
+use Rattle.mt_meet.specs.Private.Heights.{IsWider}
 use Rattle.mt_meet.specs.Private.Reaching.{AreClose, AreReachesOn, AreSlicesIn, AreReachesKept, IsGuard, IsReachOf, LiesBeyond, nowhere, page_of, reach_in, reach_of}
 use Rattle.mt_meet.proofs.Kept.{same}
 

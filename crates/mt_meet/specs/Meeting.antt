@@ -8,7 +8,7 @@ use Rattle.mt_track.specs.Laid.{IsStrand}
 use Rattle.mt_cover.specs.declared.sliced.Slice.{Slice}
 use Rattle.mt_cover.specs.Cells.{ShareAt, cover_of}
 use Rattle.mt_cover.specs.Sliced.{Have, Sliced, TouchBoth, slice_at, slices_of}
-use Rattle.mt_pair.specs.Heights.{LieApart}
+use Rattle.mt_meet.specs.Heights.{LieApart}
 use Rattle.mt_pair.specs.High.{level_of}
 use Rattle.mt_meet.specs.declared.table.Met.{Met}
 

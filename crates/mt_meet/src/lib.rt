@@ -4,12 +4,14 @@
 //! What never loses separation with it need not be tested, and what is tested is near by the definition of cells.
 #![tactic(auto)]
 
+mod heights;
 mod laws;
 mod meeting;
 mod reach;
 mod reaches;
 mod table;
 
+pub use heights::lie_apart;
 pub use laws::{losing_meet_law, meeting_is_near_law};
 pub use meeting::meet;
 pub use mt_memory::Memory;

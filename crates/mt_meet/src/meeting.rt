@@ -1,14 +1,14 @@
 //! The seconds in which the slices of two trajectories meet.
 ghost use Rattle.std.specs.Prelude.{◌≡◌, ◌↔◌, ◌≤◌, ◌<◌, ◌&&◌, IsTrue};
 ghost use Rattle.mt_base.specs.Bounds.{AreWithinBounds};
-ghost use Rattle.mt_track.specs.Layer.{IsLayerKept};
+ghost use Rattle.mt_cover.specs.Layer.{IsLayerKept};
 ghost use Rattle.mt_cover.specs.Sliced.{Touch};
 ghost use Rattle.mt_meet.specs.Meeting.{IsHull, MeetAt, SlicesMeet};
 ghost use Rattle.mt_meet.specs.Private.Meeting.{Before, hull_on};
 
+use crate::heights::lie_apart;
 use mt_base::{Rules, Second};
 use mt_cover::{Extent, Slice, Slices};
-use mt_pair::lie_apart;
 
 // How many seconds of the clock a window has.
 const WINDOW: Second = 1024;

@@ -1,14 +1,13 @@
 //! What is compared first of two trajectories: their heights, and their first and last seconds.
 ghost use Rattle.std.specs.Prelude.{◌≡◌, ◌↔◌, IsTrue};
 ghost use Rattle.mt_base.specs.Bounds.{AreWithinBounds};
-ghost use Rattle.mt_track.specs.Layer.{IsLayerKept};
+ghost use Rattle.mt_cover.specs.Layer.{IsLayerKept};
 ghost use Rattle.mt_cover.specs.Sliced.{AreSlices};
 ghost use Rattle.mt_meet.specs.Private.Reaching.{AreClose, IsGuard, LiesBeyond, reach_of, nowhere};
 
+use crate::heights::lie_apart;
 use mt_base::{Rules, Second};
-use mt_cover::Slices;
-use mt_pair::lie_apart;
-use mt_track::Layer;
+use mt_cover::{Layer, Slices};
 
 /// The heights of all slices of a trajectory, its seconds `from <= k < to`, and whether the aircraft is approved for RVSM.
 #[derive(Clone, Copy)]

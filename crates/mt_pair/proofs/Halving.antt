@@ -1,7 +1,7 @@
 -- Halving: how often, and what is known of the seconds that are left.
 use Rattle.std.proofs.Common.{ℕ, ℤ, zero, suc, ◌+◌, ◌*◌, ◌^◌, ◌<◌, ◌≤◌, subst, arith, le_refl, ⊎_elim}
 use Rattle.std.proofs.lemmas.Bool.{cases_lt}
-use Rattle.mt_frac.specs.Private.Instants.{HoldsIn, HoldsOver}
+use Rattle.mt_frac.specs.Instants.{HoldsIn, HoldsOver}
 use Rattle.mt_base.specs.Span.{IsSpanOf}
 use Rattle.mt_base.specs.Private.Span.{IsGreatest, IsLeast}
 

@@ -7,7 +7,7 @@ use Rattle.std.specs.Option.{option_copied}
 use Rattle.mt_frac.specs.declared.quadratic.Quad.{Quad}
 use Rattle.mt_pair.specs.declared.approach.Approach.{Approach}
 use Rattle.mt_pair.specs.declared.approach.High.{High}
-use Rattle.mt_frac.specs.Private.Instants.{HoldsIn, HoldsOver}
+use Rattle.mt_frac.specs.Instants.{HoldsIn, HoldsOver}
 use Rattle.mt_pair.specs.Private.Below.{AreBelowAt}
 use Rattle.mt_pair.specs.Private.Cases.{IsHighLoss, IsLoss}
 

@@ -5,7 +5,7 @@ use Rattle.mt_frac.specs.declared.fraction.Frac.{Frac}
 use Rattle.mt_frac.specs.FractionOrder.{IsBetween}
 use Rattle.mt_frac.proofs.Openness.{HoldsInside, IsOpen}
 use Rattle.mt_frac.proofs.Seconds.{inside_over}
-use Rattle.mt_frac.specs.Private.Instants.{HoldsOver}
+use Rattle.mt_frac.specs.Instants.{HoldsOver}
 use Rattle.mt_pair.specs.Private.Below.{HoldsBetween}
 
 between_of : (lo hi : Frac) (low high : ℕ) (n d : ℤ) → lo.num ≡ pos low → lo.den ≡ pos 1 → hi.num ≡ pos high → hi.den ≡ pos 1

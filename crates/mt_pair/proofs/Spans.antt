@@ -10,7 +10,7 @@ use Rattle.mt_base.specs.Trajectory.{Trajectory, row_at}
 use Rattle.mt_track.specs.Rows.{row_after}
 use Rattle.mt_track.proofs.Straight.{row_after-add}
 use Rattle.mt_pair.specs.declared.approach.Approach.{Approach}
-use Rattle.mt_frac.specs.Private.Instants.{HoldsIn}
+use Rattle.mt_frac.specs.Instants.{HoldsIn}
 use Rattle.mt_pair.specs.Private.Cases.{IsLoss}
 use Rattle.mt_base.specs.Span.{IsSpan}
 use Rattle.mt_base.proofs.Spans.{IsSpan-later, IsSpan-same, shifted}

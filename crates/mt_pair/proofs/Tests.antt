@@ -5,28 +5,16 @@ use Rattle.std.proofs.Common.{◌≡◌, ◌∙◌, ◌↔◌, ℕ, ℤ, pos, �
 use Rattle.std.proofs.lemmas.Int.{ints}
 use Rattle.mt_base.specs.declared.row.Row.{Row}
 use Rattle.mt_frac.specs.declared.linear.Linear.{Linear}
-use Rattle.mt_track.specs.declared.layer.Layer.{Layer}
-use Rattle.mt_pair.specs.Heights.{EndBelow}
 use Rattle.mt_pair.specs.Private.High.{IsLow, StaysAbove}
 
-is_le : (x y : ℤ) → le_z x y ≡ true → x ≤ℤ y
+pub is_le : (x y : ℤ) → le_z x y ≡ true → x ≤ℤ y
 is_le x y test = omega (arith, ints, test)
 
-le_is : (x y : ℤ) → x ≤ℤ y → le_z x y ≡ true
+pub le_is : (x y : ℤ) → x ≤ℤ y → le_z x y ≡ true
 le_is x y h = sym (true_is_le x y (omega (arith, ints)))
 
-no_le : {x y : ℤ} → le_z x y ≡ false → x ≤ℤ y → true ≡ false
+pub no_le : {x y : ℤ} → le_z x y ≡ false → x ≤ℤ y → true ≡ false
 no_le {x} {y} fails h = sym (le_is x y h) ∙ fails
-
--- neither layer ends above a level
-pub end_below_by : (level : ℤ) (a b : Layer) → le_z a.high level ≡ true → IsTrue (le_z b.high level) ↔ EndBelow level a b
-end_below_by level a b first = (
-  (λ t. record { first = is_le a.high level first; second = is_le b.high level t }),
-  (λ both. le_is b.high level both.second),
-)
-
-pub not_end_below : (level : ℤ) (a b : Layer) → le_z a.high level ≡ false → IsTrue (le_z a.high level) ↔ EndBelow level a b
-not_end_below level a b fails = ((λ t. absurd (true≢false (sym t ∙ fails))), (λ both. absurd (true≢false (no_le fails both.first))))
 
 -- a row is low at both ends
 pub low_by : (level : ℤ) (a : Row) (seconds : ℕ) → le_z a.z level ≡ true → IsTrue (le_z (a.z +ℤ a.vz *ℤ pos seconds) level) ↔ IsLow level a seconds

@@ -9,9 +9,8 @@ use Rattle.mt_ring.proofs.Ring.{lin, spread}
 use Rattle.mt_ring.proofs.Signs.{cases_ℤ, mul_nonneg, square_nonneg, weaken}
 use Rattle.mt_frac.specs.declared.linear.Linear.{Linear}
 use Rattle.mt_frac.specs.declared.quadratic.Quad.{Quad}
-use Rattle.mt_frac.specs.Polynomials.{value, line_value}
-use Rattle.mt_frac.specs.Private.Vertex.{slope}
-use Rattle.mt_frac.specs.Private.Instants.{HoldsIn, HoldsOver}
+use Rattle.mt_frac.specs.Polynomials.{value, line_value, slope}
+use Rattle.mt_frac.specs.Instants.{HoldsIn, HoldsOver}
 use Rattle.mt_pair.specs.Private.Below.{AreBelowAt}
 use Rattle.mt_pair.specs.Private.Turning.{IsFalling, IsSooner}
 use Rattle.mt_pair.proofs.Instants.{are_open}

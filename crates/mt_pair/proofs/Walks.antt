@@ -7,8 +7,7 @@ use Rattle.mt_base.specs.Conflict.{IsConflict, IsLossSecond}
 use Rattle.mt_base.specs.Loss.{LosesIn}
 use Rattle.mt_base.specs.Trajectory.{Trajectory}
 use Rattle.mt_track.specs.declared.segment.Segment.{Segment}
-use Rattle.mt_track.specs.Laid.{Adjoin, AreSegmentsOf, Covers, IsStrand}
-use Rattle.mt_track.specs.Private.Laid.{CoversSecond, IsLaid, edge}
+use Rattle.mt_track.specs.Laid.{Adjoin, AreSegmentsOf, Covers, CoversSecond, IsLaid, IsStrand, edge}
 use Rattle.mt_track.specs.Rows.{row_after}
 use Rattle.mt_track.proofs.Apart.{few_segments, same_segments}
 use Rattle.mt_track.proofs.Joined.{one_element}

@@ -6,9 +6,8 @@ use Rattle.mt_ring.proofs.Ring.{lin, spread}
 use Rattle.mt_ring.proofs.Sizes.{Abs, abs_add, abs_from, abs_lit, abs_mul, abs_weaken, fits_64, fits_128}
 use Rattle.mt_frac.specs.declared.linear.Linear.{Linear}
 use Rattle.mt_frac.specs.declared.quadratic.Quad.{Quad}
-use Rattle.mt_frac.specs.Polynomials.{value, line_value}
+use Rattle.mt_frac.specs.Polynomials.{value, line_value, slope}
 use Rattle.mt_frac.specs.Signs.{IsBoundedLine, IsBoundedQuad}
-use Rattle.mt_frac.specs.Private.Vertex.{slope}
 
 pub whole_value : (a b c k : ℤ) → (a *ℤ k +ℤ b) *ℤ k +ℤ c ≡ value a b c k (pos 1)
 whole_value a b c k = simp spread (omega (arith, lin))

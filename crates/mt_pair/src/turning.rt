@@ -1,9 +1,8 @@
 //! On which side of a second's start a loss lies, told from the values there.
 ghost use Rattle.std.specs.Prelude.{◌≡◌, ◌↔◌, ℕ, true, ◌<◌, ◌≤◌, pos, ◌≤ℤ◌, IsTrue};
-ghost use Rattle.mt_frac.specs.Polynomials.{value, line_value};
+ghost use Rattle.mt_frac.specs.Polynomials.{value, line_value, slope};
 ghost use Rattle.mt_frac.specs.Signs.{IsBoundedLine, IsBoundedQuad};
-ghost use Rattle.mt_frac.specs.Private.Vertex.{slope};
-ghost use Rattle.mt_frac.specs.Private.Instants.{HoldsOver};
+ghost use Rattle.mt_frac.specs.Instants.{HoldsOver};
 ghost use Rattle.mt_pair.specs.Private.Below.{AreBelowAt};
 ghost use Rattle.mt_pair.specs.Private.Turning.{IsFalling, IsSooner};
 

@@ -1,7 +1,7 @@
 ghost use Rattle.std.specs.Prelude.{◌≡◌, ◌↔◌, ◌&&◌, ◌+ℤ◌, ◌*ℤ◌, pos, IsTrue};
 ghost use Rattle.mt_base.specs.Bounds.{AreWithinBounds, IsBoundedRow, IsWithin};
 ghost use Rattle.mt_frac.specs.Signs.{IsBoundedLine};
-ghost use Rattle.mt_pair.specs.Private.Gap.{above_of, excess_of};
+ghost use Rattle.mt_pair.specs.Gap.{above_of, excess_of};
 ghost use Rattle.mt_pair.specs.High.{level_of};
 ghost use Rattle.mt_pair.specs.Private.High.{AreFar, AreLow, IsLow, StaysAbove};
 
@@ -46,8 +46,9 @@ pub(crate) fn both(a_rvsm: bool, b_rvsm: bool) -> bool
     a_rvsm && b_rvsm
 }
 
-/// The level above which the greater minimum holds: flight level 410 where both aircraft are approved, else 290.
-pub(crate) fn level(approved: bool) -> i64
+/// The level above which the greater vertical minimum holds, in 1/60 of a foot: flight level 410 where both aircraft are approved for RVSM,
+/// else flight level 290.
+pub fn level_of(approved: bool) -> i64
     ensures { result ≡ level_of approved }
 {
     if approved { 2_460_000 } else { 1_740_000 }
@@ -61,7 +62,7 @@ pub(crate) fn above(approved: bool, a: &Row) -> Linear
 {
     Linear {
         b: i128::from(-a.vz),
-        c: i128::from(level(approved) - a.z),
+        c: i128::from(level_of(approved) - a.z),
     }
 }
 
@@ -78,7 +79,7 @@ fn is_low(approved: bool, a: &Row, seconds: Second) -> bool
     requires a_kept { IsBoundedRow a.now }
     ensures { IsTrue result ↔ IsLow (level_of approved) a.now seconds }
 {
-    a.z <= level(approved) && height_after(a, seconds) <= level(approved)
+    a.z <= level_of(approved) && height_after(a, seconds) <= level_of(approved)
 }
 
 /// Whether neither of two rows of one second is above that level, neither at the start of the second nor that many seconds later.

@@ -5,8 +5,7 @@ ghost use Rattle.mt_base.specs.Bounds.{IsBoundedCommand};
 ghost use Rattle.mt_base.specs.Checks.{judged};
 ghost use Rattle.mt_base.specs.Decision.{checks, look_at};
 ghost use Rattle.mt_base.specs.Effect.{verdict_in};
-ghost use Rattle.mt_predict.specs.Looking.{look_of};
-ghost use Rattle.mt_predict.specs.Private.Looking.{HasStrand};
+ghost use Rattle.mt_predict.specs.Looking.{HasStrand, look_of};
 ghost use Rattle.mt_probe.specs.Shot.{flight_at};
 ghost use Rattle.mt_probe.specs.Shot.{state_in_shot as state_in};
 

@@ -15,8 +15,7 @@ use Rattle.mt_base.specs.Tables.{Setup}
 use Rattle.mt_base.specs.Trajectory.{Trajectory}
 use Rattle.mt_base.specs.WhatIf.{course_in}
 use Rattle.mt_predict.specs.declared.judging.Looked.{Looked}
-use Rattle.mt_predict.specs.Looking.{HasSomeStrand, HasSomeStrandOf, checks_along, look_of, strand_in}
-use Rattle.mt_predict.specs.Private.Looking.{HasStrand, HasStrandOf, HasStrandOfPlanned}
+use Rattle.mt_predict.specs.Looking.{HasSomeStrand, HasSomeStrandOf, HasStrand, HasStrandOf, HasStrandOfPlanned, checks_along, look_of, strand_in}
 
 pub any_command : (setup : Setup) (looked : Looked) (command : Command) → HasStrandOfPlanned setup looked → HasStrand setup looked command
 any_command setup looked (Clear call clearance eff) has = has

@@ -1,4 +1,4 @@
-use Rattle.std.specs.Prelude.{◌≡◌, ◌≤◌, ◌∷◌, ◌++◌, [], ℕ, List, Bool, true, not, nat_le, length, IfSome, is_some, unwrap_or, ⊤}
+use Rattle.std.specs.Prelude.{◌≡◌, ◌≤◌, ◌∷◌, ◌++◌, [], ℕ, List, Bool, true, not, nat_le, length, Some, IfSome, is_some, unwrap_or, ⊤}
 use Rattle.std.specs.Option.{option_copied, option_map_or}
 use Rattle.mt_base.specs.declared.clearance.Clearance.{Clearance}
 use Rattle.mt_base.specs.declared.command.Command.{Command}
@@ -6,8 +6,10 @@ use Rattle.mt_base.specs.declared.command.Command.TheVariants.{Clear, Accept, Te
 use Rattle.mt_base.specs.declared.command.Refusal.{Refusal}
 use Rattle.mt_base.specs.declared.command.Refusal.TheVariants.{Fixed, Future, HistoryFull, TentativeHeld, UnknownCall}
 use Rattle.mt_base.specs.declared.flight.Course.{Course}
+use Rattle.mt_base.specs.declared.flight.Path.TheVariants.{Planned}
 use Rattle.mt_base.specs.Cleared.{aim_checks, clearance_checks}
 use Rattle.mt_base.specs.Decision.{Look, checks, has_history, owner_of}
+use Rattle.mt_base.specs.Picture.{trajectory_of}
 use Rattle.mt_base.specs.Tables.{Setup, Tables}
 use Rattle.mt_base.specs.Trajectory.{Trajectory}
 use Rattle.mt_base.specs.WhatIf.{course_in, mark_in}
@@ -57,3 +59,19 @@ HasSomeStrand looked (Clear call clearance eff) = HasSomeStrandOfPlanned looked
 HasSomeStrand looked (Accept call clearance eff probed) = HasSomeStrandOfPlanned looked
 HasSomeStrand looked (Tentative call clearance eff) = HasSomeStrandOfPlanned looked
 HasSomeStrand looked command = ⊤
+
+-- the trajectory that a course flies is at hand, along a route of at most 64 names
+pub record HasStrandOf (setup : Setup) (looked : Looked) (course : Course) : Type 0 where
+  pub strand : option_copied looked.strand ≡ Some (trajectory_of setup (Planned course))
+  pub short : length course.route ≤ 64
+
+-- the trajectory of the flight that the command names is at hand, where it is planned
+abbrev pub HasStrandOfPlanned : Setup → Looked → Type 0
+HasStrandOfPlanned setup looked = IfSome (course_in (option_copied looked.flight)) (HasStrandOf setup looked)
+
+-- for a clearance, the trajectory that the planned flight flies is at hand
+abbrev pub HasStrand : Setup → Looked → Command → Type 0
+HasStrand setup looked (Clear call clearance eff) = HasStrandOfPlanned setup looked
+HasStrand setup looked (Accept call clearance eff probed) = HasStrandOfPlanned setup looked
+HasStrand setup looked (Tentative call clearance eff) = HasStrandOfPlanned setup looked
+HasStrand setup looked command = ⊤

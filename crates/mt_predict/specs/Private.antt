@@ -1,4 +1,3 @@
 -- What no public contract names: invariants and relations of private steps.
 pub mod Flying
-pub mod Looking
 pub mod Manners

@@ -15,7 +15,7 @@ use Rattle.mt_base.specs.Trajectory.{Trajectory}
 use Rattle.mt_base.specs.WhatIf.{course_in, course_on}
 use Rattle.mt_change.proofs.Plans.{few_names}
 use Rattle.mt_predict.specs.declared.judging.Looked.{Looked}
-use Rattle.mt_predict.specs.Private.Looking.{HasStrand, HasStrandOf}
+use Rattle.mt_predict.specs.Looking.{HasStrand, HasStrandOf}
 use Rattle.mt_predict.proofs.Looks.{any_command}
 use Rattle.mt_probe.specs.declared.flight.Flight.{Flight}
 use Rattle.mt_probe.specs.Items.{path_of}

@@ -6,8 +6,7 @@ use Rattle.mt_base.specs.declared.row.Row.{Row}
 use Rattle.mt_base.specs.Bounds.{IsBoundedOver, IsBoundedRow, IsKeptOver}
 use Rattle.mt_base.specs.Trajectory.{next_row, straight_rows}
 use Rattle.mt_track.specs.declared.segment.Segment.{Segment}
-use Rattle.mt_track.specs.Laid.{Adjoin, Follows, all_rows, rows_of}
-use Rattle.mt_track.specs.Private.Laid.{IsLaid}
+use Rattle.mt_track.specs.Laid.{Adjoin, Follows, IsLaid, all_rows, rows_of}
 use Rattle.mt_track.specs.Rows.{row_after}
 use Rattle.mt_track.proofs.Apart.{AreApart-lengthened}
 use Rattle.mt_track.proofs.Segments.{edge_from, lies_at, length-all_rows, row_in}

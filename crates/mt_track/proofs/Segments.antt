@@ -3,8 +3,7 @@ use Rattle.std.proofs.Common.{◌≡◌, ℕ, zero, suc, ◌+◌, ◌-◌, ◌<�
 use Rattle.std.specs.Prelude.{slice_get}
 use Rattle.mt_base.proofs.HistoryLemmas.{slice_get-append_left}
 use Rattle.mt_track.specs.declared.segment.Segment.{Segment}
-use Rattle.mt_track.specs.Laid.{Adjoin, all_rows, rows_of}
-use Rattle.mt_track.specs.Private.Laid.{edge}
+use Rattle.mt_track.specs.Laid.{Adjoin, all_rows, edge, rows_of}
 use Rattle.mt_track.specs.Rows.{row_after}
 use Rattle.mt_track.proofs.Straight.{length-straight_rows, slice_get-straight_rows}
 

@@ -13,8 +13,7 @@ use Rattle.mt_base.specs.declared.row.Row.{Row}
 use Rattle.mt_base.specs.Bounds.{IsBoundedOver, IsBoundedRow}
 use Rattle.mt_base.specs.Trajectory.{Trajectory, row_at}
 use Rattle.mt_track.specs.declared.segment.Segment.{Segment}
-use Rattle.mt_track.specs.Laid.{AreSeparateSegments, Follows, IsStrand, all_rows, extended, rows_of}
-use Rattle.mt_track.specs.Private.Laid.{CoversSecond, IsLaid, edge}
+use Rattle.mt_track.specs.Laid.{AreSeparateSegments, CoversSecond, Follows, IsLaid, IsStrand, all_rows, edge, extended, rows_of}
 use Rattle.mt_track.specs.Rows.{Continues, row_after}
 use Rattle.mt_track.proofs.Segments.{Adjoin-push, LiesAt, length-all_rows, lies_at, row_in}
 use Rattle.mt_track.proofs.Straight.{All-straight_rows, AllAdjacent-straight_rows, get_or-straight_rows, length-straight_rows, row_after-none}

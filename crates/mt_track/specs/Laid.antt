@@ -1,8 +1,8 @@
-use Rattle.std.specs.Prelude.{◌≡◌, ℕ, ◌+◌, ◌-◌, ◌<◌, ◌≤◌, List, [], ◌∷◌, ◌++◌, length, slice_get, get_or, All, IfSome, ⊤}
+use Rattle.std.specs.Prelude.{◌≡◌, ℕ, zero, suc, ◌+◌, ◌-◌, ◌<◌, ◌≤◌, List, [], ◌∷◌, ◌++◌, length, slice_get, get_or, All, Some, IfSome, ⊤}
 use Rattle.std.specs.List.{flat_map, AllAdjacentBelow}
 use Rattle.mt_base.specs.declared.row.Row.{Row}
 use Rattle.mt_base.specs.Bounds.{IsBoundedOver, IsBoundedRow}
-use Rattle.mt_base.specs.Trajectory.{Trajectory, straight_rows}
+use Rattle.mt_base.specs.Trajectory.{Trajectory, row_at, straight_rows}
 use Rattle.mt_track.specs.declared.segment.Segment.{Segment}
 use Rattle.mt_track.specs.Rows.{Continues, row_after}
 
@@ -64,3 +64,22 @@ pub record Follows (t : Trajectory) (s : Segment) : Type 0 where
 -- a trajectory with a segment's rows appended
 abbrev pub extended : Trajectory → Segment → Trajectory
 extended t s = record t { rows = t.rows ++ rows_of s }
+
+-- the second at which segment i begins, or the last one ends
+abbrev pub edge : ℕ → List Segment → ℕ → ℕ
+edge from ss zero = from
+edge from [] (suc i) = from
+edge from (s ∷ ss) (suc i) = edge s.to ss i
+
+-- a strand's segments lie from its start to its end, and no two neighbours are in one
+pub record IsLaid (start end : ℕ) (segments : List Segment) : Type 0 where
+  pub adjoin : Adjoin start segments end
+  pub apart : AreSeparateSegments segments
+  pub kept : AreStrandRows start (all_rows segments)
+
+-- a segment holds second k of a trajectory. The row of k is that many seconds after the segment's first row, and within bounds until then.
+pub record CoversSecond (t : Trajectory) (k : ℕ) (s : Segment) : Type 0 where
+  pub begun : s.from ≤ k
+  pub row : row_at t k ≡ Some (row_after s.first (k - s.from))
+  pub kept : IsBoundedOver s.first (k - s.from)
+  pub bounded : IsBoundedRow (row_after s.first (k - s.from))

@@ -1,8 +1,7 @@
 ghost use Rattle.std.specs.Prelude.{◌≡◌, ◌+◌, ◌<◌, ◌≤◌, [], length, IfOk, IfSome, OnOk, OnErr};
 ghost use Rattle.mt_base.specs.Bounds.{IsBoundedRow, IsBoundedStretch};
 ghost use Rattle.mt_base.specs.Trajectory.{row_at, straight};
-ghost use Rattle.mt_track.specs.Laid.{AreSegmentsOf, IsStrand, Follows, extended};
-ghost use Rattle.mt_track.specs.Private.Laid.{CoversSecond};
+ghost use Rattle.mt_track.specs.Laid.{AreSegmentsOf, CoversSecond, Follows, IsStrand, extended};
 
 use crate::segment::{Segment, goes_on, later};
 use mt_base::{Memory, Row, Second, Straight};
@@ -27,8 +26,7 @@ pub struct Strand {
 
 impl Model for Strand {
     ghost use Rattle.mt_base.specs.Trajectory.{Trajectory};
-    ghost use Rattle.mt_track.specs.Laid.{all_rows};
-    ghost use Rattle.mt_track.specs.Private.Laid.{IsLaid};
+    ghost use Rattle.mt_track.specs.Laid.{IsLaid, all_rows};
 
     ghost Value = { Trajectory };
 

@@ -1,7 +1,7 @@
 //! Acceptances for the flight of `climbing` with two faults, and which of them is told. Lines can say few of them: a probe that is refused
 //! is not kept.
 
-ghost use Rattle.mt_predict.specs.Private.Looking.{HasStrandOfPlanned};
+ghost use Rattle.mt_predict.specs.Looking.{HasStrandOfPlanned};
 
 use super::climbing::{course, tables};
 use super::courses::predicted;

@@ -2,7 +2,7 @@
 -- Bounds of boxes: in the plane, or not far from it.
 use Rattle.std.specs.Prelude.{pos, neg_ℤ, ◌≤ℤ◌}
 use Rattle.mt_base.specs.Bounds.{IsWithin}
-use Rattle.mt_track.specs.Layer.{IsLayerKept}
+use Rattle.mt_cover.specs.Layer.{IsLayerKept}
 use Rattle.mt_cover.specs.declared.bounding_box.BoundingBox.{BoundingBox}
 use Rattle.mt_cover.specs.declared.bounding_box.Extent.{Extent}
 

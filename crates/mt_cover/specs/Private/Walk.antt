@@ -2,7 +2,7 @@
 -- How a walk goes through the segments of a strand, slice by slice.
 use Rattle.std.specs.Prelude.{ℕ, suc, ◌<◌, ◌≤◌, List, length, take, drop}
 use Rattle.mt_track.specs.declared.segment.Segment.{Segment}
-use Rattle.mt_track.specs.Private.Laid.{edge}
+use Rattle.mt_track.specs.Laid.{edge}
 
 -- some elements from a place on
 abbrev pub part : {X : Type 0} → List X → ℕ → ℕ → List X

@@ -2,7 +2,7 @@
 -- Slices that hold several others.
 use Rattle.std.specs.Prelude.{◌≡◌, ◌≤◌, ◌<◌, ◌-◌, ◌/◌, ℕ, List, All, get_or, length}
 use Rattle.std.specs.Int.{div_ceil}
-use Rattle.mt_track.specs.Layer.{IsLayerKept}
+use Rattle.mt_cover.specs.Layer.{IsLayerKept}
 use Rattle.mt_cover.specs.declared.sliced.Slice.{Slice}
 use Rattle.mt_cover.specs.Sliced.{Holds, no_slice}
 

@@ -12,8 +12,7 @@ use Rattle.mt_base.specs.Tables.{Setup}
 use Rattle.mt_base.specs.Trajectory.{Trajectory}
 use Rattle.mt_base.specs.WhatIf.{course_in}
 use Rattle.mt_predict.specs.declared.judging.Looked.{Looked}
-use Rattle.mt_predict.specs.Looking.{look_of}
-use Rattle.mt_predict.specs.Private.Looking.{HasStrand}
+use Rattle.mt_predict.specs.Looking.{HasStrand, look_of}
 
 -- the trajectory of a flight that is there and planned, along a route of at most 64 names
 abbrev pub IsPlannedStrand : Setup → Option Record → Option Trajectory → Type 0

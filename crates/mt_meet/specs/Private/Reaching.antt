@@ -2,9 +2,9 @@
 -- What is compared first of two trajectories.
 use Rattle.std.specs.Prelude.{◌≡◌, ◌≤◌, ◌<◌, ◌+◌, ◌*◌, ◌/◌, ◌%◌, ◌^◌, ◌&&◌, ◌+ℤ◌, ◌-ℤ◌, ◌≤ℤ◌, ◌⊎◌, false, ℕ, List, Option, Some, None, All, length, get_or, replicate, ⊤}
 use Rattle.mt_base.specs.declared.rules.Rules.{Rules}
-use Rattle.mt_track.specs.declared.layer.Layer.{Layer}
+use Rattle.mt_cover.specs.declared.layer.Layer.{Layer}
 use Rattle.mt_cover.specs.Sliced.{AreSlices, Sliced, layer_over, no_layer}
-use Rattle.mt_pair.specs.Heights.{LieApart}
+use Rattle.mt_meet.specs.Heights.{LieApart}
 use Rattle.mt_pair.specs.High.{level_of}
 use Rattle.mt_meet.specs.declared.reach.Reach.{Reach}
 use Rattle.mt_meet.specs.declared.table.Met.{Met}

@@ -2,8 +2,7 @@
 use Rattle.std.specs.Prelude.{ℕ, ◌≤◌, List}
 use Rattle.mt_base.specs.Trajectory.{Trajectory}
 use Rattle.mt_track.specs.declared.segment.Segment.{Segment}
-use Rattle.mt_track.specs.Laid.{AreSegmentsOf}
-use Rattle.mt_track.specs.Private.Laid.{edge}
+use Rattle.mt_track.specs.Laid.{AreSegmentsOf, edge}
 
 -- segment i of a trajectory begins by second k
 abbrev pub BeginsBy : Trajectory → ℕ → ℕ → Type 0

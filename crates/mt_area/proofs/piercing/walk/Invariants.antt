@@ -1,6 +1,6 @@
 use Rattle.std.proofs.Common.{◌≤◌, ◌<◌}
 use Rattle.mt_base.specs.Area.{IsPierce}
-use Rattle.mt_track.specs.Private.Laid.{edge}
+use Rattle.mt_track.specs.Laid.{edge}
 use Rattle.mt_area.proofs.piercing.walk.Given as goal
 
 abbrev pub invariant-loop-segment : goal.invariant-loop-segment

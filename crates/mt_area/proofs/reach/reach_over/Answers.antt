@@ -1,7 +1,7 @@
 use Rattle.std.proofs.Common.{◌≡◌, ◌+◌, length, ⊎_elim, arith}
 use Rattle.std.proofs.lemmas.Bool.{cases_lt}
 use Rattle.std.specs.Prelude.{slice_index_or}
-use Rattle.mt_track.specs.Private.Laid.{edge}
+use Rattle.mt_track.specs.Laid.{edge}
 use Rattle.mt_area.proofs.Reaches.{HoldsRow-wider, IsWiderReach-twice, placed_after}
 use Rattle.mt_area.proofs.Reaching.{HoldsBefore-more, HoldsBefore-skip, HoldsSecond-behind}
 use Rattle.mt_area.proofs.Walks.{blank, edge_end, reads}

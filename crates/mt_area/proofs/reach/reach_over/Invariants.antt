@@ -1,4 +1,4 @@
-use Rattle.mt_track.specs.Private.Laid.{edge}
+use Rattle.mt_track.specs.Laid.{edge}
 use Rattle.mt_area.proofs.Reaching.{HoldsBefore}
 use Rattle.mt_area.proofs.reach.reach_over.Given as goal
 

@@ -1,5 +1,5 @@
 use Rattle.std.proofs.Common.{ℕ, ◌-◌, ◌<◌, ◌≤◌}
-use Rattle.mt_frac.specs.Private.Instants.{HoldsIn, HoldsOver}
+use Rattle.mt_frac.specs.Instants.{HoldsIn, HoldsOver}
 use Rattle.mt_frac.specs.Meeting.{AreBelow}
 use Rattle.mt_area.proofs.seconds.first_over.Given as goal
 

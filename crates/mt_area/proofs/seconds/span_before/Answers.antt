@@ -1,5 +1,5 @@
 use Rattle.std.proofs.lemmas.Bool.Decides.{not_from_Decides}
-use Rattle.mt_frac.specs.Private.Instants.{HoldsIn}
+use Rattle.mt_frac.specs.Instants.{HoldsIn}
 use Rattle.mt_frac.specs.Meeting.{AreBelow}
 use Rattle.mt_base.proofs.Spans.{IsSpan-of}
 use Rattle.mt_area.proofs.Halving.{none_over, some_from}

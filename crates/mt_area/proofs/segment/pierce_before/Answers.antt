@@ -1,7 +1,7 @@
 use Rattle.std.proofs.Common.{take, refl, pos, ◌+ℤ◌, ◌*ℤ◌}
 use Rattle.mt_base.specs.Area.{IsInside}
 use Rattle.mt_base.proofs.Spans.{IsSpan-same}
-use Rattle.mt_frac.specs.Private.Instants.{HoldsIn}
+use Rattle.mt_frac.specs.Instants.{HoldsIn}
 use Rattle.mt_frac.specs.Meeting.{AreBelow}
 use Rattle.mt_track.specs.Rows.{row_after}
 use Rattle.mt_area.proofs.Instants.{during, inside_moved, inside_second}

@@ -1,6 +1,6 @@
 use Rattle.std.proofs.Common.{◌≡◌, ◌+◌, ◌*◌, All, min, map}
 use Rattle.std.specs.List.{range_with_len}
-use Rattle.mt_track.specs.Layer.{IsLayerKept}
+use Rattle.mt_cover.specs.Layer.{IsLayerKept}
 use Rattle.mt_cover.specs.declared.sliced.Slice.{Slice}
 use Rattle.mt_cover.specs.Sliced.{layer_over, slice_in}
 use Rattle.mt_cover.specs.Private.Walk.{StandsAtSecond}

@@ -1,5 +1,5 @@
 use Rattle.std.proofs.Common.{◌-◌, ◌≤◌, length}
-use Rattle.mt_track.specs.Private.Laid.{edge}
+use Rattle.mt_track.specs.Laid.{edge}
 use Rattle.mt_pair.proofs.span.holding.Given as goal
 
 abbrev pub invariant-loop-place : goal.invariant-loop-place

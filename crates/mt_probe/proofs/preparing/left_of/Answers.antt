@@ -4,8 +4,7 @@ use Rattle.mt_base.specs.declared.command.Command.{Command}
 use Rattle.mt_base.specs.declared.command.Refusal.{Refusal}
 use Rattle.mt_base.specs.Checks.{judged}
 use Rattle.mt_predict.specs.declared.judging.Looked.{Looked}
-use Rattle.mt_predict.specs.Looking.{checks_along, look_of, strand_in}
-use Rattle.mt_predict.specs.Private.Looking.{HasStrand}
+use Rattle.mt_predict.specs.Looking.{HasStrand, checks_along, look_of, strand_in}
 use Rattle.mt_predict.proofs.Looks.{judged_flown, some_strand}
 use Rattle.mt_probe.specs.Prepared.{judged_aside, roomy}
 use Rattle.mt_probe.specs.Shot.{Shot, state_in_shot}

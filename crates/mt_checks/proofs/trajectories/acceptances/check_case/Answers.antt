@@ -6,8 +6,7 @@ use Rattle.mt_base.specs.declared.flight.Course.{Course}
 use Rattle.mt_base.specs.Tables.{Setup}
 use Rattle.mt_base.specs.WhatIf.{course_in}
 use Rattle.mt_predict.specs.declared.judging.Looked.{Looked}
-use Rattle.mt_predict.specs.Looking.{HasSomeStrand}
-use Rattle.mt_predict.specs.Private.Looking.{HasStrandOf, HasStrandOfPlanned}
+use Rattle.mt_predict.specs.Looking.{HasSomeStrand, HasStrandOf, HasStrandOfPlanned}
 use Rattle.mt_predict.proofs.Looks.{any_command, some_strand}
 use Rattle.mt_checks.proofs.trajectories.acceptances.check_case.Goals as goal
 

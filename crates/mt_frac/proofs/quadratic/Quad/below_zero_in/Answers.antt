@@ -4,8 +4,7 @@ use Rattle.std.proofs.lemmas.Int.{ints}
 use Rattle.mt_frac.specs.declared.fraction.Frac.{Frac}
 use Rattle.mt_frac.specs.declared.quadratic.Quad.{Quad}
 use Rattle.mt_frac.specs.Signs.{IsBelowZeroIn}
-use Rattle.mt_frac.specs.Polynomials.{value}
-use Rattle.mt_frac.specs.Private.Vertex.{slope, discriminant_of}
+use Rattle.mt_frac.specs.Polynomials.{value, slope, discriminant_of}
 use Rattle.mt_frac.proofs.Comparisons.{ge_no, ge_yes, gt_from, gt_yes, le_no, le_yes, lt_yes, lt_no}
 use Rattle.mt_frac.proofs.Fractions.{positive}
 use Rattle.mt_frac.proofs.Overflow.{discriminant_fits, slope_fits}

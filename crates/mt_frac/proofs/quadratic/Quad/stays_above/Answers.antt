@@ -1,6 +1,6 @@
 use Rattle.std.proofs.Common.{arith, pos, ◌<ℤ◌, ◌≤ℤ◌}
 use Rattle.std.proofs.lemmas.Int.{to_z-of_z}
-use Rattle.mt_frac.specs.Private.Vertex.{discriminant_of}
+use Rattle.mt_frac.specs.Polynomials.{discriminant_of}
 use Rattle.mt_frac.proofs.Convexity.{no_roots_above}
 use Rattle.mt_frac.proofs.Overflow.{discriminant_fits}
 use Rattle.mt_frac.proofs.quadratic.Quad.stays_above.Goals as goal

@@ -1,5 +1,5 @@
 use Rattle.std.proofs.Common.{IsTrue, false, rules, refl, sym, subst}
-use Rattle.mt_track.specs.Layer.{IsLayerKept}
+use Rattle.mt_cover.specs.Layer.{IsLayerKept}
 use Rattle.mt_meet.specs.declared.reach.Reach.{Reach}
 use Rattle.mt_meet.proofs.Meetings.{beyond_apart, far_apart, layer_kept}
 use Rattle.mt_meet.proofs.table.SliceTable.met_at.Goals as goal

@@ -1,5 +1,5 @@
 use Rattle.std.proofs.Common.{ℕ, ◌-◌, ◌+◌, ◌<◌, ◌≤◌}
-use Rattle.mt_frac.specs.Private.Instants.{HoldsIn, HoldsOver}
+use Rattle.mt_frac.specs.Instants.{HoldsIn, HoldsOver}
 use Rattle.mt_pair.specs.Private.Cases.{IsLoss}
 use Rattle.mt_pair.proofs.Halving.{IsHalvedTo}
 use Rattle.mt_pair.proofs.approach.Approach.last_over.Given as goal

@@ -1,5 +1,5 @@
 use Rattle.std.proofs.Common.{◌-◌, ◌<◌, ◌≤◌, length}
-use Rattle.mt_track.specs.Private.Laid.{edge}
+use Rattle.mt_track.specs.Laid.{edge}
 use Rattle.mt_track.proofs.strand.Strand.holding.Given as goal
 
 abbrev pub invariant-loop-high : goal.invariant-loop-high

@@ -1,9 +1,14 @@
--- No public contract names these: they are of private steps and of proofs.
--- The heights that a trajectory takes at any instant, its vertical margin below and above.
-use Rattle.std.specs.Prelude.{pos, ◌+ℤ◌, ◌-ℤ◌, ◌≤ℤ◌}
+-- Heights from a least to a greatest one.
+use Rattle.std.specs.Prelude.{pos, neg_ℤ, ◌+ℤ◌, ◌-ℤ◌, ◌≤ℤ◌}
 use Rattle.mt_base.specs.declared.row.Row.{Row}
+use Rattle.mt_base.specs.Bounds.{IsWithin}
 use Rattle.mt_base.specs.Trajectory.{next_row}
-use Rattle.mt_track.specs.declared.layer.Layer.{Layer}
+use Rattle.mt_cover.specs.declared.layer.Layer.{Layer}
+
+-- a layer's bounds are small enough to add
+pub record IsLayerKept (layer : Layer) : Type 0 where
+  pub low : IsWithin (neg_ℤ (pos 600000)) (pos 4200000) layer.low
+  pub high : IsWithin (neg_ℤ (pos 600000)) (pos 4200000) layer.high
 
 -- a layer holds the height of a row at the start of its second, with the vertical margin, which isn't below 0, below and above
 pub record HoldsHeight (layer : Layer) (row : Row) : Type 0 where
@@ -15,8 +20,3 @@ pub record HoldsHeight (layer : Layer) (row : Row) : Type 0 where
 pub record IsInLayer (layer : Layer) (row : Row) : Type 0 where
   pub start : HoldsHeight layer row
   pub end : HoldsHeight layer (next_row row)
-
--- the second of two layers holds what the first one does
-pub record IsWider (layer wider : Layer) : Type 0 where
-  pub low : wider.low ≤ℤ layer.low
-  pub high : layer.high ≤ℤ wider.high

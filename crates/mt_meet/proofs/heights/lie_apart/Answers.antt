@@ -1,6 +1,6 @@
 use Rattle.std.proofs.Common.{IsTrue, false, inr, rules, ⊎_elim}
-use Rattle.mt_pair.proofs.Layers.{apart_by, apart_for}
-use Rattle.mt_pair.proofs.heights.lie_apart.Goals as goal
+use Rattle.mt_meet.proofs.Layers.{apart_by, apart_for}
+use Rattle.mt_meet.proofs.heights.lie_apart.Goals as goal
 
 pub returns-else-is_above : goal.returns-else-is_above
 returns-else-is_above c = (

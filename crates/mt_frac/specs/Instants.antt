@@ -1,4 +1,3 @@
--- No public contract names these: they are of private steps and of proofs.
 -- Conditions P on a fraction n/d, and the seconds of which they hold at some instant. The instant n/d of second k, with 0 ≤ n < d, is the
 -- fraction (n + k d)/d.
 use Rattle.std.specs.Prelude.{ℕ, ℤ, pos, ◌<◌, ◌≤◌, ◌+ℤ◌, ◌*ℤ◌, ◌≤ℤ◌, ◌<ℤ◌}

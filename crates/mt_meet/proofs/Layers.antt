@@ -1,5 +1,5 @@
 -- Rows in layers that lie apart by the vertical minimum of these never lose separation.
-use Rattle.std.proofs.Common.{◌≡◌, Bool, ◌⊎◌, inl, inr, ⊎_elim, refl, ℤ, pos, ◌+ℤ◌, ◌-ℤ◌, ◌*ℤ◌, ◌≤ℤ◌, ◌<ℤ◌, ◌↔◌, IsTrue, to_z, of_z, w64, lit<, arith}
+use Rattle.std.proofs.Common.{◌≡◌, ◌∙◌, Bool, true, false, true≢false, ◌⊎◌, inl, inr, ⊎_elim, refl, sym, ℤ, pos, ◌+ℤ◌, ◌-ℤ◌, ◌*ℤ◌, ◌≤ℤ◌, ◌<ℤ◌, ◌↔◌, IsTrue, to_z, of_z, w64, lit<, arith}
 use Rattle.std.specs.Prelude.{◌&&◌}
 use Rattle.std.proofs.lemmas.Int.{ints, to_z-of_z}
 use Rattle.std.specs.Int.Signed.{le_z}
@@ -11,14 +11,14 @@ use Rattle.mt_base.specs.declared.rules.Rules.{Rules}
 use Rattle.mt_base.specs.Instant.{value_at}
 use Rattle.mt_base.specs.Bounds.{IsWithin}
 use Rattle.mt_base.specs.Loss.{IsNearAt, LosesIn, height}
-use Rattle.mt_track.specs.declared.layer.Layer.{Layer}
-use Rattle.mt_track.specs.Layer.{IsLayerKept}
-use Rattle.mt_track.specs.Private.Layer.{IsInLayer}
-use Rattle.mt_pair.specs.Heights.{AreApartBy, EndBelow, LieApart}
-use Rattle.mt_pair.specs.Private.Heights.{IsMinimumIn}
-use Rattle.mt_pair.specs.High.{level_of}
-use Rattle.mt_pair.specs.Private.High.{LosesAbove}
+use Rattle.mt_cover.specs.declared.layer.Layer.{Layer}
+use Rattle.mt_cover.specs.Layer.{IsLayerKept}
+use Rattle.mt_cover.specs.Layer.{IsInLayer}
+use Rattle.mt_meet.specs.Heights.{AreApartBy, EndBelow, LieApart}
+use Rattle.mt_meet.specs.Private.Heights.{IsMinimumIn}
+use Rattle.mt_pair.specs.High.{LosesAbove, level_of}
 use Rattle.mt_pair.proofs.Instants.{loses_above}
+use Rattle.mt_pair.proofs.Tests.{is_le, le_is, no_le}
 
 -- a value at an instant is at least what it is at both ends of the second, and at most
 not_below : (l z v n d : ℤ) → l ≤ℤ z → l ≤ℤ (z +ℤ v) → pos 0 ≤ℤ n → n <ℤ d → (l *ℤ d) ≤ℤ (z *ℤ d +ℤ v *ℤ n)
@@ -138,3 +138,13 @@ at_least least low high kept low_kept high_kept =
     let c = to_z-of_z w64 low.high (fits_64 other (lit< tt)) in
     let d = to_z-of_z w64 (high.low -ℤ low.high) (fits_64 gap (lit< tt)) in
     rw (a, b, c, d) (grind (arith, ints))
+
+-- neither layer ends above a level
+pub end_below_by : (level : ℤ) (a b : Layer) → le_z a.high level ≡ true → IsTrue (le_z b.high level) ↔ EndBelow level a b
+end_below_by level a b first = (
+  (λ t. record { first = is_le a.high level first; second = is_le b.high level t }),
+  (λ both. le_is b.high level both.second),
+)
+
+pub not_end_below : (level : ℤ) (a b : Layer) → le_z a.high level ≡ false → IsTrue (le_z a.high level) ↔ EndBelow level a b
+not_end_below level a b fails = ((λ t. absurd (true≢false (sym t ∙ fails))), (λ both. absurd (true≢false (no_le fails both.first))))

@@ -1,20 +1,20 @@
 //! Trajectories whose heights keep them apart.
 ghost use Rattle.std.specs.Prelude.{◌≡◌, ◌↔◌, pos, ◌≤ℤ◌, ◌-ℤ◌, IsTrue};
 ghost use Rattle.mt_base.specs.Bounds.{AreWithinBounds, IsWithin};
-ghost use Rattle.mt_track.specs.Layer.{IsLayerKept};
-ghost use Rattle.mt_pair.specs.Heights.{EndBelow, LieApart};
-ghost use Rattle.mt_pair.specs.Private.Heights.{IsMinimumIn};
+ghost use Rattle.mt_cover.specs.Layer.{IsLayerKept};
+ghost use Rattle.mt_meet.specs.Heights.{EndBelow, LieApart};
+ghost use Rattle.mt_meet.specs.Private.Heights.{IsMinimumIn};
 ghost use Rattle.mt_pair.specs.High.{level_of};
 
-use crate::vertical::level;
 use mt_base::Rules;
-use mt_track::Layer;
+use mt_cover::Layer;
+use mt_pair::level_of;
 
 /// Whether neither of two layers reaches above the level from which on the greater minimum holds.
 fn end_below(approved: bool, a: &Layer, b: &Layer) -> bool
     ensures { IsTrue result ↔ EndBelow (level_of approved) a.now b.now }
 {
-    let top = level(approved);
+    let top = level_of(approved);
     a.high <= top && b.high <= top
 }
 

@@ -1,7 +1,7 @@
 -- Which vertical minimum keeps two layers of heights apart.
 use Rattle.std.specs.Prelude.{ℤ, ◌-ℤ◌, ◌≤ℤ◌, ◌⊎◌}
 use Rattle.mt_base.specs.declared.rules.Rules.{Rules}
-use Rattle.mt_track.specs.declared.layer.Layer.{Layer}
+use Rattle.mt_cover.specs.declared.layer.Layer.{Layer}
 
 -- neither layer reaches above a level
 pub record EndBelow (level : ℤ) (a b : Layer) : Type 0 where

@@ -1,1 +1,0 @@
--- Values of quadratics and lines at a fraction that is written in two ways.
