@@ -8,7 +8,8 @@ use Rattle.mt_base.specs.declared.row.Row.{Row}
 use Rattle.mt_base.specs.declared.rules.Rules.{Rules}
 use Rattle.mt_frac.specs.Signs.{IsBoundedQuad, IsBoundedLine}
 use Rattle.mt_pair.specs.declared.horizontal.Offset.{Offset}
-use Rattle.mt_pair.specs.Private.Gap.{IsOffsetWithin, above_of, excess_of, gain_of, offset_of, product, square_over_time}
+use Rattle.mt_pair.specs.Gap.{above_of, excess_of, gain_of, offset_of, product, square_over_time}
+use Rattle.mt_pair.specs.Private.Gap.{IsOffsetWithin}
 use Rattle.mt_pair.specs.High.{level_of}
 use Rattle.mt_pair.proofs.Casts.{Reads, abs_neg, minus, minus_fits, negated, number, plus, plus_fits, widened}
 use Rattle.mt_pair.proofs.Sizes.{least_size, product_size, row_sizes, sh_size}

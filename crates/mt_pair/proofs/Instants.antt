@@ -16,12 +16,12 @@ use Rattle.mt_frac.specs.Polynomials.{value, line_value}
 use Rattle.mt_frac.proofs.Openness.{IsOpen, value_is_open, line_is_open, both_open, either_open, same_open}
 use Rattle.mt_pair.specs.declared.approach.Approach.{Approach}
 use Rattle.mt_pair.specs.declared.approach.High.{High}
-use Rattle.mt_frac.specs.Private.Instants.{HoldsIn}
+use Rattle.mt_frac.specs.Instants.{HoldsIn}
 use Rattle.mt_pair.specs.Private.Below.{AreBelowAt, AreBelowWithAt}
 use Rattle.mt_pair.specs.Private.Cases.{IsHighLoss, IsHighOf, IsLoss}
-use Rattle.mt_pair.specs.Private.Gap.{above_of, gap_of, excess_of}
-use Rattle.mt_pair.specs.High.{level_of}
-use Rattle.mt_pair.specs.Private.High.{AreFar, AreLow, IsLow, IsDuring, LosesAbove, StaysAbove}
+use Rattle.mt_pair.specs.Gap.{above_of, gap_of, excess_of}
+use Rattle.mt_pair.specs.High.{LosesAbove, level_of}
+use Rattle.mt_pair.specs.Private.High.{AreFar, AreLow, IsLow, IsDuring, StaysAbove}
 
 pub are_open : (gap : Quad) (over under : Linear) → IsOpen (AreBelowAt gap over under)
 are_open gap over under =

@@ -7,7 +7,8 @@ use Rattle.mt_base.specs.Bounds.{AreWithinBounds, IsBoundedRow, IsWithin}
 use Rattle.mt_base.specs.declared.row.Row.{Row}
 use Rattle.mt_base.specs.declared.rules.Rules.{Rules}
 use Rattle.mt_pair.specs.declared.horizontal.Offset.{Offset}
-use Rattle.mt_pair.specs.Private.Gap.{IsOffsetWithin, gain_of, offset_of, product}
+use Rattle.mt_pair.specs.Gap.{gain_of, offset_of, product}
+use Rattle.mt_pair.specs.Private.Gap.{IsOffsetWithin}
 
 -- the numbers of a bounded row, and the minima
 pub record RowSizes (row : Row) : Type 0 where

@@ -2,8 +2,6 @@
 pub mod Below
 pub mod Cases
 pub mod Gap
-pub mod Greatest
-pub mod Heights
 pub mod Held
 pub mod High
 pub mod Span

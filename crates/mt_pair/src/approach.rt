@@ -72,15 +72,14 @@ pub(crate) struct Approach<'a> {
 }
 
 impl<'a> Approach<'a> {
-    ghost use Rattle.std.specs.Prelude.{◌≡◌, ◌↔◌, true, None, ◌+◌, ◌<◌, ◌≤◌, pos, ◌≤ℤ◌, IsTrue};
+    ghost use Rattle.std.specs.Prelude.{◌≡◌, ◌↔◌, ℕ, true, None, ◌+◌, ◌<◌, ◌≤◌, pos, ◌≤ℤ◌, IsTrue};
     ghost use Rattle.mt_base.specs.Bounds.{AreWithinBounds, IsBoundedRow};
     ghost use Rattle.mt_base.specs.Tally.{raised};
     ghost use Rattle.mt_frac.specs.FractionOrder.{IsBefore};
-    ghost use Rattle.mt_frac.specs.Private.Instants.{HoldsIn, HoldsOver};
+    ghost use Rattle.mt_frac.specs.Instants.{HoldsIn, HoldsOver};
     ghost use Rattle.mt_pair.specs.Private.Below.{HoldsBetween};
     ghost use Rattle.mt_pair.specs.Private.Cases.{IsLoss};
-    ghost use Rattle.mt_pair.specs.Private.Gap.{excess_of, gap_of};
-    ghost use Rattle.mt_pair.specs.Private.Greatest.{AreWithinSizes};
+    ghost use Rattle.mt_pair.specs.Gap.{excess_of, gap_of};
     ghost use Rattle.mt_base.specs.Span.{IsSpan};
     ghost use Rattle.mt_base.specs.Private.Span.{IsGreatest, IsLeast};
     ghost use Rattle.mt_pair.specs.Private.Span.{IsFirst};
@@ -94,7 +93,6 @@ impl<'a> Approach<'a> {
         ensures over { result.over ≡ excess_of rules.now.sv a.now b.now }
         ensures under { result.under ≡ excess_of rules.now.sv b.now a.now }
         ensures high { result.high ≡ high.entry }
-        ensures sizes { AreWithinSizes rules.now a.now b.now }
     {
         Approach {
             gap: gap(rules, a, b),
@@ -213,12 +211,15 @@ impl<'a> Approach<'a> {
         begin
     }
 
-    /// Whether the values at both ends tell that no instant before second `seconds` has a loss. Where it says no, nothing is said.
-    fn is_quiet(&self, seconds: Second) -> bool
+    /// Whether the values at both ends tell that no instant before second `seconds` has a loss. Where it says no, nothing is said. This is
+    /// one step.
+    fn is_quiet(&self, seconds: Second, steps: &mut Steps) -> bool
         requires some { 0 < seconds }
         requires short { seconds ≤ 16384 }
-        ensures { result ≡ true → ¬ HoldsOver (IsLoss self.now) 0 seconds }
+        ensures is { result ≡ true → ¬ HoldsOver (IsLoss self.now) 0 seconds }
+        ensures counted { steps.new ≡ raised steps.old }
     {
+        steps.raise();
         if self.gap.a < 0 {
             return false;
         }
@@ -231,10 +232,22 @@ impl<'a> Approach<'a> {
         are_quiet(self.gap, high.over, high.under, seconds)
     }
 
-    /// Whether there is a loss at the very start by the lesser minimum. Where it says no, nothing is said.
-    fn begins_with_loss(&self) -> bool
-        ensures { result ≡ true → HoldsIn (IsLoss self.now) 0 }
+    /// Whether the quadratic alone tells that no instant has a loss, since it is nowhere below 0. Where it says no, nothing is said. This is
+    /// one step.
+    fn keeps_distance(&self, steps: &mut Steps) -> bool
+        ensures is { result ≡ true → (low high : ℕ) → ¬ HoldsOver (IsLoss self.now) low high }
+        ensures counted { steps.new ≡ raised steps.old }
     {
+        steps.raise();
+        self.gap.stays_above()
+    }
+
+    /// Whether there is a loss at the very start by the lesser minimum. Where it says no, nothing is said. This is one step.
+    fn begins_with_loss(&self, steps: &mut Steps) -> bool
+        ensures is { result ≡ true → HoldsIn (IsLoss self.now) 0 }
+        ensures counted { steps.new ≡ raised steps.old }
+    {
+        steps.raise();
         if self.gap.c >= 0 {
             return false;
         }
@@ -244,20 +257,20 @@ impl<'a> Approach<'a> {
         self.under.c < 0
     }
 
-    /// The first second with a loss before the `seconds`-th; `None` exactly where none has. At most 15 steps.
+    /// The first second with a loss before the `seconds`-th; `None` exactly where none has. At most 18 steps.
     fn first_before(&self, seconds: Second, steps: &mut Steps) -> Option<Second>
         requires some { 0 < seconds }
         requires short { seconds ≤ 16384 }
         ensures is { IsFirst (HoldsIn (IsLoss self.now)) 0 seconds result }
-        ensures counted { steps.new ≤ steps.old + 15 }
+        ensures counted { steps.new ≤ steps.old + 18 }
     {
-        if self.begins_with_loss() {
+        if self.begins_with_loss(steps) {
             return Some(0);
         }
-        if self.is_quiet(seconds) {
+        if self.is_quiet(seconds, steps) {
             return None;
         }
-        if self.gap.stays_above() {
+        if self.keeps_distance(steps) {
             return None;
         }
         if !self.loses_over(0, seconds, steps) {

@@ -1,7 +1,8 @@
 ghost use Rattle.std.specs.Prelude.{◌≡◌};
 ghost use Rattle.mt_base.specs.Bounds.{AreWithinBounds, IsBoundedRow};
 ghost use Rattle.mt_frac.specs.Signs.{IsBoundedQuad};
-ghost use Rattle.mt_pair.specs.Private.Gap.{IsOffsetWithin, gain_of, gap_of, offset_of, product};
+ghost use Rattle.mt_pair.specs.Gap.{gain_of, gap_of, offset_of, product};
+ghost use Rattle.mt_pair.specs.Private.Gap.{IsOffsetWithin};
 
 use mt_base::{Row, Rules};
 use mt_frac::Quad;

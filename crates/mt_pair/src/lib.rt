@@ -5,14 +5,13 @@
 //! horizontal minimum is a quadratic in time, and a vertical minimum gives two lines. There is loss where these three are below 0 at one
 //! instant by the lesser minimum; or by the greater one, while a third line says that the one or the other aircraft is above the level from
 //! which on that minimum holds. Exact decisions over fractions say whether there is such an instant in some seconds. The first and the last
-//! second of loss are found by halving: whether there is a loss before a second turns from no to yes once. Two trajectories whose layers of
-//! heights lie apart by their minimum are no such pair.
+//! second of loss are found by halving: whether there is a loss before a second turns from no to yes once.
 #![tactic(auto)]
 
 mod approach;
 mod crossing;
-mod heights;
 mod horizontal;
+mod laws;
 mod overlap;
 mod question;
 mod span;
@@ -20,6 +19,7 @@ mod turning;
 mod vertical;
 
 pub use crossing::crosses_one;
-pub use heights::lie_apart;
+pub use laws::numbers_fit_law;
 pub use overlap::stretch;
 pub use span::lose;
+pub use vertical::level_of;

@@ -4,7 +4,7 @@ ghost use Rattle.mt_base.specs.Conflict.{IsConflict};
 ghost use Rattle.mt_base.specs.Loss.{LosesIn};
 ghost use Rattle.mt_track.specs.Laid.{Covers};
 ghost use Rattle.mt_track.specs.Rows.{row_after};
-ghost use Rattle.mt_frac.specs.Private.Instants.{HoldsIn};
+ghost use Rattle.mt_frac.specs.Instants.{HoldsIn};
 ghost use Rattle.mt_pair.specs.Private.Cases.{IsLoss};
 ghost use Rattle.mt_base.specs.Span.{IsSpan};
 
@@ -95,8 +95,8 @@ fn overlap(
 /// The conflict of two strands in seconds that one segment of each covers: the first and the last second in which they lose separation;
 /// `None` exactly where there is none.
 ///
-/// `i` and `j` are the places of these segments. It takes no memory and at most 32 steps, each one question whether some instant of a stretch
-/// has a loss.
+/// `i` and `j` are the places of these segments. It takes no memory and at most 32 steps. Each step is one question about a loss in some of these
+/// seconds: whether an instant of them has one, or whether the values at whole seconds or the quadratic alone tell so.
 pub fn stretch(
     a: &Strand,
     i: usize,

@@ -8,7 +8,7 @@ use Rattle.mt_frac.specs.declared.quadratic.Quad.{Quad}
 use Rattle.mt_pair.specs.declared.approach.Approach.{Approach}
 use Rattle.mt_pair.specs.declared.approach.High.{High}
 use Rattle.mt_pair.specs.Private.Below.{AreBelowAt, AreBelowWithAt}
-use Rattle.mt_pair.specs.Private.Gap.{above_of, excess_of}
+use Rattle.mt_pair.specs.Gap.{above_of, excess_of}
 use Rattle.mt_pair.specs.Private.High.{AreLow}
 
 -- `IsHighAt`, `IsHighLoss`: loss by the greater minimum, while the one or the other aircraft is high

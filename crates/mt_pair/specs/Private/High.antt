@@ -3,14 +3,7 @@ use Rattle.std.specs.Prelude.{ℕ, ℤ, pos, ◌+ℤ◌, ◌*ℤ◌, ◌<ℤ◌,
 use Rattle.mt_base.specs.declared.row.Row.{Row}
 use Rattle.mt_base.specs.declared.rules.Rules.{Rules}
 use Rattle.mt_frac.specs.declared.linear.Linear.{Linear}
-use Rattle.mt_pair.specs.Private.Gap.{excess_of}
-use Rattle.mt_base.specs.Loss.{IsNearAt, IsOneAboveAt, apart_x, apart_y, width}
-
--- two rows lose separation at n/d, where the greater minimum holds above that level
-pub record LosesAbove (rules : Rules) (level : ℤ) (a b : Row) (n d : ℤ) : Type 0 where
-  pub horizontal : (apart_x a b n d *ℤ apart_x a b n d +ℤ apart_y a b n d *ℤ apart_y a b n d)
-      <ℤ (width rules a b n d *ℤ width rules a b n d)
-  pub vertical : IsNearAt rules.sv a b n d ⊎ (IsNearAt rules.sv2 a b n d × IsOneAboveAt level a b n d)
+use Rattle.mt_pair.specs.Gap.{excess_of}
 
 -- a line is at least 0 at the start, and so many seconds later
 pub record StaysAbove (line : Linear) (seconds : ℕ) : Type 0 where

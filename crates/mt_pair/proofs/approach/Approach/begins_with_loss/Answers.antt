@@ -4,8 +4,8 @@ use Rattle.mt_pair.proofs.Low.{at_start}
 use Rattle.mt_pair.proofs.Wholes.{gap_fits, line_fits}
 use Rattle.mt_pair.proofs.approach.Approach.begins_with_loss.Goals as goal
 
-pub returns : goal.returns
-returns c = λ yes.
+pub returns-clause-is : goal.returns-clause-is
+returns-clause-is c = λ yes.
     let x = c.args.self.now in
     let g = gap_fits x.gap 0 x.gap_bounded (omega arith) in
     let o = line_fits x.over 0 x.over_bounded (omega arith) in

@@ -1,20 +1,18 @@
 use Rattle.std.proofs.lemmas.Bool.Decides.{not_from_Decides}
 use Rattle.mt_pair.proofs.Halving.{least_first, none_over}
-use Rattle.mt_pair.proofs.Low.{quiet_gap}
 use Rattle.mt_pair.proofs.approach.Approach.first_before.Goals as goal
 
 pub first_over-requires-clause-some : goal.first_over-requires-clause-some
 first_over-requires-clause-some c = c.loses_over.ensures.is.0 c.if-not-loses_over.false
 
 pub returns-then-begins_with_loss-clause-is : goal.returns-then-begins_with_loss-clause-is
-returns-then-begins_with_loss-clause-is c = least_first _ c.args.seconds c.requires.some (c.begins_with_loss.ensures c.if-begins_with_loss.true)
+returns-then-begins_with_loss-clause-is c = least_first _ c.args.seconds c.requires.some (c.begins_with_loss.ensures.is c.if-begins_with_loss.true)
 
 pub returns-then-is_quiet-clause-is : goal.returns-then-is_quiet-clause-is
-returns-then-is_quiet-clause-is c = λ k begun ahead. none_over _ _ _ k (c.is_quiet.ensures c.if-is_quiet.true) begun ahead
+returns-then-is_quiet-clause-is c = λ k begun ahead. none_over _ _ _ k (c.is_quiet.ensures.is c.if-is_quiet.true) begun ahead
 
-pub returns-then-stays_above-clause-is : goal.returns-then-stays_above-clause-is
-returns-then-stays_above-clause-is c = λ k begun ahead.
-    none_over _ _ _ k (quiet_gap c.args.self.now 0 c.args.seconds (c.stays_above.ensures c.if-stays_above.true)) begun ahead
+pub returns-then-keeps_distance-clause-is : goal.returns-then-keeps_distance-clause-is
+returns-then-keeps_distance-clause-is c = λ k begun ahead. none_over _ _ _ k (c.keeps_distance.ensures.is c.if-keeps_distance.true 0 c.args.seconds) begun ahead
 
 pub returns-then-not-loses_over-clause-is : goal.returns-then-not-loses_over-clause-is
 returns-then-not-loses_over-clause-is c = λ k begun ahead.

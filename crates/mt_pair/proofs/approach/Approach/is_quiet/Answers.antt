@@ -10,8 +10,8 @@ are_quiet-requires-clause-convex c = let s = wide_fits c.args.self.now.gap c.arg
 pub are_quiet-requires-2-clause-convex : goal.are_quiet-requires-2-clause-convex
 are_quiet-requires-2-clause-convex c = let s = wide_fits c.args.self.now.gap c.args.self.now.gap_bounded in grind (arith, to_z-of_z)
 
-pub returns-in_default : goal.returns-in_default
-returns-in_default c = λ _. quiet_low c.args.self.now 0 c.args.seconds c.in_default.is (c.are_quiet.ensures c.if-not-are_quiet.false)
+pub returns-in_default-clause-is : goal.returns-in_default-clause-is
+returns-in_default-clause-is c = λ _. quiet_low c.args.self.now 0 c.args.seconds c.in_default.is (c.are_quiet.ensures c.if-not-are_quiet.false)
 
-pub returns : goal.returns
-returns c = λ yes. quiet_high c.args.self.now c.in-Some.high.now 0 c.args.seconds (copied_some c.args.self.now c.in-Some.high c.in-Some.is) (c.are_quiet.ensures c.if-not-are_quiet.false) (c.are_quiet-2.ensures yes)
+pub returns-clause-is : goal.returns-clause-is
+returns-clause-is c = λ yes. quiet_high c.args.self.now c.in-Some.high.now 0 c.args.seconds (copied_some c.args.self.now c.in-Some.high c.in-Some.is) (c.are_quiet.ensures c.if-not-are_quiet.false) (c.are_quiet-2.ensures yes)
