@@ -1,4 +1,4 @@
--- What the steps of a change and of a move make. No public contract cites these.
+-- When a pair of places is open.
 use Rattle.std.specs.Prelude.{ℕ, Bool, ◌&&◌, nat_lt, nat_le}
 use Rattle.mt_base.specs.Picture.{window_end}
 use Rattle.mt_edges.specs.declared.edge.Edge.{Edge}
