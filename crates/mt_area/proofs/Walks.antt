@@ -6,7 +6,7 @@ use Rattle.std.specs.Prelude.{slice_index_or}
 use Rattle.mt_base.specs.declared.area.Area.{Area}
 use Rattle.mt_base.specs.declared.row.Row.{Row}
 use Rattle.mt_base.specs.Area.{IsInside, IsInsideSecond, IsPierce}
-use Rattle.mt_base.specs.Span.{IsSpan}
+use Rattle.mt_base.specs.Span.{IsSpan, joined}
 use Rattle.mt_base.specs.Bounds.{IsBoundedOver}
 use Rattle.mt_base.specs.Trajectory.{Trajectory, row_at}
 use Rattle.mt_track.specs.declared.segment.Segment.{Segment}
@@ -16,7 +16,6 @@ use Rattle.mt_track.proofs.Apart.{few_segments}
 use Rattle.mt_track.proofs.Joined.{IsBoundedOver-segment}
 use Rattle.mt_track.proofs.Segments.{edge_from, lies_at}
 use Rattle.mt_track.proofs.Strands.{found}
-use Rattle.mt_base.specs.Private.Span.{joined}
 use Rattle.mt_base.proofs.Spans.{IsSpan-joined, IsSpan-same}
 
 -- what the code reads where a list has no such place

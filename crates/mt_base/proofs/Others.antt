@@ -8,7 +8,7 @@ use Rattle.mt_base.specs.declared.flight.Path.TheVariants.{Planned, Outer}
 use Rattle.mt_base.specs.declared.flight.Record.{Record}
 use Rattle.mt_base.specs.Picture.{HaveOwnCalls, tentative_of, trajectories_of}
 use Rattle.mt_base.specs.Tables.{Setup}
-use Rattle.mt_base.specs.Private.Others.{AreOfOthers}
+use Rattle.mt_base.specs.Others.{AreOfOthers}
 use Rattle.mt_base.proofs.Members.{both_all}
 
 -- a flight's tentative trajectory has its callsign

@@ -1,8 +1,7 @@
 -- Spans of seconds: the same seconds said otherwise, counted from another one, and one part after another.
 use Rattle.std.proofs.Common.{◌≡◌, ℕ, ◌+◌, ◌-◌, ◌<◌, ◌≤◌, ◌↔◌, Option, Some, None, subst, arith, ⊎_elim}
 use Rattle.std.proofs.lemmas.Bool.{cases_lt}
-use Rattle.mt_base.specs.Span.{IsSpan, IsSpanOf}
-use Rattle.mt_base.specs.Private.Span.{IsGreatest, IsLeast, joined}
+use Rattle.mt_base.specs.Span.{IsGreatest, IsLeast, IsSpan, IsSpanOf, joined}
 
 -- the same seconds, said otherwise
 pub IsSpan-same : (P Q : ℕ → Type 0) (from to : ℕ) (span : Option (ℕ × ℕ)) → ((k : ℕ) → from ≤ k → k < to → P k ↔ Q k) → IsSpan P from to span → IsSpan Q from to span

@@ -11,6 +11,7 @@ pub mod History
 pub mod Instant
 pub mod Loss
 pub mod Name
+pub mod Others
 pub mod Picture
 pub mod Pierced
 pub mod Predictor

@@ -1,4 +1,2 @@
 -- What no public contract names: invariants and relations of private steps.
-pub mod Others
 pub mod Padded
-pub mod Span

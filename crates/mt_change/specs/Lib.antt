@@ -1,3 +1,2 @@
 pub mod Altered
-pub mod Private
 pub mod Sound

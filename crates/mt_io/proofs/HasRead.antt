@@ -4,8 +4,8 @@ use Rattle.std.specs.declared.option.Option.{Option}
 use Rattle.std.specs.Io.KnownBytes.{Consumes, IsAtEnd}
 use Rattle.mt_io.specs.Lines.{lines_of, whole_lines_of, IsPart}
 use Rattle.mt_io.specs.Reading.{Reading, Store, PassesBytes, Ends, TakesLine, IsAllGiven, IsStopped, fresh}
-use Rattle.mt_io.specs.HasRead.{Tells, AreLines, AreRead}
-use Rattle.mt_io.specs.Private.HasRead.{HasRead, HasReadAll, HasReadPart}
+use Rattle.mt_io.specs.HasRead.{AreLines, AreRead, HasRead, Tells}
+use Rattle.mt_io.specs.Private.HasRead.{HasReadAll, HasReadPart}
 use Rattle.mt_io.specs.declared.line.LineFault.{LineFault}
 use Rattle.mt_io.proofs.Known.{consumes_none, consumes_on}
 use Rattle.mt_io.proofs.Lines.{lines_of-first, lines_of-last, whole_lines_of-first, whole_lines_of-last}

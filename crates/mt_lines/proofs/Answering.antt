@@ -8,8 +8,7 @@ use Rattle.mt_io.specs.declared.line.LineFault.{LineFault}
 use Rattle.mt_io.specs.declared.line.LineFault.TheVariants as faults
 use Rattle.mt_io.proofs.HasRead.{told, read_none, read_more, read_all, read_part, are_read}
 use Rattle.mt_io.proofs.Known.{appends_none, appends_on, consumes_none}
-use Rattle.mt_lines.specs.Answering.{AnswersAll, AnswersFront, AnswersToLast, AnswersWhole, AreReplied, Explains}
-use Rattle.mt_lines.specs.Private.Answering.{SoFar}
+use Rattle.mt_lines.specs.Answering.{AnswersAll, AnswersFront, AnswersToLast, AnswersWhole, AreReplied, Explains, SoFar}
 
 -- what a meaning implies
 pub explained_as : (M N : List ℕ → List ℕ → List ℕ → Type 0) (before after held held_after : Option (List ℕ))

@@ -7,8 +7,7 @@ use Rattle.std.specs.declared.option.Option.{Option}
 use Rattle.mt_io.specs.HasRead.{AreRead}
 use Rattle.mt_io.specs.Reading.{Reading, TakesLine}
 use Rattle.mt_io.proofs.HasRead.{are_read, read_more, told}
-use Rattle.mt_lines.specs.Answering.{AnswersFront, AnswersToLast, AreReplied, AreRepliedTo, Explains}
-use Rattle.mt_lines.specs.Private.Answering.{SoFar}
+use Rattle.mt_lines.specs.Answering.{AnswersFront, AnswersToLast, AreReplied, AreRepliedTo, Explains, SoFar}
 use Rattle.mt_lines.proofs.Fronts.{first_read}
 
 -- two ways to cut the same bytes: what stands between the cuts

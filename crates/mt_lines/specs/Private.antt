@@ -1,4 +1,3 @@
 -- What no public contract names: invariants and relations of private steps.
-pub mod Answering
 pub mod Given
 pub mod Text

@@ -24,8 +24,7 @@ use Rattle.mt_base.specs.Predictor.{points_of}
 use Rattle.mt_base.specs.Tables.{Setup}
 use Rattle.mt_base.specs.WhatIf.{course_in, what_if_checks}
 use Rattle.mt_base.proofs.CheckLemmas.{all_passed, answer_is}
-use Rattle.mt_change.specs.Sound.{IsSoundState}
-use Rattle.mt_change.specs.Private.Sound.{PassesChecks}
+use Rattle.mt_change.specs.Sound.{IsSoundState, PassesChecks}
 use Rattle.mt_change.proofs.Passed.{halves}
 use Rattle.mt_change.proofs.Plans.{sound_course}
 use Rattle.mt_machine.proofs.Found.{none_found}

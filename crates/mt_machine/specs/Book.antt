@@ -1,5 +1,5 @@
 -- The book of what was probed: the last 64 values, under numbers from 1 up.
-use Rattle.std.specs.Prelude.{ℕ, ◌+◌, ◌-◌, List, [], ◌∷◌, ◌++◌, length, Option, None, slice_get, if◌then◌else◌, nat_lt}
+use Rattle.std.specs.Prelude.{ℕ, ◌+◌, ◌-◌, List, [], ◌∷◌, ◌++◌, length, map, Option, None, slice_get, if◌then◌else◌, nat_lt}
 use Rattle.std.specs.Coded.{coded×}
 use Rattle.mt_base.specs.Tally.{raised}
 use Rattle.circular_buffer.specs.Buffer.{keep_last}
@@ -25,3 +25,7 @@ module _ {P : Type 0} where
 abbrev pub with_all : {P : Type 0} → Book P → List P → Book P
 with_all book [] = book
 with_all book (p ∷ ps) = with_all (with_probe book p) ps
+
+-- a book of values, and its values as they are answered
+abbrev pub told_book : {P Q : Type 0} → (P → Q) → Book P → Book Q
+told_book told book = record { count = book.count; last = map told book.last }

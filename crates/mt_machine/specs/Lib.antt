@@ -1,3 +1,4 @@
 pub mod Advising
 pub mod Book
+pub mod Deciding
 pub mod Private

@@ -4,8 +4,7 @@ ghost use Rattle.mt_base.specs.Bounds.{AreWithinBounds, IsBoundedCommand};
 ghost use Rattle.mt_base.specs.Decision.{IsDecided, filled};
 ghost use Rattle.mt_base.specs.Effect.{effect, entered_by, now_after, records_after, verdict_in};
 ghost use Rattle.mt_change.specs.Altered.{Alters};
-ghost use Rattle.mt_change.specs.Sound.{IsSoundState};
-ghost use Rattle.mt_change.specs.Private.Sound.{PassesChecks};
+ghost use Rattle.mt_change.specs.Sound.{IsSoundState, PassesChecks};
 ghost use Rattle.mt_base.specs.Tables.{setup_with};
 
 use crate::plain::Plain;

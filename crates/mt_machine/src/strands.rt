@@ -4,7 +4,7 @@ ghost use Rattle.std.specs.List.{flat_map};
 ghost use Rattle.mt_base.specs.Bounds.{AreWithinBounds, IsSoundFlight};
 ghost use Rattle.mt_base.specs.Picture.{HaveOwnCalls, trajectories, trajectories_of};
 ghost use Rattle.mt_change.specs.Sound.{IsSoundState};
-ghost use Rattle.mt_base.specs.Private.Others.{AreOfOthers};
+ghost use Rattle.mt_base.specs.Others.{AreOfOthers};
 ghost use Rattle.mt_base.specs.Tables.{setup_with};
 
 use crate::plain::Plain;

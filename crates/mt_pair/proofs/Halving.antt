@@ -2,8 +2,7 @@
 use Rattle.std.proofs.Common.{ℕ, ℤ, zero, suc, ◌+◌, ◌*◌, ◌^◌, ◌<◌, ◌≤◌, subst, arith, le_refl, ⊎_elim}
 use Rattle.std.proofs.lemmas.Bool.{cases_lt}
 use Rattle.mt_frac.specs.Instants.{HoldsIn, HoldsOver}
-use Rattle.mt_base.specs.Span.{IsSpanOf}
-use Rattle.mt_base.specs.Private.Span.{IsGreatest, IsLeast}
+use Rattle.mt_base.specs.Span.{IsGreatest, IsLeast, IsSpanOf}
 
 -- so much is left that the halvings to come end within so many steps in all
 pub record IsHalvedTo (size count most : ℕ) : Type 0 where

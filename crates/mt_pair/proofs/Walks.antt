@@ -14,8 +14,7 @@ use Rattle.mt_track.proofs.Joined.{one_element}
 use Rattle.mt_track.proofs.Segments.{edge_from, lies_at}
 use Rattle.mt_track.proofs.Strands.{found}
 use Rattle.mt_pair.specs.Private.Held.{BeginsBy}
-use Rattle.mt_base.specs.Span.{IsSpan}
-use Rattle.mt_base.specs.Private.Span.{joined}
+use Rattle.mt_base.specs.Span.{IsSpan, joined}
 use Rattle.mt_base.proofs.Spans.{IsSpan-joined, IsSpan-same}
 use Rattle.mt_pair.proofs.Spans.{loss_second}
 

@@ -80,8 +80,7 @@ impl<'a> Approach<'a> {
     ghost use Rattle.mt_pair.specs.Private.Below.{HoldsBetween};
     ghost use Rattle.mt_pair.specs.Private.Cases.{IsLoss};
     ghost use Rattle.mt_pair.specs.Gap.{excess_of, gap_of};
-    ghost use Rattle.mt_base.specs.Span.{IsSpan};
-    ghost use Rattle.mt_base.specs.Private.Span.{IsGreatest, IsLeast};
+    ghost use Rattle.mt_base.specs.Span.{IsGreatest, IsLeast, IsSpan};
     ghost use Rattle.mt_pair.specs.Private.Span.{IsFirst};
 
     /// That of two rows of one second, with the lines of the greater minimum where one of the two is high in the seconds that are asked for.

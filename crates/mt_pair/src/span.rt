@@ -4,7 +4,7 @@ ghost use Rattle.mt_base.specs.Conflict.{IsConflict};
 ghost use Rattle.mt_base.specs.Tally.{raised};
 ghost use Rattle.mt_track.specs.Laid.{Covers};
 ghost use Rattle.mt_pair.specs.Private.Held.{BeginsBy};
-ghost use Rattle.mt_base.specs.Private.Span.{joined};
+ghost use Rattle.mt_base.specs.Span.{joined};
 
 use crate::overlap::stretch;
 use mt_base::{Rules, Second, Steps, Tally};

@@ -23,7 +23,7 @@ use Rattle.mt_change.proofs.Passed.{ok_is}
 use Rattle.mt_probe.specs.declared.flight.Flight.{Flight}
 use Rattle.mt_probe.specs.Prepared.{MakesStrand, judged_aside, roomy}
 use Rattle.mt_probe.proofs.Left.{found_call}
-use Rattle.mt_machine.specs.Private.Deciding.{IsFirstHit}
+use Rattle.mt_machine.specs.Deciding.{IsFirstHit}
 use Rattle.mt_base.proofs.Cases.{room_for_one}
 use Rattle.mt_picture.specs.Private.Entries.{IsFiling, IsReport, IsWithdrawal}
 

@@ -12,8 +12,7 @@ use Rattle.mt_board.specs.declared.no.No.{No}
 use Rattle.mt_board.specs.Changing.{IsChanged}
 use Rattle.mt_board.specs.Probing.{IsPast, Probe, acceptance}
 use Rattle.mt_board.specs.Seat.{Seat}
-use Rattle.mt_machine.specs.Book.{Book, probe_at, with_all}
-use Rattle.mt_machine.specs.Private.Book.{told_book}
+use Rattle.mt_machine.specs.Book.{Book, probe_at, told_book, with_all}
 use Rattle.mt_machine.proofs.Books.{all_at, all_more, told_at}
 use Rattle.mt_write.specs.declared.reply.Reply.{Reply}
 use Rattle.mt_base.proofs.Cases.{empty_list}

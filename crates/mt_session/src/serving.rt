@@ -28,7 +28,7 @@ pub struct Serving<B: Board> {
 }
 
 impl<B: Board> Model for Serving<B> {
-    ghost use Rattle.mt_machine.specs.Private.Book.{told_book};
+    ghost use Rattle.mt_machine.specs.Book.{told_book};
     ghost use Rattle.mt_session.specs.Private.Keeping.{ArePast, Held};
 
     ghost Value = { Held B.Home };

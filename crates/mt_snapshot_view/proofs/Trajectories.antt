@@ -5,7 +5,7 @@ use Rattle.std.specs.List.{flat_map}
 use Rattle.std.proofs.lemmas.List.{flat_map_more, take_more}
 use Rattle.mt_base.specs.declared.flight.Record.{Record}
 use Rattle.mt_base.specs.Picture.{NamedTrajectory, trajectories_of}
-use Rattle.mt_base.specs.Private.Others.{AreOfOthers}
+use Rattle.mt_base.specs.Others.{AreOfOthers}
 use Rattle.mt_base.proofs.Others.{others_before as others_among}
 use Rattle.mt_probe.specs.Shot.{Shot, flight_at, records_in}
 use Rattle.mt_probe.specs.Standing.{IsSoundShot}

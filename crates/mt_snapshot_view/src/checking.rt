@@ -4,7 +4,7 @@ ghost use Rattle.mt_base.specs.Picture.{IsPublished, trajectories};
 ghost use Rattle.mt_base.specs.Tally.{RoseUpTo, raised_by};
 ghost use Rattle.mt_plain.specs.Tests.{pairs_of_different_flights};
 ghost use Rattle.mt_probe.specs.Shot.{flight_at, made_named, state_in_shot};
-ghost use Rattle.mt_base.specs.Private.Others.{AreOfOthers};
+ghost use Rattle.mt_base.specs.Others.{AreOfOthers};
 ghost use Rattle.mt_snapshot_view.specs.Private.Kept.{kept_at, path_at};
 ghost use Rattle.mt_track.specs.Named.{IsNameFree};
 

@@ -1,20 +1,9 @@
 -- No public contract names these: they are of private steps and of proofs.
-use Rattle.std.specs.Prelude.{◌≡◌, ◌<◌, ℕ, ◌^◌, true, false, List, [], ◌++◌, length, None}
+use Rattle.std.specs.Prelude.{◌≡◌, ◌<◌, ℕ, ◌^◌, List, length}
 use Rattle.std.specs.declared.option.Option.{Option}
 use Rattle.std.specs.Io.KnownBytes.{Consumes, IsAtEnd}
 use Rattle.mt_io.specs.Lines.{lines_of, whole_lines_of}
 use Rattle.mt_io.specs.Reading.{Reading}
-use Rattle.mt_io.specs.HasRead.{AreLines}
-
--- the reader took these bytes and gave these lines, without a fault. `before` is what the source had left at first.
-pub record HasRead (before now : Option (List ℕ)) (reader : Reading) (lines : List (List ℕ)) (taken : List ℕ) : Type 0 where
-  pub from : Consumes before now taken
-  pub gone : List ℕ
-  pub split : taken ≡ gone ++ reader.store.ahead
-  pub size : reader.store.taken ≡ length taken
-  pub sound : reader.fault ≡ None
-  pub going : reader.store.ended ≡ false → AreLines gone lines
-  pub over : reader.store.ended ≡ true → (lines_of taken ≡ lines) × IsAtEnd now × (length taken < 2 ^ 32)
 
 -- the source ended: these are all its bytes, and the lines given are their lines
 pub record HasReadAll (before after : Option (List ℕ)) (lines : List (List ℕ)) : Type 0 where

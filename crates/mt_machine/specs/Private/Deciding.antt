@@ -1,12 +1,11 @@
 -- No public contract names these: they are of private steps and of proofs.
--- What a decision has at hand, and the first hit that it finds.
-use Rattle.std.specs.Prelude.{◌≡◌, ◌≤◌, List, [], ◌∷◌, length, Option, Some, None, IfSome}
+-- What a decision has at hand.
+use Rattle.std.specs.Prelude.{◌≡◌, ◌≤◌, length, Option, Some, IfSome}
 use Rattle.std.specs.Option.{option_copied}
 use Rattle.mt_base.specs.declared.command.Command.{Command}
 use Rattle.mt_base.specs.declared.flight.Path.TheVariants.{Planned}
 use Rattle.mt_base.specs.declared.flight.Record.{Record}
-use Rattle.mt_base.specs.declared.hit.Hit.{Hit}
-use Rattle.mt_base.specs.Decision.{HasHits, look_at}
+use Rattle.mt_base.specs.Decision.{look_at}
 use Rattle.mt_base.specs.Picture.{State, trajectory_of}
 use Rattle.mt_base.specs.Tables.{Setup}
 use Rattle.mt_base.specs.Trajectory.{Trajectory}
@@ -23,8 +22,3 @@ IsPlannedStrand setup flight strand =
 abbrev pub IsStrandFor : Setup → State → Command → Option Trajectory → Type 0
 IsStrandFor setup s command strand =
     (looked : Looked) → look_of looked ≡ look_at s command → option_copied looked.strand ≡ strand → HasStrand setup looked command
-
--- the first of the hits of a command that was probed, if it has any; no other command has one
-abbrev pub IsFirstHit : Setup → State → Command → Option Hit → Type 0
-IsFirstHit setup s command None = HasHits setup s command []
-IsFirstHit setup s command (Some first) = (others : List Hit) × HasHits setup s command (first ∷ others)

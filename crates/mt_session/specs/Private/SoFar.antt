@@ -11,8 +11,7 @@ use Rattle.mt_session.specs.declared.outcome.Outcome.{Outcome}
 use Rattle.mt_session.specs.declared.outcome.Outcome.TheVariants as outcomes
 use Rattle.mt_write.specs.declared.reply.Reply.{Reply}
 use Rattle.mt_write.specs.Reply.{reply_text}
-use Rattle.mt_lines.specs.Answering.{Explains}
-use Rattle.mt_lines.specs.Private.Answering.{SoFar}
+use Rattle.mt_lines.specs.Answering.{Explains, SoFar}
 use Rattle.mt_lines.specs.Given.{Gives, is_farewell}
 use Rattle.mt_session.specs.Run.{SessionMeans}
 use Rattle.mt_session.specs.Following.{IsRenewalDone, IsFollowed, TouchesNoJob, Standing, job_of}

@@ -3,8 +3,7 @@ use Rattle.std.specs.Prelude.{◌≡◌, ◌^◌, ◌⊎◌, ◌++◌, ℕ, Bool
 use Rattle.std.specs.Io.KnownBytes.{Appends}
 use Rattle.mt_io.specs.Reading.{Reading}
 use Rattle.mt_lines.specs.Answering as answering
-use Rattle.mt_lines.specs.Private.Answering.{SoFar}
-use Rattle.mt_lines.specs.Answering.{Explains}
+use Rattle.mt_lines.specs.Answering.{Explains, SoFar}
 use Rattle.mt_lines.specs.Given.{is_farewell}
 use Rattle.mt_write.specs.declared.reply.Reply.{Reply}
 use Rattle.mt_write.specs.Reply.{reply_text}

@@ -1,4 +1,3 @@
--- No public contract names these: they are of private steps and of proofs.
 -- Trajectories of other flights.
 use Rattle.std.specs.Prelude.{◌≢◌, ℕ, List, All}
 use Rattle.mt_base.specs.Picture.{NamedTrajectory}
