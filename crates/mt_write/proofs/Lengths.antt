@@ -47,15 +47,15 @@ pub escape_length : (text : List ℕ) → length (escape text) ≤ 6 * length te
 escape_length [] = omega arith
 escape_length (x ∷ xs) = omega (arith, byte_length x, escape_length xs, length-append (escape_byte x) (escape xs))
 
-digits_length : (version : ℕ) → version < 2 ^ 64 → length (decimal version) ≤ 20
+pub digits_length : (version : ℕ) → version < 2 ^ 64 → length (decimal version) ≤ 20
 digits_length version fits = length-decimal-le 20 version (omega arith) (omega arith) fits
 
 -- ---- hits
 
-second_length : (n : ℕ) → n < 2 ^ 32 → length (decimal n) ≤ 10
+pub second_length : (n : ℕ) → n < 2 ^ 32 → length (decimal n) ≤ 10
 second_length n fits = length-decimal-le 10 n (omega arith) (omega arith) (omega arith)
 
-named_length : (low high : ℕ) (text : List ℕ) → is_name low high text ≡ true → length text ≤ high
+pub named_length : (low high : ℕ) (text : List ℕ) → is_name low high text ≡ true → length text ≤ high
 named_length low high text h = grind (arith, nat_tests)
 
 name_length : (text : List ℕ) → is_name 1 7 text ≡ true → length (escape text) ≤ 7
@@ -65,7 +65,7 @@ hit_length : (hit : Hit) → IsShortHit hit → length (compact_text (hit_value 
 unfolding json_on_literals
 hit_length hit short = simp length-append (omega (arith, second_length hit.first short.first, second_length hit.last short.last, name_length hit.with short.with_is))
 
-comma_length : (later : Bool) → length (comma_if later) ≤ 1
+pub comma_length : (later : Bool) → length (comma_if later) ≤ 1
 comma_length true = omega arith
 comma_length false = omega arith
 
@@ -199,7 +199,7 @@ number_length : (z : ℤ) → IsShortNumber z → length (compact_text (whole z)
 number_length (pos n) short = digits_length n short
 number_length (negsuc n) short = omega (arith, length-decimal-le 19 (suc n) (omega arith) (omega arith) (omega arith))
 
-truth_length : (b : Bool) → length (compact_text (boolean b)) ≤ 5
+pub truth_length : (b : Bool) → length (compact_text (boolean b)) ≤ 5
 truth_length true = omega arith
 truth_length false = omega arith
 

@@ -1,3 +1,4 @@
+pub mod EntryLengths
 pub mod EntryTexts
 pub mod IllegalTexts
 pub mod Lengths

@@ -1,7 +1,9 @@
--- Replies whose length is bounded by their kind.
+-- Replies whose length is bounded by their kind, and entries whose length is bounded by their route.
 use Rattle.std.specs.Prelude.{◌≡◌, ℕ, ℤ, pos, negsuc, ◌<◌, ◌≤◌, ◌^◌, true, List, length, All, IfSome, ⊤}
 use Rattle.mt_base.specs.declared.clearance.Clearance.{Clearance}
 use Rattle.mt_base.specs.declared.clearance.Clearance.TheVariants.{Level, Direct}
+use Rattle.mt_base.specs.declared.command.Command.{Command}
+use Rattle.mt_base.specs.declared.command.Command.TheVariants.{Plan}
 use Rattle.mt_base.specs.declared.command.Refusal.{Refusal}
 use Rattle.mt_base.specs.declared.command.Refusal.TheVariants.{UnknownCall, UnknownType, UnknownFix, TentativeHeld, Stale}
 use Rattle.mt_base.specs.declared.flight.FlightView.{FlightView}
@@ -117,3 +119,8 @@ IsShort (reply.Refused refusal version) = IsShortRefusal refusal × (version < 2
 IsShort (reply.Illegal version refusal) = version < 2 ^ 64
 IsShort (reply.Late version) = version < 2 ^ 64
 IsShort reply = ⊤
+
+-- a route, where a command has one, has at most 64 names
+abbrev pub HasShortRoute : Command → Type 0
+HasShortRoute (Plan call kind route at from level rvsm) = length route ≤ 64
+HasShortRoute command = ⊤

@@ -1,9 +1,9 @@
 ghost use Rattle.std.specs.Prelude.{◌≡◌};
 ghost use Rattle.mt_write.specs.Reply.{kind_letter, conflict_value};
 
-use crate::write::put_all;
+use crate::short_text::ShortText;
+use crate::write::put;
 use crate::written::Written;
-use itoa::Buffer;
 use mt_base::{Conflict, Kind};
 use mt_memory::Memory;
 
@@ -21,24 +21,14 @@ impl Written for Conflict {
     ghost value = { conflict_value };
 
     fn put(&self, out: &mut Vec<u8>) -> Result<(), Memory> {
-        let mut first = Buffer::new();
-        let mut last = Buffer::new();
-        let kinds = [letter(self.ka), letter(self.kb)];
-        put_all(
-            out,
-            &[
-                b"{\"first\":",
-                first.format(self.first).as_bytes(),
-                b",\"kinds\":\"",
-                &kinds,
-                b"\",\"last\":",
-                last.format(self.last).as_bytes(),
-                b",\"pair\":[\"",
-                self.a.bytes(),
-                b"\",\"",
-                self.b.bytes(),
-                b"\"]}",
-            ],
-        )
+        let mut text = ShortText::new();
+        text.add_number(b"{\"first\":", self.first);
+        text.add(b",\"kinds\":\"");
+        text.add(&[letter(self.ka), letter(self.kb)]);
+        text.add_number(b"\",\"last\":", self.last);
+        text.add_callsign(b",\"pair\":[\"", &self.a);
+        text.add_callsign(b"\",\"", &self.b);
+        text.add(b"\"]}");
+        put(out, text.bytes())
     }
 }

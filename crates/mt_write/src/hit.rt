@@ -1,8 +1,8 @@
 ghost use Rattle.mt_write.specs.Reply.{hit_value};
 
-use crate::write::put_all;
+use crate::short_text::ShortText;
+use crate::write::put;
 use crate::written::Written;
-use itoa::Buffer;
 use mt_base::Hit;
 use mt_memory::Memory;
 
@@ -10,19 +10,11 @@ impl Written for Hit {
     ghost value = { hit_value };
 
     fn put(&self, out: &mut Vec<u8>) -> Result<(), Memory> {
-        let mut first = Buffer::new();
-        let mut last = Buffer::new();
-        put_all(
-            out,
-            &[
-                b"{\"first\":",
-                first.format(self.first).as_bytes(),
-                b",\"last\":",
-                last.format(self.last).as_bytes(),
-                b",\"with\":\"",
-                self.with.bytes(),
-                b"\"}",
-            ],
-        )
+        let mut text = ShortText::new();
+        text.add_number(b"{\"first\":", self.first);
+        text.add_number(b",\"last\":", self.last);
+        text.add_callsign(b",\"with\":\"", &self.with);
+        text.add(b"\"}");
+        put(out, text.bytes())
     }
 }

@@ -20,13 +20,14 @@ mod planned;
 mod put_reply;
 mod refused;
 mod reply;
+mod short_text;
 mod texts;
 mod truth;
 mod verdict;
 mod write;
 mod written;
 
-pub use laws::{no_memory_law, short_replies_law};
+pub use laws::{no_memory_law, short_entries_law, short_replies_law};
 pub use put_reply::NO_MEMORY;
 pub use reply::{AdviceItem, AdviceList, DoneWord, Reply};
 pub use texts::{write_entry, write_reply, write_short};

@@ -1,6 +1,6 @@
 use Rattle.std.proofs.Common.{◌≡◌, Ok, Err, ap, arith, codes, to_z, of_z, w64}
 use Rattle.std.proofs.lemmas.Int.{to_z-of_z}
-use Rattle.mt_write.specs.Private.Numbers.{external_gains, number_text}
+use Rattle.mt_write.specs.Private.Numbers.{number_text}
 use Rattle.mt_write.proofs.Putting.{puts_is, puts_refused, puts_then}
 use Rattle.mt_write.proofs.external.put_external_gains.Goals as goal
 

@@ -1,11 +1,14 @@
-use Rattle.std.proofs.Common.{◌∙◌, sym}
+use Rattle.std.proofs.Common.{◌∙◌, codes, decimal, refl, sym}
 use Rattle.mt_write.proofs.PlainText.{plain_name}
 use Rattle.mt_write.proofs.Putting.{puts_is}
-use Rattle.mt_write.proofs.ValueTexts.{hit_text}
+use Rattle.mt_write.proofs.ValueTexts.{hit_text, made_of_four}
 use Rattle.mt_write.proofs.hit.HitWritten.put.Goals as goal
 
 pub returns : goal.returns
 returns c =
-    puts_is c.put_all.result c.args.out.now c.put_all.new.out _ _
-    (hit_text c.args.self.now _ _ _ (c.as_bytes.ensures.value ∙ c.format.ensures.text) (c.as_bytes-2.ensures.value ∙ c.format-2.ensures.text)
-    (c.bytes.ensures.text ∙ sym (plain_name 1 7 c.args.self.now.with c.bytes.ensures.named))) c.put_all.ensures
+    let hit = c.args.self.now in
+    puts_is c.put.result c.args.out.now c.put.new.out _ _
+    (c.bytes.ensures ∙ made_of_four (codes "{\"first\":") (decimal hit.first) (codes ",\"last\":") (decimal hit.last) (codes ",\"with\":\"") hit.with (codes "\"}") _ _ _ _ _
+    c.new-text.ensures c.add_number.ensures.added c.add_number-2.ensures.added c.add_callsign.ensures.added c.add.ensures.added
+    ∙ hit_text hit _ _ _ refl refl (sym (plain_name 1 7 hit.with c.add_callsign.ensures.named)))
+    c.put.ensures
