@@ -4,6 +4,7 @@ pub mod Door
 pub mod Gathering
 pub mod HasRead
 pub mod Lines
+pub mod Loopback
 pub mod MemDoor
 pub mod MemLink
 pub mod MemSink

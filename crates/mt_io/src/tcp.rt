@@ -4,10 +4,11 @@ ghost use Rattle.mt_io.specs.Door.{listened};
 
 use crate::door::Door;
 use crate::duplex::Duplex;
+use crate::loopback::Loopback;
 use crate::sink::Sink;
 use crate::source::{Failed, Source};
 use std::io::{ErrorKind, Read, Write};
-use std::net::{Ipv4Addr, Net, TcpListener, TcpStream};
+use std::net::{Net, TcpListener, TcpStream};
 
 /// A connection, with the counts of the errors that it gave at reads and at writes. A write that took nothing counts as one.
 #[derive(Drop)]
@@ -18,11 +19,10 @@ pub struct TcpLink {
 }
 
 impl TcpLink {
-    /// A connection, with no fault counted. What it writes is sent at once; where the system doesn't take that wish, it is sent when the system likes.
+    /// A connection, with no fault counted.
     pub fn of(stream: TcpStream) -> TcpLink
         ensures { (⟦<TcpLink as Source>⟧.faults result ≡ 0) × (⟦<TcpLink as Sink>⟧.faults result ≡ 0) }
     {
-        let _ = stream.set_nodelay(true);
         TcpLink {
             stream,
             reads: 0,
@@ -107,19 +107,12 @@ impl Duplex for TcpLink {
     ghost writing_keeps_count = { λ a b same. Prim.omega (arith, same) };
 }
 
-/// A door to the ports of loopback. It has the runtime's handle to the network, and a listener once it has listened. An error of either
-/// is counted. Before `listen` it has no link to give.
+/// A door to the ports of loopback. It has the runtime's handle to the network, and a listener from when it has listened until a call of
+/// `next_link` answers that no link is left: a client that comes later is refused at once. An error of either is counted. Before `listen` it has
+/// no link to give.
 #[derive(Drop)]
 pub struct TcpDoor<N> {
-    net: N,
-    listener: Option<TcpListener>,
-    port: u16,
-    sessions: u32,
-    given: u32,
-    back: u32,
-    faults: u64,
-    ghost some: { back ≤ given },
-    ghost most: { given ≤ sessions },
+    at: Loopback<N>,
 }
 
 impl<N: Net<Listener = TcpListener, Stream = TcpStream>> TcpDoor<N> {
@@ -129,13 +122,7 @@ impl<N: Net<Listener = TcpListener, Stream = TcpStream>> TcpDoor<N> {
         ensures sound { ⟦<TcpDoor<N> as Door>⟧.faults result ≡ 0 }
     {
         TcpDoor {
-            net,
-            listener: None,
-            port: 0,
-            sessions: 0,
-            given: 0,
-            back: 0,
-            faults: 0,
+            at: Loopback::of(net),
         }
     }
 }
@@ -143,57 +130,32 @@ impl<N: Net<Listener = TcpListener, Stream = TcpStream>> TcpDoor<N> {
 impl<N: Net<Listener = TcpListener, Stream = TcpStream>> Door for TcpDoor<N> {
     type Link = TcpLink;
 
-    ghost count = { λ d. record { port = d.port; sessions = d.sessions; given = d.given; back = d.back } };
+    ghost count = { λ d. d.at.links };
 
     ghost still = { λ _. None };
 
     ghost returned = { λ _. None };
 
-    ghost faults = { λ d. d.faults };
+    ghost faults = { λ d. d.at.faults };
 
     fn door_faults(&self) -> u64 {
-        self.faults
+        self.at.faults()
     }
 
     fn listen(&mut self, port: u16, sessions: u32) -> Result<(), Failed> {
-        match TcpListener::bind(&self.net, (Ipv4Addr::LOCALHOST, port)) {
-            Ok(listener) => {
-                self.listener = Some(listener);
-                self.port = port;
-                self.back = 0;
-                self.given = 0;
-                self.sessions = sessions;
-                Ok(())
-            }
-            Err(_) => {
-                self.faults = self.faults.saturating_add(1);
-                Err(Failed)
-            }
-        }
+        self.at.listen(port, sessions)
     }
 
     fn next_link(&mut self) -> Result<Option<TcpLink>, Failed> {
-        if self.given == self.sessions {
-            return Ok(None);
+        match self.at.next_stream() {
+            Ok(Some(stream)) => Ok(Some(TcpLink::of(stream))),
+            Ok(None) => Ok(None),
+            Err(Failed) => Err(Failed),
         }
-        if let Some(listener) = &self.listener {
-            for _ in 0..u64::MAX {
-                match listener.accept() {
-                    Ok((stream, _)) => {
-                        self.given += 1;
-                        return Ok(Some(TcpLink::of(stream)));
-                    }
-                    Err(error) if error.kind() == ErrorKind::Interrupted => {}
-                    Err(_) => break,
-                }
-            }
-        }
-        self.faults = self.faults.saturating_add(1);
-        Err(Failed)
     }
 
     fn back(&mut self, link: TcpLink) {
         drop(link);
-        self.back += 1;
+        self.at.take_back();
     }
 }
