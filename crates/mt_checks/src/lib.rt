@@ -19,6 +19,8 @@ mod cells;
 #[cfg(test)]
 mod conflicts;
 #[cfg(test)]
+mod doors;
+#[cfg(test)]
 mod fractions;
 #[cfg(test)]
 mod json_lines;
@@ -32,6 +34,8 @@ mod pages;
 mod pairs;
 #[cfg(test)]
 mod published;
+#[cfg(test)]
+mod requests;
 #[cfg(test)]
 mod rows;
 #[cfg(test)]

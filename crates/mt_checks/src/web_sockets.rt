@@ -12,7 +12,7 @@ use tungstenite::{Duplex, NoMask, Role, WebSocket};
 type Stream<'a> = Duplex<&'a [u8], Vec<u8>>;
 
 /// A stream that gives bytes, and others in its later reads.
-type TwoParts<'a> = Duplex<Chain<&'a [u8], &'a [u8]>, Vec<u8>>;
+pub type TwoParts<'a> = Duplex<Chain<&'a [u8], &'a [u8]>, Vec<u8>>;
 
 /// A line of 12 bytes in a binary frame of a client.
 const BYE: &[u8] = b"\x82\x8c\0\0\0\0{\"do\":\"bye\"}";
@@ -41,7 +41,7 @@ fn stream_of<'a>(rt: &impl AllocGlobal, bytes: &'a [u8]) -> Stream<'a> {
 }
 
 /// A stream that gives these bytes, and after them those.
-fn in_two<'a>(rt: &impl AllocGlobal, first: &'a [u8], then: &'a [u8]) -> TwoParts<'a> {
+pub fn in_two<'a>(rt: &impl AllocGlobal, first: &'a [u8], then: &'a [u8]) -> TwoParts<'a> {
     Duplex {
         reader: first.chain(then),
         writer: Vec::new(rt.alloc()),
@@ -56,7 +56,7 @@ fn link_over<'a>(rt: &(impl AllocGlobal + Abort), bytes: &'a [u8]) -> WsLink<Str
 }
 
 /// The lines of a link, each with a 0x0A after it, `LONG` for one that is too long, and at the end `END` or `FAULT`.
-fn lines_of<S: Source>(rt: &(impl AllocGlobal + Abort), link: &mut S) -> Vec<u8> {
+pub fn lines_of<S: Source>(rt: &(impl AllocGlobal + Abort), link: &mut S) -> Vec<u8> {
     let mut lines = Vec::new(rt.alloc());
     let mut reader = LineReader::make(rt.alloc()).expect(rt, "memory");
     for _ in 0..100u32 {

@@ -3,6 +3,7 @@
 mod faults;
 mod holding;
 mod loopback;
+mod requests;
 mod scene;
 mod web_sockets;
 mod workers;

@@ -1,13 +1,15 @@
 -- A stream's first byte, read and put back.
-use Rattle.std.proofs.Common.{◌≡◌, ◌<◌, ℕ, ◌==◌, false, List, [], ◌∷◌, ◌++◌, length, take, set, get_or, Option, None, Some, refl, sym, ◌∙◌, ap, arith, append-nil}
-use Rattle.std.specs.Io.KnownBytes.{Consumes, Keeps, Appends, IsAtEnd}
-use Rattle.mt_ws.specs.Fronts.{put_back}
+use Rattle.std.proofs.Common.{◌≡◌, ◌<◌, ℕ, ◌==◌, false, List, [], ◌∷◌, ◌++◌, length, take, set, get_or, remove, Option, None, Some, refl, sym, ◌∙◌, ap, arith, append-nil}
+use Rattle.std.proofs.lemmas.List.{append_assoc}
+use Rattle.std.specs.Io.KnownBytes.{Consumes, Keeps, Appends, IsAtEnd, prepend_known}
 
--- the byte that was put back is given first
-pub gives_first : (left : Option (List ℕ)) (first : ℕ) (buf : List ℕ) → 0 < length buf → Consumes (put_back (Some first) left) left (take 1 (set buf 0 first))
-gives_first None first buf some = tt
-gives_first (Some rest) first [] some = absurd (omega arith)
-gives_first (Some rest) first (b ∷ buf) some = refl
+-- of the bytes that were put back the first is given
+pub gives_first : (left : Option (List ℕ)) (back rest : List ℕ) (first : ℕ) (buf : List ℕ) → 0 < length back → 0 < length buf
+    → first ≡ get_or back 0 first → rest ≡ remove back 0 → Consumes (prepend_known back left) (prepend_known rest left) (take 1 (set buf 0 first))
+gives_first left [] rest first buf some room is gone = absurd (omega arith)
+gives_first left (b ∷ back) rest first [] some room is gone = absurd (omega arith)
+gives_first None (b ∷ back) rest first (c ∷ buf) some room is gone = tt
+gives_first (Some more) (b ∷ back) rest first (c ∷ buf) some room is gone = rw (is, gone) refl
 
 -- a stream that gave nothing at its end had nothing left
 pub ended_before : (old new : Option (List ℕ)) → Consumes old new [] → IsAtEnd new → IsAtEnd old
@@ -48,3 +50,14 @@ appends_later (Some xs) (Some ys) (Some zs) bytes kept wrote = wrote ∙ ap (λ 
 pub some_room : (buf : List ℕ) → (length buf == 0) ≡ false → 0 < length buf
 some_room [] some = cc
 some_room (b ∷ buf) some = omega arith
+
+-- two reads, one after the other
+pub consumes_on : (a b c : Option (List ℕ)) (bytes further : List ℕ) → Consumes a b bytes → Consumes b c further → Consumes a c (bytes ++ further)
+consumes_on None b c bytes further read more = tt
+consumes_on (Some xs) None c bytes further read more = absurd read
+consumes_on (Some xs) (Some ys) None bytes further read more = absurd more
+consumes_on (Some xs) (Some ys) (Some zs) bytes further read more = read ∙ (ap (λ l. bytes ++ l) more ∙ sym (append_assoc bytes further zs))
+
+-- one byte was read to a buffer of one
+pub one_read : (a b : Option (List ℕ)) (n : ℕ) (buf : List ℕ) → n ≡ 1 → length buf ≡ 1 → Consumes a b (take n buf) → Consumes a b (get_or buf 0 0 ∷ [])
+one_read a b n buf is one read = rw (is, one_byte buf one) at read

@@ -7,6 +7,7 @@ use Rattle.tungstenite.specs.Failure.{WriteFails, IsIo}
 use Rattle.tungstenite.specs.Connection.{write_step}
 use Rattle.tungstenite.specs.declared.message.Message.{Message}
 use Rattle.tungstenite.specs.declared.error.Error.{Error}
+use Rattle.tungstenite.specs.declared.error.Error.TheVariants.{WriteBufferFull}
 use Rattle.mt_io.specs.declared.source.Failed.{Failed}
 use Rattle.mt_io.specs.Gathering.{ending_of}
 use Rattle.mt_io.specs.Lines.{IsPart}
@@ -30,6 +31,7 @@ module _ {S : Type 0} (remaining contents : S → Option (List ℕ)) where
     pub bytes_are : old.ungiven ≡ bytes ++ new.ungiven
     pub socket : new.socket ≡ old.socket
     pub ended : new.ended ≡ old.ended
+    pub cause : new.cause ≡ old.cause
 
   -- the front of the next message
   pub record GivesNext (old new : WsLink S) (bytes : List ℕ) : Type 0 where
@@ -40,6 +42,7 @@ module _ {S : Type 0} (remaining contents : S → Option (List ℕ)) where
     pub answers : AnswersAfterPings remaining contents old.socket new.socket (Ok message)
     pub some : 0 < length bytes
     pub bytes_are : with_ending (payload_of message) ≡ bytes ++ new.ungiven
+    pub cause : new.cause ≡ old.cause
 
   -- `GivesEnd`, `GivesFault`, `ReadsLink`: the end of the link, its fault, and all that a read may do
   pub record GivesEnd (old new : WsLink S) (bytes : List ℕ) : Type 0 where
@@ -49,6 +52,7 @@ module _ {S : Type 0} (remaining contents : S → Option (List ℕ)) where
     pub met :
         ((old.ended ≡ true) × (new.socket ≡ old.socket))
         ⊎ ((old.ended ≡ false) × ((failure : Option Error) × ClosesSocket remaining contents failure old.socket new.socket))
+    pub cause : new.cause ≡ old.cause
 
   pub record GivesFault (old new : WsLink S) : Type 0 where
     pub none : (old.ungiven ≡ []) × (new.ungiven ≡ [])
@@ -67,6 +71,7 @@ module _ {S : Type 0} (remaining contents : S → Option (List ℕ)) where
   SendsMessage old new line (Err (Cause.Read e)) = ⊥
   SendsMessage old new line (Err (Cause.Send e)) =
       WriteFails (write_step old.conn (line_content line)) e × (IsIo e → Writes contents old new (write_step old.conn (line_content line))) × (is_memory e ≡ false)
+      × (e ≡ WriteBufferFull → new ≡ old)
   SendsMessage old new line (Err Cause.Pings) = ⊥
   SendsMessage old new line (Err Cause.Long) = ⊥
   SendsMessage old new line (Err Cause.Memory) = new ≡ old
@@ -79,6 +84,7 @@ module _ {S : Type 0} (remaining contents : S → Option (List ℕ)) where
     pub short : length (old.line ++ part) ≤ 131072
     pub line : new.line ≡ old.line ++ part
     pub socket : new.socket ≡ old.socket
+    pub cause : new.cause ≡ old.cause
 
   -- a line ended, and was sent as one message
   pub record SendsLine (old new : WsLink S) (piece : List ℕ) (n : ℕ) : Type 0 where
@@ -88,6 +94,7 @@ module _ {S : Type 0} (remaining contents : S → Option (List ℕ)) where
     pub short : length (old.line ++ part) ≤ 131072
     pub line : new.line ≡ []
     pub sent : SendsMessage old.socket new.socket (old.line ++ part) (Ok tt)
+    pub cause : new.cause ≡ old.cause
 
   -- why a line could not be kept or sent
   abbrev pub SendFailsBy : Socket S → Socket S → List ℕ → WsCause → Type 0

@@ -1,10 +1,10 @@
-//! A link whose first byte says whether it is a line session or a WebSocket.
+//! A link whose first bytes say whether it is a line session, a WebSocket or a request that is refused.
 ghost use Rattle.std.specs.Prelude.{◌≡◌, ◌≤◌, ◌<◌, length, IfOk, None, refl};
 ghost use Rattle.std.specs.Io.{ReadsAtMost};
 ghost use Rattle.std.specs.Io.KnownBytes.{ReadConsumes, WriteAppends};
 ghost use Rattle.std.proofs.Common.{◌∙◌, arith};
 ghost use Rattle.mt_io.specs.Causes.{HasCause};
-ghost use Rattle.mt_ws.specs.Opening.{IsStreamUnread, ReadsOpening, WritesOpening};
+ghost use Rattle.mt_ws.specs.Opening.{IsStreamUnread, ReadsOpening, WritesOpening, is_request as is_refused};
 
 use crate::opening::Opening;
 use mt_io::{Duplex, Failed, Sink, Source};
@@ -12,11 +12,13 @@ use std::alloc::Global;
 use std::io::{Read, Write};
 use std::net::TcpStream;
 
-/// A line session or a WebSocket over a stream of bytes, by the first byte: `G` begins a WebSocket's request, and every other byte a line.
-/// It counts its failed reads and its failed writes. It tells no content.
+/// A line session or a WebSocket over a stream of bytes, by the first bytes: `G` begins a WebSocket's request, and a method of HTTP other than
+/// `GET` and a space a request that is refused; everything else is a line. It counts its failed reads and its failed writes. It tells no content.
 ///
-/// The first read reads that byte and, for a WebSocket, makes the handshake, in the thread that reads; it takes the link's memory. Where that
-/// fails, the read fails, and the stream is closed. A stream that ends before its first byte is at its end. A write before the first read
+/// The first read reads these bytes, one of a stream that begins as no method does, and eight at most. They are given as the first bytes of a
+/// line session. For a WebSocket it makes the handshake, in the thread that reads; it takes the link's memory. Where that fails, or the first
+/// bytes are a method and a space, the read fails, and the stream is closed: a page of another site can send such a request through a browser,
+/// with lines as its body, and none of them is read. A stream that ends before its first byte is at its end. A write before the first read
 /// fails.
 #[derive(Drop)]
 pub struct AnyLink<S> {
@@ -36,6 +38,13 @@ impl<S: Read + Write + Drop> AnyLink<S> {
             read_faults: 0,
             write_faults: 0,
         }
+    }
+
+    /// Whether it was broken since the stream began as a request of HTTP with another method than `GET`. Each read fails then.
+    pub fn is_request(&self) -> bool
+        ensures { result ≡ is_refused self.now.stream.kind }
+    {
+        self.stream.is_request()
     }
 }
 

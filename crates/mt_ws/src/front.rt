@@ -1,28 +1,29 @@
-//! A stream with its first byte put back.
-ghost use Rattle.std.specs.Prelude.{◌≡◌, Some};
+//! A stream with the bytes that were read of it put back.
+ghost use Rattle.std.specs.Prelude.{◌≡◌};
 ghost use Rattle.std.specs.Io.{ReadsAtMost, WritesAtMost};
 ghost use Rattle.std.specs.Io.KnownBytes.{ReadConsumes, WriteAppends};
 
+use arrayvec::ArrayVec;
 use std::io;
 use std::io::{ErrorKind, Read, Write};
 
-/// A stream whose first byte was read, and is given again before the bytes after it. Contracts see as what it has left that byte and then
+/// The bytes that are read of a stream to see what it begins with.
+pub type Head = ArrayVec<u8, 8>;
+
+/// A stream of which some bytes were read, and are given again before those after them. Contracts see as what it has left these bytes and then
 /// what the stream has left, where the stream tells that.
 #[derive(Drop)]
 pub struct Front<S> {
-    first: Option<u8>,
+    back: Head,
     stream: S,
 }
 
 impl<S> Front<S> {
-    /// The stream, with this byte put back.
-    pub fn of(first: u8, stream: S) -> Front<S>
-        ensures { result ≡ record { first = Some first; stream = stream } }
+    /// The stream, with these bytes put back.
+    pub fn of(back: Head, stream: S) -> Front<S>
+        ensures { result ≡ record { back = back; stream = stream } }
     {
-        Front {
-            first: Some(first),
-            stream,
-        }
+        Front { back, stream }
     }
 
     /// The stream.
@@ -34,30 +35,30 @@ impl<S> Front<S> {
 }
 
 impl<S: Write> Front<S> {
-    /// Writes once, and again where a write was interrupted. The byte that was put back stays.
+    /// Writes once, and again where a write was interrupted. The bytes that were put back stay.
     pub fn write_some(&mut self, piece: &[u8]) -> io::Result<usize>
         ensures bound { WritesAtMost result piece.now }
         ensures bytes { WriteAppends (S.contents self.old.stream) (S.contents self.new.stream) result piece.now }
-        ensures first { self.new.first ≡ self.old.first }
+        ensures back { self.new.back ≡ self.old.back }
     {
         write_on(&mut self.stream, piece)
     }
 }
 
 impl<S: Read> Read for Front<S> {
-    ghost use Rattle.mt_ws.specs.Fronts.{put_back};
+    ghost use Rattle.std.specs.Io.KnownBytes.{prepend_known};
 
-    ghost remaining = { λ f. put_back f.first (S.remaining f.stream) };
+    ghost remaining = { λ f. prepend_known f.back.items (S.remaining f.stream) };
 
     fn read(&mut self, buf: &mut [u8]) -> io::Result<usize> {
         if buf.is_empty() {
             return Ok(0);
         }
-        if let Some(first) = self.first.take() {
-            buf[0] = first;
-            return Ok(1);
+        if self.back.is_empty() {
+            return read_on(&mut self.stream, buf);
         }
-        read_on(&mut self.stream, buf)
+        buf[0] = self.back.remove(0);
+        Ok(1)
     }
 }
 

@@ -1,18 +1,21 @@
-//! A stream that is opened by its first read: by its first byte it is a line session or a WebSocket.
-ghost use Rattle.std.specs.Prelude.{◌<◌, ◌≤◌, length, IfOk};
+//! A stream that is opened by its first read: by its first bytes it is a line session, a WebSocket or a request that is refused.
+ghost use Rattle.std.specs.Prelude.{◌≡◌, ◌<◌, ◌≤◌, length, IfOk};
 ghost use Rattle.std.specs.Io.{ReadsAtMost};
-ghost use Rattle.mt_ws.specs.Opening.{BeginsLink, IsStreamUnread, Opens, ReadsKind, ReadsOpening, WritesKind, WritesOpening};
-ghost use Rattle.mt_ws.specs.Private.Opening.{IsKindBy};
+ghost use Rattle.mt_ws.specs.Methods.{ReadsHead};
+ghost use Rattle.mt_ws.specs.Opening.{BeginsLink, IsStreamUnread, Opens, ReadsKind, ReadsOpening, WritesKind, WritesOpening, is_request as is_refused};
+ghost use Rattle.mt_ws.specs.Private.Opening.{IsKindBy, IsStartOf};
 
-use crate::front::{Front, read_on};
+use crate::front::{Front, Head, read_on};
+use crate::methods::{is_front, is_request};
 use crate::ws_link::WsLink;
 use mt_io::{Failed, Sink, Source};
 use std::alloc::Global;
+use std::io;
 use std::io::{Read, Write};
 use std::mem::replace;
 use std::net::TcpStream;
 
-/// What a link is once its first byte was read.
+/// What a link is once its first bytes were read.
 #[derive(Drop)]
 pub enum LinkKind<S> {
     /// A line session.
@@ -21,12 +24,27 @@ pub enum LinkKind<S> {
     Web(WsLink<Front<S>>),
     /// The stream ended before its first byte.
     Over,
-    /// Nothing was read yet, the first byte couldn't be read, or no WebSocket could be made. The stream is gone, and so closed, but for one of
+    /// The stream began with a method of HTTP other than `GET` and a space. It is gone, and so closed.
+    Request,
+    /// Nothing was read yet, the first bytes couldn't be read, or no WebSocket could be made. The stream is gone, and so closed, but for one of
     /// which nothing was read.
     Broken,
 }
 
-/// A stream of which nothing was read, or what its first byte made of it.
+/// What the first bytes of a stream say that it is.
+#[derive(Clone, Copy)]
+pub enum Start {
+    /// It ended before its first byte.
+    Nothing,
+    /// The request of a WebSocket.
+    Web,
+    /// A request of HTTP with another method.
+    Request,
+    /// A line.
+    Lines,
+}
+
+/// A stream of which nothing was read, or what its first bytes made of it.
 #[derive(Drop)]
 pub struct Opening<S> {
     alloc: Global,
@@ -46,7 +64,7 @@ impl<S: Read + Write + Drop> Opening<S> {
         }
     }
 
-    /// Reads some bytes. The first call reads the first byte, and makes the handshake of a WebSocket.
+    /// Reads some bytes. The first call reads the first bytes, and makes the handshake of a WebSocket.
     pub fn read(&mut self, buf: &mut [u8]) -> Result<usize, Failed>
         requires { 0 < length buf.old }
         ensures bound { ReadsAtMost result buf.new }
@@ -65,7 +83,14 @@ impl<S: Read + Write + Drop> Opening<S> {
         write_kind(&mut self.kind, piece)
     }
 
-    // Reads the first byte, where it wasn't read yet.
+    /// Whether the stream began with a method of HTTP other than `GET` and a space, and is gone.
+    pub fn is_request(&self) -> bool
+        ensures { result ≡ is_refused self.now.kind }
+    {
+        matches!(&self.kind, LinkKind::Request)
+    }
+
+    // Reads the first bytes, where they weren't read yet.
     fn open(&mut self)
         ensures { Opens S.remaining S.contents self.old self.new }
     {
@@ -86,28 +111,60 @@ impl Opening<TcpStream> {
     }
 }
 
-// Reads the first byte, and makes the handshake where that says so.
+// Reads the first bytes, and makes the handshake where they say so.
 fn begin<S: Read + Write + Drop>(alloc: Global, mut stream: S) -> LinkKind<S>
     ensures { BeginsLink S.remaining S.contents stream result }
 {
-    let mut first = [0; 1];
-    match read_on(&mut stream, &mut first) {
-        Ok(0) => LinkKind::Over,
-        Ok(_) => kind_by(alloc, first[0], stream),
+    match read_head(&mut stream) {
+        Ok(head) => kind_by(alloc, head, stream),
         Err(_) => LinkKind::Broken,
     }
 }
 
-// What the first byte says: `G` is a WebSocket's request, and no line of JSON begins with it.
-fn kind_by<S: Read + Write + Drop>(alloc: Global, first: u8, stream: S) -> LinkKind<S>
-    ensures { IsKindBy first stream result }
+// Reads on while what was read is the front of a method: one byte of a stream that begins otherwise, eight at most.
+fn read_head<S: Read>(stream: &mut S) -> io::Result<Head>
+    ensures { IfOk result (λ head. ReadsHead (S.remaining stream.old) (S.remaining stream.new) head.items) }
 {
-    if first != b'G' {
-        return LinkKind::Lines(Front::of(first, stream));
+    let mut head = Head::new();
+    while is_front(head.as_slice()) {
+        let mut next = [0; 1];
+        match read_on(stream, &mut next) {
+            Ok(0) => return Ok(head),
+            Ok(_) => head.push(next[0]),
+            Err(error) => return Err(error),
+        }
     }
-    match WsLink::accept(alloc, Front::of(first, stream)) {
-        Ok(link) => LinkKind::Web(link),
-        Err(_) => LinkKind::Broken,
+    Ok(head)
+}
+
+// What the first bytes say. `G` is a WebSocket's request; no line of JSON begins with it, nor with a method.
+fn start_of(head: &[u8]) -> Start
+    ensures { IsStartOf head.now result }
+{
+    if head.is_empty() {
+        return Start::Nothing;
+    }
+    if head[0] == b'G' {
+        return Start::Web;
+    }
+    if is_request(head) {
+        return Start::Request;
+    }
+    Start::Lines
+}
+
+// What the first bytes make of the stream.
+fn kind_by<S: Read + Write + Drop>(alloc: Global, head: Head, stream: S) -> LinkKind<S>
+    ensures { IsKindBy head stream result }
+{
+    match start_of(head.as_slice()) {
+        Start::Nothing => LinkKind::Over,
+        Start::Web => match WsLink::accept(alloc, Front::of(head, stream)) {
+            Ok(link) => LinkKind::Web(link),
+            Err(_) => LinkKind::Broken,
+        },
+        Start::Request => LinkKind::Request,
+        Start::Lines => LinkKind::Lines(Front::of(head, stream)),
     }
 }
 
@@ -127,7 +184,7 @@ fn read_kind<S: Read + Write + Drop>(
         },
         LinkKind::Web(link) => link.read_some(buf),
         LinkKind::Over => Ok(0),
-        LinkKind::Broken => Err(Failed),
+        LinkKind::Request | LinkKind::Broken => Err(Failed),
     }
 }
 
@@ -144,7 +201,6 @@ fn write_kind<S: Read + Write + Drop>(kind: &mut LinkKind<S>, piece: &[u8]) -> R
             Err(_) => Err(Failed),
         },
         LinkKind::Web(link) => link.write_some(piece),
-        LinkKind::Over => Err(Failed),
-        LinkKind::Broken => Err(Failed),
+        LinkKind::Over | LinkKind::Request | LinkKind::Broken => Err(Failed),
     }
 }

@@ -1,5 +1,5 @@
 -- No public contract names these: they are of private steps and of proofs.
-use Rattle.std.specs.Prelude.{⊤, ℕ, if◌then◌else◌, Option, None, Some, List, []}
+use Rattle.std.specs.Prelude.{ℕ, Option, None, Some, List, []}
 use Rattle.tungstenite.specs.declared.message.Message.{Message}
 use Rattle.mt_ws.specs.Messages.{payload_of}
 

@@ -1,5 +1,5 @@
 -- No public contract names these: they are of private steps and of proofs.
-use Rattle.std.specs.Prelude.{ℕ, List, [], Option, Ok}
+use Rattle.std.specs.Prelude.{ℕ, List, Option, Ok}
 use Rattle.tungstenite.specs.Socket.{Socket}
 use Rattle.mt_ws.specs.declared.pull.Pulled.{Pulled}
 use Rattle.mt_ws.specs.declared.pull.Pulled.TheVariants.{Data, End, Fault}

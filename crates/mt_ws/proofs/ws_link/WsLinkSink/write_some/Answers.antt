@@ -42,6 +42,7 @@ returns-then-not-whole-clause-writes g c =
       short = omega (arith, length-append {A = ℕ}, ap length c.bytes-before.ensures.same);
       line = c.add.ensures;
       socket = refl;
+      cause = refl;
     })
 
 pub returns-in-Ok-clause-writes : goal.returns-in-Ok-clause-writes
@@ -53,6 +54,7 @@ returns-in-Ok-clause-writes g c =
       short = omega (arith, length-append {A = ℕ}, ap length c.bytes-before.ensures.same);
       line = c.clear.ensures;
       sent = rw (c.bytes.ensures.same ∙ c.add.ensures) at c.in-Ok.ensures;
+      cause = refl;
     })
 
 pub returns-then-part-before-clause-cause : goal.returns-then-part-before-clause-cause

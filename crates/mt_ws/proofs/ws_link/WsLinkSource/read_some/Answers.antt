@@ -10,6 +10,7 @@ returns-in-End-clause-reads g c = rw c.end.ensures (inr (inr (record {
   none = (c.is_empty.ensures.0 c.if-not-is_empty.false, c.is_empty.ensures.0 c.if-not-is_empty.false);
   ended = refl;
   met = inr (c.if-self.false, (c.in-End.failure, c.in-End.ensures));
+  cause = refl;
 })))
 
 pub returns-in-Fault-clause-reads : goal.returns-in-Fault-clause-reads
@@ -31,6 +32,7 @@ returns-then-not-is_empty-clause-reads g c =
       bytes_are = c.give.ensures.bytes;
       socket = refl;
       ended = refl;
+      cause = refl;
     })
 
 pub returns-then-self-clause-reads : goal.returns-then-self-clause-reads
@@ -40,6 +42,7 @@ returns-then-self-clause-reads g c =
       none = (c.is_empty.ensures.0 c.if-not-is_empty.false, c.is_empty.ensures.0 c.if-not-is_empty.false);
       ended = c.if-self.true;
       met = inl (c.if-self.true, refl);
+      cause = refl;
     }))
 
 pub returns-in-Data-clause-reads : goal.returns-in-Data-clause-reads
@@ -52,6 +55,7 @@ returns-in-Data-clause-reads g c =
       answers = c.in-Data.ensures.1;
       some = takes_some c.give-in-Data.result c.give-in-Data.new.buf c.give-in-Data.ensures.bound;
       bytes_are = sym c.of.ensures ∙ (sym c.replace.ensures.after ∙ c.give-in-Data.ensures.bytes);
+      cause = refl;
     }))
 
 pub returns-then-not-is_empty-clause-bound : goal.returns-then-not-is_empty-clause-bound
