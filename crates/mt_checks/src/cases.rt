@@ -14,7 +14,7 @@ pub trait Check {
 }
 
 /// Whether a line of a table is a case.
-pub fn is_case(line: &str) -> bool {
+fn is_case(line: &str) -> bool {
     !line.is_empty() && !line.starts_with(';')
 }
 
@@ -45,15 +45,6 @@ where
     parsed(rt, word(rt, values))
 }
 
-/// The next values, numbers.
-pub fn numbers<const N: usize>(rt: &impl Abort, values: &mut Values<'_>) -> [i64; N] {
-    let mut numbers = [0; N];
-    for value in &mut numbers {
-        *value = number(rt, values);
-    }
-    numbers
-}
-
 /// The number that a text says.
 pub fn parsed<N: FromStr>(rt: &impl Abort, text: &str) -> N
 where
@@ -67,19 +58,9 @@ pub fn assert_case(rt: &impl Abort, holds: bool, case: &str) {
     assert!(rt; holds, "{case}");
 }
 
-/// The same of a case that begins with its second.
-pub fn assert_second(rt: &impl Abort, holds: bool, case: &str) {
-    assert!(rt; holds, "at second {case}");
-}
-
 /// The same of a part of a case, which is told with it.
 pub fn assert_part(rt: &impl Abort, holds: bool, part: &str, case: &str) {
     assert!(rt; holds, "{part} of {case}");
-}
-
-/// The same of a part of a case that is a number.
-pub fn assert_number(rt: &impl Abort, holds: bool, part: &str, number: u64) {
-    assert!(rt; holds, "{part} of {number}");
 }
 
 /// The case has no further value.

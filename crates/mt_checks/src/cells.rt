@@ -1,5 +1,5 @@
 //! The cells of trajectories, and which are near each other.
-ghost use Rattle.std.specs.Prelude.{◌<◌, true};
+ghost use Rattle.std.specs.Prelude.{true};
 ghost use Rattle.mt_base.specs.Bounds.{IsBoundedStretch};
 ghost use Rattle.mt_grid.specs.Lists.{AreInGrid};
 
@@ -183,21 +183,6 @@ const FALLING: Row = Row {
     leg: 0,
 };
 
-/// The first of lanes that lie 200,000 units apart.
-const LANE: Row = Row {
-    x: 0,
-    y: 0,
-    z: 2_400_000,
-    r: 0,
-    w: 0,
-    vx: 480,
-    vy: 0,
-    vz: 0,
-    gr: 0,
-    gw: 0,
-    leg: 0,
-};
-
 /// The cover of the stretch that flies from a row.
 fn covered(rt: &(impl AllocGlobal + Abort), from: Second, to: Second, first: Row) -> Cover
     requires { IsBoundedStretch (record { from = from; to = to; first = first; rvsm = true }) }
@@ -302,31 +287,4 @@ fn strands_on_both_sides_of_an_edge_are_near_up_to_the_minimum(rt: HostRuntime) 
     assert!(rt; is_near(&rt, AT_MINIMUM, AT_EDGE));
     assert!(rt; !is_near(&rt, ABOVE_MINIMUM, AT_EDGE));
     assert!(rt; is_near(&rt, ABOVE_MINIMUM, OVER_EDGE));
-}
-
-/// Puts the lane of a number into the grid, in which nothing is near it.
-fn with_lane(rt: &(impl AllocGlobal + Abort), grid: Grid, number: u32) -> Grid
-    requires { number < 18 }
-{
-    let first = Row {
-        y: 200_000 * i64::from(number),
-        ..LANE
-    };
-    let lane = covered(rt, 0, 1200, first);
-    assert!(rt; grid.near(&lane).expect(rt, "memory").is_empty());
-    let with_lane = grid.put(number, &lane).expect(rt, "memory");
-    drop(grid);
-    assert!(rt; with_lane.near(&lane).expect(rt, "memory").as_slice() == [number].as_slice());
-    drop(lane);
-    with_lane
-}
-
-#[test]
-fn eighteen_lanes_share_no_cell(rt: HostRuntime) {
-    let mut grid = Grid::make(rt.alloc()).expect(&rt, "memory");
-    for number in 0..18 {
-        grid = with_lane(&rt, grid, number);
-    }
-    assert!(rt; grid.share().is_ok());
-    drop(grid);
 }

@@ -1,4 +1,4 @@
-//! Pairs of ends, found by either end and by their seconds, and dropped.
+//! Pairs of ends that are dropped: how many steps that takes, and what is left.
 ghost use Rattle.std.specs.Prelude.{◌≡◌};
 
 use mt_base::Steps;
@@ -17,51 +17,29 @@ fn add(rt: &impl Abort, edges: &mut Edges, a: u32, b: u32, first: u32, last: u32
     assert!(rt; edges.get(a, b).is_some());
 }
 
-fn holds(found: &[Edge], a: u32, b: u32) -> bool {
-    for edge in found {
-        if edge.a == a && edge.b == b {
-            return true;
-        }
-    }
-    false
-}
-
-/// So many pairs are found, among them the one of these ends.
-fn check_found(rt: &impl Abort, found: Vec<Edge>, count: usize, ends: (u32, u32)) {
-    assert!(rt; found.len() == count && holds(&found, ends.0, ends.1));
+/// The pairs of the first end are dropped in so many steps, and one pair is left.
+fn check_drop(rt: &impl Abort, edges: &mut Edges, wanted: u64) {
+    let mut steps = Steps::new();
+    edges.drop_all(0, &mut steps);
+    assert!(rt; steps.get() == wanted);
+    let left = edges.due(0, 10_014_400).expect(rt, "memory");
+    assert!(rt; left.len() == 1);
 }
 
 #[test]
-fn pairs_are_found_by_end_and_by_second(rt: HostRuntime) {
+fn dropped_pairs_cost_their_steps(rt: HostRuntime) {
     let mut edges = Edges::make(rt.alloc(), 4).expect(&rt, "memory");
     add(&rt, &mut edges, 0, 1, 131, 168);
     add(&rt, &mut edges, 1, 2, 300, 310);
-    check_found(&rt, edges.of(1).expect(&rt, "memory"), 2, (0, 1));
-    check_found(&rt, edges.of(1).expect(&rt, "memory"), 2, (1, 2));
-    let due = edges.due(256, 512).expect(&rt, "memory");
-    check_found(&rt, due, 1, (1, 2));
-    let mut steps = Steps::new();
-    edges.drop_all(0, &mut steps);
-    assert!(rt; steps.get() == 7);
-    check_found(&rt, edges.of(1).expect(&rt, "memory"), 1, (1, 2));
+    check_drop(&rt, &mut edges, 7);
 }
 
 #[test]
-fn dropped_pairs_make_room(rt: HostRuntime) {
+fn more_pairs_cost_more_steps(rt: HostRuntime) {
     let mut edges = Edges::make(rt.alloc(), 4).expect(&rt, "memory");
     add(&rt, &mut edges, 0, 1, 10, 20);
     add(&rt, &mut edges, 0, 2, 10, 20);
     add(&rt, &mut edges, 0, 3, 10, 20);
     add(&rt, &mut edges, 1, 2, 5, 6);
-    let mut steps = Steps::new();
-    edges.drop_all(0, &mut steps);
-    assert!(rt; steps.get() == 19);
-    let all = edges.due(0, 10_014_400).expect(&rt, "memory");
-    check_found(&rt, all, 1, (1, 2));
-    assert!(rt; edges.get(0, 1).is_none());
-    add(&rt, &mut edges, 0, 1, 10, 20);
-    add(&rt, &mut edges, 0, 2, 10, 20);
-    add(&rt, &mut edges, 0, 3, 10, 20);
-    let all = edges.due(0, 10_014_400).expect(&rt, "memory");
-    check_found(&rt, all, 4, (1, 2));
+    check_drop(&rt, &mut edges, 19);
 }

@@ -2,7 +2,7 @@ use Rattle.std.proofs.Common.{All, pos, subst}
 use Rattle.std.proofs.lemmas.List.{take_all}
 use Rattle.std.proofs.lemmas.List.Elements.{All-more}
 use Rattle.mt_base.specs.Bounds.{IsBoundedBand}
-use Rattle.mt_checks.proofs.trajectories.are_bands.Goals as goal
+use Rattle.mt_checks.proofs.segments.are_bands.Goals as goal
 
 pub loop-band-preserved : goal.loop-band-preserved
 loop-band-preserved c =

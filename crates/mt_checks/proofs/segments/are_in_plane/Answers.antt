@@ -3,7 +3,7 @@ use Rattle.std.proofs.lemmas.List.{take_all}
 use Rattle.std.proofs.lemmas.List.Elements.{All-more}
 use Rattle.mt_base.specs.declared.place.Point.{Point}
 use Rattle.mt_base.specs.Bounds.{IsInPlane}
-use Rattle.mt_checks.proofs.trajectories.are_in_plane.Goals as goal
+use Rattle.mt_checks.proofs.segments.are_in_plane.Goals as goal
 
 pub loop-fix-preserved : goal.loop-fix-preserved
 loop-fix-preserved c =
