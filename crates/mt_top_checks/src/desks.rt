@@ -1,6 +1,5 @@
-//! Desks on threads: two seats that file at once, and what is done with the turn not held; and turns alone.
+//! Desks and turns: seats on threads of their own.
 
 mod filing;
-mod holding;
-mod opening;
+pub mod opening;
 mod turns;

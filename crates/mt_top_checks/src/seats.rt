@@ -1,6 +1,4 @@
-//! What positions, feeds and workers do: sessions over links, jobs, and the door of TCP.
+//! What positions, feeds and workers do: sessions over links, and jobs.
 
-mod doors;
 mod jobs;
-mod seated;
 mod sessions;

@@ -5,7 +5,7 @@ ghost use Rattle.mt_base.specs.Bounds.{IsAskedFor, IsBoundedCommand};
 ghost use Rattle.mt_desk.specs.Desk.{IsSeatOfDesk};
 ghost use Rattle.mt_top_checks.specs.Same.{IsSameHand};
 
-use crate::commands::{STILL, shared_tables};
+use crate::tables::shared_tables;
 use mt_base::{Callsign, Command, Row, Rules, Straight};
 use mt_board::Board;
 use mt_desk::{Desk, Hand, Seat};
@@ -15,6 +15,21 @@ use std::alloc::Global;
 use std::process::Abort;
 use std::sync::Wait;
 use std::thread::Threads;
+
+/// At the origin, not moving.
+const STILL: Row = Row {
+    x: 0,
+    y: 0,
+    z: 0,
+    r: 0,
+    w: 0,
+    vx: 0,
+    vy: 0,
+    vz: 0,
+    gr: 0,
+    gw: 0,
+    leg: 0,
+};
 
 /// A desk over the opening picture, its first seat, and one that was split off it.
 pub fn opened(rt: &impl Abort, alloc: Global) -> (Desk, Seat, Seat)

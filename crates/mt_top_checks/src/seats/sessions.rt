@@ -1,13 +1,14 @@
-//! One session over a link in memory and a seat alone: reports with a flag, jobs, and a worker.
+//! One session over a link in memory and a seat of a desk: reports with a flag, jobs, and a worker.
 ghost use Rattle.std.specs.Thread.{IsSync};
+ghost use Rattle.mt_desk.specs.Desk.{IsSeatOfDesk};
 
-use super::seated::seated;
+use crate::desks::opening::opened;
 use crate::links::{check_held, link};
 use crate::names::callsign;
 use crate::reports::{JUDGED, REPORTED};
 use mt_base::Calls;
+use mt_desk::{Desk, Hand, Seat};
 use mt_io::{MemLink, OpenGate};
-use mt_plain_board::PlainBoard;
 use mt_session::{Outcome, session};
 use mt_workers::{MemInbox, MemOutbox, work};
 use std::alloc::Global;
@@ -16,22 +17,19 @@ use std::sync::Wait;
 use std::sync::atomic::{AtomicU64, Ordering};
 use std::thread::Threads;
 
-/// What is published then, and so how many entries there are.
-const LIST: &str = "{\"do\":\"list\"}\n";
-
 /// One session over a link, to its end.
-fn held<R: Threads + Wait + Sync + Abort>(
+fn held<'a, R: Threads + Wait + Sync + Abort>(
     rt: &R,
     alloc: Global,
-    board: PlainBoard,
+    hand: Hand<'a>,
     link: &mut MemLink,
     jobs: Option<&mut MemOutbox>,
-) -> PlainBoard
+) -> Hand<'a>
     requires sync { IsSync R.row }
 {
-    let (board, outcome) = session(rt, alloc, board, link, jobs, &OpenGate);
+    let (hand, outcome) = session(rt, alloc, hand, link, jobs, &OpenGate);
     assert!(rt; outcome == Outcome::Ended);
-    board
+    hand
 }
 
 /// As many replies were counted.
@@ -40,56 +38,52 @@ fn check_count(rt: &impl Abort, count: &AtomicU64, replies: &str) {
 }
 
 /// One session of these lines, which are to be answered so, to its end.
-fn say<R: Threads + Wait + Sync + Abort>(
+fn say<'a, R: Threads + Wait + Sync + Abort>(
     rt: &R,
     alloc: Global,
-    board: PlainBoard,
+    hand: Hand<'a>,
     jobs: Option<&mut MemOutbox>,
     lines: &str,
     replies: &str,
-) -> PlainBoard
+) -> Hand<'a>
     requires sync { IsSync R.row }
 {
     let mut link = link(rt, alloc, lines);
     let count = link.replies().expect(rt, "memory");
-    let board = held(rt, alloc, board, &mut link, jobs);
+    let hand = held(rt, alloc, hand, &mut link, jobs);
     check_held(rt, &link, replies);
     check_count(rt, &count, replies);
     drop(link);
-    board
+    hand
 }
 
-/// The session of a flight and its report with a flag, with so many places for jobs; the board then, and the jobs that were handed on.
-fn reported<R: Threads + Wait + Sync + Abort>(
+/// The session of a flight and its report with a flag, with so many places for jobs; the seat then, and the jobs that were handed on.
+fn reported<'a, R: Threads + Wait + Sync + Abort>(
     rt: &R,
     alloc: Global,
+    desk: &'a Desk,
+    seat: Seat,
     places: u32,
-) -> (PlainBoard, MemOutbox)
+) -> (Hand<'a>, MemOutbox)
     requires sync { IsSync R.row }
+    requires ready { IsSeatOfDesk desk.now seat }
 {
     let mut jobs = MemOutbox::make(alloc, places).expect(rt, "memory");
-    let board = say(
-        rt,
-        alloc,
-        seated(rt, alloc),
-        Some(&mut jobs),
-        REPORTED,
-        JUDGED,
-    );
-    (board, jobs)
+    let hand = desk.hand(seat);
+    let hand = say(rt, alloc, hand, Some(&mut jobs), REPORTED, JUDGED);
+    (hand, jobs)
 }
 
-/// One session of this line at last, which is to be answered so.
-fn end<R: Threads + Wait + Sync + Abort>(
+/// A session that lists is answered so.
+fn list<'a, R: Threads + Wait + Sync + Abort>(
     rt: &R,
     alloc: Global,
-    board: PlainBoard,
-    line: &str,
-    reply: &str,
-)
+    hand: Hand<'a>,
+    listed: &str,
+) -> Hand<'a>
     requires sync { IsSync R.row }
 {
-    drop(say(rt, alloc, board, None, line, reply));
+    say(rt, alloc, hand, None, "{\"do\":\"list\"}\n", listed)
 }
 
 /// One job was handed on, that of the flight.
@@ -100,54 +94,35 @@ fn check_job(rt: &impl Abort, jobs: &MemOutbox) {
 }
 
 /// A worker renews the flight.
-fn renewed<R: Threads + Wait + Sync + Abort>(rt: &R, alloc: Global, board: PlainBoard) -> PlainBoard
+fn renewed<'a, R: Threads + Wait + Sync + Abort>(rt: &R, alloc: Global, hand: Hand<'a>) -> Hand<'a>
     requires sync { IsSync R.row }
 {
     let mut calls = Calls::make(alloc).expect(rt, "memory");
     calls.push(callsign(rt, b"DDD1")).expect(rt, "memory");
-    work(rt, board, MemInbox::of(calls), &OpenGate)
+    work(rt, hand, MemInbox::of(calls), &OpenGate)
 }
 
+/// What is listed after three entries, and after the renewal.
+const THREE: &str = "{\"conflicts\":[],\"version\":3}\n";
+
+const FOUR: &str = "{\"conflicts\":[],\"version\":4}\n";
+
 #[test]
-fn flagged_report_is_handed_on(rt: HostRuntime) {
+fn job_of_a_flagged_report_is_handed_on_and_done_by_a_worker(rt: HostRuntime) {
     let alloc = rt.alloc();
-    let (board, jobs) = reported(&rt, alloc, 1);
+    let (desk, seat, _second) = opened(&rt, alloc);
+    let (hand, jobs) = reported(&rt, alloc, &desk, seat, 1);
     check_job(&rt, &jobs);
-    let listed = "{\"conflicts\":[],\"version\":3}\n";
-    let board = say(&rt, alloc, board, None, LIST, listed);
-    end(
-        &rt,
-        alloc,
-        board,
-        "{\"do\":\"settle\"}\n",
-        "{\"left\":[],\"version\":4}\n",
-    );
+    let hand = list(&rt, alloc, hand, THREE);
+    let hand = renewed(&rt, alloc, hand);
+    drop(list(&rt, alloc, hand, FOUR));
 }
 
 #[test]
 fn flagged_report_is_renewed_here(rt: HostRuntime) {
     let alloc = rt.alloc();
-    let (board, jobs) = reported(&rt, alloc, 0);
+    let (desk, seat, _second) = opened(&rt, alloc);
+    let (hand, jobs) = reported(&rt, alloc, &desk, seat, 0);
     assert!(&rt; jobs.taken().len() == 0);
-    end(
-        &rt,
-        alloc,
-        board,
-        LIST,
-        "{\"conflicts\":[],\"version\":4}\n",
-    );
-}
-
-#[test]
-fn worker_renews_a_flight(rt: HostRuntime) {
-    let alloc = rt.alloc();
-    let (board, _jobs) = reported(&rt, alloc, 1);
-    let board = renewed(&rt, alloc, board);
-    end(
-        &rt,
-        alloc,
-        board,
-        LIST,
-        "{\"conflicts\":[],\"version\":4}\n",
-    );
+    drop(list(&rt, alloc, hand, FOUR));
 }

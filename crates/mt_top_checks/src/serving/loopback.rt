@@ -1,8 +1,9 @@
-//! A client over loopback.
+//! A client over loopback, and a port that is taken.
+ghost use Rattle.std.specs.Prelude.{◌≤◌};
 ghost use Rattle.std.specs.Thread.{IsSync};
 
 use super::scene::{AMPLE, run_over, source_of};
-use mt_io::{OpenGate, TcpDoor};
+use mt_io::{Door, OpenGate, TcpDoor};
 use mt_top::Status;
 use std::alloc::Global;
 use std::io::{Read, Write};
@@ -73,4 +74,29 @@ fn a_client_over_loopback(rt: HostRuntime) {
     let (served, spoke) = thread::join(&rt, || serve(&rt, alloc), || speak(&rt));
     assert!(&rt; served);
     assert!(&rt; spoke);
+}
+
+/// Opens the door for one session at the first port that is free; its number.
+fn open<N: Net<Listener = TcpListener, Stream = TcpStream>>(
+    door: &mut TcpDoor<N>,
+    first: u16,
+) -> Option<u16>
+    requires { first ≤ 60000 }
+{
+    for more in 0..32u16 {
+        if door.listen(first + more, 1).is_ok() {
+            return Some(first + more);
+        }
+    }
+    None
+}
+
+#[test]
+fn port_that_is_taken_is_a_fault(rt: HostRuntime) {
+    let (mut first, mut second) = (TcpDoor::of(&rt), TcpDoor::of(&rt));
+    let port = open(&mut first, 47_911).expect(&rt, "a free port");
+    assert!(&rt; second.listen(port, 1).is_err());
+    assert!(&rt; second.door_faults() == 1);
+    assert!(&rt; matches!(second.next_link(), Ok(None)));
+    assert!(&rt; second.door_faults() == 1);
 }

@@ -1,10 +1,9 @@
 //! A small history as text: read, rebuilt, printed, and read and rebuilt once more; and texts that say none.
 ghost use Rattle.std.specs.Prelude.{All};
-ghost use Rattle.mt_base.specs.Bounds.{AreWithinBounds};
 ghost use Rattle.mt_history.specs.Rebuilt.{IsReadyToDecide};
 
-use crate::commands::shared_tables;
-use crate::conflicts::{conflict, hit};
+use crate::names::callsign;
+use crate::tables::shared_tables;
 use mt_base::{Conflict, Entries, Kind, Refusal, Rules};
 use mt_history::{BadHistory, Wrong, print, read_all, rebuild};
 use mt_picture::Picture;
@@ -36,34 +35,26 @@ fn entries_of(rt: &impl Abort, alloc: Global, text: &[u8]) -> Entries
     }
 }
 
-// What is rebuilt in those rules of the entries that a text says.
-fn rebuilt_in(
-    rt: &(impl Abort + Threads + Sync),
-    alloc: Global,
-    rules: Rules,
-    text: &[u8],
-) -> Result<Picture, Wrong>
-    requires { AreWithinBounds rules }
-{
-    let entries = entries_of(rt, alloc, text);
-    let tables = shared_tables(rt, alloc);
-    rebuild(rt, alloc, rules, tables, &entries)
-}
-
-// The same in the usual rules.
+// What is rebuilt of the entries that a text says, in the usual rules.
 fn rebuilt(
     rt: &(impl Abort + Threads + Sync),
     alloc: Global,
     text: &[u8],
 ) -> Result<Picture, Wrong> {
-    rebuilt_in(rt, alloc, Rules::usual(), text)
+    let entries = entries_of(rt, alloc, text);
+    let tables = shared_tables(rt, alloc);
+    rebuild(rt, alloc, Rules::usual(), tables, &entries)
 }
 
 // The conflict of the marked climb with the flight ahead.
 fn conflict_ahead(rt: &impl Abort) -> Conflict {
     Conflict {
+        first: 129,
+        a: callsign(rt, b"DDD1"),
+        b: callsign(rt, b"JJJ1"),
         ka: Kind::Tentative,
-        ..conflict(rt, (129, 171), b"DDD1", b"JJJ1")
+        kb: Kind::Actual,
+        last: 171,
     }
 }
 
@@ -138,53 +129,4 @@ fn what_is_wrong_is_named_by_its_place(rt: HostRuntime) {
     let ahead = "{\"call\":\"DDD1\",\"do\":\"accept\",\"eff\":0,\"level\":360,\"v\":5,\"who\":0}\n";
     check_wrong(&rt, alloc, ahead, Wrong::Late { at: 4 });
     check_gap(&rt, alloc);
-}
-
-// A history that was printed before entries told whether an aircraft is approved: a plan at flight level 400, a flight that comes towards it
-// at 420, and the acceptance of a climb to 410, a thousand feet below that flight.
-const STORED: &str =
-    r#"{"at":0,"call":"DDD1","do":"plan","from":400,"level":400,"route":["Q0","Q1"],"type":"JA1","who":0}
-{"call":"JJJ1","do":"external","from":0,"gr":0,"gw":0,"r":0,"to":1200,"vx":-480,"vy":0,"vz":0,"w":0,"who":0,"x":144000,"y":0,"z":2520000}
-{"call":"DDD1","do":"accept","eff":0,"level":410,"v":2,"who":0}
-"#;
-
-// The same as it is printed now.
-const APPROVED: &str =
-    r#"{"at":0,"call":"DDD1","do":"plan","from":400,"level":400,"route":["Q0","Q1"],"rvsm":true,"type":"JA1","who":0}
-{"call":"JJJ1","do":"external","from":0,"gr":0,"gw":0,"r":0,"rvsm":true,"to":1200,"vx":-480,"vy":0,"vz":0,"w":0,"who":0,"x":144000,"y":0,"z":2520000}
-{"call":"DDD1","do":"accept","eff":0,"level":410,"v":2,"who":0}
-"#;
-
-// The usual rules but for the greater vertical minimum, which is the lesser one.
-fn one_minimum() -> Rules {
-    Rules {
-        sv2: 60_000,
-        ..Rules::usual()
-    }
-}
-
-#[test]
-fn a_history_without_approvals_is_rebuilt_by_one_minimum(rt: HostRuntime) {
-    let alloc = rt.alloc();
-    let rules = one_minimum();
-    assert!(rt; rules.check().is_ok());
-    let picture = rebuilt_in(&rt, alloc, rules, STORED.as_bytes())
-        .ok()
-        .expect(&rt, "a picture");
-    check_picture(&rt, &picture, 3, &[]);
-    let text = print(alloc, &picture, 0, picture.version()).expect(&rt, "memory");
-    assert!(rt; text.as_slice() == APPROVED.as_bytes());
-    drop(picture);
-}
-
-// Above flight level 410 a thousand feet are too few: the climb meets the other flight.
-#[test]
-fn an_acceptance_that_the_greater_minimum_forbids_is_illegal(rt: HostRuntime) {
-    let stale = Wrong::Illegal {
-        at: 2,
-        refusal: Refusal::Stale {
-            first: hit(&rt, (129, 171), b"JJJ1"),
-        },
-    };
-    assert!(rt; rebuilt(&rt, rt.alloc(), STORED.as_bytes()).err() == Some(stale));
 }

@@ -1,4 +1,0 @@
-use Rattle.mt_top_checks.proofs.picture.histories.entries_of.Goals as goal
-
-pub returns : goal.returns
-returns g c = c.in-Ok.ensures.ready
