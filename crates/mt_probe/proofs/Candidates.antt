@@ -203,11 +203,16 @@ module _ {X Y : Type 0} (item : X → ℕ) (f : ℕ → List Y) where
       omega (arith, more, length-append (f y) (flat_map f ys)))
       (cases_eq y (item x))
 
--- what was met is no more than what is near
+-- what some of those that were met name is no more than what those that are near name
+pub few_by : (f : ℕ → List NamedTrajectory) (shot : Shot) (t : Trajectory) (list : List Met) (items : List ℕ) → IsSoundShot shot → IsStrand t
+    → AllPairs (λ (m n : Met). m.item < n.item) list → ((met : Met) → Contains list met → IsMetOf shot (slices_of shot.setup.rules t) met)
+    → AreNearItems shot (cover_of shot.setup.rules t) items → length (flat_map (λ (m : Met). f m.item) list) ≤ length (flat_map f items)
+few_by f shot t list items sound laid rising exact near = fewer_among (λ (m : Met). m.item) f list items rising
+    (AllPairs-from_increasing items near.rising)
+    (λ m held. let is = exact m held in
+    (near.same m.item).1 (near_by_meeting shot t m.item is.theirs m.first sound laid is.there is.hull.first_is))
+
 pub few_met : (shot : Shot) (call : List ℕ) (t : Trajectory) (list : List Met) (items : List ℕ) → IsSoundShot shot → IsStrand t
     → AreMetItems shot (slices_of shot.setup.rules t) list → AreNearItems shot (cover_of shot.setup.rules t) items
     → length (others_met call shot.slots list) ≤ length (others_among call shot.slots items)
-few_met shot call t list items sound laid met near = fewer_among (λ (m : Met). m.item) (other_at call shot.slots) list items met.rising
-    (AllPairs-from_increasing items near.rising)
-    (λ m held. let is = met.exact m held in
-    (near.same m.item).1 (near_by_meeting shot t m.item is.theirs m.first sound laid is.there is.hull.first_is))
+few_met shot call t list items sound laid met near = few_by (other_at call shot.slots) shot t list items sound laid met.rising met.exact near

@@ -1,4 +1,5 @@
 mod Candidates
+mod Listing
 mod NearItems
 pub mod Again
 pub mod Aside

@@ -8,3 +8,4 @@ pub mod Private
 pub mod Putting
 pub mod Shot
 pub mod Standing
+pub mod Tests

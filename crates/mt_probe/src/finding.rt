@@ -4,7 +4,7 @@ ghost use Rattle.mt_base.specs.Bounds.{AreWithinBounds};
 ghost use Rattle.mt_base.specs.Conflict.{IsConflict, IsLossSecond};
 ghost use Rattle.mt_base.specs.Picture.{window_end};
 ghost use Rattle.mt_cover.specs.Sliced.{slices_of};
-ghost use Rattle.mt_probe.specs.Private.Boxed.{IsMetOf};
+ghost use Rattle.mt_probe.specs.Private.Boxed.{AreMetItems, IsMetOf};
 ghost use Rattle.mt_probe.specs.Finds.{AreFinds, IsFound};
 ghost use Rattle.mt_probe.specs.Private.Finds.{FindsMore};
 ghost use Rattle.mt_probe.specs.Items.{WasTestedNear, kind_at, other_at};
@@ -133,8 +133,30 @@ fn find_met(
     }
 }
 
-/// What is found with a new trajectory of a flight, of which no other is tested: only what has slices that meet its own is, in the seconds from
-/// the first to the last one in which they do, with at most two tests each. All that is near by the definition of cells.
+/// What is found with a new trajectory of a flight, of which this is all that its slices meet. Each of these is tested at most twice, in the
+/// seconds from the first to the last one in which slices meet and where needed in the window, and no other: it can't lose separation.
+pub(crate) fn find_among(
+    alloc: Global,
+    snapshot: &Snapshot,
+    call: Callsign,
+    strand: &Strand,
+    list: &[Met],
+    tests: &mut Tally,
+) -> Result<Finds, Memory>
+    requires { AreMetItems snapshot.now (slices_of snapshot.now.setup.rules strand.now) list.now }
+    ensures finds { IfOk result (AreFinds snapshot.now.setup (state_in_shot snapshot.now) call strand.now) }
+    ensures counted { WasTestedNear snapshot.now call strand.now tests.old tests.new }
+{
+    snapshot.keeps();
+    strand.keeps();
+    let mut finds = Finds::make(alloc)?;
+    for met in list {
+        find_met(snapshot, *met, call, strand, tests, &mut finds)?;
+    }
+    Ok(finds)
+}
+
+/// What is found with a new trajectory of a flight.
 pub(crate) fn find_all(
     alloc: Global,
     snapshot: &Snapshot,
@@ -145,12 +167,6 @@ pub(crate) fn find_all(
     ensures finds { IfOk result (AreFinds snapshot.now.setup (state_in_shot snapshot.now) call strand.now) }
     ensures counted { WasTestedNear snapshot.now call strand.now tests.old tests.new }
 {
-    snapshot.keeps();
-    strand.keeps();
-    let mut finds = Finds::make(alloc)?;
     let list = snapshot.meeting(strand)?;
-    for met in &list {
-        find_met(snapshot, *met, call, strand, tests, &mut finds)?;
-    }
-    Ok(finds)
+    find_among(alloc, snapshot, call, strand, &list, tests)
 }

@@ -1,16 +1,17 @@
-//! Whether a new trajectory has a hit.
-ghost use Rattle.std.specs.Prelude.{◌≡◌, ◌↔◌, ◌≤◌, ◌<◌, ◌/◌, ℕ, false, IfOk, IsTrue};
+//! What a new trajectory meets, unless it has a hit.
+ghost use Rattle.std.specs.Prelude.{◌≡◌, ◌↔◌, ◌≤◌, ◌<◌, ◌+◌, ◌/◌, ℕ, None, false, length, IfOk, IfSome, IsTrue};
 ghost use Rattle.mt_base.specs.declared.conflict.Kind.TheVariants.{Actual};
 ghost use Rattle.mt_base.specs.Bounds.{AreWithinBounds};
 ghost use Rattle.mt_base.specs.Conflict.{IsConflict, IsLossSecond};
 ghost use Rattle.mt_base.specs.Picture.{window_end};
 ghost use Rattle.mt_base.specs.WhatIf.{HasHit};
 ghost use Rattle.mt_cover.specs.Sliced.{slices_of};
-ghost use Rattle.mt_probe.specs.Private.Boxed.{IsMetOf};
+ghost use Rattle.mt_probe.specs.Private.Boxed.{AreMetItems, IsMetOf};
 ghost use Rattle.mt_probe.specs.Private.Clear.{IsClearAt};
 ghost use Rattle.mt_probe.specs.Items.{kind_at};
 ghost use Rattle.mt_base.specs.Trajectory.{horizon};
 ghost use Rattle.mt_probe.specs.Shot.{state_in_shot};
+ghost use Rattle.mt_probe.specs.Tests.{WasTriedNear, flown_at};
 
 use crate::finding::kind_of;
 use crate::snapshot::Snapshot;
@@ -18,6 +19,7 @@ use mt_base::{Callsign, Kind, Memory, Rules, Second, Tally, WINDOW};
 use mt_meet::Met;
 use mt_pair::lose;
 use mt_track::Strand;
+use std::alloc::Global;
 
 // The conflict in the window of two trajectories that lose separation only in the seconds in which they are met: no other is tested.
 fn met_in_window(
@@ -32,7 +34,8 @@ fn met_in_window(
     requires early { now ≤ 10000000 }
     requires ends { met.last < horizon }
     requires within { (k : ℕ) → IsLossSecond rules.now strand.now other.now k → (met.first ≤ k) × (k ≤ met.last) }
-    ensures { IsConflict rules.now strand.now other.now now (window_end now) result }
+    ensures conflict { IsConflict rules.now strand.now other.now now (window_end now) result }
+    ensures counted { tests.new ≤ tests.old + 1 }
 {
     let from = now.max(met.first);
     let to = (now + WINDOW).min(met.last + 1);
@@ -50,6 +53,7 @@ fn is_hit_with(
     requires { IsMetOf snapshot.now (slices_of snapshot.now.setup.rules strand.now) met }
     ensures hit { IsTrue result → HasHit snapshot.now.setup (state_in_shot snapshot.now) call strand.now }
     ensures clear { result ≡ false → kind_at met.item ≡ Actual → IsClearAt snapshot.now call strand.now (met.item / 2) }
+    ensures counted { tests.new ≤ tests.old + length (flown_at call snapshot.now.slots met.item) }
 {
     snapshot.keeps();
     strand.keeps();
@@ -72,25 +76,31 @@ fn is_hit_with(
     met_in_window(rules, now, strand, other, met, tests).is_some()
 }
 
-/// Whether a new trajectory of a flight has a conflict in the window with one that another flight flies. What its slices meet is tested, one after
-/// the other, up to the first with a conflict; tentative trajectories don't count.
-pub(crate) fn has_hit(
+/// All that the slices of a new trajectory of a flight meet, in rising order of items, where it has no hit; `None` exactly where it has one: a
+/// conflict in the window with a trajectory that another flight flies. What is met and flown is tested, one after the other, up to the first hit;
+/// tentative trajectories aren't.
+pub(crate) fn met_unless_hit(
+    alloc: Global,
     snapshot: &Snapshot,
     call: Callsign,
     strand: &Strand,
     tests: &mut Tally,
-) -> Result<bool, Memory>
-    ensures { IfOk result (λ has. IsTrue has ↔ HasHit snapshot.now.setup (state_in_shot snapshot.now) call strand.now) }
+) -> Result<Option<Vec<Met>>, Memory>
+    ensures met { IfOk result (λ met. IfSome met (λ list. AreMetItems snapshot.now (slices_of snapshot.now.setup.rules strand.now) list.items)) }
+    ensures hit { IfOk result (λ met. met ≡ None ↔ HasHit snapshot.now.setup (state_in_shot snapshot.now) call strand.now) }
+    ensures counted { WasTriedNear snapshot.now call strand.now 0 tests.old tests.new }
 {
     snapshot.keeps();
     strand.keeps();
     let mine = snapshot.sliced(strand)?;
+    let mut list = Vec::new(alloc);
     let mut from = 0;
     while let Some(met) = snapshot.next_meeting(from, &mine) {
         if is_hit_with(snapshot, met, call, strand, tests) {
-            return Ok(true);
+            return Ok(None);
         }
+        list.push(met)?;
         from = met.item + 1;
     }
-    Ok(false)
+    Ok(Some(list))
 }

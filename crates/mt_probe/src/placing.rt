@@ -1,11 +1,12 @@
 //! The slices of trajectories in a table.
-ghost use Rattle.std.specs.Prelude.{◌≡◌, ◌<◌, ◌+◌, ◌*◌, Some, IfOk, IfSome, length, option_copied};
+ghost use Rattle.std.specs.Prelude.{◌≡◌, ◌<◌, ◌+◌, ◌*◌, Some, IfOk, IfSome, length, option_copied, option_map, slice_set};
+ghost use Rattle.std.specs.Arc.{arc_value};
 ghost use Rattle.mt_base.specs.Bounds.{AreWithinBounds};
 ghost use Rattle.mt_cover.specs.Sliced.{slices_of};
 ghost use Rattle.mt_track.specs.Laid.{IsStrand};
 ghost use Rattle.mt_probe.specs.Private.Boxed.{AreLaid, table_with};
 
-use crate::flight::Flight;
+use crate::flight::{Flight, Made};
 use mt_base::{Memory, Rules};
 use mt_cover::{Slices, slices};
 use mt_meet::SliceTable;
@@ -22,6 +23,29 @@ fn strand_slices(alloc: Global, rules: &Rules, strand: &Strand) -> Result<Slices
     slices(alloc, strand, rules)
 }
 
+// The table with the slices of a trajectory at an item, or with none.
+fn with_made(
+    alloc: Global,
+    rules: &Rules,
+    table: &SliceTable,
+    item: u32,
+    made: Option<&Made>,
+) -> Result<SliceTable, Memory>
+    requires rules { AreWithinBounds rules.now }
+    requires inside { item < length table.now }
+    ensures table { IfOk result (λ after. after ≡ slice_set table.now item
+        (option_map (slices_of rules.now) (option_map (λ m. arc_value m.strand) (option_copied made.entry)))) }
+    ensures laid { IfOk result (λ after. IfSome (option_copied made.entry) (λ m. IsStrand (arc_value m.strand))) }
+{
+    match made {
+        Some(made) => {
+            let slices = strand_slices(alloc, rules, &made.strand)?;
+            table.set(item, Some(slices))
+        }
+        None => table.set(item, None),
+    }
+}
+
 // The table with the slices of a flight at a place.
 fn with_flight(
     alloc: Global,
@@ -36,15 +60,8 @@ fn with_flight(
     ensures table { IfOk result (λ after. after ≡ table_with rules.now slot (Some flight.now) table.now) }
     ensures laid { IfOk result (λ after. AreLaid flight.now) }
 {
-    let flown = strand_slices(alloc, rules, &flight.actual.strand)?;
-    let table = table.set(2 * slot, Some(flown))?;
-    match &flight.mark {
-        Some(made) => {
-            let marked = strand_slices(alloc, rules, &made.strand)?;
-            table.set(2 * slot + 1, Some(marked))
-        }
-        None => table.set(2 * slot + 1, None),
-    }
+    let flown = with_made(alloc, rules, table, 2 * slot, Some(&flight.actual))?;
+    with_made(alloc, rules, &flown, 2 * slot + 1, flight.mark.as_ref())
 }
 
 /// The table with the slices of what is put at a place in the stead of those of what was there.

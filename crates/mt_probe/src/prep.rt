@@ -43,7 +43,7 @@ impl Prep {
         self.snapshot.version()
     }
 
-    /// What every prep keeps: it is one of its snapshot's. It does nothing.
+    /// What every prep keeps is said here: the definition is `IsPrepared`. It does nothing.
     pub fn keeps(&self)
         ensures { IsPrepared self.now }
     {
@@ -71,8 +71,7 @@ impl Prep {
         &self.strand
     }
 
-    /// What is found with it. A trajectory of another flight that has a loss second with it is listed; whether one that has none is, is not
-    /// said.
+    /// What is found with it: each trajectory of another flight that has a loss second with it, once, and no other.
     pub fn finds(&self) -> &[Found]
         ensures { result.now ≡ self.now.finds }
     {

@@ -6,12 +6,14 @@ ghost use Rattle.mt_base.specs.Trajectory.{Trajectory};
 ghost use Rattle.mt_base.specs.Tables.{setup_with};
 ghost use Rattle.mt_change.specs.Altered.{IsBoundedBesides};
 ghost use Rattle.mt_predict.specs.Looking.{HasStrand, look_of};
+ghost use Rattle.mt_probe.specs.Finds.{AreFinds};
 ghost use Rattle.mt_probe.specs.Items.{WasTestedNear};
 ghost use Rattle.mt_probe.specs.Prepared.{IsLeftByEntry, IsLeftOr, IsPrepOf, IsRefusedOn, MakesStrand, WasTestedFor, kind_made, path_made, roomy};
 ghost use Rattle.mt_probe.specs.Shot.{state_in_shot};
+ghost use Rattle.mt_probe.specs.Tests.{IsUntested};
 
 use crate::altering::altered_flight;
-use crate::finding::find_all;
+use crate::finding::{Finds, find_all};
 use crate::prep::Prep;
 use crate::snapshot::Snapshot;
 use mt_base::{Command, Kind, Memory, Path, Record, Refusal, Rules, Tally};
@@ -153,24 +155,22 @@ pub fn kind_made(command: &Command) -> Kind
     }
 }
 
-// What is prepared for a command that leaves this of the flight that it names, and makes that trajectory of it.
+// What is prepared for a command that leaves this of the flight that it names, and makes that trajectory of it, with which these are found.
 pub(crate) fn prep_with(
-    alloc: Global,
     snapshot: &Snapshot,
     who: u32,
     command: Command,
     card: Record,
     strand: Arc<Strand>,
-    tests: &mut Tally,
+    finds: Finds,
 ) -> Result<Prep, Memory>
     requires left { IsLeftByEntry snapshot.now.setup (state_in_shot snapshot.now) who command card }
     requires made { path_made snapshot.now.setup card (kind_made command) ≡ Some (arc_value strand) }
-    ensures prep { IfOk result (IsPrepOf snapshot.now who command) }
-    ensures counted { WasTestedNear snapshot.now card.call (arc_value strand) tests.old tests.new }
+    requires found { AreFinds snapshot.now.setup (state_in_shot snapshot.now) card.call (arc_value strand) finds }
+    ensures { IfOk result (IsPrepOf snapshot.now who command) }
 {
     snapshot.keeps();
     strand.keeps();
-    let finds = find_all(alloc, snapshot, card.call, &strand, tests)?;
     Ok(Prep {
         snapshot: snapshot.share()?,
         who,
@@ -197,7 +197,8 @@ fn prep_of(
 {
     snapshot.keeps();
     let strand = strand_of(alloc, snapshot, &card, kind_made(&command))?;
-    prep_with(alloc, snapshot, who, command, card, strand, tests)
+    let finds = find_all(alloc, snapshot, card.call, &strand, tests)?;
+    prep_with(snapshot, who, command, card, strand, finds)
 }
 
 /// What is prepared on a snapshot for a command that makes a trajectory: the flight as the entry leaves it, that trajectory, and what is found
@@ -205,7 +206,8 @@ fn prep_of(
 /// refuses nothing here.
 ///
 /// It asks that the rules and tables are those of the snapshot, and that the numbers of the command are within their bounds, whatever version
-/// the probe of an acceptance names. At most two pairs are tested for each trajectory of another flight that is near the new one.
+/// the probe of an acceptance names. At most two tests are made for each trajectory of another flight that is near the new one, and none where
+/// the command is refused.
 pub fn prepare(
     alloc: Global,
     snapshot: &Snapshot,
@@ -221,6 +223,7 @@ pub fn prepare(
     ensures prep { IfOk result (IsPrepOf snapshot.now who command.now) }
     ensures refused { IfErr result (IsRefusedOn snapshot.now who command.now) }
     ensures counted { WasTestedFor snapshot.now who command.now tests.old tests.new }
+    ensures untested { IfErr result (IsUntested tests.old tests.new) }
 {
     match left_of(alloc, snapshot, who, command)? {
         Ok(card) => {

@@ -1,9 +1,10 @@
 //! A probe: a clearance that was tried on a snapshot.
 ghost use Rattle.std.specs.Prelude.{◌≡◌};
+ghost use Rattle.mt_board.specs.Probing.{acceptance};
 ghost use Rattle.mt_probe.specs.Hits.{IsTried, told_of};
 
 use crate::prep::Prep;
-use mt_base::{Callsign, Clearance, Hit, Hits, Second};
+use mt_base::{Callsign, Clearance, Command, Hit, Hits, Second};
 use mt_board::Probed;
 use std::marker::Model;
 
@@ -34,6 +35,13 @@ impl Probe {
         ensures kept { IsTried self.now }
     {
         &self.prep
+    }
+
+    /// The command that accepts it. It is at hand: none is built.
+    pub fn acceptance(&self) -> &Command
+        ensures { result.now ≡ acceptance (told_of self.now) }
+    {
+        &self.prep.command
     }
 
     /// The conflicts that would follow, by first second and then callsign. What every probe keeps is said here too.

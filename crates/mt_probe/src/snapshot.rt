@@ -69,6 +69,7 @@ impl Snapshot {
           now = 0;
           slots = replicate (length shot.slots) None;
         }) }
+        ensures places { IfOk result (λ shot. pos (length shot.slots) ≡ rules.flights) }
         ensures state { IfOk result (λ shot. state_in_shot shot ≡ opening) }
     {
         let count = places(&rules);
@@ -300,9 +301,12 @@ impl Snapshot {
             (state_in_shot shot).records ≡ records_put (flight_at self.now slot) flight (state_in_shot self.now).records) }
     {
         let body = &*self.body;
-        let table = moved(body.alloc, &body.rules, &body.table, slot, flight.as_ref())?;
-        let index = body.index.put(body.alloc, &body.slots, self.slots(), slot, flight.as_ref())?;
         let slots = body.slots.set(slot, shared(body.alloc, flight)?)?;
+        let new = slots.get(slot);
+        let table = moved(body.alloc, &body.rules, &body.table, slot, new)?;
+        let index = body
+            .index
+            .put(body.alloc, &body.slots, self.slots(), slot, new)?;
         changed(body, body.moment, slots, table, index)
     }
 

@@ -8,14 +8,17 @@ ghost use Rattle.mt_base.specs.declared.hit.Hit.{Hit};
 ghost use Rattle.mt_base.specs.Bounds.{IsBoundedClearance};
 ghost use Rattle.mt_base.specs.Name.{is_name};
 ghost use Rattle.mt_base.specs.Tables.{setup_with};
+ghost use Rattle.mt_base.specs.Trajectory.{Trajectory};
 ghost use Rattle.mt_base.specs.WhatIf.{hit_cmp};
+ghost use Rattle.mt_probe.specs.Finds.{AreFinds};
 ghost use Rattle.mt_probe.specs.Hits.{IsFreeOrConflicting, IsProbe, IsUnprobed};
 ghost use Rattle.mt_probe.specs.Private.Hits.{IsHitOfOne, hit_of};
 ghost use Rattle.mt_probe.specs.Prepared.{IsLeftByEntry, IsRefusedOn, WasTestedFor, path_made};
 ghost use Rattle.mt_probe.specs.Shot.{state_in_shot};
+ghost use Rattle.mt_probe.specs.Tests.{IsUntested, WasTriedFor, WasTriedNear, more_tests};
 
-use crate::finding::Found;
-use crate::hitting::has_hit;
+use crate::finding::{Finds, Found, find_among};
+use crate::hitting::met_unless_hit;
 use crate::prep::Prep;
 use crate::preparing::{left_of, prep_with, prepare, strand_of};
 use crate::probe::Probe;
@@ -63,7 +66,7 @@ fn hits_of(alloc: Global, finds: &[Found]) -> Result<Hits, Memory>
     Ok(hits)
 }
 
-// The acceptance of a clearance.
+// The command that accepts a clearance that was tried on a version.
 fn acceptance(call: Callsign, clearance: Clearance, eff: Second, probed: u64) -> Command
     ensures { result ≡ Accept call clearance eff probed }
 {
@@ -104,8 +107,8 @@ fn tried(
 /// 1,200 seconds of the trajectory that it would leave with those that the other flights fly, by first second and then callsign, and what is
 /// prepared for its acceptance; or the first refusal, at the snapshot's version. Tentative trajectories don't count.
 ///
-/// It asks that the rules and tables are those of the snapshot, that a level is at most 600, and `eff` at most 10,000,000. At most two pairs are
-/// tested for each trajectory of another flight that is near the one that the clearance would leave.
+/// It asks that the rules and tables are those of the snapshot, that a level is at most 600, and `eff` at most 10,000,000. At most two tests are
+/// made for each trajectory of another flight that is near the one that the clearance would leave, and none where the clearance is refused.
 pub fn what_if(
     alloc: Global,
     snapshot: &Snapshot,
@@ -122,6 +125,7 @@ pub fn what_if(
     ensures probe { IfOk result (IsProbe snapshot.now call clearance eff) }
     ensures refused { IfErr result (IsUnprobed snapshot.now call clearance eff) }
     ensures counted { WasTestedFor snapshot.now 0 (Accept call clearance (unwrap_or eff snapshot.now.now) snapshot.now.version) tests.old tests.new }
+    ensures untested { IfErr result (IsUntested tests.old tests.new) }
 {
     let version = snapshot.version();
     let eff = eff.unwrap_or(snapshot.now());
@@ -132,7 +136,8 @@ pub fn what_if(
     }
 }
 
-// The probe of a clearance that holds from second `eff` on, of the flight that its acceptance leaves and the trajectory that it then flies.
+// The probe of a clearance that holds from second `eff` on, of the flight that its acceptance leaves, the trajectory that it then flies, and what is
+// found with that.
 fn probe_of(
     alloc: Global,
     snapshot: &Snapshot,
@@ -141,16 +146,17 @@ fn probe_of(
     eff: Second,
     card: Record,
     strand: Arc<Strand>,
-    tests: &mut Tally,
+    finds: Finds,
 ) -> Result<Probe, Memory>
     requires clearance { IsBoundedClearance clearance }
     requires early { eff ≤ 10000000 }
     requires left { IsLeftByEntry snapshot.now.setup (state_in_shot snapshot.now) 0 (Accept call clearance eff snapshot.now.version) card }
     requires made { path_made snapshot.now.setup card Actual ≡ Some (arc_value strand) }
+    requires found { AreFinds snapshot.now.setup (state_in_shot snapshot.now) card.call (arc_value strand) finds }
     ensures { IfOk result (IsProbe snapshot.now call clearance (Some eff)) }
 {
     let command = acceptance(call, clearance, eff, snapshot.version());
-    let prep = prep_with(alloc, snapshot, 0, command, card, strand, tests)?;
+    let prep = prep_with(snapshot, 0, command, card, strand, finds)?;
     Ok(tried(alloc, prep, call, clearance, eff)?)
 }
 
@@ -189,15 +195,17 @@ fn free_probe(
     requires clearance { IsBoundedClearance clearance }
     requires early { eff ≤ 10000000 }
     requires left { IsLeftByEntry snapshot.now.setup (state_in_shot snapshot.now) 0 (Accept call clearance eff snapshot.now.version) card }
-    ensures { IfOk result (IsFreeOrConflicting snapshot.now call clearance (Some eff)) }
+    ensures found { IfOk result (IsFreeOrConflicting snapshot.now call clearance (Some eff)) }
+    ensures counted { (t : Trajectory) → path_made snapshot.now.setup card Actual ≡ Some t
+        → WasTriedNear snapshot.now card.call t (more_tests result) tests.old tests.new }
 {
     snapshot.keeps();
     let strand = strand_of(alloc, snapshot, &card, Kind::Actual)?;
-    let hit = has_hit(snapshot, card.call, &strand, tests)?;
-    if hit {
+    let Some(met) = met_unless_hit(alloc, snapshot, card.call, &strand, tests)? else {
         return Ok(None);
-    }
-    let probe = probe_of(alloc, snapshot, call, clearance, eff, card, strand, tests)?;
+    };
+    let finds = find_among(alloc, snapshot, card.call, &strand, &met, tests)?;
+    let probe = probe_of(alloc, snapshot, call, clearance, eff, card, strand, finds)?;
     Ok(Some(probe))
 }
 
@@ -205,8 +213,10 @@ fn free_probe(
 /// exactly where something would, as `what_if` finds it; or the first refusal, at the snapshot's version. What is prepared for its acceptance is
 /// made only of one that is free.
 ///
-/// It asks that a level is at most 600, and `eff` at most 10,000,000. The trajectory that the clearance would leave is tested in the window alone,
-/// with one flight after the other whose slices meet its own, up to the first with a conflict.
+/// It asks that a level is at most 600, and `eff` at most 10,000,000. The trajectory that the clearance would leave is tested in the window, with one
+/// flight after the other whose slices meet its own, up to the first with a conflict; and where there is none, for what is prepared, with all that
+/// meets it. So at most one test is made for each trajectory that another flight flies near it; where something would follow no other is, else at
+/// most two more for each trajectory of another flight that is near it; and none where the clearance is refused.
 pub fn probe_if_free(
     alloc: Global,
     snapshot: &Snapshot,
@@ -219,6 +229,8 @@ pub fn probe_if_free(
     requires early { IfSome eff (λ second. second ≤ 10000000) }
     ensures found { IfOk result (IsFreeOrConflicting snapshot.now call clearance eff) }
     ensures refused { IfErr result (IsUnprobed snapshot.now call clearance eff) }
+    ensures counted { WasTriedFor snapshot.now call clearance eff result tests.old tests.new }
+    ensures untested { IfErr result (IsUntested tests.old tests.new) }
 {
     snapshot.keeps();
     let eff = eff.unwrap_or(snapshot.now());

@@ -1,8 +1,11 @@
-use Rattle.std.proofs.Common.{true≢false, sym, subst, List, Contains, [], ◌∙◌}
+use Rattle.std.proofs.Common.{true≢false, sym, subst, ap, length, List, Contains, [], ◌∙◌, arith}
 use Rattle.std.proofs.lemmas.Slice.Eq.{bytes_eq-Decides}
+use Rattle.mt_base.specs.declared.conflict.Kind.{Kind}
 use Rattle.mt_base.specs.declared.conflict.Kind.TheVariants.{Actual}
 use Rattle.mt_base.specs.Picture.{NamedTrajectory}
 use Rattle.mt_base.proofs.Members.{Contains-head}
+use Rattle.mt_probe.specs.Items.{other_at}
+use Rattle.mt_probe.specs.Tests.{flown_of_kind}
 use Rattle.mt_probe.proofs.Candidates.{early, lost_within}
 use Rattle.mt_probe.proofs.Clearing.{clear_by, hit_there, no_flight, no_path, own_flight}
 use Rattle.mt_probe.proofs.Nearby.{other_one}
@@ -25,7 +28,7 @@ met_in_window-requires-clause-within c = λ k loss.
 pub returns-clause-hit : goal.returns-clause-hit
 returns-clause-hit c =
     let shot = c.args.snapshot.now in
-    let conflict = rw (c.rules-rules.ensures.rules, c.now-now.ensures.now) at c.met_in_window.ensures in
+    let conflict = rw (c.rules-rules.ensures.rules, c.now-now.ensures.now) at c.met_in_window.ensures.conflict in
     λ some. hit_there shot c.args.call c.args.strand.now _ c.in-Some.card.now c.in-Some-path.other.now c.met_in_window.result c.keeps.ensures.sound
     c.in-Some.ensures c.in-Some-path.ensures
     (λ same. true≢false (sym ((bytes_eq-Decides c.in-Some.card.now.call c.args.call).1 same) ∙ sym c.eq.ensures ∙ c.if-eq.false)) conflict
@@ -34,9 +37,19 @@ returns-clause-hit c =
 pub returns-clause-clear : goal.returns-clause-clear
 returns-clause-clear c =
     let shot = c.args.snapshot.now in
-    let conflict = rw (c.rules-rules.ensures.rules, c.now-now.ensures.now) at c.met_in_window.ensures in
+    let conflict = rw (c.rules-rules.ensures.rules, c.now-now.ensures.now) at c.met_in_window.ensures.conflict in
     λ none flown. clear_by shot c.args.call c.args.strand.now _ c.in-Some.card.now c.in-Some-path.other.now c.met_in_window.result c.keeps.ensures.sound
     c.in-Some.ensures c.in-Some-path.ensures conflict (sym c.is_some.ensures ∙ none)
+
+-- another flight flies it
+pub returns-clause-counted : goal.returns-clause-counted
+returns-clause-counted c =
+    let slots = c.args.snapshot.now.slots in
+    let kind = sym c.in-Actual.is ∙ c.kind_of-kind.ensures in
+    let one = ap length (other_one slots c.args.call c.args.met.item Actual c.in-Some.card.now c.in-Some-path.other.now kind
+    c.in-Some.ensures (sym c.eq.ensures ∙ c.if-eq.false) c.in-Some-path.ensures) in
+    let flown = ap (λ (k : Kind). length (flown_of_kind k (other_at c.args.call slots c.args.met.item))) kind in
+    omega (arith, one, flown, c.met_in_window.ensures.counted)
 
 pub returns-in_default-clause-hit : goal.returns-in_default-clause-hit
 returns-in_default-clause-hit c = λ t. absurd (true≢false (sym t))

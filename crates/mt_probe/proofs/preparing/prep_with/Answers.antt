@@ -10,7 +10,7 @@ invariant_of-result c = rw c.in_ok-share.ensures (record {
   sound = c.requires.left.sound;
   strand_is = c.requires.made;
   laid = let laid = rw c.deref.ensures at c.keeps-2.ensures in laid;
-  finds_are = let finds = rw c.deref-2.ensures at c.in_ok-finds.ensures.finds in finds;
+  finds_are = c.requires.found;
   rules = c.keeps.ensures.sound.rules;
   early = c.keeps.ensures.sound.early;
   own_calls = own_calls c.args.snapshot.now c.keeps.ensures.sound;

@@ -1,6 +1,9 @@
-use Rattle.std.proofs.Common.{◌∙◌, ◌+◌, ◌<◌, IfSome, ap, length, refl, sym, subst}
+use Rattle.std.proofs.Common.{◌≡◌, ◌∙◌, ◌+◌, ◌<◌, ℕ, List, Option, None, IfSome, ap, get_or, length, refl, sym, subst}
+use Rattle.std.proofs.Math.ListN.{set}
+use Rattle.std.proofs.lemmas.List.{get_or-set_same}
 use Rattle.std.proofs.lemmas.Result.{IfOk-weaker}
 use Rattle.std.specs.Arc.{arc_value}
+use Rattle.mt_probe.specs.declared.flight.Flight.{Flight}
 use Rattle.mt_probe.specs.Private.Body.{shot_of}
 use Rattle.mt_probe.specs.Putting.{Fits, records_put}
 use Rattle.mt_probe.specs.Shot.{Shot, flight_at, records_in}
@@ -9,17 +12,25 @@ use Rattle.mt_probe.proofs.Indexing.{can_be}
 use Rattle.mt_probe.proofs.Placed.{put_records, put_sound}
 use Rattle.mt_probe.proofs.snapshot.Snapshot.put.Goals as goal
 
+-- what was put at a place is there
+put_there : (slots after : List (Option Flight)) (i : ℕ) (put flight there : Option Flight) → i < length slots → after ≡ set slots i put → put ≡ flight
+    → there ≡ get_or after i None → there ≡ flight
+put_there slots after i put flight there inside after_is put_is there_is =
+    there_is ∙ ap (λ (ss : List (Option Flight)). get_or ss i None) after_is ∙ get_or-set_same slots i put None inside ∙ put_is
+
 pub changed-requires-clause-kept : goal.changed-requires-clause-kept
 changed-requires-clause-kept c =
     let shot : Shot = shot_of (arc_value c.self.inside.body) in
     let fits = subst (λ (s : Shot). IfSome c.args.flight (Fits s c.args.slot)) (sym c.self.view_is) c.requires.fits in
     let inside = subst (λ (s : Shot). c.args.slot < length s.slots) (sym c.self.view_is) c.requires.place in
-    let laid = rw c.as_ref.ensures.value at c.in_ok-table.ensures.laid in
-    let table = rw (c.as_ref.ensures.value, c.deref-body.ensures) at c.in_ok-table.ensures.table in
+    let new = put_there shot.slots c.in_ok-slots.slots c.args.slot _ c.args.flight _ inside
+    (rw c.deref-body.ensures at c.in_ok-slots.ensures) c.in_ok-shared.ensures c.get-new.ensures in
+    let laid = rw new at c.in_ok-table.ensures.laid in
+    let table = rw (new, c.deref-body.ensures) at c.in_ok-table.ensures.table in
     rw (c.in_ok-slots.ensures, c.in_ok-shared.ensures, c.deref-body.ensures, table) (record {
       sound = put_sound shot c.args.slot inside c.self.invariant.sound c.args.flight (shot.version + 1) fits laid;
       holds = holds_with shot.setup.rules shot.slots c.args.slot c.args.flight (arc_value c.self.inside.body).table inside c.self.invariant.holds;
-      indexed = rw (c.as_ref-2.ensures.value, c.deref-body.ensures) at c.in_ok-index.ensures;
+      indexed = rw (new, c.deref-body.ensures) at c.in_ok-index.ensures;
     })
 
 pub put-requires-clause-can : goal.put-requires-clause-can
@@ -27,7 +38,9 @@ put-requires-clause-can c =
     let shot : Shot = shot_of (arc_value c.self.inside.body) in
     let fits = subst (λ (s : Shot). IfSome c.args.flight (Fits s c.args.slot)) (sym c.self.view_is) c.requires.fits in
     let inside = subst (λ (s : Shot). c.args.slot < length s.slots) (sym c.self.view_is) c.requires.place in
-    rw (c.as_ref-2.ensures.value, c.deref-body.ensures) (can_be shot c.args.slot c.args.flight inside c.self.invariant.sound fits)
+    let new = put_there shot.slots c.in_ok-slots.slots c.args.slot _ c.args.flight _ inside
+    (rw c.deref-body.ensures at c.in_ok-slots.ensures) c.in_ok-shared.ensures c.get-new.ensures in
+    rw (new, c.deref-body.ensures) (can_be shot c.args.slot c.args.flight inside c.self.invariant.sound fits)
 
 pub returns-clause-records : goal.returns-clause-records
 returns-clause-records c =

@@ -2,15 +2,13 @@ use Rattle.std.proofs.Common.{◌≡◌, ◌∙◌, ◌+◌, List, [], Ok, Resul
 use Rattle.std.proofs.lemmas.List.{get_or_default, take_all}
 use Rattle.std.proofs.lemmas.List.Elements.{Contains-get_or}
 use Rattle.mt_base.specs.Picture.{NamedTrajectory}
-use Rattle.mt_cover.specs.Sliced.{slices_of}
 use Rattle.mt_meet.specs.declared.table.Met.{Met}
-use Rattle.mt_probe.specs.Private.Boxed.{AreMetItems}
 use Rattle.mt_probe.specs.Private.Finds.{FindsMore}
 use Rattle.mt_probe.specs.Items.{other_at}
 use Rattle.mt_probe.proofs.Gathered.{both_more, none_more}
 use Rattle.mt_probe.proofs.Candidates.{few_met, fewer, one_met_more, others_met}
 use Rattle.mt_probe.proofs.Once.{found_met}
-use Rattle.mt_probe.proofs.finding.find_all.Goals as goal
+use Rattle.mt_probe.proofs.finding.find_among.Goals as goal
 
 ok_alike : {X E : Type 0} (x y : X) (one other : Result X E) → one ≡ Ok x → other ≡ Ok y → one ≡ other → x ≡ y
 ok_alike x y one other x_is y_is same = let both = sym x_is ∙ same ∙ y_is in cc
@@ -27,14 +25,13 @@ none_met = record { item = 0; first = 0; last = 0 }
 pub find_met-requires : goal.find_met-requires
 find_met-requires c =
     let shot = c.args.snapshot.now in
-    let xs = c.deref-met-items.result.now in
-    let met_all = subst (AreMetItems shot (slices_of shot.setup.rules c.args.strand.now)) (sym c.deref-met-items.ensures.value) c.in_ok-list.ensures in
-    met_all.exact (get_or xs c.loop-met.met-index none_met) (Contains-get_or xs c.loop-met.met-index none_met c.loop-met-test.true)
+    let xs = c.args.list.now in
+    c.requires.exact (get_or xs c.loop-met.met-index none_met) (Contains-get_or xs c.loop-met.met-index none_met c.loop-met-test.true)
 
 pub loop-met-preserved : goal.loop-met-preserved
 loop-met-preserved c =
     let shot = c.args.snapshot.now in
-    let xs = c.deref-met-items.result.now in
+    let xs = c.args.list.now in
     let i = c.loop-met.met-index in
     let met = get_or xs i none_met in
     let more = one_met_more c.args.call shot.slots xs i met c.loop-met-test.true (get_or_default xs i none_met met c.loop-met-test.true) in
@@ -54,11 +51,10 @@ loop-met-preserved c =
 pub returns-in_err-find_met-clause-counted : goal.returns-in_err-find_met-clause-counted
 returns-in_err-find_met-clause-counted c = λ items all.
     let shot = c.args.snapshot.now in
-    let xs = c.deref-met-items.result.now in
+    let xs = c.args.list.now in
     let i = c.loop-met.met-index in
     let met = get_or xs i none_met in
-    let met_all = subst (AreMetItems shot (slices_of shot.setup.rules c.args.strand.now)) (sym c.deref-met-items.ensures.value) c.in_ok-list.ensures in
-    let few = few_met shot c.args.call c.args.strand.now xs items c.keeps.ensures.sound c.keeps-2.ensures met_all all in
+    let few = few_met shot c.args.call c.args.strand.now xs items c.keeps.ensures.sound c.keeps-2.ensures c.requires all in
     let more = one_met_more c.args.call shot.slots xs i met c.loop-met-test.true (get_or_default xs i none_met met c.loop-met-test.true) in
     let front = fewer (λ (m : Met). other_at c.args.call shot.slots m.item) (i + 1) xs in
     omega (
@@ -74,19 +70,15 @@ returns-in_err-find_met-clause-counted c = λ items all.
 pub returns-clause-finds : goal.returns-clause-finds
 returns-clause-finds c =
     let shot = c.args.snapshot.now in
-    let xs = c.deref-met-items.result.now in
-    let mine = slices_of shot.setup.rules c.args.strand.now in
-    let met_all = subst (AreMetItems shot mine) (sym c.deref-met-items.ensures.value) c.in_ok-list.ensures in
-    found_met shot c.args.call c.args.strand.now xs c.loop-met.finds c.keeps.ensures.sound c.keeps-2.ensures met_all
+    let xs = c.args.list.now in
+    found_met shot c.args.call c.args.strand.now xs c.loop-met.finds c.keeps.ensures.sound c.keeps-2.ensures c.requires
     (subst (λ (ys : List Met). FindsMore shot.setup.rules shot.now c.args.strand.now (others_met c.args.call shot.slots ys) [] c.loop-met.finds)
     (take_all c.loop-met.met-index xs c.loop-met-test.false) c.loop-met.invariant.found)
 
 pub returns-clause-counted : goal.returns-clause-counted
 returns-clause-counted c = λ items all.
     let shot = c.args.snapshot.now in
-    let xs = c.deref-met-items.result.now in
-    let mine = slices_of shot.setup.rules c.args.strand.now in
-    let met_all = subst (AreMetItems shot mine) (sym c.deref-met-items.ensures.value) c.in_ok-list.ensures in
-    let few = few_met shot c.args.call c.args.strand.now xs items c.keeps.ensures.sound c.keeps-2.ensures met_all all in
+    let xs = c.args.list.now in
+    let few = few_met shot c.args.call c.args.strand.now xs items c.keeps.ensures.sound c.keeps-2.ensures c.requires all in
     let whole = ap (λ (ys : List Met). length (others_met c.args.call shot.slots ys)) (take_all c.loop-met.met-index xs c.loop-met-test.false) in
     omega (arith, c.loop-met.invariant.counted, few, whole)
