@@ -10,7 +10,7 @@ use Rattle.mt_edges.specs.declared.edge.Edge.{Edge}
 use Rattle.mt_base.proofs.Tallies.{raised_by-add, sum_by-push}
 use Rattle.mt_kept.specs.declared.finds.Candidate.{Candidate}
 use Rattle.mt_kept.specs.declared.finds.Knowledge.{Knowledge}
-use Rattle.mt_kept.specs.declared.finds.Knowledge.TheVariants.{Unknown, Known}
+use Rattle.mt_kept.specs.declared.finds.Knowledge.TheVariants.{Known, Within}
 use Rattle.mt_kept.specs.Places.{at}
 use Rattle.mt_kept.specs.Window.{straddles}
 use Rattle.mt_kept.specs.Private.Made.{IsKnownAs, tests_if_unknown}
@@ -28,7 +28,7 @@ at_most_one false = omega arith
 
 pub cost_both : (now : ℕ) (v : Knowledge) (span : ℕ × ℕ) (e : Edge) (old mid new : ℕ) → e.first ≡ span.0 → e.last ≡ span.1 → IsKnownAs v (Some span)
     → mid ≡ raised_by (tests_if_unknown v) old → RoseUpTo (cond (straddles now e) 1 0) mid new → RoseUpTo (cost_of now v) old new
-cost_both now Unknown span e old mid new first last known before after = record {
+cost_both now (Within from to) span e old mid new first last known before after = record {
   more = 1 + after.more;
   within = let one = at_most_one (straddles now e) in let w = after.within in omega arith;
   is = after.is ∙ ap (raised_by after.more) before ∙ raised_by-add 1 after.more old;
@@ -77,7 +77,7 @@ cost_part f xs i old new h = record { more = h.more; within = let part = sum_by-
 
 -- the cost of all candidates
 cost_one_is : (now : ℕ) (v : Knowledge) → cost_of now v ≡ 2 * cond (is_unknown v) 1 0 + cond (is_crossing now v) 1 0
-cost_one_is now Unknown = refl
+cost_one_is now (Within from to) = refl
 cost_one_is now (Known None) = refl
 cost_one_is now (Known (Some span)) = let none : 2 * 0 ≡ 0 = omega arith in omega arith
 

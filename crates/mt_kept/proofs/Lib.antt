@@ -1,4 +1,5 @@
 pub mod Windows
+pub mod Hulls
 pub mod Publishing
 pub mod Keeping
 pub mod Replacing

@@ -1,22 +1,27 @@
 -- What is found for a trajectory among those of other flights.
-use Rattle.std.specs.Prelude.{◌≡◌, ◌≢◌, ℕ, ◌<◌, ◌⊎◌, ◌↔◌, List, map, Contains, AllPairs, Option, Some, None, Bool, true, false, ⊤, if◌then◌else◌, not, ◌==◌, ◌&&◌}
+use Rattle.std.specs.Prelude.{◌≡◌, ◌≢◌, ℕ, ◌<◌, ◌≤◌, ◌⊎◌, ◌↔◌, List, map, Contains, AllPairs, Option, Some, None, Bool, true, false, if◌then◌else◌, not, ◌==◌, ◌&&◌}
 use Rattle.std.specs.Str.{bytes_eq}
 use Rattle.mt_base.specs.declared.rules.Rules.{Rules}
 use Rattle.mt_base.specs.Conflict.{IsConflict, IsLossSecond}
 use Rattle.mt_base.specs.Picture.{NamedTrajectory}
+use Rattle.mt_base.specs.Trajectory.{Trajectory, horizon}
 use Rattle.mt_edges.specs.Pairs.{HaveSameEnds}
 use Rattle.mt_kept.specs.declared.finds.Candidate.{Candidate}
 use Rattle.mt_kept.specs.declared.finds.Knowledge.{Knowledge}
-use Rattle.mt_kept.specs.declared.finds.Knowledge.TheVariants.{Unknown, Known}
+use Rattle.mt_kept.specs.declared.finds.Knowledge.TheVariants.{Known, Within}
 use Rattle.mt_kept.specs.declared.open_pair.OpenPair.{OpenPair}
 use Rattle.mt_kept.specs.Losing.{IsPair, Joins, LoseSeparation, Touches, TouchesSlot}
 use Rattle.mt_kept.specs.Places.{at, slot_of}
-use Rattle.mt_base.specs.Trajectory.{horizon}
 use Rattle.mt_kept.specs.Window.{IsOpen, ShowsInWindow, edge_of, is_straddling}
 
--- what is known of two trajectories is their conflict
+-- two trajectories lose separation only from a first to a last second. The last is one of all seconds.
+pub record LoseWithin (rules : Rules) (a b : Trajectory) (first last : ℕ) : Type 0 where
+  pub inside : (k : ℕ) → IsLossSecond rules a b k → (first ≤ k) × (k ≤ last)
+  pub early : last < horizon
+
+-- what is known of two trajectories is right: where they may lose separation, or their conflict over all seconds
 abbrev pub IsRight : Rules → NamedTrajectory → NamedTrajectory → Knowledge → Type 0
-IsRight rules mine other Unknown = ⊤
+IsRight rules mine other (Within first last) = LoseWithin rules mine.path other.path first last
 IsRight rules mine other (Known span) = IsConflict rules mine.path other.path 0 horizon span
 
 -- at another place stands this trajectory of another flight
@@ -71,22 +76,22 @@ abbrev pub cost_known : ℕ → Option (ℕ × ℕ) → ℕ
 cost_known now None = 0
 cost_known now (Some span) = if is_straddling now span.0 span.1 then 1 else 0
 
--- two tests where nothing is known
+-- two tests where the conflict isn't known
 abbrev pub cost_of : ℕ → Knowledge → ℕ
-cost_of now Unknown = 2
+cost_of now (Within first last) = 2
 cost_of now (Known span) = cost_known now span
 
 -- the tests that a candidate needs
 abbrev pub cost : List (Option NamedTrajectory) → ℕ → List ℕ → ℕ → Candidate → ℕ
 cost places place call now x = if is_listed places place call x then cost_of now x.knowledge else 0
 
--- `is_unknown`, `is_crossing`: nothing is known; what is known straddles an edge
+-- `is_unknown`, `is_crossing`: the conflict isn't known; the one that is known straddles an edge of the window
 abbrev pub is_unknown : Knowledge → Bool
-is_unknown Unknown = true
+is_unknown (Within first last) = true
 is_unknown (Known span) = false
 
 abbrev pub is_crossing : ℕ → Knowledge → Bool
-is_crossing now Unknown = false
+is_crossing now (Within first last) = false
 is_crossing now (Known None) = false
 is_crossing now (Known (Some span)) = is_straddling now span.0 span.1
 

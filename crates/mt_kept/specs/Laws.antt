@@ -31,7 +31,7 @@ FindsStay = (rules : Rules) (places after : List (Option NamedTrajectory)) (now 
 abbrev pub RisingIsOnce : Type 0
 RisingIsOnce = (xs : List Candidate) → IsStrictlyIncreasing (map candidate_place xs) → AllPairs (λ x y. x.place ≢ y.place) xs
 
--- tests are two per unknown candidate, one per straddling
+-- tests are two per candidate whose conflict isn't known, one per straddling
 abbrev pub CostsAdd : Type 0
 CostsAdd = (places : List (Option NamedTrajectory)) (place : ℕ) (call : List ℕ) (now : ℕ) (xs : List Candidate)
     → sum_by (cost places place call now) xs

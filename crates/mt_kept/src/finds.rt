@@ -14,17 +14,17 @@ ghost use Rattle.mt_kept.specs.Window.{IsFoundOf, IsOpen, straddles};
 
 use crate::open_pair::{OpenPair, is_open, push_pair};
 use crate::showing::shown_pair;
-use mt_base::{Conflict, HORIZON, Memory, Rules, Second, Tally};
+use mt_base::{Conflict, Memory, Rules, Second, Tally};
 use mt_edges::Edge;
 use mt_pair::lose;
 use mt_track::Item;
 use std::alloc::Global;
 
-/// What is known of two trajectories: nothing, or their conflict over all seconds.
+/// What is known of two trajectories: seconds outside of which they don't lose separation, or their conflict over all seconds.
 #[derive(Clone, Copy)]
 pub enum Knowledge {
-    /// They have to be tested.
-    Unknown,
+    /// They don't lose separation before the first or after the last of these seconds; in these they have to be tested.
+    Within { first: Second, last: Second },
     /// They have this conflict, its first and its last second, or none.
     Known(Option<(Second, Second)>),
 }
@@ -53,7 +53,9 @@ fn whole(
     ensures counted { tests.new ≡ raised_by (tests_if_unknown knowledge) tests.old }
 {
     match knowledge {
-        Knowledge::Unknown => lose(&item.strand, &other.strand, rules, 0, HORIZON, tests),
+        Knowledge::Within { first, last } => {
+            lose(&item.strand, &other.strand, rules, first, last + 1, tests)
+        }
         Knowledge::Known(span) => span,
     }
 }

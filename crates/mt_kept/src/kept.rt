@@ -118,7 +118,7 @@ impl Kept {
     ///
     /// It asks that each place is listed once at most, that each whose trajectory loses separation from the item is listed, and that
     /// what is known of the listed ones is right. Listed places that are empty, the place itself and places of the item's own flight are
-    /// passed over. A pair of which nothing is known is tested at most twice, one that is known at most once and only where its span
+    /// passed over. A pair whose conflict isn't known is tested at most twice, one that is known at most once and only where its span
     /// straddles an edge of the window.
     pub fn gather(
         &self,

@@ -14,7 +14,7 @@ use Rattle.mt_base.specs.Tables.{Setup}
 use Rattle.mt_cover.specs.declared.stays.Stay.{Stay}
 use Rattle.mt_kept.specs.declared.finds.Candidate.{Candidate}
 use Rattle.mt_kept.specs.declared.finds.Knowledge.{Knowledge}
-use Rattle.mt_kept.specs.declared.finds.Knowledge.TheVariants.{Known, Unknown}
+use Rattle.mt_kept.specs.declared.finds.Knowledge.TheVariants.{Known, Within}
 use Rattle.mt_kept.specs.Finds.{IsRight, asks_one, asks_two, cost, is_crossing, is_listed, is_other, is_unknown}
 use Rattle.mt_kept.specs.Places.{at}
 use Rattle.mt_base.specs.Tally.{RoseUpTo}
@@ -32,7 +32,7 @@ use Rattle.mt_picture.specs.Private.Places.{all_places, made_of_kind}
 use Rattle.mt_picture.specs.Stamps.{IsMadeAt}
 use Rattle.mt_picture.specs.Private.Stamps.{AreStamped, HaveStood}
 use Rattle.mt_picture.specs.Story.{Story}
-use Rattle.mt_picture.specs.Private.Known.{AreNearCandidates, IsPreps}
+use Rattle.mt_picture.specs.Private.Known.{AreNearCandidates}
 use Rattle.mt_picture.proofs.HitsHere.{both_true}
 use Rattle.mt_picture.proofs.Knowing.{kept_made, stands_at, stays_there}
 use Rattle.mt_picture.proofs.Standings.{same_place}
@@ -83,7 +83,7 @@ fetch mine (Some t) = t
 
 module _ (story : Story) (shot : Shot) (p : Prepared) (known : Bool) (place : ℕ) (mine : NamedTrajectory) (sound : IsSoundShot shot)
     (setup_is : shot.setup ≡ story.setup) (stands : state_in shot ≡ state_of story.setup story.history) (all : AreStamped story.setup story.history shot.slots)
-    (rules_are : p.setup.rules ≡ shot.setup.rules) (own : mine.call ≡ p.card.call) (preps : IsPreps p known mine.path) (xs : List Candidate)
+    (rules_are : p.setup.rules ≡ shot.setup.rules) (own : mine.call ≡ p.card.call) (xs : List Candidate)
     (near : AreNearCandidates shot mine.path p known xs) (stood : HaveStood shot p) where
   abbrev places : List (Option NamedTrajectory)
   places = all_places shot.slots
@@ -115,7 +115,7 @@ module _ (story : Story) (shot : Shot) (p : Prepared) (known : Bool) (place : �
         });
       }
 
-  later_one : (x : Candidate) (t : NamedTrajectory) → Contains xs x → at places x.place ≡ Some t → t.call ≢ mine.call → known ≡ true → x.knowledge ≡ Unknown
+  later_one : (x : Candidate) (t : NamedTrajectory) → Contains xs x → at places x.place ≡ Some t → t.call ≢ mine.call → known ≡ true → is_unknown x.knowledge ≡ true
       → IsLaterNow story p.state.version mine t
   later_one x t held is apart is_known unknown =
       let s = stands_at shot.slots x.place t is in
@@ -132,7 +132,7 @@ module _ (story : Story) (shot : Shot) (p : Prepared) (known : Bool) (place : �
   crossing_one x t held is apart e =
       let s = stands_at shot.slots x.place t is in
       let differ : s.flight.card.call ≢ p.card.call = λ same. apart (sym (ap (λ (u : NamedTrajectory). u.call) s.is) ∙ same ∙ sym own) in
-      let right = (near.known_is x held).right s.flight s.made mine s.at_is s.made_is differ preps in
+      let right = (near.known_is x held).right s.flight s.made mine s.at_is s.made_is differ refl in
       let right_t : IsRight p.setup.rules mine t x.knowledge = subst (λ (u : NamedTrajectory). IsRight p.setup.rules mine u x.knowledge) s.is right in
       let rules_story : p.setup.rules ≡ story.setup.rules = rules_are ∙ ap (λ (u : Setup). u.rules) setup_is in
       by_knowledge x.knowledge refl (subst (λ (u : Rules). IsRight u mine t x.knowledge) rules_story right_t) e where
@@ -147,7 +147,7 @@ module _ (story : Story) (shot : Shot) (p : Prepared) (known : Bool) (place : �
             ((near.known_is x held).earlier span known_is s.flight s.made s.at_is s.made_is))
 
         by_knowledge : (v : Knowledge) → x.knowledge ≡ v → IsRight story.setup.rules mine t v → is_crossing shot.now v ≡ true → IsCrossingNow story p mine t
-        by_knowledge Unknown v_is r c = absurd (cc)
+        by_knowledge (Within first last) v_is r c = absurd (cc)
         by_knowledge (Known None) v_is r c = absurd (cc)
         by_knowledge (Known (Some span)) v_is r c = record {
           now = near_one x t held is apart;
@@ -181,8 +181,9 @@ module _ (story : Story) (shot : Shot) (p : Prepared) (known : Bool) (place : �
       let l = listed_there places place mine.call s.of (listed s.of x.1) in
       subst P (sym (seen_is s.of l.other l.is) ∙ s.is) (one s.of l.other x.0 x.1 l.is l.apart))
 
-  unknown_is : (v : Knowledge) → is_unknown v ≡ true → v ≡ Unknown
-  unknown_is Unknown e = refl
+  -- what isn't known straddles no edge
+  unknown_is : (v : Knowledge) → is_unknown v ≡ true → is_crossing shot.now v ≡ false
+  unknown_is (Within first last) e = refl
   unknown_is (Known span) e = absurd (cc)
 
   abbrev two : Candidate → Bool
@@ -203,7 +204,7 @@ module _ (story : Story) (shot : Shot) (p : Prepared) (known : Bool) (place : �
       let unknown = unknown_is x.knowledge (both_true (some x) (is_unknown x.knowledge) x_is.1).1 in
       let crossing : is_crossing shot.now y.knowledge ≡ true = (both_true (some y) (is_crossing shot.now y.knowledge) y_is.1).1 in
       let none : is_crossing shot.now y.knowledge ≡ false =
-      subst (λ (z : Candidate). is_crossing shot.now z.knowledge ≡ false) same_one (rw unknown refl) in
+      subst (λ (z : Candidate). is_crossing shot.now z.knowledge ≡ false) same_one unknown in
       (let both : true ≡ false = sym crossing ∙ none in cc)
 
   both_listed : (x : Candidate) → Contains (filter two xs ++ filter one xs) x → is_listed places place mine.call x ≡ true
@@ -227,7 +228,7 @@ module _ (story : Story) (shot : Shot) (p : Prepared) (known : Bool) (place : �
       record {
         later = map seen (filter two xs);
         later_each = each_seen (IsLaterNow story p.state.version mine) two (λ x e. (both_true (some x) (is_unknown x.knowledge) e).0)
-            (λ x t held e is apart. later_one x t held is apart is_known (unknown_is x.knowledge (both_true (some x) (is_unknown x.knowledge) e).1));
+            (λ x t held e is apart. later_one x t held is apart is_known (both_true (some x) (is_unknown x.knowledge) e).1);
         crossing = map seen (filter one xs);
         crossing_each = each_seen (IsCrossingNow story p mine) one (λ x e. (both_true (some x) (is_crossing shot.now x.knowledge) e).0)
             (λ x t held e is apart. crossing_one x t held is apart (both_true (some x) (is_crossing shot.now x.knowledge) e).1);
@@ -244,7 +245,7 @@ module _ (story : Story) (shot : Shot) (p : Prepared) (known : Bool) (place : �
     by_test : (b : Bool) → some y ≡ b → (v : Knowledge) → y.knowledge ≡ v → 2 * length (filter two ys) + length (filter one ys) ≤ 2 * length (filter some ys)
         → 2 * length (filter two (y ∷ ys)) + length (filter one (y ∷ ys)) ≤ 2 * length (filter some (y ∷ ys))
     by_test false e v v_is rest = rw e rest
-    by_test true e Unknown v_is rest = rw (e, v_is) (omega (arith, rest))
+    by_test true e (Within first last) v_is rest = rw (e, v_is) (omega (arith, rest))
     by_test true e (Known None) v_is rest = rw (e, v_is) (omega (arith, rest))
     by_test true e (Known (Some span)) v_is rest = by_span (is_straddling shot.now span.0 span.1) refl where
       by_span : (c : Bool) → is_straddling shot.now span.0 span.1 ≡ c → 2 * length (filter two (y ∷ ys)) + length (filter one (y ∷ ys)) ≤ 2 * length (filter some (y ∷ ys))

@@ -8,7 +8,7 @@ use Rattle.mt_base.specs.Effect.{state_of}
 use Rattle.mt_base.specs.Picture.{NamedTrajectory, State}
 use Rattle.mt_base.specs.Tables.{Setup}
 use Rattle.mt_base.specs.Trajectory.{Trajectory}
-use Rattle.mt_probe.specs.Prepared.{IsLeftByEntry, IsPrepared, Prepared, kind_made, left_made, named_trajectory, path_made}
+use Rattle.mt_probe.specs.Prepared.{IsLeftByEntry, Prepared, kind_made, left_made, named_trajectory, path_made}
 use Rattle.mt_probe.specs.Shot.{Shot}
 use Rattle.mt_probe.specs.Shot.{state_in_shot as state_in}
 use Rattle.mt_probe.specs.Standing.{IsSoundShot}
@@ -16,7 +16,6 @@ use Rattle.mt_picture.specs.Asked.{IsWithinBoth, IsWithinBound, IsWithinPrep, Is
 use Rattle.mt_picture.specs.Private.Asking.{AreCandidatesAsked, WasAskedOf}
 use Rattle.mt_picture.specs.Private.Stamps.{AreStamped, HaveStood}
 use Rattle.mt_picture.specs.Story.{IsPrepFor, IsUsable, Story}
-use Rattle.mt_picture.specs.Private.Known.{IsPreps}
 use Rattle.mt_picture.proofs.Asking.{again, anew}
 
 -- no test is within each bound
@@ -108,13 +107,13 @@ mine_is setup s who c card mine left is = by_path (path_made setup card (kind_ma
 
 pub within_both : (story : Story) (shot : Shot) (who : ℕ) (c : Command) (p : Prepared) (known : Bool) (card : Record) (mine : NamedTrajectory) (old new : ℕ)
     → IsSoundShot shot → shot.setup ≡ story.setup → state_in shot ≡ state_of story.setup story.history → AreStamped story.setup story.history shot.slots
-    → IsPrepFor story who c p → IsPrepared p → IsLeftByEntry shot.setup (state_in shot) who c card → p.card.call ≡ card.call → (known ≡ true → card ≡ p.card)
+    → IsPrepFor story who c p → IsLeftByEntry shot.setup (state_in shot) who c card → p.card.call ≡ card.call
     → (known ≡ false → ¬ IsUsable story c p) → HaveStood shot p → left_made shot.setup (state_in shot) who c ≡ Some mine
     → WasAskedOf shot p known mine old new → IsWithinBoth story c p mine old new
-within_both story shot who c p known card mine old new sound setup_is stands stamped for kept left own same_card unusable stood made was = ⊎_elim
+within_both story shot who c p known card mine old new sound setup_is stands stamped for left own unusable stood made was = ⊎_elim
     (λ same. none_both story c p mine old new same)
     (λ asked. record {
-      anew = anew story shot p known was.place mine sound setup_is stands stamped rules_are call_is preps asked.xs asked.near stood old new asked.rose;
+      anew = anew story shot p known was.place mine sound setup_is stands stamped rules_are call_is asked.xs asked.near stood old new asked.rose;
       again = λ usable. by_known known refl usable asked;
     })
     was.was where
@@ -127,19 +126,10 @@ within_both story shot who c p known card mine old new sound setup_is stands sta
       call_is : mine.call ≡ p.card.call
       call_is = is.call_is ∙ sym own
 
-      preps : IsPreps p known mine.path
-      preps here =
-          let p_made : path_made shot.setup p.card (kind_made c) ≡ Some p.strand =
-          subst (λ (d : Command). path_made shot.setup p.card (kind_made d) ≡ Some p.strand) for.command_is
-          (subst (λ (u : Setup). path_made u p.card (kind_made p.command) ≡ Some p.strand) (for.setup_is ∙ sym setup_is) kept.strand_is) in
-          let both : Some mine.path ≡ Some p.strand =
-          sym is.path_is ∙ ap (λ (r : Record). path_made shot.setup r (kind_made c)) (same_card here) ∙ p_made in
-          cc
-
       by_known : (b : Bool) → known ≡ b → IsUsable story c p → AreCandidatesAsked shot p known was.place mine old new → WasTestedAgain story p mine old new
       by_known false e usable asked = absurd (unusable e usable)
       by_known true e usable asked =
-          again story shot p known was.place mine sound setup_is stands stamped rules_are call_is preps asked.xs asked.near stood old new e asked.rose
+          again story shot p known was.place mine sound setup_is stands stamped rules_are call_is asked.xs asked.near stood old new e asked.rose
 
 -- what a command makes, where its trajectory is known
 pub made_known : (setup : Setup) (s : State) (who : ℕ) (c : Command) (card : Record) (t : Trajectory) (mine : NamedTrajectory) → IsLeftByEntry setup s who c card

@@ -10,6 +10,7 @@ use Rattle.mt_base.specs.Conflict.{IsConflict}
 use Rattle.mt_base.specs.Picture.{NamedTrajectory}
 use Rattle.mt_base.specs.Trajectory.{Trajectory}
 use Rattle.mt_cover.specs.Cells.{cover_of}
+use Rattle.mt_cover.specs.Sliced.{slices_of}
 use Rattle.mt_kept.specs.declared.finds.Candidate.{Candidate}
 use Rattle.mt_kept.specs.Finds.{AreCandidates, IsRight}
 use Rattle.mt_kept.specs.Places.{at, slot_of}
@@ -20,6 +21,7 @@ use Rattle.mt_probe.specs.declared.flight.Flight.{Flight}
 use Rattle.mt_probe.specs.declared.flight.Made.{Made}
 use Rattle.mt_probe.specs.Finds.{IsFound, IsOfAnother}
 use Rattle.mt_probe.specs.Items.{kind_at, stays_at, stays_by, stays_of_item}
+use Rattle.mt_probe.specs.Meeting.{slices_at, slices_by}
 use Rattle.mt_probe.specs.Prepared.{Prepared}
 use Rattle.mt_probe.specs.Shot.{Shot, flight_at, kept_of, made_named, made_of}
 use Rattle.mt_probe.proofs.Covered.{even_kind, odd_kind}
@@ -120,15 +122,23 @@ stays_there rules slots j t s =
     ap (stays_by rules (kind_at j)) s.at_is ∙ ap (λ (m : Option Made). stays_of_item rules (option_map (λ (n : Made). arc_value n.strand) m)) s.made_is
     ∙ ap (λ (u : NamedTrajectory). cover_of rules u.path) s.is
 
+-- and its slices are those of its item
+pub slices_there : (rules : Rules) (slots : List (Option Flight)) (j : ℕ) (t : NamedTrajectory) → StandsAt slots j t
+    → slices_at rules slots j ≡ Some (slices_of rules t.path)
+slices_there rules slots j t s =
+    ap (slices_by rules (kind_at j)) s.at_is
+    ∙ ap (λ (m : Option Made). option_map (slices_of rules) (option_map (λ (n : Made). arc_value n.strand) m)) s.made_is
+    ∙ ap (λ (u : NamedTrajectory). Some (slices_of rules u.path)) s.is
+
 -- the near ones are candidates
 pub candidates_right : (shot : Shot) (place : ℕ) (mine : NamedTrajectory) (p : Prepared) (known : Bool) (xs : List Candidate)
-    → p.setup.rules ≡ shot.setup.rules → mine.call ≡ p.card.call → IsPreps p known mine.path → AreNearCandidates shot mine.path p known xs
+    → p.setup.rules ≡ shot.setup.rules → mine.call ≡ p.card.call → AreNearCandidates shot mine.path p known xs
     → AreCandidates shot.setup.rules (all_places shot.slots) place mine xs
-candidates_right shot place mine p known xs rules_are own preps near = record {
+candidates_right shot place mine p known xs rules_are own near = record {
   right = λ x other held is.
       let s = stands_at shot.slots x.place other is.is in
       let apart : s.flight.card.call ≢ p.card.call = λ same. is.apart (own ∙ sym same ∙ ap (λ (u : NamedTrajectory). u.call) s.is) in
-      let right = (near.known_is x held).right s.flight s.made mine s.at_is s.made_is apart preps in
+      let right = (near.known_is x held).right s.flight s.made mine s.at_is s.made_is apart refl in
       subst (λ (rules : Rules). IsRight rules mine other x.knowledge) rules_are
       (subst (λ (u : NamedTrajectory). IsRight p.setup.rules mine u x.knowledge) s.is right);
   complete = λ j k other is early loss. near.complete j k other is.is (λ same. is.apart (own ∙ sym same)) early loss;

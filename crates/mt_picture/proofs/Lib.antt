@@ -16,6 +16,7 @@ pub mod Leaving
 pub mod Looked
 pub mod Making
 pub mod Moved
+pub mod Newer
 pub mod Opening
 pub mod Owning
 pub mod Passing

@@ -38,4 +38,4 @@ module _ (shot : Shot) (h : List Entry) (sound : IsSoundShot shot) (stands : sta
       let now = prepared_now in
       within_preps story who c p card old new (subst (λ (s : State). IsLeftByEntry shot.setup s who c card) stands left) (λ mine made.
       let here = subst (λ (s : State). left_made shot.setup s who c ≡ Some mine) (sym stands) made in
-      within_both story shot who c p known card mine old new sound refl stands stamped for kept left now.call_is now.card_is unusable now.stood here (asked mine here))
+      within_both story shot who c p known card mine old new sound refl stands stamped for left now.call_is unusable now.stood here (asked mine here))

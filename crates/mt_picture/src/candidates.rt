@@ -1,16 +1,15 @@
 //! The candidates of a new trajectory, and what a prep says of them.
-ghost use Rattle.std.specs.Prelude.{◌≡◌, ◌≤◌, ◌++◌, ℕ, IfOk, IfSome, IsSomeAnd, OnOk, map};
-ghost use Rattle.mt_cover.specs.Cells.{cover_of};
-ghost use Rattle.mt_picture.specs.Private.Candidates.{AreAllNear, AreStill, IsStill, StandsInPlace, unknown_at};
+ghost use Rattle.std.specs.Prelude.{◌≡◌, ◌≤◌, ℕ, IfOk, IfSome, IsSomeAnd, OnOk};
+ghost use Rattle.mt_cover.specs.Sliced.{slices_of};
+ghost use Rattle.mt_picture.specs.Private.Candidates.{AreAddedSince, AreStill, IsStill, StandsInPlace, candidate_met};
 ghost use Rattle.mt_picture.specs.Private.Stamps.{AreStamped, HaveStood};
 ghost use Rattle.mt_picture.specs.Private.Known.{AreNearCandidates, IsPreps};
 
-use crate::later::later_places;
-use crate::near::near_ones;
-use crate::places::find_trajectory;
+use crate::later::may_stand_since;
+use crate::places::{find_trajectory, is_made_since};
 use mt_base::{Entry, Memory};
-use mt_cover::cover;
 use mt_kept::{Candidate, Knowledge};
+use mt_meet::Met;
 use mt_probe::{Found, Prep, Snapshot};
 use mt_track::Strand;
 use std::alloc::Global;
@@ -45,33 +44,39 @@ fn still_ones(alloc: Global, snapshot: &Snapshot, prep: &Prep) -> Result<Vec<Can
     Ok(list)
 }
 
-// Puts candidates of which nothing is known after others.
-fn add_unknown(list: &mut Vec<Candidate>, places: &[u32]) -> Result<(), Memory>
-    ensures { OnOk result (list.new.items ≡ list.old.items ++ map unknown_at places.now) }
+// What meets a new trajectory, as a candidate.
+fn candidate_met(met: Met) -> Candidate
+    ensures { result ≡ candidate_met met }
 {
-    for place in places {
-        list.push(Candidate {
-            place: *place,
-            knowledge: Knowledge::Unknown,
-        })?;
+    Candidate {
+        place: met.item,
+        knowledge: Knowledge::Within {
+            first: met.first,
+            last: met.last,
+        },
+    }
+}
+
+// Puts after others what meets a new trajectory and was made after a version.
+fn add_met(
+    list: &mut Vec<Candidate>,
+    snapshot: &Snapshot,
+    strand: &Strand,
+    version: u64,
+) -> Result<(), Memory>
+    ensures { OnOk result (AreAddedSince snapshot.now (slices_of snapshot.now.setup.rules strand.now) version list.old.items list.new.items) }
+{
+    let all = snapshot.meeting(strand)?;
+    for met in &all {
+        if is_made_since(snapshot, met.item, version) {
+            list.push(candidate_met(*met))?;
+        }
     }
     Ok(())
 }
 
-// All trajectories that are near a new one.
-fn all_near(alloc: Global, snapshot: &Snapshot, strand: &Strand) -> Result<Vec<Candidate>, Memory>
-    ensures { IfOk result (λ list. AreAllNear snapshot.now (cover_of snapshot.now.setup.rules strand.now) list.items) }
-{
-    let cover = cover(alloc, strand, snapshot.rules())?;
-    let items = snapshot.near(&cover)?;
-    let mut list = Vec::new(alloc);
-    add_unknown(&mut list, &items)?;
-    Ok(list)
-}
-
-/// The candidates of a new trajectory. Where the prep is known to be of use, they are what it found, as far as that stands, and of the
-/// flights that the entries since name the trajectories that were made since and are near. Else they are all that are near, and nothing is
-/// known of them.
+/// The candidates of a new trajectory. Where the prep is known to be of use, they are what it found, as far as that stands, and what meets the
+/// new one and was made since. Else they are all that meet it: each trajectory that stands was made after version 0.
 pub(crate) fn candidates(
     alloc: Global,
     snapshot: &Snapshot,
@@ -89,12 +94,15 @@ pub(crate) fn candidates(
     snapshot.keeps();
     strand.keeps();
     if !known {
-        return all_near(alloc, snapshot, strand);
+        let mut list = Vec::new(alloc);
+        add_met(&mut list, snapshot, strand, 0)?;
+        return Ok(list);
     }
     let version = prep.version();
     let mut list = still_ones(alloc, snapshot, prep)?;
-    let later = later_places(alloc, snapshot, history, version)?;
-    let near = near_ones(alloc, snapshot, strand, &later)?;
-    add_unknown(&mut list, &near)?;
+    if !may_stand_since(snapshot, history, version) {
+        return Ok(list);
+    }
+    add_met(&mut list, snapshot, strand, version)?;
     Ok(list)
 }

@@ -1,59 +1,47 @@
-//! Which trajectories were made after a version, of the flights that the entries since name.
-ghost use Rattle.std.specs.Prelude.{IfOk, OnOk, length};
-ghost use Rattle.mt_picture.specs.Private.Candidates.{AreFlightMore, AreLater, AreLaterMore};
+//! Whether trajectories were made after a version.
+ghost use Rattle.std.specs.Prelude.{◌≡◌, ◌≤◌, length, false};
+ghost use Rattle.mt_picture.specs.Private.Candidates.{IsNoneMade, IsNoneSince};
+ghost use Rattle.mt_picture.specs.Private.Stamps.{AreStamped};
 
-use crate::places::find_trajectory;
-use mt_base::{Callsign, Entry, Kind, Memory};
-use mt_probe::Snapshot;
-use std::alloc::Global;
+use crate::places::is_made_since;
+use mt_base::Entry;
+use mt_probe::{Snapshot, makes_strand};
 
-// Puts the place of a trajectory after some others, where it was made after that version and isn't among them.
-fn add_kind(
-    places: &mut Vec<u32>,
-    snapshot: &Snapshot,
-    call: Callsign,
-    kind: Kind,
-    version: u64,
-) -> Result<(), Memory>
-    ensures { OnOk result (AreLaterMore snapshot.now.slots version call kind places.old.items places.new.items) }
+// Whether an entry after the first ones makes a trajectory.
+fn is_one_made(history: &[Entry], version: u64) -> bool
+    ensures { result ≡ false → IsNoneMade history.now version }
 {
-    let Some(it) = find_trajectory(snapshot, call, kind) else {
-        return Ok(());
-    };
-    if it.stamp <= version || places.contains(&it.place) {
-        return Ok(());
-    }
-    places.push(it.place)?;
-    Ok(())
-}
-
-// Puts the places of a flight's trajectories after some others, where they were made after that version.
-fn add_flight(
-    places: &mut Vec<u32>,
-    snapshot: &Snapshot,
-    call: Callsign,
-    version: u64,
-) -> Result<(), Memory>
-    ensures { OnOk result (AreFlightMore snapshot.now.slots version call places.old.items places.new.items) }
-{
-    add_kind(places, snapshot, call, Kind::Actual, version)?;
-    add_kind(places, snapshot, call, Kind::Tentative, version)
-}
-
-/// The places of the trajectories that were made after a version, of the flights that the entries since name.
-pub(crate) fn later_places(
-    alloc: Global,
-    snapshot: &Snapshot,
-    history: &[Entry],
-    version: u64,
-) -> Result<Vec<u32>, Memory>
-    ensures { IfOk result (λ places. AreLater snapshot.now.slots history.now version (length history.now) places.items) }
-{
-    let mut places = Vec::new(alloc);
     for n in version as usize..history.len() {
-        if let Some(call) = history[n].command.call() {
-            add_flight(&mut places, snapshot, call, version)?;
+        if makes_strand(&history[n].command) {
+            return true;
         }
     }
-    Ok(places)
+    false
+}
+
+// Whether a trajectory stands that was made after a version, by the stamps of all places.
+fn stands_since(snapshot: &Snapshot, version: u64) -> bool
+    ensures { result ≡ false → IsNoneSince snapshot.now.slots version }
+{
+    snapshot.keeps();
+    for place in 0..2 * snapshot.slots() {
+        if is_made_since(snapshot, place, version) {
+            return true;
+        }
+    }
+    false
+}
+
+/// Whether trajectories may stand that were made after a version. The entries since are looked at, or the stamps of all places where these
+/// are fewer.
+pub(crate) fn may_stand_since(snapshot: &Snapshot, history: &[Entry], version: u64) -> bool
+    requires { AreStamped snapshot.now.setup history.now snapshot.now.slots }
+    ensures { result ≡ false → IsNoneSince snapshot.now.slots version }
+{
+    let since = (history.len() as u64).saturating_sub(version);
+    if since > u64::from(snapshot.slots()) {
+        stands_since(snapshot, version)
+    } else {
+        is_one_made(history, version)
+    }
 }

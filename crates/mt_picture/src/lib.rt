@@ -10,7 +10,6 @@ mod held;
 mod hits;
 mod later;
 mod laws;
-mod near;
 mod picture;
 mod places;
 mod usable;

@@ -1,7 +1,7 @@
 //! Where trajectories stand.
 ghost use Rattle.std.specs.Prelude.{◌≡◌, ◌/◌, ◌<◌, ℕ, IfSome, Some};
 ghost use Rattle.mt_probe.specs.Items.{kind_at};
-ghost use Rattle.mt_picture.specs.Private.Candidates.{StandsInPlace};
+ghost use Rattle.mt_picture.specs.Private.Candidates.{StandsInPlace, is_made_since};
 
 use mt_base::{Callsign, Kind};
 use mt_probe::Snapshot;
@@ -24,6 +24,27 @@ fn place_of(slot: u32, kind: Kind) -> u32
     match kind {
         Kind::Actual => 2 * slot,
         Kind::Tentative => 2 * slot + 1,
+    }
+}
+
+// The kind of the trajectory that may stand in a place.
+fn kind_of(place: u32) -> Kind
+    ensures { result ≡ kind_at place }
+{
+    if place.is_multiple_of(2) {
+        Kind::Actual
+    } else {
+        Kind::Tentative
+    }
+}
+
+/// Whether what stands in a place was made after a version. It isn't where nothing stands.
+pub(crate) fn is_made_since(snapshot: &Snapshot, place: u32, version: u64) -> bool
+    ensures { result ≡ is_made_since snapshot.now.slots version place }
+{
+    match snapshot.stamp(place / 2, kind_of(place)) {
+        Some(stamp) => version < stamp,
+        None => false,
     }
 }
 

@@ -11,7 +11,8 @@ use Rattle.mt_base.specs.Picture.{NamedTrajectory}
 use Rattle.mt_base.specs.Trajectory.{Trajectory}
 use Rattle.mt_cover.specs.Sliced.{Sliced, slices_of}
 use Rattle.mt_probe.specs.declared.flight.Flight.{Flight}
-use Rattle.mt_probe.specs.Private.Boxed.{AreLaid, HoldsSlices, slices_at, slices_by}
+use Rattle.mt_probe.specs.Meeting.{slices_at, slices_by}
+use Rattle.mt_probe.specs.Private.Boxed.{AreLaid, HoldsSlices}
 use Rattle.mt_probe.specs.Items.{kind_at, path_of}
 use Rattle.mt_probe.specs.Shot.{Shot, flight_at, kept_of, made_named}
 use Rattle.mt_probe.specs.Standing.{IsSoundShot}

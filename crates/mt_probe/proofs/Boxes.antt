@@ -11,7 +11,8 @@ use Rattle.mt_probe.specs.declared.flight.Flight.{Flight}
 use Rattle.mt_meet.specs.declared.table.Met.{Met}
 use Rattle.mt_meet.specs.Meeting.{AreMet, IsNextMet}
 use Rattle.mt_meet.proofs.Meetings.{within}
-use Rattle.mt_probe.specs.Private.Boxed.{AreMetItems, HoldsSlices, IsNextMetOf, slices_at, slices_by, table_with}
+use Rattle.mt_probe.specs.Meeting.{AreMetItems, slices_at, slices_by}
+use Rattle.mt_probe.specs.Private.Boxed.{HoldsSlices, IsNextMetOf, table_with}
 use Rattle.mt_probe.specs.Items.{kind_at}
 use Rattle.mt_probe.specs.Shot.{Shot}
 use Rattle.mt_probe.proofs.Covered.{even_half, even_kind, odd_half, odd_kind}

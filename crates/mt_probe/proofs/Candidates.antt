@@ -20,7 +20,7 @@ use Rattle.mt_meet.specs.Meeting.{MeetAt}
 use Rattle.mt_meet.proofs.Meetings.{losing_meet, meeting_is_near}
 use Rattle.mt_track.specs.Laid.{IsStrand}
 use Rattle.mt_probe.specs.declared.flight.Flight.{Flight}
-use Rattle.mt_probe.specs.Private.Boxed.{AreMetItems, IsMetOf, slices_at, slices_by}
+use Rattle.mt_probe.specs.Meeting.{AreMetItems, IsMetOf, slices_at, slices_by}
 use Rattle.mt_probe.specs.Items.{AreNearItems, IsNearItem, kind_at, other_at, other_of, others_among, path_of, stays_at, stays_by, stays_of_item}
 use Rattle.mt_base.specs.Trajectory.{horizon}
 use Rattle.mt_probe.specs.Shot.{Shot, made_named}

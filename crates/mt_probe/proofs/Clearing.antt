@@ -17,7 +17,8 @@ use Rattle.mt_meet.specs.declared.table.Met.{Met}
 use Rattle.mt_meet.proofs.Meetings.{losing_meet}
 use Rattle.mt_track.specs.Laid.{IsStrand}
 use Rattle.mt_probe.specs.declared.flight.Flight.{Flight}
-use Rattle.mt_probe.specs.Private.Boxed.{IsFirstMetOf, IsNextMetOf, IsNotMet, slices_by}
+use Rattle.mt_probe.specs.Meeting.{slices_by}
+use Rattle.mt_probe.specs.Private.Boxed.{IsFirstMetOf, IsNextMetOf, IsNotMet}
 use Rattle.mt_probe.specs.Private.Clear.{IsClearAt}
 use Rattle.mt_probe.specs.Items.{kind_at, path_of}
 use Rattle.mt_probe.specs.Shot.{Shot, flight_at, state_in_shot}

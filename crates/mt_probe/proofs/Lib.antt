@@ -1,9 +1,9 @@
-mod Candidates
 mod Listing
 mod NearItems
 pub mod Again
 pub mod Aside
 pub mod Boxes
+pub mod Candidates
 pub mod Clearing
 pub mod Covered
 pub mod Filing

@@ -12,7 +12,8 @@ use Rattle.mt_meet.specs.declared.table.Met.{Met}
 use Rattle.mt_meet.specs.Meeting.{IsItemListed, MeetAt}
 use Rattle.mt_track.specs.Laid.{IsStrand}
 use Rattle.mt_probe.specs.declared.flight.Flight.{Flight}
-use Rattle.mt_probe.specs.Private.Boxed.{AreMetItems, IsFirstMetOf, IsMetOf, IsNextMetOf, slices_at}
+use Rattle.mt_probe.specs.Meeting.{AreMetItems, IsMetOf, slices_at}
+use Rattle.mt_probe.specs.Private.Boxed.{IsFirstMetOf, IsNextMetOf}
 use Rattle.mt_probe.specs.Shot.{Shot}
 use Rattle.mt_probe.specs.Standing.{IsSoundShot}
 use Rattle.mt_probe.specs.Tests.{WasTriedNear, flown_at}

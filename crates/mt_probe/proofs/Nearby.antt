@@ -18,7 +18,7 @@ use Rattle.mt_cover.specs.Sliced.{slices_of}
 use Rattle.mt_cover.proofs.Law.{misses_none}
 use Rattle.mt_track.specs.Laid.{IsStrand}
 use Rattle.mt_probe.specs.declared.flight.Flight.{Flight}
-use Rattle.mt_probe.specs.Private.Boxed.{slices_at, slices_by}
+use Rattle.mt_probe.specs.Meeting.{slices_at, slices_by}
 use Rattle.mt_probe.specs.Items.{IsNearItem, kind_at, other_at, other_of, path_of, stays_at, stays_by, stays_of_item}
 use Rattle.mt_probe.specs.Shot.{Shot, kept_of, made_named}
 use Rattle.mt_probe.proofs.Boxes.{slices_even, slices_odd}

@@ -20,7 +20,7 @@ use Rattle.mt_track.specs.Laid.{IsStrand}
 use Rattle.mt_cover.specs.Sliced.{slices_of}
 use Rattle.mt_meet.specs.declared.table.Met.{Met}
 use Rattle.mt_meet.proofs.Meetings.{losing_meet}
-use Rattle.mt_probe.specs.Private.Boxed.{AreMetItems}
+use Rattle.mt_probe.specs.Meeting.{AreMetItems}
 use Rattle.mt_probe.specs.declared.finding.Found.{Found}
 use Rattle.mt_probe.proofs.Gathered.{at_kept, kept_at, kept_call}
 use Rattle.mt_probe.proofs.Candidates.{others_met}

@@ -2,6 +2,7 @@ pub mod Filing
 pub mod Finds
 pub mod Hits
 pub mod Items
+pub mod Meeting
 pub mod Narrow
 pub mod Prepared
 pub mod Private

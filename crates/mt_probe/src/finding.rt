@@ -4,7 +4,7 @@ ghost use Rattle.mt_base.specs.Bounds.{AreWithinBounds};
 ghost use Rattle.mt_base.specs.Conflict.{IsConflict, IsLossSecond};
 ghost use Rattle.mt_base.specs.Picture.{window_end};
 ghost use Rattle.mt_cover.specs.Sliced.{slices_of};
-ghost use Rattle.mt_probe.specs.Private.Boxed.{AreMetItems, IsMetOf};
+ghost use Rattle.mt_probe.specs.Meeting.{AreMetItems, IsMetOf};
 ghost use Rattle.mt_probe.specs.Finds.{AreFinds, IsFound};
 ghost use Rattle.mt_probe.specs.Private.Finds.{FindsMore};
 ghost use Rattle.mt_probe.specs.Items.{WasTestedNear, kind_at, other_at};

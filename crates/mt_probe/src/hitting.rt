@@ -6,7 +6,7 @@ ghost use Rattle.mt_base.specs.Conflict.{IsConflict, IsLossSecond};
 ghost use Rattle.mt_base.specs.Picture.{window_end};
 ghost use Rattle.mt_base.specs.WhatIf.{HasHit};
 ghost use Rattle.mt_cover.specs.Sliced.{slices_of};
-ghost use Rattle.mt_probe.specs.Private.Boxed.{AreMetItems, IsMetOf};
+ghost use Rattle.mt_probe.specs.Meeting.{AreMetItems, IsMetOf};
 ghost use Rattle.mt_probe.specs.Private.Clear.{IsClearAt};
 ghost use Rattle.mt_probe.specs.Items.{kind_at};
 ghost use Rattle.mt_base.specs.Trajectory.{horizon};

@@ -6,7 +6,8 @@ ghost use Rattle.mt_base.specs.Picture.{flight_of, opening};
 ghost use Rattle.mt_change.specs.Sound.{IsSoundState};
 ghost use Rattle.mt_cover.specs.Sliced.{slices_of};
 ghost use Rattle.mt_probe.specs.Private.Body.{shot_of};
-ghost use Rattle.mt_probe.specs.Private.Boxed.{AreMetItems, IsSnapshotKept, IsNextMetOf};
+ghost use Rattle.mt_probe.specs.Meeting.{AreMetItems};
+ghost use Rattle.mt_probe.specs.Private.Boxed.{IsSnapshotKept, IsNextMetOf};
 ghost use Rattle.mt_probe.specs.Items.{AreNearItems, IsNearItem, path_of};
 ghost use Rattle.mt_probe.specs.Putting.{Fits, records_put, with_flight, with_moment};
 ghost use Rattle.mt_probe.specs.Shot.{IsFreeIn, flight_at, kept_of, made_of, records_in, state_in_shot};
@@ -266,7 +267,7 @@ impl Snapshot {
 
     /// The items whose trajectories have slices that meet those of a new one, rising, each once, with the first and the last second in which they
     /// do. No other can lose separation with it, and none in another second.
-    pub(crate) fn meeting(&self, strand: &Strand) -> Result<Vec<Met>, Memory>
+    pub fn meeting(&self, strand: &Strand) -> Result<Vec<Met>, Memory>
         ensures { IfOk result (λ list. AreMetItems self.now (slices_of self.now.setup.rules strand.now) list.items) }
     {
         let mine = self.sliced(strand)?;

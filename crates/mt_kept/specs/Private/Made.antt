@@ -12,7 +12,7 @@ use Rattle.mt_edges.specs.declared.edge.Edge.{Edge}
 use Rattle.mt_edges.specs.Pairs.{touches}
 use Rattle.mt_kept.specs.declared.finds.Candidate.{Candidate}
 use Rattle.mt_kept.specs.declared.finds.Knowledge.{Knowledge}
-use Rattle.mt_kept.specs.declared.finds.Knowledge.TheVariants.{Unknown, Known}
+use Rattle.mt_kept.specs.declared.finds.Knowledge.TheVariants.{Known, Within}
 use Rattle.mt_kept.specs.declared.open_pair.OpenPair.{OpenPair}
 use Rattle.mt_kept.specs.Finds.{IsOfOtherFlight}
 use Rattle.mt_kept.specs.Private.Losing.{AvoidsSlot}
@@ -70,14 +70,14 @@ touches_slot slot e = touches (2 * slot) e || touches (2 * slot + 1) e
 abbrev pub WereDropped : ℕ → List Edge → ℕ → ℕ → Type 0
 WereDropped slot edges old new = new ≤ old + 6 * length (filter (touches_slot slot) edges) + 2
 
--- this is what is known
+-- this is the conflict that is known
 abbrev pub IsKnownAs : Knowledge → Option (ℕ × ℕ) → Type 0
-IsKnownAs Unknown span = ⊤
+IsKnownAs (Within first last) span = ⊤
 IsKnownAs (Known known) span = span ≡ known
 
--- one test where nothing is known
+-- one test where none is known
 abbrev pub tests_if_unknown : Knowledge → ℕ
-tests_if_unknown Unknown = 1
+tests_if_unknown (Within first last) = 1
 tests_if_unknown (Known span) = 0
 
 -- `IsEdgeBetween`, `IsEdgeOf`: the pair between two places, the lesser first, with that span

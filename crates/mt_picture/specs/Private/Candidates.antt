@@ -1,17 +1,19 @@
 -- No public contract names these: they are of private steps and of proofs.
 -- Where trajectories stand, and which of them are candidates of a new one.
-use Rattle.std.specs.Prelude.{◌≡◌, ◌≢◌, ◌<◌, ◌≤◌, ◌/◌, ◌⊎◌, ℕ, List, map, get_or, slice_get, AllPairs, Contains, Option, Some, None}
+use Rattle.std.specs.Prelude.{◌≡◌, ◌≢◌, ◌<◌, ◌≤◌, ◌/◌, ◌++◌, ℕ, Bool, false, List, filter, map, get_or, slice_get, AllPairs, Contains, Option, Some, None, nat_lt, option_and_then, option_map}
 use Rattle.mt_base.specs.declared.command.Entry.{Entry}
 use Rattle.mt_base.specs.declared.conflict.Kind.{Kind}
-use Rattle.mt_base.specs.Decision.{call_of}
-use Rattle.mt_cover.specs.declared.stays.Stay.{Stay}
+use Rattle.mt_cover.specs.Sliced.{Sliced}
 use Rattle.mt_kept.specs.declared.finds.Candidate.{Candidate}
-use Rattle.mt_kept.specs.declared.finds.Knowledge.TheVariants.{Known, Unknown}
+use Rattle.mt_kept.specs.declared.finds.Knowledge.TheVariants.{Known, Within}
 use Rattle.mt_kept.specs.Finds.{candidate_place}
+use Rattle.mt_meet.specs.declared.table.Met.{Met}
 use Rattle.mt_probe.specs.declared.finding.Found.{Found}
 use Rattle.mt_probe.specs.declared.flight.Flight.{Flight}
 use Rattle.mt_probe.specs.declared.flight.Made.{Made}
-use Rattle.mt_probe.specs.Items.{AreNearItems, IsNearItem, kind_at}
+use Rattle.mt_probe.specs.Items.{kind_at}
+use Rattle.mt_probe.specs.Meeting.{AreMetItems}
+use Rattle.mt_probe.specs.Prepared.{MakesStrand}
 use Rattle.mt_probe.specs.Shot.{Shot, made_of}
 
 -- in a place stands that kind of trajectory of that flight, made at that version
@@ -44,47 +46,39 @@ pub record AreStill (slots : List (Option Flight)) (version : ℕ) (finds : List
       → Contains (map candidate_place xs) place
   pub once : AllPairs (λ x y. x.place ≢ y.place) xs
 
+-- the version at which what stands in a place was made, where a trajectory stands there
+abbrev pub stamp_at : List (Option Flight) → ℕ → Option ℕ
+stamp_at slots place = option_map (λ m. m.stamp) (option_and_then (λ f. made_of f (kind_at place)) (get_or slots (place / 2) None))
+
+-- a version is after another one; no version is not
+abbrev pub is_after : ℕ → Option ℕ → Bool
+is_after version None = false
+is_after version (Some stamp) = nat_lt version stamp
+
 -- what stands in a place was made after that version
-pub record IsMadeSince (slots : List (Option Flight)) (version place : ℕ) : Type 0 where
-  pub call : List ℕ
-  pub kind : Kind
-  pub stamp : ℕ
-  pub stands : StandsInPlace slots place call kind stamp
-  pub later : version < stamp
+abbrev pub is_made_since : List (Option Flight) → ℕ → ℕ → Bool
+is_made_since slots version place = is_after version (stamp_at slots place)
 
--- some places with others, where what stands was made after that version. With that of this kind of this flight, if that is one.
-pub record AreLaterMore (slots : List (Option Flight)) (version : ℕ) (call : List ℕ) (kind : Kind) (old new : List ℕ) : Type 0 where
-  pub kept : (place : ℕ) → Contains old place → Contains new place
-  pub sound : (place : ℕ) → Contains new place → Contains old place ⊎ IsMadeSince slots version place
-  pub named : (place stamp : ℕ) → StandsInPlace slots place call kind stamp → version < stamp → Contains new place
-  pub once : AllPairs (λ i j. i ≢ j) old → AllPairs (λ i j. i ≢ j) new
+-- no trajectory that stands was made after that version
+abbrev pub IsNoneSince : List (Option Flight) → ℕ → Type 0
+IsNoneSince slots version = (place : ℕ) → is_made_since slots version place ≡ false
 
--- the same, with both kinds of this flight
-pub record AreFlightMore (slots : List (Option Flight)) (version : ℕ) (call : List ℕ) (old new : List ℕ) : Type 0 where
-  pub kept : (place : ℕ) → Contains old place → Contains new place
-  pub sound : (place : ℕ) → Contains new place → Contains old place ⊎ IsMadeSince slots version place
-  pub named : (kind : Kind) (place stamp : ℕ) → StandsInPlace slots place call kind stamp → version < stamp → Contains new place
-  pub once : AllPairs (λ i j. i ≢ j) old → AllPairs (λ i j. i ≢ j) new
+-- no entry after the first ones makes a trajectory
+abbrev pub IsNoneMade : List Entry → ℕ → Type 0
+IsNoneMade h version = (n : ℕ) (entry : Entry) → version ≤ n → slice_get h n ≡ Some entry → ¬ MakesStrand entry.command
 
--- the places where what stands was made after that version, each once. With those of all flights that the entries from there until `end` name.
-pub record AreLater (slots : List (Option Flight)) (h : List Entry) (version end : ℕ) (places : List ℕ) : Type 0 where
-  pub sound : (place : ℕ) → Contains places place → IsMadeSince slots version place
-  pub named : (n : ℕ) (entry : Entry) (call : List ℕ) (kind : Kind) (place stamp : ℕ) → version ≤ n → n < end → slice_get h n ≡ Some entry
-      → call_of entry.command ≡ Some call → StandsInPlace slots place call kind stamp → version < stamp → Contains places place
-  pub once : AllPairs (λ i j. i ≢ j) places
+-- what meets a new trajectory, as a candidate: they lose separation only in the seconds in which their slices meet
+abbrev pub candidate_met : Met → Candidate
+candidate_met met = record { place = met.item; knowledge = Within met.first met.last }
 
--- a candidate of which nothing is known
-abbrev pub unknown_at : ℕ → Candidate
-unknown_at place = record { place = place; knowledge = Unknown }
+-- what meets a new trajectory and was made after a version, as candidates, in order
+pub record AreMetSince (shot : Shot) (mine : Sliced) (version : ℕ) (xs : List Candidate) : Type 0 where
+  pub list : List Met
+  pub met : AreMetItems shot mine list
+  pub is : xs ≡ map candidate_met (filter (λ met. is_made_since shot.slots version met.item) list)
 
--- of some places those near a cover, each once
-pub record AreNearOnes (shot : Shot) (cover : List Stay) (places near : List ℕ) : Type 0 where
-  pub sound : (place : ℕ) → Contains near place → Contains places place × IsNearItem shot cover place
-  pub complete : (place : ℕ) → Contains places place → IsNearItem shot cover place → Contains near place
-  pub once : AllPairs (λ i j. i ≢ j) near
-
--- all places near a cover, as candidates of which nothing is known
-pub record AreAllNear (shot : Shot) (cover : List Stay) (xs : List Candidate) : Type 0 where
-  pub items : List ℕ
-  pub near : AreNearItems shot cover items
-  pub is : xs ≡ map unknown_at items
+-- these candidates stand behind others
+pub record AreAddedSince (shot : Shot) (mine : Sliced) (version : ℕ) (old new : List Candidate) : Type 0 where
+  pub more : List Candidate
+  pub met : AreMetSince shot mine version more
+  pub is : new ≡ old ++ more

@@ -1,28 +1,18 @@
 -- No public contract names these: they are of private steps and of proofs.
 -- How a snapshot keeps the slices of its trajectories.
-use Rattle.std.specs.Prelude.{◌≡◌, ℕ, ◌+◌, ◌*◌, ◌/◌, ◌<◌, ◌≤◌, List, Option, Some, None, Contains, AllPairs, get_or, length, option_map, slice_set}
-use Rattle.mt_base.specs.declared.conflict.Kind.{Kind}
+use Rattle.std.specs.Prelude.{◌≡◌, ℕ, ◌+◌, ◌*◌, ◌<◌, ◌≤◌, List, Option, Some, None, Contains, get_or, length, slice_set}
 use Rattle.mt_base.specs.declared.conflict.Kind.TheVariants.{Actual, Tentative}
 use Rattle.mt_base.specs.declared.rules.Rules.{Rules}
 use Rattle.mt_base.specs.Picture.{NamedTrajectory}
-use Rattle.mt_cover.specs.Sliced.{Sliced, slices_of}
+use Rattle.mt_cover.specs.Sliced.{Sliced}
 use Rattle.mt_meet.specs.declared.table.Met.{Met}
-use Rattle.mt_meet.specs.Meeting.{IsHullOf, IsItemListed, MeetAt}
+use Rattle.mt_meet.specs.Meeting.{MeetAt}
 use Rattle.mt_track.specs.Laid.{IsStrand}
 use Rattle.mt_probe.specs.declared.flight.Flight.{Flight}
 use Rattle.mt_probe.specs.Private.Indexed.{Indexed, IsIndexOf}
-use Rattle.mt_probe.specs.Items.{kind_at, path_of}
+use Rattle.mt_probe.specs.Meeting.{IsMetOf, slices_at, slices_by}
 use Rattle.mt_probe.specs.Shot.{Shot, kept_of}
 use Rattle.mt_probe.specs.Standing.{IsSoundShot}
-
--- the slices of a flight's trajectory of a kind, where it has one
-abbrev pub slices_by : Rules → Kind → Option Flight → Option Sliced
-slices_by rules kind None = None
-slices_by rules kind (Some f) = option_map (slices_of rules) (path_of kind f)
-
--- the slices of the trajectory that an item names
-abbrev pub slices_at : Rules → List (Option Flight) → ℕ → Option Sliced
-slices_at rules slots item = slices_by rules (kind_at item) (get_or slots (item / 2) None)
 
 -- a table has the slices of each kept trajectory, at its item, and of nothing else
 pub record HoldsSlices (rules : Rules) (slots : List (Option Flight)) (table : List (Option Sliced)) : Type 0 where
@@ -44,12 +34,6 @@ table_with rules slot x table =
 abbrev pub AreLaid : Flight → Type 0
 AreLaid f = (t : NamedTrajectory) → Contains (kept_of f) t → IsStrand t.path
 
--- the trajectory that an item names has slices that meet some, in a first and a last second
-pub record IsMetOf (shot : Shot) (mine : Sliced) (met : Met) : Type 0 where
-  pub theirs : Sliced
-  pub there : slices_at shot.setup.rules shot.slots met.item ≡ Some theirs
-  pub hull : IsHullOf (MeetAt shot.setup.rules mine theirs) met.first met.last
-
 -- the trajectory that an item names, where it names one, has no slices that meet some
 abbrev pub IsNotMet : Shot → Sliced → ℕ → Type 0
 IsNotMet shot mine item = (theirs : Sliced) (k : ℕ) → slices_at shot.setup.rules shot.slots item ≡ Some theirs → ¬ MeetAt shot.setup.rules mine theirs k
@@ -64,10 +48,3 @@ pub record IsFirstMetOf (shot : Shot) (mine : Sliced) (from : ℕ) (met : Met) :
 abbrev pub IsNextMetOf : Shot → Sliced → ℕ → Option Met → Type 0
 IsNextMetOf shot mine from (Some met) = IsFirstMetOf shot mine from met
 IsNextMetOf shot mine from None = (item : ℕ) → from ≤ item → IsNotMet shot mine item
-
--- the items whose trajectories have slices that meet some, rising, each once
-pub record AreMetItems (shot : Shot) (mine : Sliced) (list : List Met) : Type 0 where
-  pub rising : AllPairs (λ (m n : Met). m.item < n.item) list
-  pub exact : (met : Met) → Contains list met → IsMetOf shot mine met
-  pub complete : (item : ℕ) (theirs : Sliced) (k : ℕ) → slices_at shot.setup.rules shot.slots item ≡ Some theirs → MeetAt shot.setup.rules mine theirs k
-      → IsItemListed list item

@@ -23,7 +23,7 @@ gather-requires c =
     let near = rw (c.deref.ensures, c.snapshot-snapshot.ensures.value) at c.in_ok-candidates.ensures in
     rw (c.kept.ensures, c.keeps.ensures.picture.rules_are, c.keeps.ensures.picture.places_are, c.deref-2.ensures.value)
     (candidates_right s c.args.place mine c.args.prep.now c.args.known c.in_ok-candidates.candidates.items
-    (ap (λ (u : Setup). u.rules) c.requires.setup) (c.requires.call mine is) (c.requires.known mine is) near)
+    (ap (λ (u : Setup). u.rules) c.requires.setup) (c.requires.call mine is) near)
 
 pub returns-clause-finds : goal.returns-clause-finds
 returns-clause-finds c =
