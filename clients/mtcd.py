@@ -365,7 +365,8 @@ class Client:
     def plan(self, call: str, type_: str, route: List[str], at: int, level: int, *, start_level: Optional[int] = None,
              rvsm: Optional[bool] = None) -> int:
         """Files a flight along fixes: at second `at` it is at the first one at `start_level` (by default `level`), cleared to `level`."""
-        return self.ask(do="plan", call=call, type=type_, route=route, at=at, **_given(from_=start_level), level=level, **_given(rvsm=rvsm))["entered"]
+        optional = _given(from_=start_level)
+        return self.ask(do="plan", call=call, type=type_, route=route, at=at, **optional, level=level, **_given(rvsm=rvsm))["entered"]
 
     def external(self, call: str, start: int, end: int, x: int, y: int, z: int, *, vx: int = 0, vy: int = 0, vz: int = 0, **margins: object) -> int:
         """Files a flight that flies straight on in the seconds `start <= k < end`; `margins` are `r`, `gr`, `w`, `gw` and `rvsm`."""
