@@ -11,41 +11,23 @@ what the primary entered and wasn't asked for by then is lost.
 
 import json
 import pathlib
-import socket
 import subprocess
 import sys
 import time
 
-MOST = 64  # the entries that one `history` gives
+HERE = pathlib.Path(__file__).resolve().parent
+sys.dont_write_bytecode = True
+sys.path.insert(0, str(HERE.parent / "clients"))
+
+import mtcd  # noqa: E402  (the folder has to be on the path first)
 
 
-class Ended(Exception):
-    """The primary has ended."""
-
-
-class Primary:
-    """A session of the primary, without a role."""
-
-    def __init__(self, port):
-        for _ in range(200):
-            try:
-                self.socket = socket.create_connection(("127.0.0.1", port))
-                break
-            except ConnectionRefusedError:
-                time.sleep(0.05)
-        self.replies = self.socket.makefile("r")
-
-    def ask(self, line):
-        try:
-            self.socket.sendall(line.encode() + b"\n")
-            reply = self.replies.readline()
-        except OSError as fault:
-            raise Ended from fault
-        if not reply.endswith("\n"):
-            raise Ended
-        if reply == '{"no":"memory"}\n':
-            return self.ask(line)
-        return reply
+def patiently(ask, line):
+    """Asks again where memory was wanted."""
+    while True:
+        reply = ask(line)
+        if reply != '{"no":"memory"}':
+            return reply
 
 
 class Standby:
@@ -59,10 +41,12 @@ class Standby:
                 sys.exit("standby.py: the standby can't be set up by " + line)
 
     def ask(self, line):
+        return patiently(self.ask_once, line)
+
+    def ask_once(self, line):
         self.program.stdin.write(line + "\n")
         self.program.stdin.flush()
-        reply = self.program.stdout.readline()
-        return self.ask(line) if reply == '{"no":"memory"}\n' else reply
+        return self.program.stdout.readline().rstrip("\n")
 
     def follow(self, entry):
         reply = self.ask(json.dumps(entry, separators=(",", ":")))
@@ -77,15 +61,15 @@ class Standby:
 def catch_up(primary, standby, version):
     """Follows the primary up to a version."""
     while standby.version < version:
-        upto = min(standby.version + MOST, version)
-        told = primary.ask('{"do":"history","from":%d,"to":%d}' % (standby.version, upto))
+        upto = min(standby.version + mtcd.MOST_ENTRIES, version)
+        told = patiently(primary.ask_line, '{"do":"history","from":%d,"to":%d}' % (standby.version, upto))
         for entry in json.loads(told)["entries"]:
             standby.follow(entry)
 
 
 def compare(primary, standby):
     """Asks the primary for its list, follows it up to that version, and compares. Says whether there was anything to follow."""
-    told = primary.ask('{"do":"list"}')
+    told = patiently(primary.ask_line, '{"do":"list"}')
     version = json.loads(told)["version"]
     begins = version == 0 or version > standby.version
     catch_up(primary, standby, version)
@@ -98,17 +82,19 @@ def compare(primary, standby):
 
 def main():
     setup = pathlib.Path(sys.argv[1]).read_text().splitlines()
-    here = pathlib.Path(__file__).resolve().parent
-    program = sys.argv[3] if len(sys.argv) > 3 else str(here.parent / "bin" / "mtcd")
+    program = sys.argv[3] if len(sys.argv) > 3 else str(HERE.parent / "bin" / "mtcd")
     standby = Standby(program, setup)
-    primary = Primary(int(sys.argv[2]))
+    try:
+        primary = mtcd.Client(port=int(sys.argv[2]))
+    except mtcd.Ended as fault:
+        sys.exit("standby.py: %s" % fault)
     try:
         while True:
             if not compare(primary, standby):
                 time.sleep(0.05)
-    except Ended:
+    except mtcd.Ended:
         pass
-    print(standby.list(), end="")
+    print(standby.list())
     standby.ask('{"do":"bye"}')
     return standby.program.wait()
 
