@@ -259,7 +259,7 @@ class Traffic:
         self.sector, self.draw, self.wanted = sector, random.Random(seed + 1), wanted
         self.flying = {}
         self.entered = {}  # by fix and level, when the last flight entered
-        for _ in range(40 * wanted):
+        for _ in range(10 * wanted):
             if len(self.flying) < wanted:
                 self.enter(now, early=True)
 
