@@ -25,6 +25,8 @@ class Position:
                 break
             except ConnectionRefusedError:
                 time.sleep(0.05)
+        else:
+            sys.exit("position.py: no server answers at 127.0.0.1, port %d" % PORT)
         self.stream = self.socket.makefile("rb")
         key = base64.b64encode(os.urandom(16)).decode()
         self.socket.sendall(
@@ -38,7 +40,7 @@ class Position:
             ).encode()
         )
         if b" 101 " not in self.stream.readline():
-            sys.exit("the server takes no WebSocket")
+            sys.exit("position.py: the server takes no WebSocket")
         while self.stream.readline().strip():
             pass
 
@@ -50,14 +52,21 @@ class Position:
         masked = bytes(byte ^ mask[place % 4] for place, byte in enumerate(content))
         self.socket.sendall(bytes([0x80 | kind]) + head + mask + masked)
 
+    def read(self, size):
+        """So many bytes that the server sends."""
+        content = self.stream.read(size)
+        if len(content) < size:
+            sys.exit("position.py: the server has ended the session")
+        return content
+
     def receive(self):
         """The kind and the content of the next frame."""
-        kind, size = self.stream.read(2)
+        kind, size = self.read(2)
         if size == 126:
-            size = int.from_bytes(self.stream.read(2), "big")
+            size = int.from_bytes(self.read(2), "big")
         elif size == 127:
-            size = int.from_bytes(self.stream.read(8), "big")
-        return kind & 0x0F, self.stream.read(size)
+            size = int.from_bytes(self.read(8), "big")
+        return kind & 0x0F, self.read(size)
 
     def ask(self, line):
         """Sends a line and prints it, and the reply."""
