@@ -231,7 +231,7 @@ class Aircraft:
         """Flies on to a second."""
         if self.time >= self.stray_until:
             self.stray = 0.0
-            if self.draw.random() < 0.0006:
+            if self.draw.random() < 0.0015:
                 self.stray = self.draw.choice([-1, 1]) * self.draw.uniform(0.3, 0.5)
                 self.stray_until = self.time + self.draw.randint(70, 150)
         seconds = time - self.time
