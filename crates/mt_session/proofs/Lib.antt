@@ -1,5 +1,7 @@
 pub mod Advice
 pub mod Books
+pub mod Closing
+pub mod Idle
 pub mod Renewals
 pub mod Replying
 pub mod Stays

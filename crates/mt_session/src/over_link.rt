@@ -1,5 +1,5 @@
 //! A session, from its first line to its last.
-ghost use Rattle.std.specs.Prelude.{◌≡◌, ◌≤◌, ◌^◌, ◌+◌, ℕ, List, None, Some, IfNone, IfOk, length, vec_capacity};
+ghost use Rattle.std.specs.Prelude.{◌≡◌, ◌≤◌, ◌^◌, ◌+◌, ◌++◌, ℕ, List, [], None, Some, Contains, IfNone, IfOk, length};
 ghost use Rattle.std.specs.declared.option.Option.{Option};
 ghost use Rattle.mt_io.specs.Causes.{Rose};
 ghost use Rattle.mt_io.specs.Reading.{fresh};
@@ -15,11 +15,11 @@ ghost use Rattle.mt_session.specs.Private.SoFar.{GivesTill, HasRun, IsLineAnswer
 ghost use Rattle.mt_session.specs.declared.outcome.Outcome.TheVariants.{ReadFault, WriteFault};
 
 use crate::outcome::Outcome;
+use crate::outgoing::Outgoing;
 use crate::serving::Serving;
 use mt_base::Memory;
 use mt_board::Board;
 use mt_io::{Duplex, Gate, Line, LineFault, LineReader, Sink};
-use mt_lines::give;
 use mt_machine::Book;
 use mt_wire::{Reply, Scratch};
 use mt_workers::{NoOutbox, Outbox};
@@ -27,11 +27,11 @@ use std::alloc::Global;
 use std::sync::Wait;
 use std::thread::Threads;
 
-/// The room for a reply that follows a change, taken before the first line.
-const ROOM: usize = 65_536;
-
 /// Answers the lines of a link over a board, to its end or to the line that ends the session, and gives the board back. It takes its memory
-/// before the first line: the reader, the book, and the room for a reply that follows a change.
+/// before the first line: the reader, the book, and the room for a reply that follows a change and for those that wait.
+///
+/// Replies wait while a whole line is ahead, and all that wait are written at once: before a read that may block, so that none is held back while
+/// the session waits for its peer; before a job is handed on; where 65,536 bytes wait; and at the end.
 ///
 /// Once the reply to a report with a flag is written, the flight's job is handed to the outbox; where there is none, or the job comes back,
 /// the session renews the flight itself.
@@ -76,7 +76,7 @@ fn serve_link<R: Threads + Wait + Sync, B: Board, L: Duplex, O: Outbox, G: Gate>
         (Some (O.jobs jobs.old)) (Some (O.jobs jobs.new)) result.1 }
     ensures home { B.home result.0 ≡ B.home board }
 {
-    let Ok((mut reader, book, mut room)) = memory(alloc) else {
+    let Ok((mut reader, book, mut outgoing)) = memory(alloc) else {
         return (board, Outcome::Memory);
     };
     let mut scratch = Scratch::new(alloc);
@@ -87,7 +87,7 @@ fn serve_link<R: Threads + Wait + Sync, B: Board, L: Duplex, O: Outbox, G: Gate>
         &mut reader,
         &mut scratch,
         &mut serving,
-        &mut room,
+        &mut outgoing,
         link,
         jobs,
         gate,
@@ -95,26 +95,26 @@ fn serve_link<R: Threads + Wait + Sync, B: Board, L: Duplex, O: Outbox, G: Gate>
     (serving.board(), outcome)
 }
 
-// What a session takes before its first line: its reader, its book, and the room for a reply that follows a change.
-fn memory<P: Drop>(alloc: Global) -> Result<(LineReader, Book<P>, Vec<u8>), Memory>
+// What a session takes before its first line: its reader, its book, and the room for its replies.
+fn memory<P: Drop>(alloc: Global) -> Result<(LineReader, Book<P>, Outgoing), Memory>
     ensures reader { IfOk result (λ taken. taken.0 ≡ fresh) }
     ensures book { IfOk result (λ taken. taken.1 ≡ empty_book) }
-    ensures room { IfOk result (λ taken. 65536 ≤ vec_capacity taken.2) }
+    ensures outgoing { IfOk result (λ taken. taken.2 ≡ []) }
 {
     let reader = LineReader::make(alloc)?;
     let book = Book::make(alloc)?;
-    let room = Vec::with_capacity(alloc, ROOM)?;
-    Ok((reader, book, room))
+    let outgoing = Outgoing::make(alloc)?;
+    Ok((reader, book, outgoing))
 }
 
-// Answers line by line, to the outcome that the session ends with.
+// Answers line by line, to the outcome that the session ends with; and writes what waits then.
 fn turns<R: Threads + Wait + Sync, B: Board, L: Duplex, O: Outbox, G: Gate>(
     rt: &R,
     alloc: Global,
     reader: &mut LineReader,
     scratch: &mut Scratch,
     serving: &mut Serving<B>,
-    room: &mut Vec<u8>,
+    outgoing: &mut Outgoing,
     link: &mut L,
     jobs: &mut O,
     gate: &G,
@@ -122,18 +122,23 @@ fn turns<R: Threads + Wait + Sync, B: Board, L: Duplex, O: Outbox, G: Gate>(
     requires sync { IsSync R.row }
     requires sound { reader.old.fault ≡ None }
     requires bound { reader.old.given ≤ 2 ^ 32 }
-    requires room { 65536 ≤ vec_capacity room.old }
-    ensures ended { (start : Standing) (before held : Option (List ℕ))
-        → HasRun start before (L.left link.old) held (L.held link.old) reader.old (record { session = serving.old.session; jobs = O.jobs jobs.old })
+    requires none { outgoing.old ≡ [] }
+    ensures ended { (start : Standing) (before : Option (List ℕ))
+        → HasRun start before (L.left link.old) [] reader.old (record { session = serving.old.session; jobs = O.jobs jobs.old })
         → Explains (SessionMeans start (record { session = serving.new.session; jobs = O.jobs jobs.new }) result)
-        before (L.left link.new) held (L.held link.new) }
+        before (L.left link.new) (L.held link.old) (L.held link.new) }
     ensures on { StaysOn serving.old serving.new }
     ensures read { result ≡ ReadFault → Rose (L.Source.faults link.old) (L.Source.faults link.new) }
     ensures write { result ≡ WriteFault → Rose (L.Sink.faults link.old) (L.Sink.faults link.new) }
 {
     loop {
-        if let Some(outcome) = turn(rt, alloc, reader, scratch, serving, room, link, jobs, gate) {
-            return outcome;
+        if let Some(outcome) = turn(
+            rt, alloc, reader, scratch, serving, outgoing, link, jobs, gate,
+        ) {
+            return match outgoing.flush(link) {
+                Ok(()) => outcome,
+                Err(_) => Outcome::WriteFault,
+            };
         }
     }
 }
@@ -153,18 +158,17 @@ fn ended_by(given: Result<bool, mt_io::WriteFault>) -> Option<Outcome>
 fn give_whole<K: Sink>(
     alloc: Global,
     reply: Reply,
-    room: &mut Vec<u8>,
+    is_followed: bool,
+    outgoing: &mut Outgoing,
     output: &mut K,
 ) -> Option<Outcome>
-    requires room { 65536 ≤ vec_capacity room.old }
     requires fit { IsFit reply }
-    ensures given { GivesTill reply result (K.held output.old) (K.held output.new) }
-    ensures room { 65536 ≤ vec_capacity room.new }
+    ensures given { GivesTill reply result outgoing.old outgoing.new (K.held output.old) (K.held output.new) }
     ensures write { result ≡ Some WriteFault → Rose (K.faults output.old) (K.faults output.new) }
     ensures later { K.faults output.old ≤ K.faults output.new }
     ensures kept { K.writes_to output.old output.new }
 {
-    ended_by(give(alloc, &reply, room, output))
+    ended_by(outgoing.give(alloc, &reply, is_followed, output))
 }
 
 // Answers a line, and does what follows once the reply is written; an outcome where the session ends with it.
@@ -174,60 +178,91 @@ fn answer_line<R: Threads + Wait + Sync, B: Board, K: Sink, O: Outbox, G: Gate>(
     scratch: &mut Scratch,
     line: &[u8],
     serving: &mut Serving<B>,
-    room: &mut Vec<u8>,
+    outgoing: &mut Outgoing,
     output: &mut K,
     jobs: &mut O,
     gate: &G,
 ) -> Option<Outcome>
     requires sync { IsSync R.row }
     requires short { length line.now ≤ 65536 }
-    requires room { 65536 ≤ vec_capacity room.old }
     ensures answered { IsLineAnswered (record { session = serving.old.session; jobs = O.jobs jobs.old }) line.now result
-        (K.held output.old) (K.held output.new) (record { session = serving.new.session; jobs = O.jobs jobs.new }) }
-    ensures room { 65536 ≤ vec_capacity room.new }
+        outgoing.old outgoing.new (K.held output.old) (K.held output.new) (record { session = serving.new.session; jobs = O.jobs jobs.new }) }
     ensures on { StaysOn serving.old serving.new }
     ensures write { result ≡ Some WriteFault → Rose (K.faults output.old) (K.faults output.new) }
     ensures later { K.faults output.old ≤ K.faults output.new }
     ensures kept { K.writes_to output.old output.new }
 {
     let (reply, job) = serving.answer(rt, alloc, scratch, line, gate);
-    if let Some(outcome) = give_whole(alloc, reply, room, output) {
+    if let Some(outcome) = give_whole(alloc, reply, job.is_some(), outgoing, output) {
         return Some(outcome);
     }
     serving.follow(rt, job, jobs, gate);
     None
 }
 
-// Reads one line and answers it; an outcome where the session ends with it.
+// Writes the replies that wait where no whole line is ahead; then reads one line and answers it. An outcome where the session ends with it.
 fn turn<R: Threads + Wait + Sync, B: Board, L: Duplex, O: Outbox, G: Gate>(
     rt: &R,
     alloc: Global,
     reader: &mut LineReader,
     scratch: &mut Scratch,
     serving: &mut Serving<B>,
-    room: &mut Vec<u8>,
+    outgoing: &mut Outgoing,
     link: &mut L,
     jobs: &mut O,
     gate: &G,
 ) -> Option<Outcome>
     requires sync { IsSync R.row }
     requires sound { reader.old.fault ≡ None }
-    requires room { 65536 ≤ vec_capacity room.old }
-    ensures turned { (start : Standing) (before held : Option (List ℕ))
-        → HasRun start before (L.left link.old) held (L.held link.old) reader.old (record { session = serving.old.session; jobs = O.jobs jobs.old })
-        → SessionTurned start result before (L.left link.new) held (L.held link.new) reader.new (record { session = serving.new.session; jobs = O.jobs jobs.new }) }
+    ensures turned { (start : Standing) (before : Option (List ℕ)) (sent : List ℕ)
+        → HasRun start before (L.left link.old) (sent ++ outgoing.old) reader.old (record { session = serving.old.session; jobs = O.jobs jobs.old })
+        → SessionTurned start result before (L.left link.new) sent (L.held link.old) (L.held link.new) outgoing.new
+        reader.new (record { session = serving.new.session; jobs = O.jobs jobs.new }) }
     ensures rises { IfNone result ((reader.new.given ≡ reader.old.given + 1) × (reader.new.given ≤ 2 ^ 32) × (reader.new.fault ≡ None)) }
-    ensures room { 65536 ≤ vec_capacity room.new }
+    ensures on { StaysOn serving.old serving.new }
+    ensures read { result ≡ Some ReadFault → Rose (L.Source.faults link.old) (L.Source.faults link.new) }
+    ensures write { result ≡ Some WriteFault → Rose (L.Sink.faults link.old) (L.Sink.faults link.new) }
+    ensures later { (L.Source.faults link.old ≤ L.Source.faults link.new) × (L.Sink.faults link.old ≤ L.Sink.faults link.new) }
+{
+    match outgoing.ready(reader.has_line(), link) {
+        Ok(()) => answer_next(
+            rt, alloc, reader, scratch, serving, outgoing, link, jobs, gate,
+        ),
+        Err(_) => Some(Outcome::WriteFault),
+    }
+}
+
+// Reads one line and answers it; an outcome where the session ends with it. No peer waits for a reply while it is waited for: where no whole line
+// is ahead, so that the read may block, no reply waits.
+fn answer_next<R: Threads + Wait + Sync, B: Board, L: Duplex, O: Outbox, G: Gate>(
+    rt: &R,
+    alloc: Global,
+    reader: &mut LineReader,
+    scratch: &mut Scratch,
+    serving: &mut Serving<B>,
+    outgoing: &mut Outgoing,
+    link: &mut L,
+    jobs: &mut O,
+    gate: &G,
+) -> Option<Outcome>
+    requires sync { IsSync R.row }
+    requires sound { reader.old.fault ≡ None }
+    requires idle { ¬ Contains reader.old.store.ahead 10 → outgoing.old ≡ [] }
+    ensures turned { (start : Standing) (before : Option (List ℕ)) (sent : List ℕ)
+        → HasRun start before (L.left link.old) (sent ++ outgoing.old) reader.old (record { session = serving.old.session; jobs = O.jobs jobs.old })
+        → SessionTurned start result before (L.left link.new) sent (L.held link.old) (L.held link.new) outgoing.new
+        reader.new (record { session = serving.new.session; jobs = O.jobs jobs.new }) }
+    ensures rises { IfNone result ((reader.new.given ≡ reader.old.given + 1) × (reader.new.given ≤ 2 ^ 32) × (reader.new.fault ≡ None)) }
     ensures on { StaysOn serving.old serving.new }
     ensures read { result ≡ Some ReadFault → Rose (L.Source.faults link.old) (L.Source.faults link.new) }
     ensures write { result ≡ Some WriteFault → Rose (L.Sink.faults link.old) (L.Sink.faults link.new) }
     ensures later { (L.Source.faults link.old ≤ L.Source.faults link.new) × (L.Sink.faults link.old ≤ L.Sink.faults link.new) }
 {
     match reader.next(link) {
-        Ok(Line::Text(line)) => {
-            answer_line(rt, alloc, scratch, line, serving, room, link, jobs, gate)
-        }
-        Ok(Line::Long) => give_whole(alloc, Reply::Long, room, link),
+        Ok(Line::Text(line)) => answer_line(
+            rt, alloc, scratch, line, serving, outgoing, link, jobs, gate,
+        ),
+        Ok(Line::Long) => give_whole(alloc, Reply::Long, false, outgoing, link),
         Ok(Line::End) => Some(Outcome::Ended),
         Err(LineFault::ReadFault) => Some(Outcome::ReadFault),
         Err(LineFault::Spent) => Some(Outcome::Spent),

@@ -1,4 +1,5 @@
 //! What positions, feeds and workers do: sessions over links, and jobs.
 
+mod gathering;
 mod jobs;
 mod sessions;

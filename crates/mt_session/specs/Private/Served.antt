@@ -1,5 +1,5 @@
 -- No public contract names these: they are of private steps and of proofs.
-use Rattle.std.specs.Prelude.{ℕ, List, [], ◌∷◌, Option, Some, None, Result, Ok, ⊤}
+use Rattle.std.specs.Prelude.{ℕ, Option, Some, None, Result, Ok, ⊤}
 use Rattle.mt_board.specs.declared.ask.Answer.{Answer}
 use Rattle.mt_board.specs.declared.ask.Answer.TheVariants as answers
 use Rattle.mt_board.specs.declared.ask.Ask.{Ask}

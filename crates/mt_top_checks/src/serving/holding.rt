@@ -1,9 +1,10 @@
 //! Two sessions beside each other: a gate holds each until the other has come as far as the test wants. A server that served one after the other,
-//! or held the turn through a probe or an advice, would never let them.
+//! or held the turn through a probe or an advice, would never let them; nor would a session that held a reply back while it waits for its next line:
+//! seat 2 gets its lines byte by byte.
 ghost use Rattle.std.specs.Thread.{IsSync};
 
 use super::scene::{Case, SETUP, check, check_links, door_of_two};
-use crate::links::link;
+use crate::links::{link, slow_link};
 use mt_io::Gate;
 use mt_top::Status;
 use std::alloc::Global;
@@ -131,7 +132,7 @@ const TWO_SESSIONS: Case = Case {
 fn check_held<R: Threads + Wait + Sync + Abort>(rt: &R, alloc: Global, sent: &str, answered: &str)
     requires sync { IsSync R.row }
 {
-    let second = link(rt, alloc, FEED);
+    let second = slow_link(rt, alloc, FEED);
     let gate = Hold::of(second.replies().expect(rt, "memory"));
     let mut door = door_of_two(rt, alloc, link(rt, alloc, sent), second);
     check(rt, alloc, &TWO_SESSIONS, &mut door, &gate);

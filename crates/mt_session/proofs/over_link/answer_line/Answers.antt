@@ -26,14 +26,8 @@ returns-clause-on g c = stays_on _ _ _ c.answer-reply.ensures.on c.follow.ensure
 pub answer-reply-requires-clause-short : goal.answer-reply-requires-clause-short
 answer-reply-requires-clause-short g c = λ κs lives. c.requires.short
 
-pub give_whole-requires-clause-room : goal.give_whole-requires-clause-room
-give_whole-requires-clause-room g c = c.requires.room
-
-pub give_whole-requires-clause-fit : goal.give_whole-requires-clause-fit
-give_whole-requires-clause-fit g c = c.answer-reply.ensures.fit
-
-pub returns-in-Some-clause-room : goal.returns-in-Some-clause-room
-returns-in-Some-clause-room g c = c.give_whole.ensures.room
+pub give_whole-requires : goal.give_whole-requires
+give_whole-requires g c = record { fit = c.answer-reply.ensures.fit }
 
 pub returns-in-Some-clause-on : goal.returns-in-Some-clause-on
 returns-in-Some-clause-on g c = c.answer-reply.ensures.on
@@ -46,9 +40,6 @@ returns-in-Some-clause-later g c = c.give_whole.ensures.later
 
 pub returns-in-Some-clause-kept : goal.returns-in-Some-clause-kept
 returns-in-Some-clause-kept g c = c.give_whole.ensures.kept
-
-pub returns-clause-room : goal.returns-clause-room
-returns-clause-room g c = c.give_whole.ensures.room
 
 pub returns-clause-write : goal.returns-clause-write
 returns-clause-write g c = λ is. cc

@@ -1,147 +1,50 @@
-use Rattle.std.proofs.Common.{Err, ap, ◌∙◌}
 use Rattle.std.proofs.Math.Nat.{le_trans}
-use Rattle.mt_io.specs.declared.line.LineFault.TheVariants as faults
-use Rattle.mt_write.specs.declared.reply.Reply.TheVariants as replies
+use Rattle.mt_session.proofs.Idle.{idle_of}
 use Rattle.mt_session.proofs.Stays.{stays_itself}
-use Rattle.mt_session.proofs.Replying.{long_replied}
-use Rattle.mt_session.proofs.Turning.{at_end, at_fault, at_given, long_unless, no_read_fault, one_more, rose_behind}
+use Rattle.mt_session.proofs.Turning.{behind_ready, cut_ready, rose_behind}
 use Rattle.mt_session.proofs.over_link.turn.Goals as goal
 
-pub returns-in-Ok-Text-clause-turned : goal.returns-in-Ok-Text-clause-turned
-returns-in-Ok-Text-clause-turned g c =
-    let line = rw (c.in-Ok-Text.is, c.in-Ok-Text.field-0-is) at c.next.follows.holds-at-none in
-    let left = g.met.L.Duplex.writing_keeps_left _ _ c.answer_line.ensures.kept in
-    let held = g.met.L.Duplex.reading_keeps_held _ _ c.next.ensures.kept in
-    let answered = rw held at c.answer_line.ensures.answered in
-    λ start before held_first so_far. rw left (at_given start before _ _ held_first _ _ _ _ _ c.in-Ok-Text.line.now answered.reply answered.answered
-    so_far line.1 answered.replied (λ _. line.0) c.answer_line.result _ answered.given answered.done)
+pub returns-in-Ok-clause-turned : goal.returns-in-Ok-clause-turned
+returns-in-Ok-clause-turned g c =
+    let left = g.met.L.Duplex.writing_keeps_left _ _ c.ready.ensures.kept in
+    λ start before sent so_far. behind_ready start before _ _ sent _ _ _ _ _ _ _ _ _ _ _ c.in-Ok.ensures.ok (rw left at c.answer_next.ensures.turned) so_far
 
-pub returns-in-Ok-Long-clause-turned : goal.returns-in-Ok-Long-clause-turned
-returns-in-Ok-Long-clause-turned g c =
-    let (line, long, takes) = rw (c.in-Ok-Long.is, c.in-Ok-Long.field-0-is) at c.next.follows.holds-at-none in
-    let left = g.met.L.Duplex.writing_keeps_left _ _ c.give_whole.ensures.kept in
-    let held = g.met.L.Duplex.reading_keeps_held _ _ c.next.ensures.kept in
-    let given = rw held at c.give_whole.ensures.given in
-    λ start before held_first so_far. rw left (at_given start before _ _ held_first _ _ _ _ _ line replies.Long c.args.serving.now.session
-    so_far takes (long_replied c.args.serving.now.session line long) (λ not_brief. cc) c.give_whole.result _ given
-    (long_unless c.args.serving.now.session line long c.give_whole.result _))
+pub returns-in-Err-clause-turned : goal.returns-in-Err-clause-turned
+returns-in-Err-clause-turned g c =
+    let left = g.met.L.Duplex.writing_keeps_left _ _ c.ready.ensures.kept in
+    λ start before sent so_far. rw left (cut_ready start before (g.L.Source.left c.args.link.now) (g.L.Source.left c.args.link.now) sent c.args.reader.now c.args.reader.now _ _ _ _ _ c.in-Err.ensures.err c.in-Err.ensures.lost
+    c.has_line.ensures.bound so_far)
 
-pub returns-in-Ok-Text-clause-rises : goal.returns-in-Ok-Text-clause-rises
-returns-in-Ok-Text-clause-rises g c =
-    let line = rw (c.in-Ok-Text.is, c.in-Ok-Text.field-0-is) at c.next.follows.holds-at-none in
-    one_more c.answer_line.result line.1
+pub answer_next-requires-clause-idle : goal.answer_next-requires-clause-idle
+answer_next-requires-clause-idle g c = λ κs lives. idle_of c.has_line.result _ _ c.has_line.ensures.ahead c.in-Ok.ensures.idle
 
-pub returns-in-Ok-Long-clause-rises : goal.returns-in-Ok-Long-clause-rises
-returns-in-Ok-Long-clause-rises g c =
-    let (line, long, takes) = rw (c.in-Ok-Long.is, c.in-Ok-Long.field-0-is) at c.next.follows.holds-at-none in
-    one_more c.give_whole.result takes
+pub returns-in-Ok-clause-rises : goal.returns-in-Ok-clause-rises
+returns-in-Ok-clause-rises g c = c.answer_next.ensures.rises
 
-pub returns-in-Ok-Text-clause-read : goal.returns-in-Ok-Text-clause-read
-returns-in-Ok-Text-clause-read g c = λ is. absurd (no_read_fault c.answer_line.result c.answer_line.ensures.answered.given is)
+pub returns-in-Ok-clause-on : goal.returns-in-Ok-clause-on
+returns-in-Ok-clause-on g c = c.answer_next.ensures.on
 
-pub returns-in-Ok-Long-clause-read : goal.returns-in-Ok-Long-clause-read
-returns-in-Ok-Long-clause-read g c = λ is. absurd (no_read_fault c.give_whole.result c.give_whole.ensures.given is)
+pub returns-in-Ok-clause-read : goal.returns-in-Ok-clause-read
+returns-in-Ok-clause-read g c = λ is. rose_behind (g.met.L.Duplex.writing_keeps_count _ _ c.ready.ensures.kept) (c.answer_next.ensures.read is)
 
-pub returns-in-Ok-Text-clause-write : goal.returns-in-Ok-Text-clause-write
-returns-in-Ok-Text-clause-write g c = λ is. rose_behind (g.met.L.Duplex.reading_keeps_count _ _ c.next.ensures.kept) (c.answer_line.ensures.write is)
+pub returns-in-Ok-clause-write : goal.returns-in-Ok-clause-write
+returns-in-Ok-clause-write g c = λ is. rose_behind c.ready.ensures.cause.later (c.answer_next.ensures.write is)
 
-pub returns-in-Ok-Long-clause-write : goal.returns-in-Ok-Long-clause-write
-returns-in-Ok-Long-clause-write g c = λ is. rose_behind (g.met.L.Duplex.reading_keeps_count _ _ c.next.ensures.kept) (c.give_whole.ensures.write is)
-
-pub returns-in-Ok-Text-clause-room : goal.returns-in-Ok-Text-clause-room
-returns-in-Ok-Text-clause-room g c = c.answer_line.ensures.room
-
-pub returns-in-Ok-Long-clause-room : goal.returns-in-Ok-Long-clause-room
-returns-in-Ok-Long-clause-room g c = c.give_whole.ensures.room
-
-pub returns-in-Ok-Text-clause-later : goal.returns-in-Ok-Text-clause-later
-returns-in-Ok-Text-clause-later g c = (
-  le_trans c.next.ensures.later (g.met.L.Duplex.writing_keeps_count _ _ c.answer_line.ensures.kept),
-  le_trans (g.met.L.Duplex.reading_keeps_count _ _ c.next.ensures.kept) c.answer_line.ensures.later,
+pub returns-in-Ok-clause-later : goal.returns-in-Ok-clause-later
+returns-in-Ok-clause-later g c = (
+  le_trans (g.met.L.Duplex.writing_keeps_count _ _ c.ready.ensures.kept) c.answer_next.ensures.later.0,
+  le_trans c.ready.ensures.cause.later c.answer_next.ensures.later.1,
 )
 
-pub returns-in-Ok-Long-clause-later : goal.returns-in-Ok-Long-clause-later
-returns-in-Ok-Long-clause-later g c = (
-  le_trans c.next.ensures.later (g.met.L.Duplex.writing_keeps_count _ _ c.give_whole.ensures.kept),
-  le_trans (g.met.L.Duplex.reading_keeps_count _ _ c.next.ensures.kept) c.give_whole.ensures.later,
-)
+-- the output failed
+pub returns-in-Err-clause-on : goal.returns-in-Err-clause-on
+returns-in-Err-clause-on g c = stays_itself _
 
-pub returns-in-Ok-Text-clause-on : goal.returns-in-Ok-Text-clause-on
-returns-in-Ok-Text-clause-on g c = c.answer_line.ensures.on
+pub returns-in-Err-clause-read : goal.returns-in-Err-clause-read
+returns-in-Err-clause-read g c = λ is. cc
 
-pub returns-in-Ok-Long-clause-on : goal.returns-in-Ok-Long-clause-on
-returns-in-Ok-Long-clause-on g c = stays_itself _
+pub returns-in-Err-clause-write : goal.returns-in-Err-clause-write
+returns-in-Err-clause-write g c = λ is. rw c.in-Err.is at c.ready.ensures.cause.failed
 
-pub returns-in-Ok-End-clause-turned : goal.returns-in-Ok-End-clause-turned
-returns-in-Ok-End-clause-turned g c =
-    let done = rw (c.in-Ok-End.is, c.in-Ok-End.field-0-is) at c.next.follows.holds-at-none in
-    let held = g.met.L.Duplex.reading_keeps_held _ _ c.next.ensures.kept in
-    λ start before held_first so_far. rw held (at_end start before _ _ held_first _ _ _ _ so_far done)
-
-pub returns-in-Err-ReadFault-clause-turned : goal.returns-in-Err-ReadFault-clause-turned
-returns-in-Err-ReadFault-clause-turned g c =
-    let stop = rw (c.in-Err-ReadFault.is, c.in-Err-ReadFault.field-0-is) at c.next.follows.holds-at-none in
-    let held = g.met.L.Duplex.reading_keeps_held _ _ c.next.ensures.kept in
-    λ start before held_first so_far. rw held (at_fault start before _ _ held_first _ _ _ _ faults.ReadFault so_far stop)
-
-pub returns-in-Err-Spent-clause-turned : goal.returns-in-Err-Spent-clause-turned
-returns-in-Err-Spent-clause-turned g c =
-    let stop = rw (c.in-Err-Spent.is, c.in-Err-Spent.field-0-is) at c.next.follows.holds-at-none in
-    let held = g.met.L.Duplex.reading_keeps_held _ _ c.next.ensures.kept in
-    λ start before held_first so_far. rw held (at_fault start before _ _ held_first _ _ _ _ faults.Spent so_far stop)
-
-pub returns-in-Ok-End-clause-room : goal.returns-in-Ok-End-clause-room
-returns-in-Ok-End-clause-room g c = c.requires.room
-
-pub returns-in-Ok-End-clause-later : goal.returns-in-Ok-End-clause-later
-returns-in-Ok-End-clause-later g c = (c.next.ensures.later, g.met.L.Duplex.reading_keeps_count _ _ c.next.ensures.kept)
-
-pub returns-in-Err-ReadFault-clause-room : goal.returns-in-Err-ReadFault-clause-room
-returns-in-Err-ReadFault-clause-room g c = c.requires.room
-
-pub returns-in-Err-ReadFault-clause-later : goal.returns-in-Err-ReadFault-clause-later
-returns-in-Err-ReadFault-clause-later g c = (c.next.ensures.later, g.met.L.Duplex.reading_keeps_count _ _ c.next.ensures.kept)
-
-pub returns-in-Err-Spent-clause-room : goal.returns-in-Err-Spent-clause-room
-returns-in-Err-Spent-clause-room g c = c.requires.room
-
-pub returns-in-Err-Spent-clause-later : goal.returns-in-Err-Spent-clause-later
-returns-in-Err-Spent-clause-later g c = (c.next.ensures.later, g.met.L.Duplex.reading_keeps_count _ _ c.next.ensures.kept)
-
-pub returns-in-Ok-End-clause-on : goal.returns-in-Ok-End-clause-on
-returns-in-Ok-End-clause-on g c = stays_itself _
-
-pub returns-in-Err-ReadFault-clause-on : goal.returns-in-Err-ReadFault-clause-on
-returns-in-Err-ReadFault-clause-on g c = stays_itself _
-
-pub returns-in-Err-Spent-clause-on : goal.returns-in-Err-Spent-clause-on
-returns-in-Err-Spent-clause-on g c = stays_itself _
-
-pub returns-in-Ok-End-clause-read : goal.returns-in-Ok-End-clause-read
-returns-in-Ok-End-clause-read g c = λ is. cc
-
-pub returns-in-Err-Spent-clause-read : goal.returns-in-Err-Spent-clause-read
-returns-in-Err-Spent-clause-read g c = λ is. cc
-
-pub returns-in-Ok-End-clause-write : goal.returns-in-Ok-End-clause-write
-returns-in-Ok-End-clause-write g c = λ is. cc
-
-pub returns-in-Err-ReadFault-clause-write : goal.returns-in-Err-ReadFault-clause-write
-returns-in-Err-ReadFault-clause-write g c = λ is. cc
-
-pub returns-in-Err-Spent-clause-write : goal.returns-in-Err-Spent-clause-write
-returns-in-Err-Spent-clause-write g c = λ is. cc
-
-pub returns-in-Err-ReadFault-clause-read : goal.returns-in-Err-ReadFault-clause-read
-returns-in-Err-ReadFault-clause-read g c = λ is. c.next.ensures.cause c.requires.sound (c.in-Err-ReadFault.is ∙ ap Err c.in-Err-ReadFault.field-0-is)
-
-pub answer_line-requires-clause-short : goal.answer_line-requires-clause-short
-answer_line-requires-clause-short g c =
-    let line = rw (c.in-Ok-Text.is, c.in-Ok-Text.field-0-is) at c.next.follows.holds-at-none in
-    λ κs lives. line.0
-
-pub answer_line-requires-clause-room : goal.answer_line-requires-clause-room
-answer_line-requires-clause-room g c = λ κs lives. c.requires.room
-
-pub give_whole-requires-clause-room : goal.give_whole-requires-clause-room
-give_whole-requires-clause-room g c = c.requires.room
+pub returns-in-Err-clause-later : goal.returns-in-Err-clause-later
+returns-in-Err-clause-later g c = (g.met.L.Duplex.writing_keeps_count _ _ c.ready.ensures.kept, c.ready.ensures.cause.later)
