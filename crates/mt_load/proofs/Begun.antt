@@ -7,7 +7,7 @@ use Rattle.mt_read.specs.declared.request.Request.TheVariants.{Accept, Advise, B
 use Rattle.mt_write.specs.declared.reply.AdviceItem.{AdviceItem}
 use Rattle.mt_write.specs.declared.reply.Reply.{Reply}
 use Rattle.mt_write.specs.declared.reply.Reply.TheVariants.{Advice}
-use Rattle.mt_script.proofs.Keeping.{kept_served}
+use Rattle.mt_world.proofs.Keeping.{kept_served}
 use Rattle.mt_world.specs.World.{IsServed, World, opening_world}
 use Rattle.mt_base.proofs.Cases.{on_either}
 use Rattle.mt_load.specs.Load.{AreRequestsAnswered, EachDivided, IsAdviceTaken, IsAdvisedFlight, IsAsked, IsDroppedFlight, IsFirstAccepted, IsLoadRun}

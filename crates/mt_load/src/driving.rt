@@ -11,7 +11,7 @@ use mt_base::{Callsign, Command};
 use mt_make::{callsign, input};
 use mt_memory::Memory;
 use mt_read::Request;
-use mt_script::Script;
+use mt_world::Script;
 use mt_write::{AdviceItem, Reply};
 use std::alloc::Global;
 use std::thread::Threads;

@@ -1,4 +1,0 @@
-pub mod Law
-pub mod Private
-pub mod Reading
-pub mod Standby

@@ -1,6 +1,6 @@
 -- The world of a standby once its picture has begun: what each line is answered, and the world after it. It is the world of a script, of whose
 -- actors and areas a standby uses none.
-use Rattle.std.specs.Prelude.{◌⊎◌, ◌≤◌, ℕ, true, List, [], ◌∷◌, ◌++◌, length, nat_lt, replicate, Result, Ok, Err, if◌then◌else◌}
+use Rattle.std.specs.Prelude.{◌⊎◌, ◌≤◌, ℕ, List, [], ◌∷◌, ◌++◌, length, nat_lt, replicate, Result, Ok, Err, if◌then◌else◌}
 use Rattle.mt_base.specs.declared.command.Entry.{Entry}
 use Rattle.mt_base.specs.declared.command.Refusal.{Refusal}
 use Rattle.mt_base.specs.Decision.{IsDecided}
@@ -13,19 +13,12 @@ use Rattle.mt_read.specs.declared.request.Request.TheVariants as requests
 use Rattle.mt_read.specs.Following.{feed}
 use Rattle.mt_write.specs.declared.reply.Reply.{Reply}
 use Rattle.mt_write.specs.declared.reply.Reply.TheVariants as replies
-use Rattle.mt_world.specs.World.{IsGiven, IsRefused, IsServed, World, new_actor, picture_of, setup_of}
+use Rattle.mt_world.specs.World.{IsGiven, IsRefused, IsServed, World, new_actor, picture_of, setup_of, world_of}
 use Rattle.mt_wire.specs.Refused.{or_reply}
 
--- a picture as a standby's world
-abbrev pub world_of : Story → World
-world_of story = record {
-  rules = story.setup.rules;
-  tables = story.setup.tables;
-  areas = [];
-  begun = true;
-  history = story.history;
-  actors = replicate 16 new_actor;
-}
+-- a picture as a standby's world, with no area, and with actors that have done nothing
+abbrev pub standby_world : Story → World
+standby_world story = world_of story [] (replicate 16 new_actor)
 
 -- an acceptance of a future version is late. It changes nothing.
 pub record IsLate (w : World) (e : Entry) (reply : Reply) (next : World) : Type 0 where

@@ -3,14 +3,15 @@ ghost use Rattle.std.specs.Prelude.{◌⊎◌, ◌≤◌, length};
 ghost use Rattle.mt_history.specs.Rebuilt.{IsReadyToDecide};
 ghost use Rattle.mt_lines.specs.Fit.{IsFit};
 ghost use Rattle.mt_read.specs.Following.{IsReading};
-ghost use Rattle.mt_standby.specs.Standby.{IsEntryAnswered, IsStandbyReplied, world_of};
+ghost use Rattle.mt_standby.specs.Standby.{IsEntryAnswered, IsStandbyReplied, standby_world};
 ghost use Rattle.mt_world.specs.World.{IsRefused, IsServed};
 ghost use Rattle.mt_write.specs.declared.reply.Reply.TheVariants as replies;
 
 use crate::standby::Standby;
-use crate::telling::{ask_of, followed, told};
+use crate::telling::followed;
 use mt_base::Entry;
 use mt_read::{FeedLine, LineNo, Request, Scratch, read_feed};
+use mt_world::tell;
 use mt_write::{DoneWord, Reply};
 use std::thread::Threads;
 
@@ -19,7 +20,7 @@ impl Standby {
     /// `IsStandbyReplied`. A text with an escape goes into `scratch`, which is kept from line to line.
     pub fn answer<R: Threads + Sync>(&mut self, rt: &R, scratch: &mut Scratch, line: &[u8]) -> Reply
         requires { length line.now ≤ 65536 }
-        ensures replied { IsStandbyReplied (world_of self.old) line.now result (world_of self.new) }
+        ensures replied { IsStandbyReplied (standby_world self.old) line.now result (standby_world self.new) }
         ensures fit { IsFit result }
     {
         match read_feed(self.alloc, scratch, line) {
@@ -36,8 +37,8 @@ impl Standby {
     // Follows an entry, and says so.
     fn enter(&mut self, entry: &Entry) -> Reply
         requires { IsReadyToDecide entry.now }
-        ensures followed { IsEntryAnswered (world_of self.old) entry.now result (world_of self.new)
-            ⊎ IsRefused (world_of self.old) replies.Memory result (world_of self.new) }
+        ensures followed { IsEntryAnswered (standby_world self.old) entry.now result (standby_world self.new)
+            ⊎ IsRefused (standby_world self.old) replies.Memory result (standby_world self.new) }
         ensures fit { IsFit result }
     {
         followed(self.follow(entry))
@@ -46,10 +47,10 @@ impl Standby {
     // Tells what holds.
     fn tell<R: Threads + Sync>(&self, rt: &R, request: &Request) -> Reply
         requires { IsReading request.now }
-        ensures told { IsServed (world_of self.now) 0 request.now result (world_of self.now)
-            ⊎ IsRefused (world_of self.now) replies.Memory result (world_of self.now) }
+        ensures told { IsServed (standby_world self.now) 0 request.now result (standby_world self.now)
+            ⊎ IsRefused (standby_world self.now) replies.Memory result (standby_world self.now) }
         ensures fit { IsFit result }
     {
-        told(self.read(rt, &ask_of(request)))
+        tell(rt, self.alloc, &self.picture, request)
     }
 }

@@ -9,7 +9,7 @@ use Rattle.mt_read.specs.declared.following.FeedLine.{FeedLine}
 use Rattle.mt_read.specs.declared.following.FeedLine.TheVariants.{Followed, Asked, Ended}
 use Rattle.mt_read.specs.declared.request.Request.TheVariants as requests
 use Rattle.mt_picture.specs.Story.{Story}
-use Rattle.mt_standby.specs.Standby.{IsFeedAnswered, IsEntryAnswered, fed_line, world_of}
+use Rattle.mt_standby.specs.Standby.{IsFeedAnswered, IsEntryAnswered, fed_line, standby_world}
 use Rattle.mt_standby.specs.Standby as standby
 use Rattle.mt_write.specs.declared.reply.Reply.{Reply}
 use Rattle.mt_write.specs.declared.reply.Reply.TheVariants as replies
@@ -60,7 +60,7 @@ given_stood w next line reply given replied for short = by_begun w.begun replied
 
 -- that, where it is known whether the picture has begun
 abbrev opened_where : Bool → World → World
-opened_where b m = cond b (world_of (record { setup = setup_of m; history = m.history })) m
+opened_where b m = cond b (standby_world (record { setup = setup_of m; history = m.history })) m
 
 opened_as : (b : Bool) (m : World) → m.begun ≡ b → (opened_where b m).begun ≡ b
 opened_as true m is = refl
@@ -82,10 +82,10 @@ opened_still m is = by_begun m.begun is where
   by_begun false is = refl
   by_begun true is = cc
 
-pub opened_is : (m : World) (p : Story) → m.begun ≡ true → p.setup ≡ setup_of m → p.history ≡ m.history → world_of p ≡ opened m
+pub opened_is : (m : World) (p : Story) → m.begun ≡ true → p.setup ≡ setup_of m → p.history ≡ m.history → standby_world p ≡ opened m
 opened_is m p is setup history = by_begun m.begun is where
-  by_begun : (b : Bool) → b ≡ true → world_of p ≡ opened_where b m
-  by_begun true is = λ i. world_of (record { setup = setup i; history = history i })
+  by_begun : (b : Bool) → b ≡ true → standby_world p ≡ opened_where b m
+  by_begun true is = λ i. standby_world (record { setup = setup i; history = history i })
   by_begun false is = cc
 
 -- the script answers as long as the picture hasn't begun

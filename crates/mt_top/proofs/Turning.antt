@@ -19,7 +19,7 @@ use Rattle.mt_write.specs.declared.reply.DoneWord.TheVariants as done
 use Rattle.mt_write.specs.declared.reply.Reply.{Reply}
 use Rattle.mt_write.specs.declared.reply.Reply.TheVariants as replies
 use Rattle.mt_write.specs.Reply.{reply_text}
-use Rattle.mt_script.specs.Begun.{is_begin}
+use Rattle.mt_world.specs.Begun.{is_begin}
 use Rattle.mt_top.specs.declared.status.Status.{Status}
 use Rattle.mt_top.specs.declared.status.Status.TheVariants.{Done, ReadFault, Spent, WriteFault}
 use Rattle.mt_top.specs.Private.Lines.{GoOnOrEnd, LinesMean, LinesSoFar, Turned, is_last}

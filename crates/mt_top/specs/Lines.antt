@@ -2,7 +2,7 @@
 use Rattle.std.specs.Prelude.{◌||◌, Bool, []}
 use Rattle.mt_lines.specs.Given.{is_farewell}
 use Rattle.mt_write.specs.declared.reply.Reply.{Reply}
-use Rattle.mt_script.specs.Begun.{is_begin}
+use Rattle.mt_world.specs.Begun.{is_begin}
 
 -- the reply that ends or begins a picture. After it no line is answered where the lines set a picture up.
 abbrev pub ends_opening : Reply → Bool

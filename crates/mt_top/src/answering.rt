@@ -3,14 +3,14 @@ ghost use Rattle.std.specs.Prelude.{◌≡◌, ◌<◌, ◌≤◌, ℕ, List, []
 ghost use Rattle.std.specs.Thread.{IsSync};
 ghost use Rattle.mt_lines.specs.Fit.{IsFit};
 ghost use Rattle.mt_lines.specs.Given.{IsGivenFor, is_brief};
-ghost use Rattle.mt_script.specs.Begun.{is_begin};
+ghost use Rattle.mt_world.specs.Begun.{is_begin};
 ghost use Rattle.mt_top.specs.Script.{IsReplied};
 ghost use Rattle.mt_write.specs.declared.reply.Reply.{Reply};
 ghost use Rattle.mt_write.specs.declared.reply.Reply.TheVariants as replies;
 ghost use Rattle.mt_world.specs.World.{World, opening_world};
 
 use mt_base::Memory;
-use mt_script::Script;
+use mt_world::Script;
 use mt_wire::{LineNo, Reply, Scratch, Sender, read_line};
 use std::alloc::Global;
 use std::thread::Threads;

@@ -1,13 +1,13 @@
 //! A line of a standby: it sets the picture up, or the standby answers it.
 ghost use Rattle.std.specs.Prelude.{◌≡◌, ◌≤◌, [], false, length};
 ghost use Rattle.mt_lines.specs.Fit.{IsFit};
-ghost use Rattle.mt_script.specs.Begun.{is_begin};
+ghost use Rattle.mt_world.specs.Begun.{is_begin};
 ghost use Rattle.mt_top.specs.Private.Standby.{IsOneOf, world_shown};
 ghost use Rattle.mt_top.specs.Standby.{IsStoodBy, opened};
 
 use crate::answering::{Answers, answer};
 use mt_base::Memory;
-use mt_script::Script;
+use mt_world::Script;
 use mt_standby::Standby;
 use mt_wire::{Reply, Scratch};
 use std::alloc::Global;

@@ -10,7 +10,7 @@ use crate::lines::Lines;
 use crate::status::Status;
 use mt_io::{Sink, Source};
 use mt_picture::Picture;
-use mt_script::Script;
+use mt_world::Script;
 use std::alloc::Global;
 use std::thread::Threads;
 

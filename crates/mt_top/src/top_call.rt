@@ -15,7 +15,7 @@ use crate::status::Status;
 use mt_args::{Task, read_words};
 use mt_base::Words;
 use mt_io::{Door, Gate, Sink, Source, put_all};
-use mt_script::Script;
+use mt_world::Script;
 use std::alloc::Global;
 use std::sync::Wait;
 use std::thread::Threads;

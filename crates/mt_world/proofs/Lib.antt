@@ -1,11 +1,14 @@
 pub mod Accepting
+pub mod Adding
+pub mod AddingAreas
 pub mod Advice
 pub mod Areas
-pub mod Beside
 pub mod BriefHits
 pub mod Entering
+pub mod Keeping
 pub mod OneAnswer
 pub mod Renewing
 pub mod Taking
+pub mod Told
 pub mod Viewed
 pub mod WorldLemmas

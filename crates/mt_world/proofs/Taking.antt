@@ -1,5 +1,6 @@
 -- What is tried on the snapshot that an actor has taken.
 use Rattle.std.proofs.Common.{◌≡◌, ◌⊎◌, inl, inr, ℕ, ◌<◌, true, List, [], length, map, take, get_or, Option, Some, Result, Ok, Err, IfOk, refl, subst, sym, ◌∙◌, ap}
+use Rattle.mt_base.specs.declared.area.Area.{Area}
 use Rattle.mt_base.specs.declared.clearance.Clearance.{Clearance}
 use Rattle.mt_base.specs.declared.hit.Hit.{Hit}
 use Rattle.mt_base.specs.Advice.{IsAdvice}
@@ -21,31 +22,31 @@ use Rattle.mt_write.specs.declared.reply.Reply.TheVariants as replies
 use Rattle.mt_world.specs.declared.actor.Actor.{Actor}
 use Rattle.mt_world.specs.Private.Sound.{IsAdvisedOf, IsProbeOf, IsSoundActor, IsSoundWorld, IsUnadvisedOf, IsUnprobedOf, clearances_of, actor_shown}
 use Rattle.mt_world.specs.Private.Told.{no_reply}
-use Rattle.mt_world.specs.World.{IsAdviceAnswered, IsProbeAnswered, IsRefused, World, actor_of, items_from, picture_taken, with_book}
+use Rattle.mt_world.specs.World.{IsAdviceAnswered, IsProbeAnswered, IsRefused, World, actor_of, items_from, picture_taken, with_book, world_of}
 use Rattle.mt_world.specs.World as world
 use Rattle.mt_world.proofs.Advice.{tried_are}
 use Rattle.mt_world.proofs.BriefHits.{brief_hits}
 use Rattle.mt_world.proofs.WorldLemmas.{actor_is, actor_sound}
 
 -- a world as its fields show it
-abbrev pub seen : Story → List Actor → World
-seen story actors = record { rules = story.setup.rules; tables = story.setup.tables; areas = []; begun = true; history = story.history; actors = map actor_shown actors }
+abbrev pub seen : List Area → Story → List Actor → World
+seen areas story actors = world_of story areas (map actor_shown actors)
 
-module _ (story : Story) (actors : List Actor) (who : ℕ) (a : Actor) (sound : IsSoundWorld story actors) (below : who < 16) (is : a ≡ get_or actors who a) where
+module _ (areas : List Area) (story : Story) (actors : List Actor) (who : ℕ) (a : Actor) (sound : IsSoundWorld story actors) (below : who < 16) (is : a ≡ get_or actors who a) where
   actor : IsSoundActor story.setup story.history a
   actor = actor_sound story actors who a sound below is
 
-  pub taken_version : a.taken.version ≡ (actor_of (seen story actors) who).taken
+  pub taken_version : a.taken.version ≡ (actor_of (seen areas story actors) who).taken
   taken_version =
       let within : who < length actors = rw sound.sixteen below in
       ap (λ (b : world.Actor). b.taken) (sym (actor_is actors who a within is))
 
-  pub taken_state : state_in a.taken ≡ picture_taken (seen story actors) who
+  pub taken_state : state_in a.taken ≡ picture_taken (seen areas story actors) who
   taken_state = actor.taken.state_is ∙ ap (λ (n : ℕ). state_of story.setup (take n story.history)) taken_version
 
   -- advice on it
   pub advised_of : (call : List ℕ) (eff version : ℕ) (probes : List Trial) → IsAdvisedOn a.taken call eff version probes
-      → IsAdvisedOf (seen story actors) who call eff version probes
+      → IsAdvisedOf (seen areas story actors) who call eff version probes
   advised_of call eff version probes on = record {
     eff_is = on.eff_is ∙ ap (λ (s : State). s.now) taken_state;
     version_is = on.version_is ∙ taken_version;
@@ -58,7 +59,7 @@ module _ (story : Story) (actors : List Actor) (who : ℕ) (a : Actor) (sound : 
 
   pub advised_result : {A : Type 0} (r : Result A No) (eff version : A → ℕ) (probes : A → List Trial) (call : List ℕ)
       → IfOk r (λ x. IsAdvisedOn a.taken call (eff x) (version x) (probes x))
-      → IfOk r (λ x. IsAdvisedOf (seen story actors) who call (eff x) (version x) (probes x))
+      → IfOk r (λ x. IsAdvisedOf (seen areas story actors) who call (eff x) (version x) (probes x))
   advised_result (Ok x) eff version probes call on = advised_of call (eff x) (version x) (probes x) on
   advised_result (Err denied) eff version probes call on = tt
 
@@ -78,15 +79,14 @@ probed_is w next who call clearance eff p conflicts at number version of hits se
 }
 
 -- or its refusal
-pub unprobed_is : (w next : World) (who : ℕ) (call : List ℕ) (clearance : Clearance) (eff : Option ℕ) (denied : No) → next ≡ w
-    → IsUnprobedOf w who call clearance eff denied
-    → IsProbeAnswered w who call clearance eff (no_reply denied) next ⊎ IsRefused w replies.Memory (no_reply denied) next
-unprobed_is w next who call clearance eff (nos.Refused refusal version) same refused = inl (record {
+pub unprobed_is : (w : World) (who : ℕ) (call : List ℕ) (clearance : Clearance) (eff : Option ℕ) (denied : No) → IsUnprobedOf w who call clearance eff denied
+    → IsProbeAnswered w who call clearance eff (no_reply denied) w ⊎ IsRefused w replies.Memory (no_reply denied) w
+unprobed_is w who call clearance eff (nos.Refused refusal version) refused = inl (record {
   result = Err refusal;
   follows = refused.0;
-  tried = record { reply_is = ap (replies.Refused refusal) refused.1; same = same };
+  tried = record { reply_is = ap (replies.Refused refusal) refused.1; same = refl };
 })
-unprobed_is w next who call clearance eff nos.Memory same refused = inr (record { reply_is = refl; same = same })
+unprobed_is w who call clearance eff nos.Memory refused = inr (record { reply_is = refl; same = refl })
 
 -- the hits of a probe are few enough for its reply
 pub brief_tried : (p : Trial) → IsTried p → AreBrief p.hits

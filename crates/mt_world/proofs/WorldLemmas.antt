@@ -1,5 +1,5 @@
 -- What a world keeps as it goes on.
-use Rattle.std.proofs.Common.{◌≡◌, ◌⊎◌, inl, inr, ℕ, zero, suc, ◌<◌, Bool, true, false, List, [], ◌∷◌, ◌++◌, All, length, map, replicate, take, get_or, refl, sym, ◌∙◌, ap, ap₂, subst, arith, length-append}
+use Rattle.std.proofs.Common.{◌≡◌, ◌⊎◌, inl, inr, ℕ, zero, suc, ◌<◌, Bool, true, false, List, [], ◌∷◌, ◌++◌, All, length, map, replicate, take, get_or, Result, Ok, refl, sym, ◌∙◌, ap, ap₂, subst, arith, length-append}
 use Rattle.std.proofs.lemmas.List.{length-set, map-set, take-append-le, take_all}
 use Rattle.std.specs.Prelude.{MatchBool, slice_set}
 use Rattle.mt_base.specs.declared.command.Entry.{Entry}
@@ -18,16 +18,15 @@ use Rattle.mt_world.specs.Private.Sound.{IsKeptOf, IsSoundActor, IsSoundWorld, I
 use Rattle.mt_read.specs.declared.request.Request.{Request}
 use Rattle.mt_write.specs.declared.reply.Reply.{Reply}
 use Rattle.mt_write.specs.declared.reply.Reply.TheVariants as replies
-use Rattle.mt_world.specs.World.{IsRefused, IsServed, IsStarved, IsWorldLeft, World, new_actor}
+use Rattle.mt_world.specs.World.{IsRefused, IsStarved, IsWorldLeft, World, new_actor}
 use Rattle.mt_world.specs.World as world
 
 pub on_true : (b : Bool) (P Q : Type 0) → b ≡ true → P → MatchBool b P Q
 on_true true P Q e p = p
 on_true false P Q e p = cc
 
-pub on_true_or : (b : Bool) (P Q R : Type 0) → b ≡ true → P ⊎ R → MatchBool b P Q ⊎ R
-on_true_or b P Q R e (inl p) = inl (on_true b P Q e p)
-on_true_or b P Q R e (inr r) = inr r
+pub ok_same : {A : Type 0} {E : Type 0} (r s : Result A E) (x y : A) → r ≡ s → r ≡ Ok x → s ≡ Ok y → x ≡ y
+ok_same r s x y same left right = cc
 
 -- ---- a history that is longer
 
@@ -158,7 +157,12 @@ legal_none setup = record { replayable = λ i e is. absurd (cc); free = λ i e i
 
 -- ---- what a request is answered
 
-pub served_or : (w next : World) (who : ℕ) (request : Request) (reply : Reply) → (next ≡ w → IsWorldLeft w who request next)
-    → IsServed w who request reply next ⊎ IsRefused w replies.Memory reply next → IsServed w who request reply next ⊎ IsStarved w who request reply next
-served_or w next who request reply left (inl served) = inl served
-served_or w next who request reply left (inr starved) = inr (record { reply_is = starved.reply_is; left = left starved.same })
+-- where the picture has begun, or memory is wanted
+pub begun_or : (w next : World) (who : ℕ) (request : Request) (reply : Reply) (P Q : Type 0) → w.begun ≡ true → (next ≡ w → IsWorldLeft w who request next)
+    → P ⊎ IsRefused w replies.Memory reply next → MatchBool w.begun P Q ⊎ IsStarved w who request reply next
+begun_or w next who request reply P Q begun left (inl p) = inl (on_true w.begun P Q begun p)
+begun_or w next who request reply P Q begun left (inr starved) = inr (record { reply_is = starved.reply_is; left = left starved.same })
+
+-- a request that the picture has begun refuses to
+pub begun_refused : (w : World) (P : Type 0) → w.begun ≡ true → MatchBool w.begun (IsRefused w replies.Begun replies.Begun w) P
+begun_refused w P begun = on_true w.begun _ P begun (record { reply_is = refl; same = refl })

@@ -1,2 +1,5 @@
+pub mod Begun
+pub mod Counted
 pub mod Private
+pub mod Reading
 pub mod World

@@ -27,6 +27,7 @@ use Rattle.mt_base.specs.Tables.{Setup, Tables, no_tables}
 use Rattle.mt_base.specs.View.{view_of}
 use Rattle.mt_base.specs.WhatIf.{IsWhatIf}
 use Rattle.mt_board.specs.Probing.{Probe, acceptance, free_probe}
+use Rattle.mt_picture.specs.Story.{Story}
 use Rattle.mt_machine.specs.Book.{Book, empty_book, probe_at, with_all, with_probe}
 use Rattle.mt_tables.specs.declared.add_no.AddNo.{AddNo}
 use Rattle.mt_tables.specs.declared.add_no.AddNo.TheVariants as add
@@ -62,9 +63,23 @@ pub record World : Type 0 where
   pub history : List Entry
   pub actors : List Actor
 
--- the world before the first line
+-- the world of a picture that has begun, with its areas and actors
+abbrev pub world_of : Story → List Area → List Actor → World
+world_of story areas actors = record {
+  rules = story.setup.rules;
+  tables = story.setup.tables;
+  areas = areas;
+  begun = true;
+  history = story.history;
+  actors = actors;
+}
+
+-- `world_set_up`, `opening_world`: the world of what was set up, whose picture hasn't begun, and that before the first line
+abbrev pub world_set_up : Rules → Tables → List Area → World
+world_set_up rules tables areas = record { rules = rules; tables = tables; areas = areas; begun = false; history = []; actors = replicate 16 new_actor }
+
 abbrev pub opening_world : World
-opening_world = record { rules = usual_rules; tables = no_tables; areas = []; begun = false; history = []; actors = replicate 16 new_actor }
+opening_world = world_set_up usual_rules no_tables []
 
 -- `setup_of`, `picture_of`: a world's rules and tables, and its state
 abbrev pub setup_of : World → Setup
@@ -243,12 +258,6 @@ IsServed w who requests.Due reply next = MatchBool w.begun
 IsServed w who requests.Settle reply next = MatchBool w.begun
     (IsSettling w who reply next) (IsRefused w replies.Unbegun reply next)
 IsServed w who requests.Areas reply next = MatchBool w.begun (AreAreasTold w reply next) (IsRefused w replies.Unbegun reply next)
-
--- a request that asks for areas, or adds one
-abbrev pub IsOfAreas : Request → Type 0
-IsOfAreas (requests.Area area) = ⊤
-IsOfAreas requests.Areas = ⊤
-IsOfAreas request = ⊥
 
 -- `IsSettledSoFar`, `IsWorldLeft`, `IsStarved`: `memory` is the reply; only settling may have renewed some
 pub record IsSettledSoFar (w : World) (who : ℕ) (next : World) : Type 0 where

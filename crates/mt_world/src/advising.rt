@@ -1,5 +1,5 @@
 //! Advice on the version that an actor has taken.
-ghost use Rattle.std.specs.Prelude.{◌≡◌, ◌⊎◌, ◌≤◌, All, map, IfErr, IfOk, MatchBool};
+ghost use Rattle.std.specs.Prelude.{◌≡◌, ◌⊎◌, ◌≤◌, All, map, IfErr, IfOk};
 ghost use Rattle.mt_probe.specs.Hits.{told_of};
 ghost use Rattle.mt_write.specs.Short.{IsShortAdvised};
 ghost use Rattle.mt_write.specs.declared.reply.Reply.TheVariants as replies;
@@ -9,7 +9,7 @@ ghost use Rattle.mt_world.specs.Private.Sound.{IsAdvisedOf, IsKeptOf, IsUnadvise
 ghost use Rattle.mt_world.specs.World.{IsAdviceAnswered, IsRefused, actor_of, items_from, setup_of, with_book};
 
 use crate::telling::refused;
-use crate::world::World;
+use crate::centre::Centre;
 use mt_base::{Callsign, Memory};
 use mt_board::{Advised, No, Probed};
 use mt_probe::Probe;
@@ -32,15 +32,13 @@ fn items_from(alloc: Global, count: u64, probes: &[Probe]) -> Result<AdviceList,
     Ok(items)
 }
 
-impl World {
+impl Centre {
     // The advice for a flight on the snapshot that an actor has taken; each advised clearance is put in the actor's book.
     pub(crate) fn advise<R: Threads + Sync>(&mut self, rt: &R, who: u32, call: Callsign) -> Reply
         requires { who ≤ 15 }
-        ensures answered { MatchBool self.old.begun (IsAdviceAnswered self.old who call result self.new)
-            (IsRefused self.old replies.Unbegun result self.new) ⊎ IsRefused self.old replies.Memory result self.new }
+        ensures answered { IsAdviceAnswered self.old who call result self.new ⊎ IsRefused self.old replies.Memory result self.new }
         ensures fit { IsFit result }
     {
-        self.keeps();
         match self.try_all(rt, who, call) {
             Ok(
                 Advised {

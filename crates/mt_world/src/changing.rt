@@ -1,5 +1,5 @@
 //! Lines that change the picture.
-ghost use Rattle.std.specs.Prelude.{◌≡◌, ◌⊎◌, ◌≤◌, length, IfErr, IfOk, MatchBool, OnErr};
+ghost use Rattle.std.specs.Prelude.{◌≡◌, ◌⊎◌, ◌≤◌, length, IfErr, IfOk, OnErr};
 ghost use Rattle.mt_base.specs.Bounds.{IsAskedFor, IsBoundedCommand};
 ghost use Rattle.mt_write.specs.declared.reply.Reply.TheVariants as replies;
 ghost use Rattle.mt_lines.specs.Fit.{IsFit};
@@ -8,27 +8,30 @@ ghost use Rattle.mt_world.specs.Private.Sound.{story_of};
 ghost use Rattle.mt_world.specs.World.{IsAccepted, IsCommandAnswered, IsRefused};
 
 use crate::telling::changed;
-use crate::world::World;
-use mt_base::{Command, Entered, Refusal};
+use crate::centre::Centre;
+use mt_base::{Command, Entered, Refusal, Tally};
 use mt_board::{No, Probed};
 use mt_probe::{Prep, makes_strand, prepare};
 use mt_write::Reply;
 
-impl World {
+impl Centre {
     // Decides a command, and enters it unless it is refused.
-    pub(crate) fn change(&mut self, who: u32, command: &Command) -> Reply
+    pub(crate) fn change(&mut self, who: u32, command: &Command, tests: &mut Tally) -> Reply
         requires bounded { IsBoundedCommand command.now }
         requires asked { IsAskedFor command.now }
-        ensures answered { MatchBool self.old.begun (IsCommandAnswered self.old who command.now result self.new) (IsRefused self.old replies.Unbegun result self.new)
-            ⊎ IsRefused self.old replies.Memory result self.new }
+        ensures answered { IsCommandAnswered self.old who command.now result self.new ⊎ IsRefused self.old replies.Memory result self.new }
         ensures fit { IsFit result }
     {
-        self.keeps();
-        changed(self.enter(who, command))
+        changed(self.enter(who, command, tests))
     }
 
     // Enters a command, or says why not; it is prepared on the state now, where it makes a trajectory.
-    pub(crate) fn enter(&mut self, who: u32, command: &Command) -> Result<Entered, No>
+    pub(crate) fn enter(
+        &mut self,
+        who: u32,
+        command: &Command,
+        tests: &mut Tally,
+    ) -> Result<Entered, No>
         requires bounded { IsBoundedCommand command.now }
         requires asked { IsAskedFor command.now }
         ensures entered { IfOk result (IsEntered (story_of self.old) (story_of self.new) who command.now) }
@@ -36,39 +39,41 @@ impl World {
         ensures unchanged { OnErr result (self.new ≡ self.old) }
         ensures kept { self.new ≡ record self.old { history = self.new.history } }
     {
-        let prep = self.prepared(who, command)?;
-        self.publish(who, command, &prep)
+        let prep = self.prepared(who, command, tests)?;
+        self.publish(who, command, &prep, tests)
     }
 
     // What is prepared for a command on the state now, where it makes a trajectory; or why it is refused.
-    fn prepared(&mut self, who: u32, command: &Command) -> Result<Option<Prep>, No>
+    fn prepared(
+        &self,
+        who: u32,
+        command: &Command,
+        tests: &mut Tally,
+    ) -> Result<Option<Prep>, No>
         requires bounded { IsBoundedCommand command.now }
         requires asked { IsAskedFor command.now }
-        ensures given { IfOk result (IsPrepGivenFor (story_of self.old) who command.now) }
-        ensures refused { IfErr result (IsDenied (story_of self.old) who command.now) }
-        ensures same { self.new ≡ self.old }
+        ensures given { IfOk result (IsPrepGivenFor (story_of self.now) who command.now) }
+        ensures refused { IfErr result (IsDenied (story_of self.now) who command.now) }
     {
         if !makes_strand(command) {
             return Ok(None);
         }
         let now = self.picture.snapshot()?;
         let (tables, rules) = (now.tables(), now.rules());
-        match prepare(
-            self.alloc,
-            &now,
-            tables,
-            rules,
-            who,
-            command,
-            &mut self.tests,
-        ) {
+        match prepare(self.alloc, &now, tables, rules, who, command, tests) {
             Ok(prep) => Ok(Some(prep)),
             Err(no) => Err(no),
         }
     }
 
     // Enters a command with what is prepared for it.
-    fn publish(&mut self, who: u32, command: &Command, prep: &Option<Prep>) -> Result<Entered, No>
+    fn publish(
+        &mut self,
+        who: u32,
+        command: &Command,
+        prep: &Option<Prep>,
+        tests: &mut Tally,
+    ) -> Result<Entered, No>
         requires bounded { IsBoundedCommand command.now }
         requires asked { IsAskedFor command.now }
         requires prepared { IsPrepGivenFor (story_of self.old) who command.now prep.now }
@@ -78,7 +83,7 @@ impl World {
         ensures kept { self.new ≡ record self.old { history = self.new.history } }
     {
         self.picture
-            .publish(self.alloc, who, command, prep.as_ref(), &mut self.tests)
+            .publish(self.alloc, who, command, prep.as_ref(), tests)
     }
 
     // A refusal at the version now.
@@ -93,10 +98,9 @@ impl World {
     }
 
     // Enters a probe of an actor's book, if it is free still.
-    pub(crate) fn accept(&mut self, who: u32, number: u64) -> Reply
+    pub(crate) fn accept(&mut self, who: u32, number: u64, tests: &mut Tally) -> Reply
         requires { who ≤ 15 }
-        ensures answered { MatchBool self.old.begun (IsAccepted self.old who number result self.new) (IsRefused self.old replies.Unbegun result self.new)
-            ⊎ IsRefused self.old replies.Memory result self.new }
+        ensures answered { IsAccepted self.old who number result self.new ⊎ IsRefused self.old replies.Memory result self.new }
         ensures fit { IsFit result }
     {
         let Some(probe) = self.actors[who as usize].book.get(number) else {
@@ -114,7 +118,7 @@ impl World {
         let prep = probe.prep();
         changed(
             self.picture
-                .publish(self.alloc, who, &command, Some(prep), &mut self.tests),
+                .publish(self.alloc, who, &command, Some(prep), tests),
         )
     }
 }

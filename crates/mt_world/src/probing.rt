@@ -1,5 +1,5 @@
 //! Lines that speak of the version that an actor has taken.
-ghost use Rattle.std.specs.Prelude.{◌≡◌, ◌⊎◌, ◌≤◌, length, IfErr, IfOk, IfSome, MatchBool};
+ghost use Rattle.std.specs.Prelude.{◌≡◌, ◌⊎◌, ◌≤◌, length, IfErr, IfOk, IfSome};
 ghost use Rattle.mt_base.specs.Bounds.{IsBoundedClearance};
 ghost use Rattle.mt_base.specs.Tally.{raised};
 ghost use Rattle.mt_machine.specs.Book.{with_probe};
@@ -10,18 +10,18 @@ ghost use Rattle.mt_world.specs.Private.Sound.{IsKeptOf, IsProbeOf, IsUnprobedOf
 ghost use Rattle.mt_world.specs.World.{IsGiven, IsProbeAnswered, IsRefused, actor_of, setup_of, with_all_taken, with_book};
 
 use crate::telling::refused;
-use crate::world::World;
-use mt_base::{Callsign, Clearance, Second};
+use crate::centre::Centre;
+use mt_base::{Callsign, Clearance, Second, Tally};
 use mt_board::{No, Probed};
 use mt_probe::{Probe, what_if};
 use mt_write::Reply;
 
-impl World {
+impl Centre {
     // An actor takes the version now.
     pub(crate) fn take(&mut self, who: u32) -> Reply
         requires { who ≤ 15 }
-        ensures answered { MatchBool self.old.begun (IsGiven (replies.Taken (length self.old.history)) (with_all_taken self.old who) result self.new)
-            (IsRefused self.old replies.Unbegun result self.new) ⊎ IsRefused self.old replies.Memory result self.new }
+        ensures answered { IsGiven (replies.Taken (length self.old.history)) (with_all_taken self.old who) result self.new
+            ⊎ IsRefused self.old replies.Memory result self.new }
         ensures fit { IsFit result }
     {
         let Ok(taken) = self.picture.snapshot() else {
@@ -40,16 +40,15 @@ impl World {
         call: Callsign,
         clearance: Clearance,
         eff: Option<Second>,
+        tests: &mut Tally,
     ) -> Reply
         requires who { who ≤ 15 }
         requires clearance { IsBoundedClearance clearance }
         requires early { IfSome eff (λ second. second ≤ 10000000) }
-        ensures answered { MatchBool self.old.begun (IsProbeAnswered self.old who call clearance eff result self.new)
-            (IsRefused self.old replies.Unbegun result self.new) ⊎ IsRefused self.old replies.Memory result self.new }
+        ensures answered { IsProbeAnswered self.old who call clearance eff result self.new ⊎ IsRefused self.old replies.Memory result self.new }
         ensures fit { IsFit result }
     {
-        self.keeps();
-        match self.try_clearance(who, call, clearance, eff) {
+        match self.try_clearance(who, call, clearance, eff, tests) {
             Ok(probe) => {
                 let Ok(conflicts) = probe.found().copy(self.alloc) else {
                     return Reply::Memory;
@@ -69,19 +68,19 @@ impl World {
 
     // What would follow from a clearance on the snapshot that an actor has taken.
     fn try_clearance(
-        &mut self,
+        &self,
         who: u32,
         call: Callsign,
         clearance: Clearance,
         eff: Option<Second>,
+        tests: &mut Tally,
     ) -> Result<Probe, No>
         requires who { who ≤ 15 }
         requires clearance { IsBoundedClearance clearance }
         requires early { IfSome eff (λ second. second ≤ 10000000) }
-        ensures probe { IfOk result (IsProbeOf self.old who call clearance eff) }
-        ensures kept { IfOk result (IsKeptOf (setup_of self.old) self.old.history) }
-        ensures refused { IfErr result (IsUnprobedOf self.old who call clearance eff) }
-        ensures same { self.new ≡ self.old }
+        ensures probe { IfOk result (IsProbeOf self.now who call clearance eff) }
+        ensures kept { IfOk result (IsKeptOf (setup_of self.now) self.now.history) }
+        ensures refused { IfErr result (IsUnprobedOf self.now who call clearance eff) }
     {
         let taken = &self.actors[who as usize].taken;
         let (tables, rules) = (taken.tables(), taken.rules());
@@ -93,7 +92,7 @@ impl World {
             call,
             clearance,
             eff,
-            &mut self.tests,
+            tests,
         )
     }
 

@@ -1,115 +1,131 @@
-//! Lines that ask for what holds now.
-ghost use Rattle.std.specs.Prelude.{◌≡◌, ◌⊎◌, ◌-◌, take, drop, length, option_map, IfOk, MatchBool};
-ghost use Rattle.mt_base.specs.Picture.{IsPublished, flight_of};
-ghost use Rattle.mt_base.specs.Settled.{due_calls};
+//! What is told of a picture, at the version now.
+ghost use Rattle.std.specs.Prelude.{◌≡◌, ◌⊎◌, ℕ, List, option_map, IfErr, IfOk};
+ghost use Rattle.mt_base.specs.declared.area.Area.{Area};
+ghost use Rattle.mt_base.specs.Effect.{state_of};
+ghost use Rattle.mt_base.specs.Picture.{flight_of};
 ghost use Rattle.mt_base.specs.View.{view_of};
-ghost use Rattle.mt_board.specs.Short.{AreFewCalls};
+ghost use Rattle.mt_board.specs.declared.ask.Ask.TheVariants as asks;
 ghost use Rattle.mt_write.specs.declared.reply.Reply.TheVariants as replies;
 ghost use Rattle.mt_lines.specs.Fit.{IsFit};
-ghost use Rattle.mt_world.specs.World.{IsGiven, IsListAnswered, IsRefused, IsFlightTold, picture_of, setup_of};
+ghost use Rattle.mt_world.specs.Reading.{IsReadRequest, IsToldNow, IsUntold};
+ghost use Rattle.mt_world.specs.World.{Actor, IsRefused, IsServed, world_of};
 
-use crate::world::World;
-use mt_base::{Calls, Callsign, Conflicts, Entries, FlightView, Memory, Refusal, Second, Tally};
+use crate::telling::{ask_of, told};
+use mt_base::{Callsign, Conflicts, Entries, FlightView, Refusal, Second, Tally};
+use mt_board::{Answer, Ask, No};
+use mt_memory::Memory;
+use mt_picture::Picture;
+use mt_read::Request;
 use mt_snapshot_view::{check, due, view};
 use mt_write::Reply;
+use std::alloc::Global;
 use std::thread::Threads;
 
-impl World {
-    // What is published of the history, as it is kept.
-    pub(crate) fn list(&self) -> Reply
-        ensures answered { MatchBool self.now.begun (IsListAnswered self.now result self.now) (IsRefused self.now replies.Unbegun result self.now)
-            ⊎ IsRefused self.now replies.Memory result self.now }
-        ensures fit { IsFit result }
-    {
-        match Conflicts::of_items(self.alloc, self.picture.published()) {
-            Ok(conflicts) => Reply::List {
-                conflicts,
-                version: self.version(),
-            },
-            Err(Memory) => Reply::Memory,
-        }
-    }
+/// The reply to a request that asks for what holds now: that of each world of this picture, whoever asks; or `Memory`.
+pub fn tell<R: Threads + Sync>(
+    rt: &R,
+    alloc: Global,
+    picture: &Picture,
+    request: &Request,
+) -> Reply
+    requires { IsReadRequest request.now }
+    ensures told { (areas : List Area) (actors : List Actor) (who : ℕ)
+        → IsServed (world_of picture.now areas actors) who request.now result (world_of picture.now areas actors)
+        ⊎ IsRefused (world_of picture.now areas actors) replies.Memory result (world_of picture.now areas actors) }
+    ensures fit { IsFit result }
+{
+    told(read(rt, alloc, picture, &ask_of(request)))
+}
 
-    // What is published of the history, each pair of trajectories tested anew.
-    pub(crate) fn check<R: Threads + Sync>(&self, rt: &R) -> Reply
-        ensures answered { MatchBool self.now.begun (IsListAnswered self.now result self.now) (IsRefused self.now replies.Unbegun result self.now)
-            ⊎ IsRefused self.now replies.Memory result self.now }
-        ensures fit { IsFit result }
-    {
-        match self.tested(rt) {
-            Ok(conflicts) => Reply::List {
-                conflicts,
-                version: self.version(),
-            },
-            Err(Memory) => Reply::Memory,
-        }
+/// Tells what is asked for, at the version now. It is refused exactly where a flight is asked for and there is none of that callsign.
+pub fn read<R: Threads + Sync>(
+    rt: &R,
+    alloc: Global,
+    picture: &Picture,
+    ask: &Ask,
+) -> Result<Answer, No>
+    ensures told { IfOk result (IsToldNow picture.now ask.now) }
+    ensures untold { IfErr result (IsUntold picture.now ask.now) }
+{
+    match ask {
+        Ask::List => list(alloc, picture),
+        Ask::Check => check_all(rt, alloc, picture),
+        Ask::Due => all_due(alloc, picture),
+        Ask::Flight { call, sec } => flight(picture, *call, *sec),
+        Ask::History { from, to } => entries(alloc, picture, *from, *to),
     }
+}
 
-    // The conflicts of all trajectories in the window, each pair of them tested anew. Its tests are counted on a tally that nobody reads.
-    fn tested<R: Threads + Sync>(&self, rt: &R) -> Result<Conflicts, Memory>
-        ensures { IfOk result (IsPublished (setup_of self.now) (picture_of self.now)) }
-    {
-        let mut tests = Tally::new(rt);
-        check(self.alloc, &self.picture.snapshot()?, &mut tests)
-    }
+// What is published of the history, as it is kept.
+fn list(alloc: Global, picture: &Picture) -> Result<Answer, No>
+    ensures told { IfOk result (IsToldNow picture.now asks.List) }
+    ensures untold { IfErr result (IsUntold picture.now asks.List) }
+{
+    Ok(Answer::List {
+        conflicts: Conflicts::of_items(alloc, picture.published())?,
+        version: picture.version(),
+    })
+}
 
-    // What is told of a flight.
-    pub(crate) fn flight(&self, call: Callsign, sec: Option<Second>) -> Reply
-        ensures answered { MatchBool self.now.begun (IsFlightTold self.now call sec (flight_of (picture_of self.now).records call) result self.now)
-            (IsRefused self.now replies.Unbegun result self.now) ⊎ IsRefused self.now replies.Memory result self.now }
-        ensures fit { IsFit result }
-    {
-        self.keeps();
-        match self.viewed(call, sec) {
-            Ok(Some(view)) => Reply::Flight(view),
-            Ok(None) => self.refused(Refusal::UnknownCall(call)),
-            Err(Memory) => Reply::Memory,
-        }
-    }
+// What is published of the history, each pair of trajectories tested anew, on a tally that nobody reads.
+fn check_all<R: Threads + Sync>(rt: &R, alloc: Global, picture: &Picture) -> Result<Answer, No>
+    ensures told { IfOk result (IsToldNow picture.now asks.Check) }
+    ensures untold { IfErr result (IsUntold picture.now asks.Check) }
+{
+    let mut tests = Tally::new(rt);
+    let snapshot = picture.snapshot()?;
+    Ok(Answer::Check {
+        conflicts: check(alloc, &snapshot, &mut tests)?,
+        version: picture.version(),
+    })
+}
 
-    // The view of a flight, where there is one of that callsign.
-    fn viewed(&self, call: Callsign, sec: Option<Second>) -> Result<Option<FlightView>, Memory>
-        ensures { IfOk result (λ told. told ≡ option_map (view_of (setup_of self.now) (picture_of self.now) sec) (flight_of (picture_of self.now).records call)) }
-    {
-        Ok(view(&self.picture.snapshot()?, call, sec))
-    }
+// The flights that are due.
+fn all_due(alloc: Global, picture: &Picture) -> Result<Answer, No>
+    ensures told { IfOk result (IsToldNow picture.now asks.Due) }
+    ensures untold { IfErr result (IsUntold picture.now asks.Due) }
+{
+    let snapshot = picture.snapshot()?;
+    Ok(Answer::Due {
+        calls: due(alloc, &snapshot)?,
+        version: picture.version(),
+    })
+}
 
-    // Some entries of the history.
-    pub(crate) fn entries(&self, from: u64, to: u64) -> Reply
-        ensures answered { let part = take (to - from) (drop from self.now.history) in
-            MatchBool self.now.begun (IsGiven (replies.History part (length self.now.history)) self.now result self.now)
-            (IsRefused self.now replies.Unbegun result self.now) ⊎ IsRefused self.now replies.Memory result self.now }
-        ensures fit { IsFit result }
-    {
-        match Entries::part(self.alloc, self.picture.entries(), from, to) {
-            Ok(entries) => Reply::History {
-                entries,
-                version: self.version(),
-            },
-            Err(Memory) => Reply::Memory,
-        }
+// What is told of a flight.
+fn flight(picture: &Picture, call: Callsign, sec: Option<Second>) -> Result<Answer, No>
+    ensures told { IfOk result (IsToldNow picture.now (asks.Flight call sec)) }
+    ensures untold { IfErr result (IsUntold picture.now (asks.Flight call sec)) }
+{
+    let viewed = viewed(picture, call, sec)?;
+    match viewed {
+        Some(view) => Ok(Answer::Flight(view)),
+        None => Err(No::Refused {
+            refusal: Refusal::UnknownCall(call),
+            version: picture.version(),
+        }),
     }
+}
 
-    // The flights that are due now.
-    pub(crate) fn due(&self) -> Reply
-        ensures answered { MatchBool self.now.begun (IsGiven (replies.Due (due_calls (picture_of self.now).records) (length self.now.history)) self.now result self.now)
-            (IsRefused self.now replies.Unbegun result self.now) ⊎ IsRefused self.now replies.Memory result self.now }
-        ensures fit { IsFit result }
-    {
-        match self.due_now() {
-            Ok(calls) => Reply::Due {
-                calls,
-                version: self.version(),
-            },
-            Err(Memory) => Reply::Memory,
-        }
-    }
+// The view of a flight, where there is one of that callsign.
+fn viewed(
+    picture: &Picture,
+    call: Callsign,
+    sec: Option<Second>,
+) -> Result<Option<FlightView>, Memory>
+    ensures { IfOk result (λ told. told ≡ option_map (view_of picture.now.setup (state_of picture.now.setup picture.now.history) sec)
+        (flight_of (state_of picture.now.setup picture.now.history).records call)) }
+{
+    Ok(view(&picture.snapshot()?, call, sec))
+}
 
-    // The callsigns of the flights that are due now.
-    pub(crate) fn due_now(&self) -> Result<Calls, Memory>
-        ensures exact { IfOk result (λ calls. calls ≡ due_calls (picture_of self.now).records) }
-        ensures short { IfOk result AreFewCalls }
-    {
-        due(self.alloc, &self.picture.snapshot()?)
-    }
+// Some entries of the history.
+fn entries(alloc: Global, picture: &Picture, from: u64, to: u64) -> Result<Answer, No>
+    ensures told { IfOk result (IsToldNow picture.now (asks.History from to)) }
+    ensures untold { IfErr result (IsUntold picture.now (asks.History from to)) }
+{
+    Ok(Answer::History {
+        entries: Entries::part(alloc, picture.entries(), from, to)?,
+        version: picture.version(),
+    })
 }

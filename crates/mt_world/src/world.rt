@@ -1,172 +1,100 @@
-//! A world, and what each request is answered.
-ghost use Rattle.std.specs.Prelude.{◌≡◌, ◌⊎◌, ◌≤◌, [], length, replicate, true, All, IfOk};
+//! A world, and how many pairs it has tested.
+ghost use Rattle.std.specs.Prelude.{◌≡◌, ◌⊎◌, ◌≤◌, [], replicate, true, IfOk};
 ghost use Rattle.mt_base.specs.History.{IsLegal};
-ghost use Rattle.mt_machine.specs.Book.{empty_book};
 ghost use Rattle.mt_read.specs.Bounded.{IsBoundedRequest};
-ghost use Rattle.mt_write.specs.declared.reply.Reply.TheVariants as replies;
 ghost use Rattle.mt_lines.specs.Fit.{IsFit};
-ghost use Rattle.mt_world.specs.World.{IsOfAreas, IsServed, IsStarved, new_actor};
+ghost use Rattle.mt_world.specs.Counted.{IsUntestedRequest};
+ghost use Rattle.mt_world.specs.World.{IsServed, IsStarved, new_actor, with_areas, world_of};
 
-use crate::actor::Actor;
+use crate::centre::Centre;
+use mt_area::Areas;
 use mt_base::{Memory, Tally};
 use mt_picture::Picture;
-use mt_probe::Snapshot;
 use mt_read::Request;
-use mt_write::{DoneWord, Reply};
+use mt_write::Reply;
 use std::alloc::Global;
 use std::marker::Model;
 use std::thread::Threads;
 
-/// How many actors a script has.
-const ACTORS: usize = 16;
-
-/// The world of a script whose picture has begun: the kept picture, the actors, and the tally of pair tests.
+/// The world of a script whose picture has begun, seen with the number of pairs that were tested for its commands and probes.
 #[derive(Drop)]
 pub struct World {
-    pub(crate) alloc: Global,
-    pub(crate) picture: Picture,
-    pub(crate) actors: Vec<Actor>,
-    pub(crate) tests: Tally,
+    centre: Centre,
+    tests: u64,
 }
 
 impl Model for World {
-    ghost use Rattle.std.specs.Prelude.{[], map, true};
-    ghost use Rattle.mt_world.specs.Private.Sound.{IsSoundWorld, actor_shown};
-    ghost use Rattle.mt_world.specs.World.{World};
+    ghost use Rattle.mt_world.specs.Counted.{Counted};
 
-    ghost Value = { World };
+    ghost Value = { Counted };
 
-    ghost view = { λ w. record {
-      rules = w.picture.setup.rules;
-      tables = w.picture.setup.tables;
-      areas = [];
-      begun = true;
-      history = w.picture.history;
-      actors = map actor_shown w.actors.items;
-    } };
-
-    ghost invariant = { λ w. IsSoundWorld w.picture w.actors.items };
-}
-
-// The actors as they are at first, each with this snapshot taken.
-fn new_actors(alloc: Global, taken: &Snapshot) -> Result<Vec<Actor>, Memory>
-    ensures { IfOk result (λ actors. (length actors.items ≡ 16)
-        × All (λ actor. (actor.taken ≡ taken.now) × (actor.book ≡ empty_book)) actors.items) }
-{
-    let mut actors = Vec::new(alloc);
-    while actors.len() < ACTORS {
-        actors.push(Actor::make(alloc, taken)?)?;
-    }
-    Ok(actors)
+    ghost view = { λ w. record { world = w.centre; tests = w.tests } };
 }
 
 impl World {
-    /// The world of a picture whose history is legal: each actor has taken version 0 and has an empty book.
-    pub fn make<R: Threads + Sync>(rt: &R, alloc: Global, picture: Picture) -> Result<World, Memory>
+    /// The world of a picture whose history is legal: no area stands, each actor has taken version 0 and has an empty book, and no pair was
+    /// tested.
+    pub fn make(alloc: Global, picture: Picture) -> Result<World, Memory>
         requires { IsLegal picture.setup picture.history }
-        ensures { IfOk result (λ world. world ≡ record {
-          rules = picture.setup.rules;
-          tables = picture.setup.tables;
-          areas = [];
-          begun = true;
-          history = picture.history;
-          actors = replicate 16 new_actor;
-        }) }
+        ensures { IfOk result (λ counted. counted ≡ record { world = world_of picture [] (replicate 16 new_actor); tests = 0 }) }
     {
-        let opening = picture.snapshot()?.reopened()?;
-        let actors = new_actors(alloc, &opening)?;
         Ok(World {
-            alloc,
-            picture,
-            actors,
-            tests: Tally::new(rt),
+            centre: Centre::make(alloc, picture)?,
+            tests: 0,
         })
     }
 
     /// Serves an actor's request: the reply that the definition of a world has for it, and that world after it; or `Memory` is the reply, and
     /// nothing has changed, but that settling may have renewed some flights.
     ///
-    /// Actors have the numbers 0 to 15. It asks that the request isn't one on areas, which a world of this type doesn't keep. A line that
-    /// would set the picture up is refused, as it has begun. A reply that follows a change is short enough for the room that is taken before
-    /// the first line.
+    /// Actors have the numbers 0 to 15. A line that would set the picture up is refused, as it has begun. A reply that follows a change is short
+    /// enough for the room that is taken before the first line. The number of tests never falls, and it stays as it was where the request neither
+    /// enters a command nor makes a probe.
     pub fn step<R: Threads + Sync>(&mut self, rt: &R, who: u32, request: &Request) -> Reply
         requires who { who ≤ 15 }
-        requires bounded { IsBoundedRequest self.old.rules request.now }
-        requires other { IsOfAreas request.now → ⊥ }
-        ensures served { IsServed self.old who request.now result self.new ⊎ IsStarved self.old who request.now result self.new }
+        requires bounded { IsBoundedRequest self.old.world.rules request.now }
+        ensures served { IsServed self.old.world who request.now result self.new.world ⊎ IsStarved self.old.world who request.now result self.new.world }
         ensures fit { IsFit result }
+        ensures counted { self.old.tests ≤ self.new.tests }
+        ensures untested { IsUntestedRequest request.now → self.new.tests ≡ self.old.tests }
     {
-        match request {
-            Request::Fix { .. } => self.begun(),
-            Request::TypeLine { .. } => self.begun(),
-            Request::Rule(_) => self.begun(),
-            Request::Begin => self.begun(),
-            Request::Hello(role) => Reply::Hello(*role),
-            Request::Bye => Reply::Done(DoneWord::Bye),
-            Request::List => self.list(),
-            Request::Check => self.check(rt),
-            Request::Flight { call, sec } => self.flight(*call, *sec),
-            Request::History { from, to } => self.entries(*from, *to),
-            Request::Change(command) => self.change(who, command),
-            Request::Take => self.take(who),
-            Request::Probe {
-                call,
-                clearance,
-                eff,
-            } => self.probe(who, *call, *clearance, *eff),
-            Request::Accept { probe } => self.accept(who, *probe),
-            Request::Advise { call } => self.advise(rt, who, *call),
-            Request::Due => self.due(),
-            Request::Settle => self.settle(who),
-            Request::Area(_) => unreachable!(),
-            Request::Areas => unreachable!(),
-        }
+        let mut tests = Tally::new(rt);
+        let reply = self.centre.step(rt, who, request, &mut tests);
+        self.tests = self.tests.saturating_add(tests.get());
+        reply
     }
 
-    /// The picture, whose history is legal: what is published of it is at each version what every pair tested anew would give.
+    /// The picture, whose history is legal: what is published of it is at each version what every pair tested anew would give. That the picture
+    /// has begun is said here too.
     pub fn picture(&self) -> &Picture
-        ensures setup { result.now.setup ≡ record { rules = self.now.rules; tables = self.now.tables } }
-        ensures history { result.now.history ≡ self.now.history }
+        ensures setup { result.now.setup ≡ record { rules = self.now.world.rules; tables = self.now.world.tables } }
+        ensures history { result.now.history ≡ self.now.world.history }
         ensures legal { IsLegal result.now.setup result.now.history }
+        ensures begun { self.now.world.begun ≡ true }
     {
-        &self.picture
+        self.centre.picture()
     }
 
     /// The picture, out of the world.
     pub fn into_picture(self) -> Picture
-        ensures setup { result.setup ≡ record { rules = self.rules; tables = self.tables } }
-        ensures history { result.history ≡ self.history }
+        ensures setup { result.setup ≡ record { rules = self.world.rules; tables = self.world.tables } }
+        ensures history { result.history ≡ self.world.history }
         ensures legal { IsLegal result.setup result.history }
     {
-        self.picture
+        self.centre.into_picture()
     }
 
     /// How many pairs were tested for commands and probes; those of advice and of checks from nothing are counted apart. At 2^64 - 1 it stays.
-    pub fn tests(&self) -> u64 {
-        self.tests.get()
+    pub fn tests(&self) -> u64
+        ensures { result ≡ self.now.tests }
+    {
+        self.tests
     }
 
-    // What a line is answered that would set the picture up.
-    fn begun(&self) -> Reply
-        ensures reply { result ≡ replies.Begun }
-        ensures begun { self.now.begun ≡ true }
+    // Puts these areas in the place of its own, which are given back.
+    pub(crate) fn swap_areas(&mut self, areas: &mut Areas)
+        ensures { self.new ≡ record self.old { world = with_areas self.old.world areas.old } }
     {
-        self.keeps();
-        Reply::Begun
-    }
-
-    // The number of entries. That the picture has begun is said here too.
-    pub(crate) fn version(&self) -> u64
-        ensures version { result ≡ length self.now.history }
-        ensures begun { self.now.begun ≡ true }
-    {
-        self.picture.version()
-    }
-
-    // The picture has begun. It does nothing.
-    pub(crate) fn keeps(&self)
-        ensures { self.now.begun ≡ true }
-    {
-        self.version();
+        self.centre.swap_areas(areas);
     }
 }

@@ -1,5 +1,5 @@
-use Rattle.mt_script.proofs.Adding.{when_false}
-use Rattle.mt_script.proofs.Keeping.{when_true}
+use Rattle.mt_world.proofs.Adding.{when_false}
+use Rattle.mt_world.proofs.Keeping.{when_true}
 use Rattle.mt_top.proofs.laws.areas_law.Goals as goal
 
 pub returns-clause-told : goal.returns-clause-told

@@ -1,4 +1,0 @@
-pub mod Adding
-pub mod Areas
-pub mod Beside
-pub mod Keeping

@@ -1,6 +1,0 @@
-use Rattle.std.proofs.Common.{◌∙◌, sym}
-use Rattle.mt_standby.proofs.Told.{flight_told}
-use Rattle.mt_standby.proofs.standby.Standby.flight.Goals as goal
-
-pub returns-in-Some-clause-told : goal.returns-in-Some-clause-told
-returns-in-Some-clause-told c = flight_told c.args.self.now c.args.call c.args.sec c.in-Some.view (sym c.in_ok-viewed.ensures ∙ c.in-Some.is)
