@@ -1,12 +1,12 @@
-//! Lines answered one by one: what a run of them means, whatever answers them, and replies on their way out.
+//! Lines answered one by one: what a run of them means, whatever answers them, what is answered as replies, and replies on their way out.
 //!
 //! The definitions of `specs/` speak of any state, any reply, any way in which a line is replied to and any work that follows a reply.
 //! A script and a session are instances; their runs are put together by the lemmas of `proofs/`, which speak of the same.
 #![tactic(auto)]
 
 mod given_text;
-mod reply_out;
+mod telling;
 mod waiting;
 
-pub use reply_out::give;
+pub use telling::{changed, refused, told, unread};
 pub use waiting::Waiting;

@@ -17,7 +17,8 @@ use Rattle.mt_machine.proofs.Books.{all_at, all_more, told_at}
 use Rattle.mt_write.specs.declared.reply.Reply.{Reply}
 use Rattle.mt_base.proofs.Cases.{empty_list}
 use Rattle.mt_session.specs.Private.Keeping.{ArePast}
-use Rattle.mt_session.specs.Served.{IsAcceptanceAnswered, IsCommanded, IsLooked, IsNumberRefused, board_reply, is_none_listed}
+use Rattle.mt_lines.specs.Told.{entered_reply}
+use Rattle.mt_session.specs.Served.{IsAcceptanceAnswered, IsCommanded, IsLooked, IsNumberRefused, is_none_listed}
 use Rattle.mt_session.specs.Session.{Session}
 
 module _ {P : Type 0} (told : P → Probe) where
@@ -34,7 +35,7 @@ module _ {P : Type 0} (told : P → Probe) where
   -- a probe of the book that was free was accepted
   pub accepted : (role : Option Role) (book : Book P) (seat new : Seat) (number : ℕ) (p : P) (result : Result Entered No) (reply : Reply)
       → probe_at book number ≡ Some p → (length (told p).hits == 0) ≡ true
-      → IsChanged seat (acceptance (told p)) result new → reply ≡ board_reply result
+      → IsChanged seat (acceptance (told p)) result new → reply ≡ entered_reply result
       → IsAcceptanceAnswered (record { role = role; book = told_book told book; seat = seat }) (probe_at (told_book told book) number) reply
       (record { role = role; book = told_book told book; seat = new })
   accepted role book seat new number p result reply found none changed is =

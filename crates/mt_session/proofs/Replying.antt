@@ -29,7 +29,8 @@ use Rattle.mt_write.specs.declared.reply.Reply.{Reply}
 use Rattle.mt_write.specs.declared.reply.Reply.TheVariants as replies
 use Rattle.mt_base.proofs.Cases.{on_either}
 use Rattle.mt_session.specs.Following.{IsRenewalDone, Standing, job_if, job_of}
-use Rattle.mt_session.specs.Served.{IsAcceptanceAnswered, IsAskAnswered, IsCommanded, IsReplyGiven, IsSessionLeft, IsRepliedTo, IsServedInSession, IsStarvedOf, IsReadAnswered, IsTrialInSession, board_reply, is_none_listed}
+use Rattle.mt_lines.specs.Told.{entered_reply}
+use Rattle.mt_session.specs.Served.{IsAcceptanceAnswered, IsAskAnswered, IsCommanded, IsReplyGiven, IsSessionLeft, IsRepliedTo, IsServedInSession, IsStarvedOf, IsReadAnswered, IsTrialInSession, is_none_listed}
 use Rattle.mt_session.specs.Private.Served.{ask_of}
 use Rattle.mt_wire.specs.Refused.{or_reply}
 use Rattle.mt_session.specs.Session.{Session, asked_in_role, role_sender, with_seat}
@@ -52,7 +53,7 @@ read_looked s t ask (Err denied) d = denied_looked s t _ denied d
 told_idle : (s : Session) (ask : Ask) (reply : Reply) (next : Session) → IsReadAnswered s ask reply next → IsIdle s next
 told_idle s ask reply next t = (t.seat, read_looked s.seat t.seat ask t.result t.read, t.given.next_is)
 
-changed_looked : (s t : Seat) (command : Command) (result : Result Entered No) (reply : Reply) → is_brief reply ≡ false → reply ≡ board_reply result
+changed_looked : (s t : Seat) (command : Command) (result : Result Entered No) (reply : Reply) → is_brief reply ≡ false → reply ≡ entered_reply result
     → IsChanged s command result t → HasLooked s t
 changed_looked s t command (Ok entered) reply b is changed = not_given _ reply _ is refl b
 changed_looked s t command (Err denied) reply b is changed = denied_looked s t _ denied changed

@@ -7,7 +7,6 @@ use Rattle.mt_base.specs.declared.command.Entered.{Entered}
 use Rattle.mt_base.specs.declared.command.Refusal.{Refusal}
 use Rattle.mt_base.specs.declared.command.Refusal.TheVariants.{NoProbe, NotFree}
 use Rattle.mt_board.specs.declared.ask.Answer.{Answer}
-use Rattle.mt_board.specs.declared.ask.Answer.TheVariants as answers
 use Rattle.mt_board.specs.declared.ask.Ask.{Ask}
 use Rattle.mt_board.specs.declared.ask.Ask.TheVariants as asks
 use Rattle.mt_board.specs.declared.no.No.{No}
@@ -17,6 +16,7 @@ use Rattle.mt_board.specs.Changing.{IsChanged}
 use Rattle.mt_board.specs.Probing.{IsAdvised, IsNotAdvised, IsNotProbed, IsProbed, Probe, acceptance}
 use Rattle.mt_board.specs.Seat.{HasLooked, HasSeen, Seat}
 use Rattle.mt_board.specs.Settling.{IsNotSettled, HasSettled}
+use Rattle.mt_lines.specs.Told.{answer_reply, entered_reply, no_reply}
 use Rattle.mt_machine.specs.Book.{probe_at, with_all, with_probe}
 use Rattle.mt_read.specs.declared.request.Request.{Request}
 use Rattle.mt_read.specs.declared.request.Request.TheVariants as requests
@@ -31,38 +31,19 @@ pub record IsReplyGiven (given : Reply) (after : Session) (reply : Reply) (next 
   pub reply_is : reply ≡ given
   pub next_is : next ≡ after
 
--- a board's refusal as a reply
-abbrev pub board_no : No → Reply
-board_no (no.Refused refusal version) = replies.Refused refusal version
-board_no no.Memory = replies.Memory
-
--- a read's answer as a reply
-abbrev pub read_reply : Result Answer No → Reply
-read_reply (Ok (answers.List conflicts version)) = replies.List conflicts version
-read_reply (Ok (answers.Check conflicts version)) = replies.List conflicts version
-read_reply (Ok (answers.Due calls version)) = replies.Due calls version
-read_reply (Ok (answers.Flight view)) = replies.Flight view
-read_reply (Ok (answers.History entries version)) = replies.History entries version
-read_reply (Err denied) = board_no denied
-
 -- the reply to a read
 pub record IsReadAnswered (s : Session) (ask : Ask) (reply : Reply) (next : Session) : Type 0 where
   pub result : Result Answer No
   pub seat : Seat
   pub read : IsRead s.seat ask result seat
-  pub given : IsReplyGiven (read_reply result) (with_seat s seat) reply next
-
--- a command's answer as a reply
-abbrev pub board_reply : Result Entered No → Reply
-board_reply (Ok entered) = replies.Entered entered
-board_reply (Err denied) = board_no denied
+  pub given : IsReplyGiven (answer_reply result) (with_seat s seat) reply next
 
 -- the reply to a command
 pub record IsCommanded (s : Session) (command : Command) (reply : Reply) (next : Session) : Type 0 where
   pub result : Result Entered No
   pub seat : Seat
   pub changed : IsChanged s.seat command result seat
-  pub given : IsReplyGiven (board_reply result) (with_seat s seat) reply next
+  pub given : IsReplyGiven (entered_reply result) (with_seat s seat) reply next
 
 -- `IsTrialInSession`, `IsTriedBy`: the reply to a probe, which is kept under the number that the reply names. Where it is refused, the book stays.
 abbrev pub IsTrialInSession : Session → List ℕ → Clearance → Option ℕ → Seat → Result Probe No → Reply → Session → Type 0
@@ -70,7 +51,7 @@ IsTrialInSession s call clearance eff seat (Ok probe) reply next = IsProbed s.se
     × IsReplyGiven (replies.Probe probe.hits probe.eff (raised s.book.count) probe.version)
     (record s { book = with_probe s.book probe; seat = seat }) reply next
 IsTrialInSession s call clearance eff seat (Err denied) reply next = IsNotProbed s.seat seat call clearance eff denied
-    × IsReplyGiven (board_no denied) (with_seat s seat) reply next
+    × IsReplyGiven (no_reply denied) (with_seat s seat) reply next
 
 pub record IsTriedBy (s : Session) (call : List ℕ) (clearance : Clearance) (eff : Option ℕ) (reply : Reply) (next : Session) : Type 0 where
   pub seat : Seat
@@ -97,7 +78,7 @@ pub record IsAdviceDenied (s : Session) (call : List ℕ) (reply : Reply) (next 
   pub seat : Seat
   pub denied : No
   pub not_advised : IsNotAdvised s.seat seat call denied
-  pub given : IsReplyGiven (board_no denied) (with_seat s seat) reply next
+  pub given : IsReplyGiven (no_reply denied) (with_seat s seat) reply next
 
 -- a probe's number is refused, at a version then seen
 pub record IsNumberRefused (s : Session) (refusal : Refusal) (reply : Reply) (next : Session) : Type 0 where

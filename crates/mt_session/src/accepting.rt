@@ -7,10 +7,10 @@ ghost use Rattle.mt_session.specs.Private.Keeping.{StaysOn};
 ghost use Rattle.mt_session.specs.Served.{IsAcceptanceAnswered, IsLooked};
 
 use crate::serving::Serving;
-use crate::telling::changed;
 use mt_base::Refusal;
 use mt_board::{Board, Probed};
 use mt_io::Gate;
+use mt_lines::changed;
 use mt_wire::Reply;
 use std::sync::Wait;
 use std::thread::Threads;

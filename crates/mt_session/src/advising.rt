@@ -10,10 +10,10 @@ ghost use Rattle.mt_session.specs.Served.{IsAdviceDenied, IsAdvisedTo, IsLooked,
 ghost use Rattle.mt_session.specs.Session.{with_seat};
 
 use crate::serving::Serving;
-use crate::telling::refused;
 use mt_base::{Callsign, Memory};
 use mt_board::{Advised, Board, No, Probed};
 use mt_io::Gate;
+use mt_lines::refused;
 use mt_wire::{AdviceItem, AdviceList, Reply};
 use std::alloc::Global;
 use std::sync::Wait;

@@ -1,43 +1,28 @@
 //! What a line is answered.
-ghost use Rattle.std.specs.Prelude.{◌≡◌, ◌⊎◌, ◌≤◌, ℕ, length, Option, Some, Err};
+ghost use Rattle.std.specs.Prelude.{◌≡◌, ◌⊎◌, ◌≤◌, length, Option, Some};
 ghost use Rattle.std.specs.Thread.{IsSync};
 ghost use Rattle.mt_base.specs.Bounds.{IsAskedFor, IsBoundedCommand};
 ghost use Rattle.mt_base.specs.Rules.{usual_rules};
 ghost use Rattle.mt_lines.specs.Fit.{IsFit};
 ghost use Rattle.mt_read.specs.Bounded.{IsBoundedRequest};
-ghost use Rattle.mt_read.specs.declared.request.Request.{Request};
 ghost use Rattle.mt_read.specs.declared.request.Request.TheVariants.{Change};
 ghost use Rattle.mt_write.specs.declared.reply.Reply.TheVariants as replies;
 ghost use Rattle.mt_session.specs.Following.{job_if, job_of};
 ghost use Rattle.mt_session.specs.Private.Keeping.{StaysOn};
 ghost use Rattle.mt_session.specs.Served.{IsCommanded, IsNotOfSessions, IsLooked, IsRepliedTo, IsServedInSession, IsStarvedInSession};
 ghost use Rattle.mt_session.specs.Private.Served.{IsNoChange, ask_of};
-ghost use Rattle.mt_wire.specs.Refused.{or_reply};
 ghost use Rattle.mt_session.specs.Session.{Session, asked_in_role, role_sender};
 
 use crate::following::{due_if, reported};
 use crate::serving::Serving;
-use crate::telling::refused;
 use mt_base::{Callsign, Command, Memory, Role, Rules};
 use mt_board::{Ask, Board};
 use mt_io::Gate;
-use mt_wire::{DoneWord, FieldName, LineNo, Reply, Request, Scratch, Sender, read_line};
+use mt_lines::{refused, unread};
+use mt_wire::{DoneWord, FieldName, Reply, Request, Scratch, Sender, read_line};
 use std::alloc::Global;
 use std::sync::Wait;
 use std::thread::Threads;
-
-// The refusal of a line, as a reply.
-fn unread(no: LineNo) -> Reply
-    ensures reply { Err result ≡ or_reply {A = ℕ × Request} (Err no) }
-    ensures fit { IsFit result }
-{
-    match no {
-        LineNo::Json => Reply::Json,
-        LineNo::Form(name) => Reply::Form(name),
-        LineNo::Range(name) => Reply::Range(name),
-        LineNo::Memory => Reply::Memory,
-    }
-}
 
 // The refusal of a command that no session has.
 fn foreign(alloc: Global) -> Reply

@@ -12,10 +12,10 @@ ghost use Rattle.mt_session.specs.Served.{IsLooked, IsTriedBy};
 ghost use Rattle.mt_session.specs.Session.{with_seat};
 
 use crate::serving::Serving;
-use crate::telling::refused;
 use mt_base::{Callsign, Clearance, Hit, Hits, Memory, Second};
 use mt_board::{Board, No, Probed};
 use mt_io::Gate;
+use mt_lines::refused;
 use mt_wire::Reply;
 use std::alloc::Global;
 use std::sync::Wait;

@@ -3,52 +3,16 @@ ghost use Rattle.std.specs.Prelude.{◌≡◌, ◌⊎◌, Option};
 ghost use Rattle.std.specs.Thread.{IsSync};
 ghost use Rattle.mt_lines.specs.Fit.{IsFit};
 ghost use Rattle.mt_session.specs.Private.Keeping.{StaysOn};
-ghost use Rattle.mt_session.specs.Served.{IsLooked, IsNumberRefused, IsReadAnswered, board_reply, board_no, read_reply};
+ghost use Rattle.mt_session.specs.Served.{IsLooked, IsNumberRefused, IsReadAnswered};
 ghost use Rattle.mt_session.specs.Private.Served.{told_version};
 
 use crate::serving::Serving;
-use mt_base::{Entered, Refusal};
+use mt_base::Refusal;
 use mt_board::{Answer, Ask, Board, No};
+use mt_lines::told;
 use mt_wire::Reply;
 use std::sync::Wait;
 use std::thread::Threads;
-
-/// Why a board gives nothing, as a reply.
-pub(crate) fn refused(no: No) -> Reply
-    ensures reply { result ≡ board_no no }
-    ensures fit { IsFit result }
-{
-    match no {
-        No::Refused { refusal, version } => Reply::Refused { refusal, version },
-        No::Memory => Reply::Memory,
-    }
-}
-
-/// What a command is answered, as a reply.
-pub(crate) fn changed(outcome: Result<Entered, No>) -> Reply
-    ensures reply { result ≡ board_reply outcome }
-    ensures fit { IsFit result }
-{
-    match outcome {
-        Ok(entered) => Reply::Entered(entered),
-        Err(no) => refused(no),
-    }
-}
-
-// What a read is answered, as a reply.
-fn told(outcome: Result<Answer, No>) -> Reply
-    ensures reply { result ≡ read_reply outcome }
-    ensures fit { IsFit result }
-{
-    match outcome {
-        Ok(Answer::List { conflicts, version }) => Reply::List { conflicts, version },
-        Ok(Answer::Check { conflicts, version }) => Reply::List { conflicts, version },
-        Ok(Answer::Due { calls, version }) => Reply::Due { calls, version },
-        Ok(Answer::Flight(view)) => Reply::Flight(view),
-        Ok(Answer::History { entries, version }) => Reply::History { entries, version },
-        Err(no) => refused(no),
-    }
-}
 
 // The version at which entries are told.
 fn told_version(outcome: &Result<Answer, No>) -> Option<u64>

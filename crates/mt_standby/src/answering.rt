@@ -10,7 +10,8 @@ ghost use Rattle.mt_write.specs.declared.reply.Reply.TheVariants as replies;
 use crate::standby::Standby;
 use crate::telling::followed;
 use mt_base::Entry;
-use mt_read::{FeedLine, LineNo, Request, Scratch, read_feed};
+use mt_lines::unread;
+use mt_read::{FeedLine, Request, Scratch, read_feed};
 use mt_world::tell;
 use mt_write::{DoneWord, Reply};
 use std::thread::Threads;
@@ -27,10 +28,7 @@ impl Standby {
             Ok(FeedLine::Followed(entry)) => self.enter(&entry),
             Ok(FeedLine::Asked(request)) => self.tell(rt, &request),
             Ok(FeedLine::Ended) => Reply::Done(DoneWord::Bye),
-            Err(LineNo::Json) => Reply::Json,
-            Err(LineNo::Form(name)) => Reply::Form(name),
-            Err(LineNo::Range(name)) => Reply::Range(name),
-            Err(LineNo::Memory) => Reply::Memory,
+            Err(no) => unread(no),
         }
     }
 

@@ -10,8 +10,9 @@ ghost use Rattle.mt_write.specs.declared.reply.Reply.TheVariants as replies;
 ghost use Rattle.mt_world.specs.World.{World, opening_world};
 
 use mt_base::Memory;
+use mt_lines::unread;
+use mt_wire::{Reply, Scratch, Sender, read_line};
 use mt_world::Script;
-use mt_wire::{LineNo, Reply, Scratch, Sender, read_line};
 use std::alloc::Global;
 use std::thread::Threads;
 
@@ -93,9 +94,6 @@ pub(crate) fn answer<R: Threads + Sync>(
 {
     match read_line(alloc, scratch, line, Sender::Replay, &script.rules()) {
         Ok((who, request)) => script.serve(rt, alloc, who, &request),
-        Err(LineNo::Json) => Reply::Json,
-        Err(LineNo::Form(name)) => Reply::Form(name),
-        Err(LineNo::Range(name)) => Reply::Range(name),
-        Err(LineNo::Memory) => Reply::Memory,
+        Err(no) => unread(no),
     }
 }

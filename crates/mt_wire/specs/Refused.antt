@@ -5,10 +5,13 @@ use Rattle.mt_read.specs.declared.request.LineNo.TheVariants as nos
 use Rattle.mt_write.specs.declared.reply.Reply.{Reply}
 use Rattle.mt_write.specs.declared.reply.Reply.TheVariants as replies
 
--- what was read, or its refusal as a reply
+-- `unread_reply`, `or_reply`: why a line can't be read, as a reply; what was read, or that reply
+abbrev pub unread_reply : LineNo → Reply
+unread_reply nos.Json = replies.Json
+unread_reply (nos.Form name) = replies.Form name
+unread_reply (nos.Range name) = replies.Range name
+unread_reply nos.Memory = replies.Memory
+
 abbrev pub or_reply : {A : Type 0} → Result A LineNo → Result A Reply
 or_reply (Ok read) = Ok read
-or_reply (Err nos.Json) = Err replies.Json
-or_reply (Err (nos.Form name)) = Err (replies.Form name)
-or_reply (Err (nos.Range name)) = Err (replies.Range name)
-or_reply (Err nos.Memory) = Err replies.Memory
+or_reply (Err refusal) = Err (unread_reply refusal)

@@ -24,7 +24,7 @@ use Rattle.mt_write.specs.declared.reply.Reply.{Reply}
 use Rattle.mt_write.specs.declared.reply.Reply.TheVariants as replies
 use Rattle.mt_world.specs.declared.actor.Actor.{Actor}
 use Rattle.mt_world.specs.Private.Sound.{IsKeptOf, IsSoundWorld, actor_shown}
-use Rattle.mt_world.specs.Private.Told.{entered_reply}
+use Rattle.mt_lines.specs.Told.{entered_reply}
 use Rattle.mt_world.specs.World.{IsAcceptedOf, IsAccepted, IsCommandAnswered, IsRefused, World, actor_of, is_empty, world_of}
 use Rattle.mt_world.specs.World as world
 use Rattle.mt_world.proofs.Entering.{changed_is, same_setup}

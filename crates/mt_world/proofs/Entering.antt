@@ -14,7 +14,7 @@ use Rattle.mt_picture.specs.Story.{IsEntered, IsCommandRefused as IsDenied, Stor
 use Rattle.mt_write.specs.declared.reply.Reply.TheVariants as replies
 use Rattle.mt_world.specs.declared.actor.Actor.{Actor}
 use Rattle.mt_world.specs.Private.Sound.{IsSoundWorld, story_of}
-use Rattle.mt_world.specs.Private.Told.{entered_reply}
+use Rattle.mt_lines.specs.Told.{entered_reply}
 use Rattle.mt_world.specs.World.{IsCommandAnswered, IsRefused, World}
 use Rattle.mt_world.proofs.WorldLemmas.{sound_push}
 

@@ -21,7 +21,7 @@ use Rattle.mt_write.specs.declared.reply.AdviceItem.{AdviceItem}
 use Rattle.mt_write.specs.declared.reply.Reply.TheVariants as replies
 use Rattle.mt_world.specs.declared.actor.Actor.{Actor}
 use Rattle.mt_world.specs.Private.Sound.{IsAdvisedOf, IsProbeOf, IsSoundActor, IsSoundWorld, IsUnadvisedOf, IsUnprobedOf, clearances_of, actor_shown}
-use Rattle.mt_world.specs.Private.Told.{no_reply}
+use Rattle.mt_lines.specs.Told.{no_reply}
 use Rattle.mt_world.specs.World.{IsAdviceAnswered, IsProbeAnswered, IsRefused, World, actor_of, items_from, picture_taken, with_book, world_of}
 use Rattle.mt_world.specs.World as world
 use Rattle.mt_world.proofs.Advice.{tried_are}

@@ -24,7 +24,8 @@ use Rattle.mt_read.specs.declared.request.Request.{Request}
 use Rattle.mt_read.specs.declared.request.Request.TheVariants as requests
 use Rattle.mt_write.specs.declared.reply.Reply.{Reply}
 use Rattle.mt_write.specs.declared.reply.Reply.TheVariants as replies
-use Rattle.mt_world.specs.Private.Told.{read_answer_reply, read_ask}
+use Rattle.mt_lines.specs.Told.{answer_reply}
+use Rattle.mt_world.specs.Private.Reading.{read_ask}
 use Rattle.mt_world.specs.Reading.{IsReadRequest, IsToldNow, IsUntold}
 use Rattle.mt_world.specs.World.{Actor, IsListAnswered, IsRefused, IsServed, IsStarved, World, world_of}
 use Rattle.mt_world.proofs.Viewed.{not_there, there}
@@ -34,35 +35,35 @@ module _ (s : Story) (areas : List Area) (actors : List Actor) (who : ℕ) where
   w = world_of s areas actors
 
   told_list : (answer : Answer) → IsTold s.setup s.history asks.List answer → version_of answer ≡ length s.history
-      → IsListAnswered w (read_answer_reply (Ok answer)) w
+      → IsListAnswered w (answer_reply (Ok answer)) w
   told_list (answers.List conflicts version) told now =
       record { conflicts = conflicts; published = told; reply_is = ap (replies.List conflicts) now; same = refl }
   told_list answer told now = absurd told
 
   told_check : (answer : Answer) → IsTold s.setup s.history asks.Check answer → version_of answer ≡ length s.history
-      → IsListAnswered w (read_answer_reply (Ok answer)) w
+      → IsListAnswered w (answer_reply (Ok answer)) w
   told_check (answers.Check conflicts version) told now =
       record { conflicts = conflicts; published = told; reply_is = ap (replies.List conflicts) now; same = refl }
   told_check answer told now = absurd told
 
   told_due : (answer : Answer) → IsTold s.setup s.history asks.Due answer → version_of answer ≡ length s.history
-      → IsServed w who requests.Due (read_answer_reply (Ok answer)) w
+      → IsServed w who requests.Due (answer_reply (Ok answer)) w
   told_due (answers.Due calls version) told now = record { reply_is = λ i. replies.Due (told i) (now i); next_is = refl }
   told_due answer told now = absurd told
 
   told_flight : (call : List ℕ) (sec : Option ℕ) (answer : Answer) → IsTold s.setup s.history (asks.Flight call sec) answer
-      → IsServed w who (requests.Flight call sec) (read_answer_reply (Ok answer)) w
+      → IsServed w who (requests.Flight call sec) (answer_reply (Ok answer)) w
   told_flight call sec (answers.Flight view) told =
       there w call sec (flight_of (state_of s.setup s.history).records call) view told
   told_flight call sec answer told = absurd told
 
   told_history : (from to : ℕ) (answer : Answer) → IsTold s.setup s.history (asks.History from to) answer → version_of answer ≡ length s.history
-      → IsServed w who (requests.History from to) (read_answer_reply (Ok answer)) w
+      → IsServed w who (requests.History from to) (answer_reply (Ok answer)) w
   told_history from to (answers.History entries version) told now = record { reply_is = λ i. replies.History (told i) (now i); next_is = refl }
   told_history from to answer told now = absurd told
 
   told_served : (request : Request) (answer : Answer) → IsReadRequest request → IsTold s.setup s.history (read_ask request) answer
-      → version_of answer ≡ length s.history → IsServed w who request (read_answer_reply (Ok answer)) w
+      → version_of answer ≡ length s.history → IsServed w who request (answer_reply (Ok answer)) w
   told_served requests.List answer reading told now = told_list answer told now
   told_served requests.Check answer reading told now = told_check answer told now
   told_served requests.Due answer reading told now = told_due answer told now
@@ -82,8 +83,8 @@ module _ (s : Story) (areas : List Area) (actors : List Actor) (who : ℕ) where
   untold_served request refusal version reading untold now = absurd reading
 
   pub read_told : (request : Request) (r : Result Answer No) → IsReadRequest request → IfOk r (IsToldNow s (read_ask request))
-      → IfErr r (IsUntold s (read_ask request)) → IsServed w who request (read_answer_reply r) w
-      ⊎ IsRefused w replies.Memory (read_answer_reply r) w
+      → IfErr r (IsUntold s (read_ask request)) → IsServed w who request (answer_reply r) w
+      ⊎ IsRefused w replies.Memory (answer_reply r) w
   read_told request (Ok answer) reading told untold = inl (told_served request answer reading told.told told.now)
   read_told request (Err (nos.Refused refusal version)) reading told untold = inl (untold_served request refusal version reading untold.0 untold.1)
   read_told request (Err nos.Memory) reading told untold = inr (record { reply_is = refl; same = refl })

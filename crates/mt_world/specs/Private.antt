@@ -1,6 +1,6 @@
 -- What no public contract names: invariants and relations of private steps.
 pub mod Kept
+pub mod Reading
 pub mod Sound
 pub mod Stage
-pub mod Told
 pub mod Unadded

@@ -8,10 +8,10 @@ ghost use Rattle.mt_machine.specs.Book.{with_all};
 ghost use Rattle.mt_world.specs.Private.Sound.{IsAdvisedOf, IsKeptOf, IsUnadvisedOf, clearances_of};
 ghost use Rattle.mt_world.specs.World.{IsAdviceAnswered, IsRefused, actor_of, items_from, setup_of, with_book};
 
-use crate::telling::refused;
 use crate::centre::Centre;
 use mt_base::{Callsign, Memory};
 use mt_board::{Advised, No, Probed};
+use mt_lines::refused;
 use mt_probe::Probe;
 use mt_snapshot_advice::advise;
 use mt_write::{AdviceItem, AdviceList, Reply};

@@ -7,10 +7,10 @@ ghost use Rattle.mt_picture.specs.Story.{IsEntered, IsPrepGivenFor, IsCommandRef
 ghost use Rattle.mt_world.specs.Private.Sound.{story_of};
 ghost use Rattle.mt_world.specs.World.{IsAccepted, IsCommandAnswered, IsRefused};
 
-use crate::telling::changed;
 use crate::centre::Centre;
 use mt_base::{Command, Entered, Refusal, Tally};
 use mt_board::{No, Probed};
+use mt_lines::changed;
 use mt_probe::{Prep, makes_strand, prepare};
 use mt_write::Reply;
 

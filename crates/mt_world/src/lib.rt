@@ -13,7 +13,6 @@ mod reading;
 mod script;
 mod setting;
 mod settling;
-mod telling;
 mod world;
 
 pub use laws::one_answer_law;

@@ -9,10 +9,10 @@ ghost use Rattle.mt_lines.specs.Fit.{IsFit};
 ghost use Rattle.mt_world.specs.Private.Sound.{IsKeptOf, IsProbeOf, IsUnprobedOf};
 ghost use Rattle.mt_world.specs.World.{IsGiven, IsProbeAnswered, IsRefused, actor_of, setup_of, with_all_taken, with_book};
 
-use crate::telling::refused;
 use crate::centre::Centre;
 use mt_base::{Callsign, Clearance, Second, Tally};
 use mt_board::{No, Probed};
+use mt_lines::refused;
 use mt_probe::{Probe, what_if};
 use mt_write::Reply;
 

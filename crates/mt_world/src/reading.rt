@@ -7,12 +7,13 @@ ghost use Rattle.mt_base.specs.View.{view_of};
 ghost use Rattle.mt_board.specs.declared.ask.Ask.TheVariants as asks;
 ghost use Rattle.mt_write.specs.declared.reply.Reply.TheVariants as replies;
 ghost use Rattle.mt_lines.specs.Fit.{IsFit};
+ghost use Rattle.mt_world.specs.Private.Reading.{read_ask};
 ghost use Rattle.mt_world.specs.Reading.{IsReadRequest, IsToldNow, IsUntold};
 ghost use Rattle.mt_world.specs.World.{Actor, IsRefused, IsServed, world_of};
 
-use crate::telling::{ask_of, told};
 use mt_base::{Callsign, Conflicts, Entries, FlightView, Refusal, Second, Tally};
 use mt_board::{Answer, Ask, No};
+use mt_lines::told;
 use mt_memory::Memory;
 use mt_picture::Picture;
 use mt_read::Request;
@@ -35,6 +36,27 @@ pub fn tell<R: Threads + Sync>(
     ensures fit { IsFit result }
 {
     told(read(rt, alloc, picture, &ask_of(request)))
+}
+
+// A request that asks for what holds, as what a read asks for.
+fn ask_of(request: &Request) -> Ask
+    requires { IsReadRequest request.now }
+    ensures { result ≡ read_ask request.now }
+{
+    match request {
+        Request::List => Ask::List,
+        Request::Check => Ask::Check,
+        Request::Due => Ask::Due,
+        Request::Flight { call, sec } => Ask::Flight {
+            call: *call,
+            sec: *sec,
+        },
+        Request::History { from, to } => Ask::History {
+            from: *from,
+            to: *to,
+        },
+        _ => unreachable!(),
+    }
 }
 
 /// Tells what is asked for, at the version now. It is refused exactly where a flight is asked for and there is none of that callsign.

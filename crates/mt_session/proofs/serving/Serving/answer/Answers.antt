@@ -1,4 +1,4 @@
-use Rattle.std.proofs.Common.{◌≡◌, ◌≤◌, ℕ, List, length, Ok, inl, inr, ⊎_elim, false, refl, arith}
+use Rattle.std.proofs.Common.{◌≡◌, ◌≤◌, ℕ, List, length, Ok, Err, ap, inl, inr, ⊎_elim, false, refl, arith}
 use Rattle.std.proofs.lemmas.Bool.Decides.{nat_tests}
 use Rattle.std.specs.Prelude.{nat_lt}
 use Rattle.mt_base.specs.Rules.{usual_rules}
@@ -27,7 +27,7 @@ returns-in-Ok-clause-job g c =
     rw is c.serve.ensures.job
 
 pub returns-in-Err-clause-replied : goal.returns-in-Err-clause-replied
-returns-in-Err-clause-replied g c = unread_replied c.args.self.now.session c.args.line.now c.in-Err.no _ c.requires.short (rw (c.sender.ensures, c.usual.ensures.value) at c.in-Err.ensures.exact) c.unread.ensures.reply
+returns-in-Err-clause-replied g c = unread_replied c.args.self.now.session c.args.line.now c.in-Err.no _ c.requires.short (rw (c.sender.ensures, c.usual.ensures.value) at c.in-Err.ensures.exact) (ap Err c.unread.ensures.reply)
 
 pub returns-in-Ok-clause-on : goal.returns-in-Ok-clause-on
 returns-in-Ok-clause-on g c = c.serve.ensures.on

@@ -4,7 +4,7 @@ use Rattle.mt_base.specs.declared.command.Command.TheVariants.{Accept}
 use Rattle.mt_base.specs.History.{WasFree}
 use Rattle.mt_probe.specs.Hits.{Trial}
 use Rattle.mt_write.specs.declared.reply.Reply.TheVariants as replies
-use Rattle.mt_world.specs.Private.Told.{entered_reply}
+use Rattle.mt_lines.specs.Told.{entered_reply}
 use Rattle.mt_world.specs.World.{IsCommandAnswered, IsRefused}
 use Rattle.mt_picture.specs.Story.{Story}
 use Rattle.mt_base.proofs.Cases.{empty_list}

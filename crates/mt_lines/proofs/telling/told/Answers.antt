@@ -1,5 +1,5 @@
 use Rattle.std.proofs.Common.{refl}
-use Rattle.mt_session.proofs.telling.told.Goals as goal
+use Rattle.mt_lines.proofs.telling.told.Goals as goal
 
 pub returns-in-Ok-List-clause-reply : goal.returns-in-Ok-List-clause-reply
 returns-in-Ok-List-clause-reply c = rw (c.in-Ok-List.is, c.in-Ok-List.field-0-is) refl

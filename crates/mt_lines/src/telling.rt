@@ -1,16 +1,29 @@
 //! What is answered, as replies.
 ghost use Rattle.std.specs.Prelude.{◌≡◌};
 ghost use Rattle.mt_lines.specs.Fit.{IsFit};
-ghost use Rattle.mt_world.specs.Private.Told.{entered_reply, no_reply, read_answer_reply, read_ask};
-ghost use Rattle.mt_world.specs.Reading.{IsReadRequest};
+ghost use Rattle.mt_lines.specs.Told.{answer_reply, entered_reply, no_reply};
+ghost use Rattle.mt_wire.specs.Refused.{unread_reply};
 
 use mt_base::Entered;
-use mt_board::{Answer, Ask, No};
-use mt_read::Request;
+use mt_board::{Answer, No};
+use mt_wire::LineNo;
 use mt_write::Reply;
 
+/// Why a line can't be read, as a reply.
+pub fn unread(no: LineNo) -> Reply
+    ensures reply { result ≡ unread_reply no }
+    ensures fit { IsFit result }
+{
+    match no {
+        LineNo::Json => Reply::Json,
+        LineNo::Form(name) => Reply::Form(name),
+        LineNo::Range(name) => Reply::Range(name),
+        LineNo::Memory => Reply::Memory,
+    }
+}
+
 /// Why nothing is given, as a reply.
-pub(crate) fn refused(no: No) -> Reply
+pub fn refused(no: No) -> Reply
     ensures reply { result ≡ no_reply no }
     ensures fit { IsFit result }
 {
@@ -21,7 +34,7 @@ pub(crate) fn refused(no: No) -> Reply
 }
 
 /// What a command is answered, as a reply.
-pub(crate) fn changed(outcome: Result<Entered, No>) -> Reply
+pub fn changed(outcome: Result<Entered, No>) -> Reply
     ensures reply { result ≡ entered_reply outcome }
     ensures fit { IsFit result }
 {
@@ -31,30 +44,9 @@ pub(crate) fn changed(outcome: Result<Entered, No>) -> Reply
     }
 }
 
-/// A request that asks for what holds, as what a read asks for.
-pub(crate) fn ask_of(request: &Request) -> Ask
-    requires { IsReadRequest request.now }
-    ensures { result ≡ read_ask request.now }
-{
-    match request {
-        Request::List => Ask::List,
-        Request::Check => Ask::Check,
-        Request::Due => Ask::Due,
-        Request::Flight { call, sec } => Ask::Flight {
-            call: *call,
-            sec: *sec,
-        },
-        Request::History { from, to } => Ask::History {
-            from: *from,
-            to: *to,
-        },
-        _ => unreachable!(),
-    }
-}
-
 /// What a read is answered, as a reply.
-pub(crate) fn told(outcome: Result<Answer, No>) -> Reply
-    ensures reply { result ≡ read_answer_reply outcome }
+pub fn told(outcome: Result<Answer, No>) -> Reply
+    ensures reply { result ≡ answer_reply outcome }
     ensures fit { IsFit result }
 {
     match outcome {
