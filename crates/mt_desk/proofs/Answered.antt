@@ -38,7 +38,7 @@ use Rattle.mt_probe.specs.Prepared.{IsPrepOf, IsRefusedOn, MakesStrand, Prepared
 use Rattle.mt_probe.specs.Shot.{Shot}
 use Rattle.mt_probe.specs.Shot.{state_in_shot as state_in}
 use Rattle.mt_probe.proofs.Aside.{aside_refused}
-use Rattle.mt_snapshot_advice.specs.Advised.{IsAdvisedOn, IsFreeFor, IsNotAdvisedOn}
+use Rattle.mt_snapshot.specs.Advised.{IsAdvisedOn, IsFreeFor, IsNotAdvisedOn}
 use Rattle.mt_desk.specs.Desk.{Hand, seat_of}
 use Rattle.mt_desk.specs.Private.Taken.{StandsFor}
 

@@ -16,7 +16,7 @@ use mt_base::{Callsign, Clearance, Command, Entered, Second, Tally};
 use mt_board::{Advised, Answer, Ask, Board, No, Probed};
 use mt_io::Gate;
 use mt_probe::{Probe, makes_strand, prepare, what_if};
-use mt_snapshot_advice::advise;
+use mt_snapshot::advise;
 use std::sync::Wait;
 use std::thread::Threads;
 

@@ -8,7 +8,7 @@ ghost use Rattle.mt_desk.specs.Desk.{IsSeatOfDesk, seat_of};
 use crate::desk::{Desk, Seat};
 use mt_base::{Callsign, Refusal, Second, Tally};
 use mt_board::{Answer, No};
-use mt_snapshot_view::{check, due, view};
+use mt_snapshot::{check, due, view};
 use std::sync::Wait;
 use std::thread::Threads;
 

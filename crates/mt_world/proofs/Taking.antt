@@ -16,7 +16,7 @@ use Rattle.mt_machine.specs.Book.{with_all, with_probe}
 use Rattle.mt_picture.specs.Story.{Story}
 use Rattle.mt_probe.specs.Hits.{IsTried, Trial, told_of}
 use Rattle.mt_probe.specs.Shot.{state_in_shot as state_in}
-use Rattle.mt_snapshot_advice.specs.Advised.{IsAdvisedOn}
+use Rattle.mt_snapshot.specs.Advised.{IsAdvisedOn}
 use Rattle.mt_write.specs.declared.reply.AdviceItem.{AdviceItem}
 use Rattle.mt_write.specs.declared.reply.Reply.TheVariants as replies
 use Rattle.mt_world.specs.declared.actor.Actor.{Actor}

@@ -13,7 +13,7 @@ use mt_base::{Callsign, Memory};
 use mt_board::{Advised, No, Probed};
 use mt_lines::refused;
 use mt_probe::Probe;
-use mt_snapshot_advice::advise;
+use mt_snapshot::advise;
 use mt_write::{AdviceItem, AdviceList, Reply};
 use std::alloc::Global;
 use std::thread::Threads;

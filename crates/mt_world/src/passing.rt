@@ -10,7 +10,7 @@ ghost use Rattle.mt_world.specs.World.{AreAreasTold, IsRefused, picture_of, setu
 use crate::centre::Centre;
 use mt_area::{AreaNo, pierced};
 use mt_base::{FixName, Memory, Pierces};
-use mt_snapshot_view::roster_of;
+use mt_snapshot::roster_of;
 use mt_write::Reply;
 use std::thread::Threads;
 

@@ -17,7 +17,7 @@ use mt_lines::told;
 use mt_memory::Memory;
 use mt_picture::Picture;
 use mt_read::Request;
-use mt_snapshot_view::{check, due, view};
+use mt_snapshot::{check, due, view};
 use mt_write::Reply;
 use std::alloc::Global;
 use std::thread::Threads;

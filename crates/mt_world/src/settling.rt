@@ -9,7 +9,7 @@ ghost use Rattle.mt_world.specs.World.{IsSettling, IsStarved, picture_of, setup_
 use crate::centre::Centre;
 use mt_base::{Callsign, Calls, Command, Memory, Tally};
 use mt_board::No;
-use mt_snapshot_view::due;
+use mt_snapshot::due;
 use mt_write::Reply;
 
 impl Centre {

@@ -10,7 +10,7 @@ use mt_board::{Answer, Ask, Board};
 use mt_desk::{Desk, Hand, Seat};
 use mt_io::OpenGate;
 use mt_picture::Picture;
-use mt_snapshot_view::check;
+use mt_snapshot::check;
 use std::alloc::Global;
 use std::process::Abort;
 use std::sync::Wait;

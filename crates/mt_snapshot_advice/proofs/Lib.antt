@@ -1,3 +1,0 @@
-pub mod OneAnswer
-pub mod Planned
-pub mod Probes

@@ -1,6 +1,0 @@
-mod Dues
-mod Filling
-mod FiledOrder
-mod Placing
-mod Told
-mod Trajectories
