@@ -1,11 +1,16 @@
 pub mod Closing
+pub mod Endings
+pub mod EntriesFed
 pub mod Idle
+pub mod NeverBye
+pub mod NeverMemory
 pub mod OneReply
 pub mod Opened
+pub mod OpeningPassed
 pub mod Replying
+pub mod RunCaughtUp
 pub mod Served
 pub mod Stood
 pub mod SummedUp
 pub mod Turning
 pub mod WordLemmas
-pub mod Endings

@@ -1,7 +1,13 @@
 ghost use Rattle.std.specs.Prelude.{◌≡◌, ℕ, List, true, false, Ok};
 ghost use Rattle.mt_base.specs.declared.area.Area.{Area};
+ghost use Rattle.mt_io.specs.Lines.{lines_of};
+ghost use Rattle.mt_picture.specs.Story.{Story};
 ghost use Rattle.mt_read.specs.declared.request.Request.TheVariants as requests;
+ghost use Rattle.mt_standby.specs.Law.{HasCaughtUp};
 ghost use Rattle.mt_write.specs.declared.reply.Reply.{Reply};
+ghost use Rattle.mt_top.specs.declared.status.Status.TheVariants.{Done};
+ghost use Rattle.mt_top.specs.Following.{AreStoodBy, EndsCaughtUp, FollowsPrimary};
+ghost use Rattle.mt_top.specs.Run.{StandbyMeans};
 ghost use Rattle.mt_top.specs.Script.{IsAnswered, asked};
 ghost use Rattle.mt_world.specs.World.{AreAreasTold, IsAreaAdded, World};
 
@@ -20,4 +26,15 @@ pub fn areas_law()
         → AreAreasTold w reply next }
     ensures added { (w : World) (who : ℕ) (area : Area) (reply : Reply) (next : World) → w.begun ≡ false
         → IsAnswered w (Ok (who, requests.Area area)) reply next → IsAreaAdded w area reply next }
+{}
+
+/// A run of `standby` that was given the lines that set a primary up, and then the texts of the first n entries of the primary's history, and
+/// that wrote no `memory`, has exactly these entries, and publishes what the primary published at version n. `lines` says so of lines that were
+/// answered, whatever comes after them; `done` of a whole input, by what [`run`](crate::run) with the status `Done` means. That no such text
+/// is too long for a line is no premise, and follows from replaying.
+pub fn standby_run_law()
+    ensures lines { (primary : Story) (n : ℕ) (lines : List (List ℕ)) (bytes : List ℕ) (end : World) → FollowsPrimary primary n lines bytes
+        → AreStoodBy lines bytes end → HasCaughtUp primary.setup primary.history n end }
+    ensures done { (primary : Story) (n : ℕ) (input left written : List ℕ) → FollowsPrimary primary n (lines_of input) written
+        → StandbyMeans Done input left written → EndsCaughtUp primary n input left written }
 {}
