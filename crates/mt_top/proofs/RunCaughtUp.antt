@@ -10,7 +10,7 @@ use Rattle.mt_lines.specs.Given.{is_farewell}
 use Rattle.mt_picture.specs.Story.{Story}
 use Rattle.mt_standby.proofs.CaughtUp.{caught_up}
 use Rattle.mt_standby.specs.Law.{HasCaughtUp}
-use Rattle.mt_standby.specs.Standby.{world_of}
+use Rattle.mt_standby.specs.Standby.{standby_world}
 use Rattle.mt_world.specs.World.{World, opening_world, setup_of}
 use Rattle.mt_write.proofs.EntryLengths.{each_short}
 use Rattle.mt_write.specs.declared.reply.Reply.{Reply}
@@ -29,7 +29,7 @@ use Rattle.mt_top.proofs.OpeningPassed.{Opens, Stands, passed}
 use Rattle.mt_top.proofs.Stood.{opened_begun, opened_history}
 
 -- the setup stays that of the script
-setup_still : (b : Bool) (m : World) → setup_of (cond b (world_of (record { setup = setup_of m; history = m.history })) m) ≡ setup_of m
+setup_still : (b : Bool) (m : World) → setup_of (cond b (standby_world (record { setup = setup_of m; history = m.history })) m) ≡ setup_of m
 setup_still true m = refl
 setup_still false m = refl
 
