@@ -1,5 +1,5 @@
 -- Lines answered one by one up to the last one.
-use Rattle.std.specs.Prelude.{◌||◌, Bool, []}
+use Rattle.std.specs.Prelude.{◌||◌, Bool}
 use Rattle.mt_lines.specs.Given.{is_farewell}
 use Rattle.mt_write.specs.declared.reply.Reply.{Reply}
 use Rattle.mt_world.specs.Begun.{is_begin}

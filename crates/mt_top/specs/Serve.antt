@@ -1,5 +1,5 @@
 -- What serving means: the lines that set a picture up, the links that were served over it, and the line that sums it up.
-use Rattle.std.specs.Prelude.{◌≡◌, ◌⊎◌, ℕ, Bool, true, false, List, [], ◌++◌, Option}
+use Rattle.std.specs.Prelude.{◌≡◌, ◌⊎◌, ℕ, Bool, true, false, List, ◌++◌, Option}
 use Rattle.mt_io.specs.Causes.{Rose}
 use Rattle.mt_io.specs.Door.{Count}
 use Rattle.mt_io.specs.declared.source.Source as Source

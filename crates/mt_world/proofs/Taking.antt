@@ -1,5 +1,5 @@
 -- What is tried on the snapshot that an actor has taken.
-use Rattle.std.proofs.Common.{◌≡◌, ◌⊎◌, inl, inr, ℕ, ◌<◌, true, List, [], length, map, take, get_or, Option, Some, Result, Ok, Err, IfOk, refl, subst, sym, ◌∙◌, ap}
+use Rattle.std.proofs.Common.{◌≡◌, ◌⊎◌, inl, inr, ℕ, ◌<◌, List, length, map, take, get_or, Option, Some, Result, Ok, Err, IfOk, refl, subst, sym, ◌∙◌, ap}
 use Rattle.mt_base.specs.declared.area.Area.{Area}
 use Rattle.mt_base.specs.declared.clearance.Clearance.{Clearance}
 use Rattle.mt_base.specs.declared.hit.Hit.{Hit}
@@ -10,7 +10,7 @@ use Rattle.mt_base.specs.Tables.{Setup}
 use Rattle.mt_base.specs.Tally.{raised}
 use Rattle.mt_board.specs.declared.no.No.{No}
 use Rattle.mt_board.specs.declared.no.No.TheVariants as nos
-use Rattle.mt_board.specs.Probing.{Probe, free_probe}
+use Rattle.mt_board.specs.Probing.{free_probe}
 use Rattle.mt_lines.specs.Fit.{AreBrief}
 use Rattle.mt_machine.specs.Book.{with_all, with_probe}
 use Rattle.mt_picture.specs.Story.{Story}

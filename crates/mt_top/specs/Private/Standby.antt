@@ -1,5 +1,5 @@
 -- No public contract names these: they are of private steps and of proofs.
-use Rattle.std.specs.Prelude.{◌≡◌, false, Option, Some, None, unwrap_or, if◌then◌else◌}
+use Rattle.std.specs.Prelude.{◌≡◌, false, Option, Some, None, unwrap_or}
 use Rattle.mt_picture.specs.Story.{Story}
 use Rattle.mt_standby.specs.Standby.{standby_world}
 use Rattle.mt_world.specs.World.{World, opening_world}

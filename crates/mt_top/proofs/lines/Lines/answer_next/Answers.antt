@@ -1,4 +1,4 @@
-use Rattle.std.proofs.Common.{false, sym, ap, ◌∙◌, true≢false, arith}
+use Rattle.std.proofs.Common.{false, sym, ◌∙◌, true≢false, arith}
 use Rattle.mt_io.specs.declared.line.LineFault.TheVariants as faults
 use Rattle.mt_write.specs.declared.reply.Reply.TheVariants as replies
 use Rattle.mt_top.proofs.Endings.{failed, goes_on, goes_on_still, no_read}
