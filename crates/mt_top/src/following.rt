@@ -7,9 +7,9 @@ ghost use Rattle.mt_top.specs.Standby.{IsStoodBy, opened};
 
 use crate::answering::{Answers, answer};
 use mt_base::Memory;
-use mt_world::Script;
 use mt_standby::Standby;
 use mt_wire::{Reply, Scratch};
+use mt_world::Script;
 use std::alloc::Global;
 use std::marker::Model;
 use std::thread::Threads;

@@ -19,8 +19,8 @@ use mt_base::Memory;
 use mt_io::{Line, LineFault, LineReader, Sink, Source};
 use mt_lines::Waiting;
 use mt_picture::Picture;
-use mt_world::Script;
 use mt_wire::{Reply, Scratch};
+use mt_world::Script;
 use std::alloc::Global;
 use std::thread::Threads;
 

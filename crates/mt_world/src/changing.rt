@@ -44,12 +44,7 @@ impl Centre {
     }
 
     // What is prepared for a command on the state now, where it makes a trajectory; or why it is refused.
-    fn prepared(
-        &self,
-        who: u32,
-        command: &Command,
-        tests: &mut Tally,
-    ) -> Result<Option<Prep>, No>
+    fn prepared(&self, who: u32, command: &Command, tests: &mut Tally) -> Result<Option<Prep>, No>
         requires bounded { IsBoundedCommand command.now }
         requires asked { IsAskedFor command.now }
         ensures given { IfOk result (IsPrepGivenFor (story_of self.now) who command.now) }

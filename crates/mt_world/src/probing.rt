@@ -85,14 +85,7 @@ impl Centre {
         let taken = &self.actors[who as usize].taken;
         let (tables, rules) = (taken.tables(), taken.rules());
         what_if(
-            self.alloc,
-            taken,
-            tables,
-            rules,
-            call,
-            clearance,
-            eff,
-            tests,
+            self.alloc, taken, tables, rules, call, clearance, eff, tests,
         )
     }
 

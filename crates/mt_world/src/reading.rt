@@ -23,12 +23,7 @@ use std::alloc::Global;
 use std::thread::Threads;
 
 /// The reply to a request that asks for what holds now: that of each world of this picture, whoever asks; or `Memory`.
-pub fn tell<R: Threads + Sync>(
-    rt: &R,
-    alloc: Global,
-    picture: &Picture,
-    request: &Request,
-) -> Reply
+pub fn tell<R: Threads + Sync>(rt: &R, alloc: Global, picture: &Picture, request: &Request) -> Reply
     requires { IsReadRequest request.now }
     ensures told { (areas : List Area) (actors : List Actor) (who : ℕ)
         → IsServed (world_of picture.now areas actors) who request.now result (world_of picture.now areas actors)

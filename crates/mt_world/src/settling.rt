@@ -7,7 +7,7 @@ ghost use Rattle.mt_lines.specs.Fit.{IsFit};
 ghost use Rattle.mt_world.specs.World.{IsSettling, IsStarved, picture_of, setup_of};
 
 use crate::centre::Centre;
-use mt_base::{Callsign, Calls, Command, Memory, Tally};
+use mt_base::{Calls, Callsign, Command, Memory, Tally};
 use mt_board::No;
 use mt_snapshot::due;
 use mt_write::Reply;
@@ -42,12 +42,7 @@ impl Centre {
     }
 
     // Renews some flights, one after the other. Where memory is wanted, those before stay renewed.
-    fn renew_all(
-        &mut self,
-        who: u32,
-        calls: &[Callsign],
-        tests: &mut Tally,
-    ) -> Result<(), Memory>
+    fn renew_all(&mut self, who: u32, calls: &[Callsign], tests: &mut Tally) -> Result<(), Memory>
         ensures kept { self.new ≡ record self.old { history = self.new.history } }
         ensures ok { OnOk result (AreRenewed (setup_of self.old) who calls.now self.old.history self.new.history) }
         ensures err { OnErr result ((done : List (List ℕ)) × (left : List (List ℕ)) × (calls.now ≡ done ++ left)

@@ -29,8 +29,8 @@ returns-clause-kept c =
     let actor = actor_is items c.args.who a within c.index_mut.ensures.value in
     let book = told_push told_of a.book c.args.probe ∙ ap (λ (b : world.Actor). with_probe b.book (told_of c.args.probe)) (sym actor) in
     rw (← c.self.view_is, c.put.ensures.kept) (λ i. world_of c.self.inside.picture c.self.inside.areas
-      ((book_view items c.args.who a (with_probe a.book c.args.probe) within c.index_mut.ensures.value
-          ∙ ap (λ (b : Book Probe). slice_set (map actor_shown items) c.args.who (record (get_or (map actor_shown items) c.args.who new_actor) { book = b })) book) i))
+    ((book_view items c.args.who a (with_probe a.book c.args.probe) within c.index_mut.ensures.value
+    ∙ ap (λ (b : Book Probe). slice_set (map actor_shown items) c.args.who (record (get_or (map actor_shown items) c.args.who new_actor) { book = b })) book) i))
 
 pub returns-clause-number : goal.returns-clause-number
 returns-clause-number c =

@@ -28,5 +28,5 @@ returns c =
     let actor = actor_is items c.args.who a within c.index_mut.ensures.value in
     let book = told_all told_of a.book c.args.probes.items ∙ ap (λ (b : world.Actor). with_all b.book (map told_of c.args.probes.items)) (sym actor) in
     rw (← c.self.view_is, c.put_all.ensures) (λ i. world_of c.self.inside.picture c.self.inside.areas
-      ((book_view items c.args.who a (with_all a.book c.args.probes.items) within c.index_mut.ensures.value
-          ∙ ap (λ (b : Book Probe). slice_set (map actor_shown items) c.args.who (record (get_or (map actor_shown items) c.args.who new_actor) { book = b })) book) i))
+    ((book_view items c.args.who a (with_all a.book c.args.probes.items) within c.index_mut.ensures.value
+    ∙ ap (λ (b : Book Probe). slice_set (map actor_shown items) c.args.who (record (get_or (map actor_shown items) c.args.who new_actor) { book = b })) book) i))

@@ -27,6 +27,6 @@ returns-clause-answered c =
     inl (record {
       reply_is = rw (← c.self.view_is) (ap Taken c.version.ensures);
       next_is = rw (← c.self.view_is) (λ i. world_of story c.self.inside.areas
-        ((taken_view items c.args.who c.index_mut.result.now c.in-Ok.taken within c.index_mut.ensures.value
-            ∙ ap (λ (n : ℕ). slice_set (map actor_shown items) c.args.who (record (get_or (map actor_shown items) c.args.who new_actor) { taken = n })) counted) i));
+          ((taken_view items c.args.who c.index_mut.result.now c.in-Ok.taken within c.index_mut.ensures.value
+          ∙ ap (λ (n : ℕ). slice_set (map actor_shown items) c.args.who (record (get_or (map actor_shown items) c.args.who new_actor) { taken = n })) counted) i));
     })
