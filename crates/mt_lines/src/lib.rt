@@ -1,12 +1,15 @@
-//! Lines answered one by one: what a run of them means, whatever answers them, what is answered as replies, and replies on their way out.
+//! Lines answered one by one: what a run of them means, whatever answers them, what is answered as replies, replies on their
+//! way out, and lines that tell numbers.
 //!
 //! The definitions of `specs/` speak of any state, any reply, any way in which a line is replied to and any work that follows a reply.
 //! A script and a session are instances; their runs are put together by the lemmas of `proofs/`, which speak of the same.
 #![tactic(auto)]
 
 mod given_text;
+mod numbers;
 mod telling;
 mod waiting;
 
+pub use numbers::put_number;
 pub use telling::{changed, refused, told, unread};
 pub use waiting::Waiting;

@@ -17,7 +17,7 @@ use Rattle.mt_history.specs.Printed.{AreReadAsEntries, printed}
 use Rattle.mt_picture.specs.Story.{Story}
 use Rattle.mt_load.specs.declared.summary.Summary.{Summary}
 use Rattle.mt_load.specs.Summary.{IsCountedAgain, IsSummary}
-use Rattle.mt_summary.specs.Sizes.{IsPublishedCount}
+use Rattle.mt_picture.specs.Sizes.{IsPublishedCount}
 use Rattle.mt_world.specs.World.{World, setup_of}
 
 one_published : (setup : Setup) (s : State) (some others : List Conflict) → IsPublished setup s some → IsPublished setup s others → some ≡ others

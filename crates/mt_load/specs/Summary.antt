@@ -8,7 +8,7 @@ use Rattle.mt_history.specs.Printed.{AreReadAsEntries, printed}
 use Rattle.mt_io.specs.Lines.{lines_of}
 use Rattle.mt_load.specs.declared.summary.Summary.{Summary}
 use Rattle.mt_load.specs.Load.{IsLoadRun}
-use Rattle.mt_summary.specs.Sizes.{IsPublishedCount}
+use Rattle.mt_picture.specs.Sizes.{IsPublishedCount}
 use Rattle.mt_write.specs.Entry.{whole}
 use Rattle.mt_world.specs.World.{World, picture_of, setup_of}
 

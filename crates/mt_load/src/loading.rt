@@ -6,7 +6,7 @@ use crate::again::again;
 use crate::driving::drive;
 use crate::summary::Summary;
 use mt_memory::Memory;
-use mt_summary::sizes_of;
+use mt_picture::sizes_of;
 use mt_world::Script;
 use std::alloc::Global;
 use std::thread::Threads;

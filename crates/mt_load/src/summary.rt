@@ -2,8 +2,8 @@
 ghost use Rattle.std.specs.Prelude.{◌≡◌, IfOk};
 ghost use Rattle.mt_load.specs.Summary.{summary_text};
 
+use mt_lines::put_number;
 use mt_memory::Memory;
-use mt_summary::put_number;
 use std::alloc::Global;
 
 /// What a load run is summed up as.

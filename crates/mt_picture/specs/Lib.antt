@@ -1,5 +1,6 @@
 pub mod Asked
 pub mod Laws
 pub mod Private
+pub mod Sizes
 pub mod Stamps
 pub mod Story

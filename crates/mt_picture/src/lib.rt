@@ -12,9 +12,11 @@ mod later;
 mod laws;
 mod picture;
 mod places;
+mod sizes;
 mod usable;
 
 pub use laws::{restoring_law, stale_law};
 pub use mt_board::No;
 pub use mt_memory::Memory;
 pub use picture::Picture;
+pub use sizes::{Sizes, sizes_of};

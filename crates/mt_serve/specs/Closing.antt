@@ -3,8 +3,8 @@ use Rattle.std.specs.Prelude.{◌≡◌, ℕ, pos, List, [], ◌∷◌, ◌++◌
 use Rattle.serde_json.specs.Data.{Data, object, no_members, member}
 use Rattle.serde_json.specs.Written.{compact_text}
 use Rattle.mt_picture.specs.Story.{Story}
-use Rattle.mt_summary.specs.declared.sizes.Sizes.{Sizes}
-use Rattle.mt_summary.specs.Sizes.{AreSizes}
+use Rattle.mt_picture.specs.declared.sizes.Sizes.{Sizes}
+use Rattle.mt_picture.specs.Sizes.{AreSizes}
 use Rattle.mt_write.specs.Entry.{whole}
 use Rattle.mt_serve.specs.declared.closing.Closing.{Closing}
 use Rattle.mt_serve.specs.declared.counts.Counts.{Counts}

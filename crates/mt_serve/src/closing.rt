@@ -3,8 +3,9 @@ ghost use Rattle.std.specs.Prelude.{◌≡◌, ◌≤◌, ◌+◌, ◌++◌, OnO
 ghost use Rattle.mt_serve.specs.Closing.{IsClosing, closing_text};
 
 use crate::service::Served;
+use mt_lines::put_number;
 use mt_memory::Memory;
-use mt_summary::{put_number, sizes_of};
+use mt_picture::sizes_of;
 
 /// What serving is summed up as: what the closed picture holds, and the sessions by how they ended.
 #[derive(Clone, Copy, Debug, PartialEq, Eq)]

@@ -5,7 +5,7 @@ use Rattle.mt_base.specs.declared.conflict.Conflict.{Conflict}
 use Rattle.mt_base.specs.Effect.{state_of}
 use Rattle.mt_base.specs.Picture.{IsPublished}
 use Rattle.mt_base.specs.Tables.{Setup}
-use Rattle.mt_summary.specs.declared.sizes.Sizes.{Sizes}
+use Rattle.mt_picture.specs.declared.sizes.Sizes.{Sizes}
 
 -- how many conflicts a history publishes
 pub record IsPublishedCount (setup : Setup) (history : List Entry) (n : ℕ) : Type 0 where

@@ -1,7 +1,7 @@
 //! How much a picture holds.
-ghost use Rattle.mt_summary.specs.Sizes.{AreSizes};
+ghost use Rattle.mt_picture.specs.Sizes.{AreSizes};
 
-use mt_picture::Picture;
+use crate::picture::Picture;
 
 /// How much a picture holds.
 #[derive(Clone, Copy, Debug, PartialEq, Eq)]
