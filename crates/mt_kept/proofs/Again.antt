@@ -1,9 +1,9 @@
 -- The pairs of a place, as finds.
-use Rattle.std.proofs.Common.{◌≡◌, ◌≢◌, ℕ, ◌<◌, ◌⊎◌, inl, inr, ⊎_elim, true, true≢false, not, List, ◌++◌, map, Contains, Option, Some, sym, ◌∙◌, ap, subst, arith}
-use Rattle.std.specs.List.{filter}
+use Rattle.std.proofs.Common.{◌≡◌, ◌≢◌, ℕ, ◌<◌, ◌≤◌, ◌⊎◌, inl, inr, ⊎_elim, Bool, true, false, true≢false, not, List, ◌++◌, map, Contains, Option, Some, refl, sym, ◌∙◌, ap, subst, arith}
+use Rattle.std.specs.List.{AllPairs, filter}
 use Rattle.std.proofs.lemmas.Bool.{cases_Bool}
 use Rattle.std.proofs.lemmas.List.{map-append}
-use Rattle.std.proofs.lemmas.List.Elements.{Contains-append_cases, Contains-append_left, Contains-append_right}
+use Rattle.std.proofs.lemmas.List.Elements.{All-contains, Contains-append_cases, Contains-append_left, Contains-append_right}
 use Rattle.std.proofs.lemmas.List.Kept.{AllPairs-filter}
 use Rattle.mt_base.specs.declared.rules.Rules.{Rules}
 use Rattle.mt_base.specs.Conflict.{IsSpanOfLoss}
@@ -16,14 +16,15 @@ use Rattle.mt_kept.specs.Places.{at}
 use Rattle.mt_base.specs.Trajectory.{horizon}
 use Rattle.mt_kept.specs.Losing.{IsPair, LoseSeparation, Touches}
 use Rattle.mt_kept.specs.Private.Losing.{AreKept}
-use Rattle.mt_kept.specs.Window.{IsOpen, edge_of}
-use Rattle.mt_kept.specs.Private.Window.{AreOpen}
-use Rattle.mt_kept.specs.Made.{is_open_pair}
-use Rattle.mt_kept.specs.Private.Made.{is_closed_pair, quiet, touches_place}
+use Rattle.mt_kept.specs.Window.{IsOpen, edge_of, straddles}
+use Rattle.mt_kept.specs.Private.Window.{AreInnerAdded, AreOpen, ShowsWhole}
+use Rattle.mt_kept.specs.Private.Made.{is_inner, is_straddler, touches_place}
 use Rattle.mt_kept.specs.Finds.{Agree, AreFindsAt}
-use Rattle.mt_kept.proofs.Keeping.{is_open_is, touches_is}
-use Rattle.mt_base.proofs.Members.{Contains-filter, Contains-map, Contains-map_cases, distinct_append, distinct_held, distinct_map}
+use Rattle.mt_kept.proofs.Keeping.{touches_is}
+use Rattle.mt_base.proofs.Members.{Contains-filter, Contains-map, Contains-map_cases, distinct_append, distinct_held, distinct_of}
 use Rattle.mt_kept.proofs.Moving.{apart_distinct}
+use Rattle.mt_kept.proofs.Publishing.{whole_shown}
+use Rattle.mt_kept.proofs.Windows.{straddles_open}
 
 -- two pairs of the same places are one
 pub same_pair : (rules : Rules) (places : List (Option NamedTrajectory)) (e f : Edge) → IsPair rules places e → IsPair rules places f → HaveSameEnds e f → e ≡ f
@@ -36,56 +37,68 @@ same_pair rules places e f p q ends =
     let one = one_span rules p.left.path p.right.path 0 horizon e.first e.last f.first f.last p.span span in
     λ i. record { a = ends.0 i; b = ends.1 i; first = one.0 i; last = one.1 i }
 
-not_open : (now : ℕ) (e : Edge) → is_closed_pair now e ≡ true → ¬ IsOpen now e
-not_open now e shut = λ meets. let t = (is_open_is now e).1 meets in true≢false (sym shut ∙ ap not t)
+inverse : (b : Bool) → not b ≡ true → b ≡ false
+inverse true e = sym e
+inverse false e = refl
 
-pub finds_again : (rules : Rules) (places : List (Option NamedTrajectory)) (now place : ℕ) (edges near : List Edge) (pairs : List OpenPair) → AreKept rules places edges
-    → AreOpen rules places now edges pairs → IsEach (λ e. touches place e ≡ true) edges near
-    → AreFindsAt rules places now place (filter (touches_place place) pairs ++ map quiet (filter (is_closed_pair now) near))
-finds_again rules places now place edges near pairs kept opened each =
-    let first = filter (touches_place place) pairs in
-    let shut = filter (is_closed_pair now) near in
-    let second = map quiet shut in
-    let from_first : (o : OpenPair) → Contains first o → Contains pairs o × Touches place o.edge = λ o held.
-    let h = (Contains-filter (touches_place place) pairs o).0 held in (h.0, (touches_is place o.edge).0 h.1) in
-    let from_second : (o : OpenPair) → Contains second o → Contains edges o.edge × Touches place o.edge × (¬ IsOpen now o.edge) = λ o held.
-    let x = Contains-map_cases quiet shut o held in
-    let s = (Contains-filter (is_closed_pair now) near x.of).0 x.held in
-    let n = (each.exact x.of).0 s.0 in
-    let e : x.of ≡ o.edge = ap (λ (p : OpenPair). p.edge) x.is in
-    (subst (Contains edges) e n.0, subst (Touches place) e ((touches_is place x.of).0 n.1), subst (λ (f : Edge). ¬ IsOpen now f) e (not_open now x.of s.1)) in
+pub finds_again : (rules : Rules) (places : List (Option NamedTrajectory)) (now place : ℕ) (edges near : List Edge) (pairs straddling finds : List OpenPair)
+    → now ≤ 10000000 → AreKept rules places edges → AreOpen rules places now edges pairs → straddling ≡ filter (is_straddler now) pairs
+    → IsEach (λ e. touches place e ≡ true) edges near → AreInnerAdded places now near (filter (touches_place place) straddling) finds
+    → AreFindsAt rules places now place finds
+finds_again rules places now place edges near pairs straddling finds early kept opened straddlers each inner =
+    let first = filter (touches_place place) straddling in
+    let second = inner.added in
+    let from_first : (o : OpenPair) → Contains first o → Contains pairs o × (straddles now o.edge ≡ true) × Touches place o.edge = λ o held.
+    let h = (Contains-filter (touches_place place) straddling o).0 held in
+    let g = (Contains-filter (is_straddler now) pairs o).0 (subst (λ (os : List OpenPair). Contains os o) straddlers h.0) in
+    (g.0, g.1, (touches_is place o.edge).0 h.1) in
+    let from_second : (o : OpenPair) → Contains second o → Contains edges o.edge × (straddles now o.edge ≡ false) × Touches place o.edge
+    × (IsOpen now o.edge → ShowsWhole places o.edge o.conflict) = λ o held.
+    let listed : Contains (filter (is_inner now) near) o.edge = subst (λ (es : List Edge). Contains es o.edge) inner.same (Contains-map edge_of second o held) in
+    let s = (Contains-filter (is_inner now) near o.edge).0 listed in
+    let n = (each.exact o.edge).0 s.0 in (
+      n.0,
+      inverse (straddles now o.edge) s.1,
+      (touches_is place o.edge).0 n.1,
+      All-contains (λ (p : OpenPair). IsOpen now p.edge → ShowsWhole places p.edge p.conflict) second o inner.shown held,
+    ) in
     let pair_of : (o : OpenPair) → Contains (first ++ second) o → IsPair rules places o.edge = λ o held. ⊎_elim
-    (λ early. kept.sound o.edge (opened.sound o (from_first o early).0).0)
-    (λ late. kept.sound o.edge (from_second o late).0) (Contains-append_cases first second o held) in
-    record {
+    (λ old. kept.sound o.edge (opened.sound o (from_first o old).0).0)
+    (λ come. kept.sound o.edge (from_second o come).0) (Contains-append_cases first second o held) in
+    subst (AreFindsAt rules places now place) (sym inner.is) (record {
       sound = λ o held. ⊎_elim
-          (λ early. let h = from_first o early in (h.1, pair_of o held, λ meets. (opened.sound o h.0).2))
-          (λ late. let h = from_second o late in (h.1, pair_of o held, λ meets. absurd (h.2 meets))) (Contains-append_cases first second o held);
+          (λ old. let h = from_first o old in (h.2, pair_of o held, λ meets. (opened.sound o h.0).2))
+          (λ come. let h = from_second o come in
+          (h.2, pair_of o held, λ meets. whole_shown rules places now o.edge o.conflict early (pair_of o held) meets h.1 (h.3 meets)))
+          (Contains-append_cases first second o held);
       complete = λ a b k before here loses.
           let j = kept.complete a b k before loses in
-          let touches : Touches place j.edge = ⊎_elim (λ x. inl (j.ends.0 ∙ x)) (λ y. inr (j.ends.1 ∙ y)) here in
-          let near_e = (each.exact j.edge).1 (j.held, (touches_is place j.edge).1 touches) in
+          let touching : Touches place j.edge = ⊎_elim (λ x. inl (j.ends.0 ∙ x)) (λ y. inr (j.ends.1 ∙ y)) here in
+          let near_e = (each.exact j.edge).1 (j.held, (touches_is place j.edge).1 touching) in
           record {
             edge = j.edge;
             held = subst (λ (es : List Edge). Contains es j.edge) (sym (map-append edge_of first second)) (⊎_elim
-                (λ meets.
-                let x = Contains-map_cases edge_of pairs j.edge (opened.complete j.edge j.held ((is_open_is now j.edge).0 meets)) in
-                let t : touches_place place x.of ≡ true = (touches_is place x.of.edge).1 (subst (Touches place) (sym x.is) touches) in
-                let in_first = Contains-map edge_of first x.of ((Contains-filter (touches_place place) pairs x.of).1 (x.held, t)) in
+                (λ straddling_here.
+                let x = Contains-map_cases edge_of pairs j.edge (opened.complete j.edge j.held (straddles_open now j.edge straddling_here)) in
+                let s = (Contains-filter (is_straddler now) pairs x.of).1 (x.held, ap (straddles now) x.is ∙ straddling_here) in
+                let t : touches_place place x.of ≡ true = (touches_is place x.of.edge).1 (subst (Touches place) (sym x.is) touching) in
+                let in_first = Contains-map edge_of first x.of ((Contains-filter (touches_place place) straddling x.of).1
+                (subst (λ (os : List OpenPair). Contains os x.of) (sym straddlers) s, t)) in
                 Contains-append_left (map edge_of first) (map edge_of second) j.edge (subst (Contains (map edge_of first)) x.is in_first))
-                (λ none.
-                let in_shut = (Contains-filter (is_closed_pair now) near j.edge).1 (near_e, ap not none) in
-                Contains-append_right (map edge_of first) (map edge_of second) j.edge
-                (Contains-map edge_of second (quiet j.edge) (Contains-map quiet shut j.edge in_shut)))
-                (cases_Bool (is_open_pair now j.edge)));
+                (λ none. Contains-append_right (map edge_of first) (map edge_of second) j.edge (subst (λ (es : List Edge). Contains es j.edge) (sym inner.same)
+                ((Contains-filter (is_inner now) near j.edge).1 (near_e, ap not none))))
+                (cases_Bool (straddles now j.edge)));
             ends = j.ends;
           };
       distinct = distinct_held (λ o p. o.edge ≢ p.edge) (λ o p. ¬ HaveSameEnds o.edge p.edge) (first ++ second)
           (λ o p in_o in_p differ. λ ends. differ (same_pair rules places o.edge p.edge (pair_of o in_o) (pair_of p in_p) ends))
-          (distinct_append (λ o p. o.edge ≢ p.edge) first second (AllPairs-filter (λ o p. o.edge ≢ p.edge) (touches_place place) pairs opened.distinct)
-          (distinct_map (λ o p. o.edge ≢ p.edge) quiet shut (AllPairs-filter (λ e f. e ≢ f) (is_closed_pair now) near (apart_distinct near each.apart)))
-          (λ o p early late. λ same. (from_second p late).2 (subst (IsOpen now) same (opened.sound o (from_first o early).0).1)));
-    }
+          (distinct_append (λ o p. o.edge ≢ p.edge) first second
+          (AllPairs-filter (λ o p. o.edge ≢ p.edge) (touches_place place) straddling (subst (AllPairs (λ o p. o.edge ≢ p.edge)) (sym straddlers)
+          (AllPairs-filter (λ o p. o.edge ≢ p.edge) (is_straddler now) pairs opened.distinct)))
+          (distinct_of (λ e f. e ≢ f) edge_of second (subst (AllPairs (λ e f. e ≢ f)) (sym inner.same)
+          (AllPairs-filter (λ e f. e ≢ f) (is_inner now) near (apart_distinct near each.apart))))
+          (λ o p old come. λ same. true≢false (sym (from_first o old).1 ∙ ap (straddles now) same ∙ (from_second p come).1)));
+    })
 
 -- they stay its finds where places change, as far as other flights go, in no other way
 ends_agree : (rules : Rules) (places after : List (Option NamedTrajectory)) (place : ℕ) (mine : NamedTrajectory) (e : Edge) → at places place ≡ Some mine

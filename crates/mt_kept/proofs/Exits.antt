@@ -32,6 +32,13 @@ first_fits slot few = omega arith
 pub second_fits : (slot : ℕ) → slot < 2 ^ 32 → Fits w64 (2 * slot + 1)
 second_fits slot few = omega arith
 
+pub first_fits_32 : (slot : ℕ) (places : List (Option NamedTrajectory)) → 2 * slot + 1 < length places → length places < 2 ^ 32 → Fits w32 (2 * slot)
+first_fits_32 slot places inside few = omega arith
+
+pub second_fits_32 : (slot : ℕ) (places : List (Option NamedTrajectory)) → 2 * slot + 1 < length places → length places < 2 ^ 32
+    → Fits w32 (2 * slot + 1)
+second_fits_32 slot places inside few = omega arith
+
 pub first_inside : (slot len : ℕ) (places : List (Option Item)) → 2 * slot + 1 < length (map seen places) → len ≡ length places → 2 * slot < len
 first_inside slot len places inside all = let same = length-map places seen in omega arith
 

@@ -1,11 +1,11 @@
 -- What stays kept when a place is filled or emptied.
-use Rattle.std.proofs.Common.{◌≡◌, ◌≢◌, ℕ, zero, suc, ◌+◌, ◌*◌, ◌<◌, ◌≤◌, ◌⊎◌, inl, inr, ⊎_elim, ◌↔◌, true, List, [], ◌∷◌, ◌++◌, map, length, ◌^◌, set, Contains, Option, Some, None, refl, sym, ◌∙◌, ap, subst, arith, replicate, get_or-set_other, get_or-set_same}
+use Rattle.std.proofs.Common.{◌≡◌, ◌≢◌, ℕ, zero, suc, ◌+◌, ◌*◌, ◌<◌, ◌≤◌, ◌⊎◌, inl, inr, ⊎_elim, ◌↔◌, Bool, true, false, List, [], ◌∷◌, ◌++◌, map, length, ◌^◌, set, Contains, Option, Some, None, refl, sym, ◌∙◌, ap, subst, arith, replicate, get_or-set_other, get_or-set_same}
 use Rattle.std.specs.List.{filter}
 use Rattle.std.proofs.Math.ListN.{get_or-eq_default}
 use Rattle.std.proofs.lemmas.List.{length-replicate, length-set}
-use Rattle.std.proofs.lemmas.Bool.{cases_eq, cases_lt}
+use Rattle.std.proofs.lemmas.Bool.{cases_Bool, cases_eq, cases_lt}
 use Rattle.std.proofs.lemmas.Bool.Decides.{nat_tests}
-use Rattle.std.proofs.lemmas.List.Elements.{Contains-append_cases, Contains-append_left, Contains-append_right}
+use Rattle.std.proofs.lemmas.List.Elements.{Contains-append_cases, Contains-append_left, Contains-append_right, filter-append}
 use Rattle.std.proofs.lemmas.List.Kept.{AllPairs-filter}
 use Rattle.mt_base.specs.declared.conflict.Conflict.{Conflict}
 use Rattle.mt_base.specs.declared.rules.Rules.{Rules}
@@ -21,10 +21,11 @@ use Rattle.mt_kept.specs.Private.Losing.{AreKept, AvoidsSlot}
 use Rattle.mt_kept.specs.Window.{IsOpen, ShowsInWindow, edge_of}
 use Rattle.mt_kept.specs.Private.Window.{AreOpen, Shows}
 use Rattle.mt_kept.specs.Made.{is_open_pair}
-use Rattle.mt_kept.specs.Private.Made.{AreReplaced, avoids, opens}
+use Rattle.mt_kept.specs.Private.Made.{AreReplaced, avoids, is_straddler, opens}
 use Rattle.mt_kept.specs.Private.Kept.{ArePairsKept}
 use Rattle.mt_kept.specs.Finds.{AreFindsOfSlot}
 use Rattle.mt_base.proofs.Members.{Contains-filter, Contains-map, Contains-map_cases, Contains-none, distinct_append}
+use Rattle.mt_kept.proofs.Windows.{straddles_open}
 
 -- the places of a slot
 pub even_half : (slot : ℕ) → slot_of (2 * slot) ≡ slot
@@ -170,6 +171,39 @@ open_put rules places now slot first second edges after finds pairs opened found
           not_both_ends slot o.edge p.edge ((avoids_is slot o).0 h.1) (found.sound p g.0).0);
     }
 
+-- and those of them that straddle an edge of the window
+filter_swap : (p q : OpenPair → Bool) (xs : List OpenPair) → filter p (filter q xs) ≡ filter q (filter p xs)
+filter_swap p q [] = refl
+filter_swap p q (x ∷ xs) = step (filter_swap p q xs) (cases_Bool (p x)) (cases_Bool (q x)) where
+  step : filter p (filter q xs) ≡ filter q (filter p xs) → (p x ≡ true) ⊎ (p x ≡ false) → (q x ≡ true) ⊎ (q x ≡ false)
+      → filter p (filter q (x ∷ xs)) ≡ filter q (filter p (x ∷ xs))
+  step rest (inl here) (inl there) = rw (here, there) (rw (here, rest) refl)
+  step rest (inl here) (inr away) = rw (here, away) rest
+  step rest (inr none) (inl there) = rw (none, there) (rw (none, rest) refl)
+  step rest (inr none) (inr away) = rw (none, away) rest
+
+filter_within : (p q : OpenPair → Bool) (xs : List OpenPair) → ((x : OpenPair) → p x ≡ true → q x ≡ true) → filter p (filter q xs) ≡ filter p xs
+filter_within p q [] within = refl
+filter_within p q (x ∷ xs) within = step (filter_within p q xs within) (cases_Bool (p x)) (cases_Bool (q x)) where
+  step : filter p (filter q xs) ≡ filter p xs → (p x ≡ true) ⊎ (p x ≡ false) → (q x ≡ true) ⊎ (q x ≡ false)
+      → filter p (filter q (x ∷ xs)) ≡ filter p (x ∷ xs)
+  step rest (inl here) q_is = rw (here, within x here) (rw (here, rest) refl)
+  step rest (inr none) (inl there) = rw (none, there) (rw (none, rest) refl)
+  step rest (inr none) (inr away) = rw (none, away) rest
+
+straddler_opens : (now : ℕ) (o : OpenPair) → is_straddler now o ≡ true → opens now o ≡ true
+straddler_opens now o some = (is_open_is now o.edge).1 (straddles_open now o.edge some)
+
+pub straddlers_put : (now slot : ℕ) (pairs finds straddling new : List OpenPair) → straddling ≡ filter (is_straddler now) pairs
+    → new ≡ filter (avoids slot) straddling ++ filter (is_straddler now) finds
+    → new ≡ filter (is_straddler now) (filter (avoids slot) pairs ++ filter (opens now) finds)
+straddlers_put now slot pairs finds straddling new are is =
+    is ∙ ap (λ (os : List OpenPair). filter (avoids slot) os ++ filter (is_straddler now) finds) are
+    ∙ ap (λ (os : List OpenPair). os ++ filter (is_straddler now) finds) (filter_swap (avoids slot) (is_straddler now) pairs)
+    ∙ ap (λ (os : List OpenPair). filter (is_straddler now) (filter (avoids slot) pairs) ++ os)
+    (sym (filter_within (is_straddler now) (opens now) finds (straddler_opens now)))
+    ∙ sym (filter-append (is_straddler now) (filter (avoids slot) pairs) (filter (opens now) finds))
+
 -- a write, seen
 pub map_set : (places : List (Option Item)) (i : ℕ) (item : Option Item) → map seen (set places i item) ≡ set (map seen places) i (seen item)
 map_set [] i item = refl
@@ -236,7 +270,9 @@ kept_made rules places n edges ends pairs list bounds few e f all g h = rw (e, f
   few = let long = length-replicate {A = Option NamedTrajectory} n None in omega arith;
   all = let long = length-replicate {A = Option NamedTrajectory} n None in omega arith;
   kept = kept_none rules n;
+  open_pairs = [];
   opened = open_none rules n 0;
+  straddlers = refl;
   exact = λ c. ((λ held. absurd (Contains-none c held)), (λ shown. absurd (Shows-nothing c shown)));
   own = λ i j s t s_is t_is same. absurd (at_replicate n i s s_is);
 })

@@ -12,3 +12,8 @@ pub mod Exits
 pub mod InOrder
 pub mod Shown
 pub mod Merged
+pub mod Leaving
+pub mod Anew
+pub mod Stretch
+pub mod Slots
+pub mod Inner

@@ -1,5 +1,5 @@
--- Two lists of conflicts made one, conflict by conflict of the others.
-use Rattle.std.proofs.Common.{◌≡◌, ℕ, ◌+◌, ◌-◌, ◌<◌, ◌≤◌, ◌⊎◌, inl, inr, ⊎_elim, ◌↔◌, List, [], ◌∷◌, ◌++◌, length, take, drop, get_or, Contains, sym, ◌∙◌, ap, subst, arith}
+-- Lists of conflicts in the order of publishing, in parts.
+use Rattle.std.proofs.Common.{◌≡◌, ℕ, ◌+◌, ◌-◌, ◌<◌, ◌≤◌, inl, inr, ⊎_elim, List, [], ◌∷◌, length, take, drop, get_or, Contains, sym, ◌∙◌, ap, subst, arith}
 use Rattle.std.specs.List.{HoldsAt}
 use Rattle.std.specs.List.Sorted.{IsNonDecreasingBy, IsPartitionPoint, IsStrictlySortedBy}
 use Rattle.std.specs.Ordering.{ordering_index, ordering_reverse}
@@ -7,13 +7,12 @@ use Rattle.std.specs.declared.cmp.Ordering.TheVariants.{Less, Equal, Greater}
 use Rattle.std.proofs.Math.Seq.{take-length}
 use Rattle.std.proofs.lemmas.Bool.{cases_eq, cases_lt}
 use Rattle.std.proofs.lemmas.List.{get_or_default, get_or-drop, get_or-take, length-drop, length-take}
-use Rattle.std.proofs.lemmas.List.Elements.{Contains-append_cases, Contains-append_left, Contains-append_right, Contains-push, Contains-push_cases}
 use Rattle.std.proofs.lemmas.Map.Keys.{Less-from_sorted, sorted_from_all_adjacent}
 use Rattle.mt_base.specs.declared.conflict.Conflict.{Conflict}
 use Rattle.mt_base.specs.Picture.{conflict_cmp}
 use Rattle.mt_base.proofs.ConflictOrder.{one_conflict, total}
-use Rattle.mt_base.proofs.Members.{Contains-cases, Contains-none, distinct_append, distinct_take, take_push}
-use Rattle.mt_kept.specs.Private.Merging.{AreMerging, ComesBefore, IsParted, LieBefore, Rise}
+use Rattle.mt_base.proofs.Members.{distinct_take}
+use Rattle.mt_kept.specs.Private.Merging.{ComesBefore, IsParted, LieBefore, Rise}
 use Rattle.mt_kept.proofs.InOrder.{rising}
 
 -- a list in strict order rises, and one that rises is in strict order
@@ -24,7 +23,7 @@ pub sorted_of : (xs : List Conflict) (x : Conflict) → Rise xs → IsStrictlySo
 sorted_of xs x rise = sorted_from_all_adjacent total xs x (λ k inside. rise k (k + 1) x (omega arith) inside)
 
 -- a rear part of a list that rises, does
-rise_drop : (n : ℕ) (xs : List Conflict) → Rise xs → Rise (drop n xs)
+pub rise_drop : (n : ℕ) (xs : List Conflict) → Rise xs → Rise (drop n xs)
 rise_drop n xs rise = λ i j d before below.
     let short = length-drop n xs in
     rw (get_or-drop n xs i d, get_or-drop n xs j d) (rise (n + i) (n + j) d (omega arith) (omega arith))
@@ -34,40 +33,46 @@ pub rear : (xs : List Conflict) (i : ℕ) → take (length xs - i) (drop i xs) �
 rear xs i = ap (λ (n : ℕ). take n (drop i xs)) (sym (length-drop i xs)) ∙ take-length (drop i xs)
 
 -- a member of a front and of a rear
-taken : (n : ℕ) (xs : List Conflict) (c : Conflict) → Contains (take n xs) c → (k : ℕ) × (k < n) × (k < length xs) × (get_or xs k c ≡ c)
+pub taken : (n : ℕ) (xs : List Conflict) (c : Conflict) → Contains (take n xs) c → (k : ℕ) × (k < n) × (k < length xs) × (get_or xs k c ≡ c)
 taken n xs c held =
     let short = length-take n xs in
     let inside = held.1 in
     let within : held.0 < n = omega arith in
     (held.0, within, omega arith, sym (get_or-take n xs held.0 c within) ∙ held.2)
 
-dropped : (n : ℕ) (xs : List Conflict) (c : Conflict) → Contains (drop n xs) c → (k : ℕ) × (n ≤ k) × (k < length xs) × (get_or xs k c ≡ c)
+pub dropped : (n : ℕ) (xs : List Conflict) (c : Conflict) → Contains (drop n xs) c → (k : ℕ) × (n ≤ k) × (k < length xs) × (get_or xs k c ≡ c)
 dropped n xs c held =
     let short = length-drop n xs in
     let inside = held.1 in
     (n + held.0, omega arith, omega arith, sym (get_or-drop n xs held.0 c) ∙ held.2)
 
-in_front : (n k : ℕ) (xs : List Conflict) (c : Conflict) → k < n → k < length xs → get_or xs k c ≡ c → Contains (take n xs) c
+pub in_front : (n k : ℕ) (xs : List Conflict) (c : Conflict) → k < n → k < length xs → get_or xs k c ≡ c → Contains (take n xs) c
 in_front n k xs c within inside is = let short = length-take n xs in (k, omega arith, get_or-take n xs k c within ∙ is)
 
-in_rear : (n k : ℕ) (xs : List Conflict) (c : Conflict) → n ≤ k → k < length xs → get_or xs k c ≡ c → Contains (drop n xs) c
+pub in_rear : (n k : ℕ) (xs : List Conflict) (c : Conflict) → n ≤ k → k < length xs → get_or xs k c ≡ c → Contains (drop n xs) c
 in_rear n k xs c after inside is =
     let short = length-drop n xs in
     (k - n, omega arith, get_or-drop n xs (k - n) c ∙ ap (λ (j : ℕ). get_or xs j c) (omega arith) ∙ is)
 
 -- two different members, by their places
-between : (xs : List Conflict) (i j : ℕ) (c d : Conflict) → Rise xs → i < j → j < length xs → get_or xs i c ≡ c → get_or xs j d ≡ d → ComesBefore c d
+pub between : (xs : List Conflict) (i j : ℕ) (c d : Conflict) → Rise xs → i < j → j < length xs → get_or xs i c ≡ c → get_or xs j d ≡ d → ComesBefore c d
 between xs i j c d rise before below c_is d_is =
     let less : conflict_cmp (get_or xs i c) (get_or xs j c) ≡ Less = rise i j c before below in
     let other : get_or xs j c ≡ d = get_or_default xs j c d below ∙ d_is in
     rw (c_is, other) at less
 
 -- what comes before the place of a conflict, and what comes after it
-front_rear : (xs : List Conflict) (i j : ℕ) → Rise xs → i ≤ j → LieBefore (take i xs) (drop j xs)
+pub front_rear : (xs : List Conflict) (i j : ℕ) → Rise xs → i ≤ j → LieBefore (take i xs) (drop j xs)
 front_rear xs i j rise order c d held there =
     let low = taken i xs c held in
     let high = dropped j xs d there in
     between xs low.0 high.0 c d rise (let a = low.1 in let b = high.1 in omega arith) high.2 low.3 high.3
+
+long_front : (i : ℕ) (xs : List Conflict) → i ≤ length xs → i ≡ length (take i xs)
+long_front i xs inside = let short = length-take i xs in omega arith
+
+short_rear : (i : ℕ) (xs : List Conflict) → i ≤ length xs → i ≡ length xs - length (drop i xs)
+short_rear i xs inside = let short = length-drop i xs in omega arith
 
 pub found_parted : (xs : List Conflict) (x : Conflict) (i : ℕ) → IsStrictlySortedBy conflict_cmp xs → i < length xs
     → HoldsAt (λ y. conflict_cmp y x ≡ Equal) xs i → IsParted x xs (take i xs) (drop (i + 1) xs)
@@ -89,6 +94,8 @@ found_parted xs x i sorted inside at =
           (λ same. inr (inl (sym here ∙ ap (λ (k : ℕ). get_or xs k x) (sym same) ∙ get_or_default xs held.0 x c held.1 ∙ held.2)))
           (λ other. inr (inr (in_rear (i + 1) held.0 xs c (omega arith) held.1 held.2))) (cases_eq held.0 i)) (cases_lt held.0 i);
       short = let a = length-take i xs in let b = length-drop (i + 1) xs in omega arith;
+      front = ap (λ (n : ℕ). take n xs) (long_front i xs (omega arith));
+      rear = ap (λ (n : ℕ). drop n xs) (short_rear (i + 1) xs (omega arith));
     }
 
 pub absent_parted : (xs : List Conflict) (x : Conflict) (i : ℕ) → IsStrictlySortedBy conflict_cmp xs → i ≤ length xs
@@ -115,113 +122,20 @@ absent_parted xs x i sorted inside parts =
           (λ low. inl (in_front i held.0 xs c low held.1 held.2))
           (λ past. inr (inr (in_rear i held.0 xs c past held.1 held.2))) (cases_lt held.0 i);
       short = let a = length-take i xs in let b = length-drop i xs in omega arith;
+      front = ap (λ (n : ℕ). take n xs) (long_front i xs inside);
+      rear = ap (λ (n : ℕ). drop n xs) (short_rear i xs inside);
     }
 
--- before the first of the others
-pub merging_none : (list others : List Conflict) → IsStrictlySortedBy conflict_cmp list → AreMerging list others 0 [] list
-merging_none list others sorted = record {
-  rise = λ i j d before below. absurd (omega (arith, below));
-  rest_rise = rise_of list sorted;
-  before = λ x y held there. absurd (Contains-none x held);
-  ahead = λ x y held there. absurd (Contains-none x held);
-  exact = λ c. (
-    (λ either. ⊎_elim (λ held. absurd (Contains-none c held)) (λ held. inl held) either),
-    (λ either. ⊎_elim (λ held. inr held) (λ held. absurd (Contains-none c held)) either),
-  );
-}
+-- the others from one on
+pub this_ahead : (others : List Conflict) (n : ℕ) (x : Conflict) → n < length others → x ≡ get_or others n x → Contains (drop n others) x
+this_ahead others n x inside is = in_rear n n others x (omega arith) inside (sym is)
 
--- one more of the others
-module _ (list others merged rest before after : List Conflict) (n : ℕ) (x : Conflict) (rise : Rise others) (inside : n < length others)
-    (is : x ≡ get_or others n x) (so_far : AreMerging list others n merged rest) (parted : IsParted x rest before after) where
-  split : (c : Conflict) → Contains ((merged ++ before) ++ x ∷ []) c → Contains merged c ⊎ (Contains before c ⊎ (x ≡ c))
-  split c held = ⊎_elim
-      (λ front. ⊎_elim (λ old. inl old) (λ fresh. inr (inl fresh)) (Contains-append_cases merged before c front))
-      (λ same. inr (inr same)) (Contains-push_cases (merged ++ before) x c held)
-
-  old_held : (c : Conflict) → Contains merged c → Contains ((merged ++ before) ++ x ∷ []) c
-  old_held c held = Contains-append_left (merged ++ before) (x ∷ []) c (Contains-append_left merged before c held)
-
-  fresh_held : (c : Conflict) → Contains before c → Contains ((merged ++ before) ++ x ∷ []) c
-  fresh_held c held = Contains-append_left (merged ++ before) (x ∷ []) c (Contains-append_right merged before c held)
-
-  this_held : Contains ((merged ++ before) ++ x ∷ []) x
-  this_held = Contains-push (merged ++ before) x
-
-  -- the others from this one on
-  this_ahead : Contains (drop n others) x
-  this_ahead = in_rear n n others x (omega arith) inside (sym is)
-
-  next_ahead : (y : Conflict) → Contains (drop (n + 1) others) y → Contains (drop n others) y × ComesBefore x y
-  next_ahead y held =
-      let high = dropped (n + 1) others y held in
-      let past = high.1 in
-      (in_rear n high.0 others y (omega arith) high.2 high.3, between others n high.0 x y rise (omega arith) high.2 (sym is) high.3)
-
-  -- all of what is merged comes before it
-  under : (c : Conflict) → Contains (merged ++ before) c → ComesBefore c x
-  under c held = ⊎_elim (λ old. so_far.ahead c x old this_ahead) (λ fresh. parted.first c fresh) (Contains-append_cases merged before c held)
-
-  one : (c : Conflict) → Contains (x ∷ []) c → x ≡ c
-  one c held = ⊎_elim (λ same. same) (λ none. absurd (Contains-none c none)) (Contains-cases x [] c held)
-
-  more : take (n + 1) others ≡ take n others ++ x ∷ []
-  more = take_push others n x inside is
-
-  pub merging_more : AreMerging list others (n + 1) ((merged ++ before) ++ x ∷ []) after
-  merging_more = record {
-    rise = distinct_append ComesBefore (merged ++ before) (x ∷ [])
-        (distinct_append ComesBefore merged before so_far.rise parted.before_rise (λ a b held there. so_far.before a b held (parted.parts b (inl there))))
-        (λ i j d low below. absurd (omega (arith, low, below)))
-        (λ a b held there. subst (ComesBefore a) (one b there) (under a held));
-    rest_rise = parted.after_rise;
-    before = λ a b held there. ⊎_elim
-        (λ old. so_far.before a b old (parted.parts b (inr there)))
-        (λ either. ⊎_elim (λ fresh. parted.across a b fresh there) (λ same. subst (λ y. ComesBefore y b) same (parted.second b there)) either)
-        (split a held);
-    ahead = λ a b held there.
-        let next = next_ahead b there in
-        ⊎_elim
-        (λ old. so_far.ahead a b old next.0)
-        (λ either. ⊎_elim (λ fresh. total.trans a x b (parted.first a fresh) next.1) (λ same. subst (λ y. ComesBefore y b) same next.1) either)
-        (split a held);
-    exact = λ c. (
-      (λ either. ⊎_elim
-          (λ held. ⊎_elim
-          (λ old. known c (so_far.exact c).0 (inl old))
-          (λ other. ⊎_elim (λ fresh. known c (so_far.exact c).0 (inr (parted.parts c (inl fresh)))) (λ same. inr (this c same)) other)
-          (split c held))
-          (λ held. known c (so_far.exact c).0 (inr (parted.parts c (inr held)))) either),
-      (λ either. ⊎_elim
-          (λ held. placed c ((so_far.exact c).1 (inl held)))
-          (λ held. ⊎_elim (λ old. placed c ((so_far.exact c).1 (inr old))) (λ same. inl (subst (Contains ((merged ++ before) ++ x ∷ [])) same this_held))
-          (Contains-push_cases (take n others) x c (rw more at held))) either),
-    );
-  } where
-    this : (c : Conflict) → x ≡ c → Contains (take (n + 1) others) c
-    this c same = rw more (subst (Contains (take n others ++ x ∷ [])) same (Contains-push (take n others) x))
-
-    known : (c : Conflict) → (Contains merged c ⊎ Contains rest c → Contains list c ⊎ Contains (take n others) c) → Contains merged c ⊎ Contains rest c
-        → Contains list c ⊎ Contains (take (n + 1) others) c
-    known c to held = ⊎_elim (λ old. inl old) (λ old. inr (rw more (Contains-append_left (take n others) (x ∷ []) c old))) (to held)
-
-    placed : (c : Conflict) → Contains merged c ⊎ Contains rest c → Contains ((merged ++ before) ++ x ∷ []) c ⊎ Contains after c
-    placed c either = ⊎_elim
-        (λ old. inl (old_held c old))
-        (λ held. ⊎_elim
-        (λ fresh. inl (fresh_held c fresh))
-        (λ other. ⊎_elim (λ same. inl (subst (Contains ((merged ++ before) ++ x ∷ [])) same this_held)) (λ later. inr later) other)
-        (parted.whole c held)) either
-
--- after the last of the others, with the rest of the list
-pub merged_all : (list others merged rest : List Conflict) (n : ℕ) → take n others ≡ others → AreMerging list others n merged rest
-    → Rise (merged ++ rest) × ((c : Conflict) → Contains (merged ++ rest) c ↔ (Contains list c ⊎ Contains others c))
-merged_all list others merged rest n all m = (
-  distinct_append ComesBefore merged rest m.rise m.rest_rise m.before,
-  (λ c. (
-    (λ held. (rw all at (m.exact c)).0 (Contains-append_cases merged rest c held)),
-    (λ either. ⊎_elim (λ old. Contains-append_left merged rest c old) (λ later. Contains-append_right merged rest c later) ((rw all at (m.exact c)).1 either)),
-  )),
-)
+pub next_ahead : (others : List Conflict) (n : ℕ) (x y : Conflict) → Rise others → x ≡ get_or others n x → Contains (drop (n + 1) others) y
+    → Contains (drop n others) y × ComesBefore x y
+next_ahead others n x y rise is held =
+    let high = dropped (n + 1) others y held in
+    let past = high.1 in
+    (in_rear n high.0 others y (omega arith) high.2 high.3, between others n high.0 x y rise (omega arith) high.2 (sym is) high.3)
 
 -- what is left of the list stays in order
 pub sorted_whole : (xs : List Conflict) → Rise xs → IsStrictlySortedBy conflict_cmp xs

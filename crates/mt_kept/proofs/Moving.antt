@@ -18,105 +18,119 @@ use Rattle.mt_kept.specs.Losing.{IsPair}
 use Rattle.mt_kept.specs.Private.Losing.{AreKept}
 use Rattle.mt_kept.specs.Window.{IsOpen, ShowsInWindow, WasTestedOnce, edge_of, straddles}
 use Rattle.mt_kept.specs.Private.Window.{AreOpen}
-use Rattle.mt_kept.specs.Private.Made.{WereTested, is_lasting}
+use Rattle.mt_kept.specs.Private.Made.{WereTested, has_begun, is_lasting, is_straddler}
+use Rattle.mt_kept.proofs.Windows.{straddles_begun, straddles_open}
 use Rattle.mt_base.proofs.Members.{All-from_held, Contains-filter, Contains-map, Contains-map_cases, distinct_append, distinct_map, distinct_of, distinct_take, Contains-take}
 
 -- pairs with different ends are different
 pub apart_distinct : (edges : List Edge) → AreDistinctPairs edges → AllPairs (λ e f. e ≢ f) edges
 apart_distinct edges apart = λ i j d before below. λ same. apart i j d before below (ap (λ (e : Edge). e.a) same, ap (λ (e : Edge). e.b) same)
 
--- the kept pairs that begin in the seconds by which the window's end moves
+-- the kept pairs that begin between the earlier moment and the end of the later window
 abbrev pub AreDue : ℕ → ℕ → List Edge → List Edge → Type 0
-AreDue old now edges due = IsEach (λ e. (window_end old ≤ e.first) × (e.first < window_end now)) edges due
+AreDue old now edges due = IsEach (λ e. (old ≤ e.first) × (e.first < window_end now)) edges due
 
--- those that are open at the later moment
-abbrev pub reaching : ℕ → List OpenPair → List Edge → List Edge
-reaching now pairs due = filter (is_lasting now) (map edge_of pairs) ++ filter (is_lasting now) due
+-- those that are open at the later moment: of those that straddled an edge of the earlier window the ones that had begun before it, and of those due
+abbrev pub reaching : ℕ → ℕ → List OpenPair → List Edge → List Edge
+reaching old now straddling due = filter (has_begun old now) (map edge_of straddling) ++ filter (is_lasting now) due
 
 lasts : (now : ℕ) (e : Edge) → (is_lasting now e ≡ true) ↔ (now ≤ e.last)
 lasts now e = ((λ t. grind (arith, nat_tests)), (λ h. grind (arith, nat_tests)))
 
-pub reaching_is : (rules : Rules) (places : List (Option NamedTrajectory)) (old now : ℕ) (edges due : List Edge) (pairs : List OpenPair) → old ≤ now
-    → AreOpen rules places old edges pairs → AreDue old now edges due → (e : Edge) → Contains (reaching now pairs due) e ↔ (Contains edges e × IsOpen now e)
-reaching_is rules places old now edges due pairs later opened is_due e =
-    let stay = filter (is_lasting now) (map edge_of pairs) in
-    let come = filter (is_lasting now) due in (
-      (λ held. ⊎_elim
-          (λ first.
-          let h = (Contains-filter (is_lasting now) (map edge_of pairs) e).0 first in
-          let was = Contains-map_cases edge_of pairs e h.0 in
-          let o = opened.sound was.of was.held in
-          let lasting = (lasts now e).0 h.1 in
-          let begun : e.first < window_end old = subst (λ (f : Edge). f.first < window_end old) was.is o.1.0 in
-          (subst (Contains edges) was.is o.0, (omega arith, lasting)))
-          (λ second.
-          let h = (Contains-filter (is_lasting now) due e).0 second in
-          let d = (is_due.exact e).0 h.0 in
-          (d.0, (d.1.1, (lasts now e).0 h.1))) (Contains-append_cases stay come e held)),
-      (λ h.
-          let meets = h.1 in
-          let lasting = (lasts now e).1 meets.1 in
-          ⊎_elim
-          (λ begun. Contains-append_left stay come e ((Contains-filter (is_lasting now) (map edge_of pairs) e).1 (opened.complete e h.0 (begun, omega arith), lasting)))
-          (λ ahead. Contains-append_right stay come e ((Contains-filter (is_lasting now) due e).1 ((is_due.exact e).1 (h.0, (ahead, meets.0)), lasting)))
-          (cases_lt e.first (window_end old))),
-    )
+began : (old now : ℕ) (e : Edge) → (has_begun old now e ≡ true) ↔ ((e.first < old) × (now ≤ e.last))
+began old now e = ((λ t. grind (arith, nat_tests)), (λ h. grind (arith, nat_tests)))
 
-pub reaching_distinct : (rules : Rules) (places : List (Option NamedTrajectory)) (old now : ℕ) (edges due : List Edge) (pairs : List OpenPair)
-    → AreOpen rules places old edges pairs → AreDue old now edges due → AllPairs (λ e f. e ≢ f) (reaching now pairs due)
-reaching_distinct rules places old now edges due pairs opened is_due =
-    distinct_append (λ e f. e ≢ f) (filter (is_lasting now) (map edge_of pairs)) (filter (is_lasting now) due)
-    (AllPairs-filter (λ e f. e ≢ f) (is_lasting now) (map edge_of pairs) (distinct_map (λ e f. e ≢ f) edge_of pairs opened.distinct))
-    (AllPairs-filter (λ e f. e ≢ f) (is_lasting now) due (apart_distinct due is_due.apart))
-    (λ e f first second same.
-    let h = (Contains-filter (is_lasting now) (map edge_of pairs) e).0 first in
-    let was = Contains-map_cases edge_of pairs e h.0 in
-    let o = opened.sound was.of was.held in
-    let begun : e.first < window_end old = subst (λ (g : Edge). g.first < window_end old) was.is o.1.0 in
-    let d = (is_due.exact f).0 ((Contains-filter (is_lasting now) due f).0 second).0 in
-    let equal : e.first ≡ f.first = ap (λ (g : Edge). g.first) same in
-    absurd (omega (arith, d.1.0)))
+-- one that straddled, of those that are open
+module _ (rules : Rules) (places : List (Option NamedTrajectory)) (old : ℕ) (edges : List Edge) (pairs straddling : List OpenPair)
+    (opened : AreOpen rules places old edges pairs) (are : straddling ≡ filter (is_straddler old) pairs) where
+  straddler_is : (e : Edge) → Contains (map edge_of straddling) e → Contains edges e × IsOpen old e
+  straddler_is e held =
+      let x = Contains-map_cases edge_of straddling e held in
+      let h = (Contains-filter (is_straddler old) pairs x.of).0 (subst (λ (os : List OpenPair). Contains os x.of) are x.held) in
+      let o = opened.sound x.of h.0 in
+      (subst (Contains edges) x.is o.0, subst (IsOpen old) x.is o.1)
 
--- what the test of these needs
-pub reaching_pairs : (rules : Rules) (places : List (Option NamedTrajectory)) (old now : ℕ) (edges due : List Edge) (pairs : List OpenPair) → old ≤ now
-    → AreKept rules places edges → AreOpen rules places old edges pairs → AreDue old now edges due
-    → All (λ e. IsPair rules places e × IsOpen now e) (reaching now pairs due)
-reaching_pairs rules places old now edges due pairs later kept opened is_due =
-    All-from_held (λ e. IsPair rules places e × IsOpen now e) (reaching now pairs due) (λ e held.
-    let h = (reaching_is rules places old now edges due pairs later opened is_due e).0 held in (kept.sound e h.0, h.1))
+  straddler_of : (e : Edge) → Contains edges e → straddles old e ≡ true → Contains (map edge_of straddling) e
+  straddler_of e held some =
+      let x = Contains-map_cases edge_of pairs e (opened.complete e held (straddles_open old e some)) in
+      let h = (Contains-filter (is_straddler old) pairs x.of).1 (x.held, ap (straddles old) x.is ∙ some) in
+      subst (Contains (map edge_of straddling)) x.is (Contains-map edge_of straddling x.of (subst (λ (os : List OpenPair). Contains os x.of) (sym are) h))
 
--- the open pairs at the later moment
-pub open_moved : (rules : Rules) (places : List (Option NamedTrajectory)) (old now : ℕ) (edges due : List Edge) (pairs after : List OpenPair) → old ≤ now
-    → AreOpen rules places old edges pairs → AreDue old now edges due → map edge_of after ≡ reaching now pairs due
-    → All (λ o. ShowsInWindow rules places now o.edge o.conflict) after → AreOpen rules places now edges after
-open_moved rules places old now edges due pairs after later opened is_due same shown = record {
-  sound = λ o held.
-      let listed : Contains (reaching now pairs due) o.edge = subst (λ (es : List Edge). Contains es o.edge) same (Contains-map edge_of after o held) in
-      let h = (reaching_is rules places old now edges due pairs later opened is_due o.edge).0 listed in
-      (h.0, h.1, All-contains (λ p. ShowsInWindow rules places now p.edge p.conflict) after o shown held);
-  complete = λ e held meets. subst (λ (es : List Edge). Contains es e) (sym same)
-      ((reaching_is rules places old now edges due pairs later opened is_due e).1 (held, meets));
-  distinct = distinct_of (λ e f. e ≢ f) edge_of after
-      (subst (λ (es : List Edge). AllPairs (λ e f. e ≢ f) es) (sym same) (reaching_distinct rules places old now edges due pairs opened is_due));
-}
+  straddlers_distinct : AllPairs (λ e f. e ≢ f) (map edge_of straddling)
+  straddlers_distinct = distinct_map (λ e f. e ≢ f) edge_of straddling (subst (AllPairs (λ o p. o.edge ≢ p.edge)) (sym are)
+      (AllPairs-filter (λ o p. o.edge ≢ p.edge) (is_straddler old) pairs opened.distinct))
 
--- at most one test for each pair that straddles an edge of the window
-pub tested_once : (rules : Rules) (places : List (Option NamedTrajectory)) (old_moment now : ℕ) (edges due : List Edge) (pairs : List OpenPair) (old new : ℕ)
-    → old_moment ≤ now → AreKept rules places edges → AreOpen rules places old_moment edges pairs → AreDue old_moment now edges due
-    → WereTested now (reaching now pairs due) old new → WasTestedOnce rules places now old new
-tested_once rules places old_moment now edges due pairs old new later kept opened is_due tested =
-    let all = reaching now pairs due in
-    let first = take tested.first all in
-    record {
-      edges = filter (straddles now) first;
-      distinct = AllPairs-filter (λ e f. e ≢ f) (straddles now) first
-          (distinct_take (λ e f. e ≢ f) tested.first all (reaching_distinct rules places old_moment now edges due pairs opened is_due));
-      each = All-from_held (λ e. IsPair rules places e × (straddles now e ≡ true)) (filter (straddles now) first) (λ e held.
-          let h = (Contains-filter (straddles now) first e).0 held in
-          let listed = Contains-take tested.first all e h.0 in
-          (kept.sound e ((reaching_is rules places old_moment now edges due pairs later opened is_due e).0 listed).0, h.1));
-      is = tested.is ∙ ap (λ (n : ℕ). raised_by n old) (sym (length-filter (straddles now) first));
-    }
+  pub reaching_is : (now : ℕ) (due : List Edge) → old ≤ now → AreDue old now edges due
+      → (e : Edge) → Contains (reaching old now straddling due) e ↔ (Contains edges e × IsOpen now e)
+  reaching_is now due later is_due e =
+      let stay = filter (has_begun old now) (map edge_of straddling) in
+      let come = filter (is_lasting now) due in (
+        (λ held. ⊎_elim
+            (λ first.
+            let h = (Contains-filter (has_begun old now) (map edge_of straddling) e).0 first in
+            let span = (began old now e).0 h.1 in
+            let begun = span.0 in
+            ((straddler_is e h.0).0, (omega arith, span.1)))
+            (λ second.
+            let h = (Contains-filter (is_lasting now) due e).0 second in
+            let d = (is_due.exact e).0 h.0 in
+            (d.0, (d.1.1, (lasts now e).0 h.1))) (Contains-append_cases stay come e held)),
+        (λ h.
+            let meets = h.1 in
+            ⊎_elim
+            (λ begun. Contains-append_left stay come e ((Contains-filter (has_begun old now) (map edge_of straddling) e).1
+            (straddler_of e h.0 (straddles_begun old e begun (let last = meets.1 in omega arith)), (began old now e).1 (begun, meets.1))))
+            (λ ahead. Contains-append_right stay come e ((Contains-filter (is_lasting now) due e).1
+            ((is_due.exact e).1 (h.0, (ahead, meets.0)), (lasts now e).1 meets.1)))
+            (cases_lt e.first old)),
+      )
+
+  pub reaching_distinct : (now : ℕ) (due : List Edge) → AreDue old now edges due → AllPairs (λ e f. e ≢ f) (reaching old now straddling due)
+  reaching_distinct now due is_due =
+      distinct_append (λ e f. e ≢ f) (filter (has_begun old now) (map edge_of straddling)) (filter (is_lasting now) due)
+      (AllPairs-filter (λ e f. e ≢ f) (has_begun old now) (map edge_of straddling) straddlers_distinct)
+      (AllPairs-filter (λ e f. e ≢ f) (is_lasting now) due (apart_distinct due is_due.apart))
+      (λ e f first second same.
+      let begun = ((began old now e).0 ((Contains-filter (has_begun old now) (map edge_of straddling) e).0 first).1).0 in
+      let d = (is_due.exact f).0 ((Contains-filter (is_lasting now) due f).0 second).0 in
+      let equal : e.first ≡ f.first = ap (λ (g : Edge). g.first) same in
+      absurd (omega (arith, d.1.0)))
+
+  -- what the test of these needs
+  pub reaching_pairs : (now : ℕ) (due : List Edge) → old ≤ now → AreKept rules places edges → AreDue old now edges due
+      → All (λ e. IsPair rules places e × IsOpen now e) (reaching old now straddling due)
+  reaching_pairs now due later kept is_due =
+      All-from_held (λ e. IsPair rules places e × IsOpen now e) (reaching old now straddling due) (λ e held.
+      let h = (reaching_is now due later is_due e).0 held in (kept.sound e h.0, h.1))
+
+  -- the open pairs at the later moment
+  pub open_moved : (now : ℕ) (due : List Edge) (after : List OpenPair) → old ≤ now → AreDue old now edges due
+      → map edge_of after ≡ reaching old now straddling due → All (λ o. ShowsInWindow rules places now o.edge o.conflict) after
+      → AreOpen rules places now edges after
+  open_moved now due after later is_due same shown = record {
+    sound = λ o held.
+        let listed : Contains (reaching old now straddling due) o.edge = subst (λ (es : List Edge). Contains es o.edge) same (Contains-map edge_of after o held) in
+        let h = (reaching_is now due later is_due o.edge).0 listed in
+        (h.0, h.1, All-contains (λ p. ShowsInWindow rules places now p.edge p.conflict) after o shown held);
+    complete = λ e held meets. subst (λ (es : List Edge). Contains es e) (sym same) ((reaching_is now due later is_due e).1 (held, meets));
+    distinct = distinct_of (λ e f. e ≢ f) edge_of after (subst (λ (es : List Edge). AllPairs (λ e f. e ≢ f) es) (sym same) (reaching_distinct now due is_due));
+  }
+
+  -- at most one test for each pair that straddles an edge of the window
+  pub tested_once : (now : ℕ) (due : List Edge) (before after : ℕ) → old ≤ now → AreKept rules places edges → AreDue old now edges due
+      → WereTested now (reaching old now straddling due) before after → WasTestedOnce rules places now before after
+  tested_once now due before after later kept is_due tested =
+      let all = reaching old now straddling due in
+      let first = take tested.first all in
+      record {
+        edges = filter (straddles now) first;
+        distinct = AllPairs-filter (λ e f. e ≢ f) (straddles now) first (distinct_take (λ e f. e ≢ f) tested.first all (reaching_distinct now due is_due));
+        each = All-from_held (λ e. IsPair rules places e × (straddles now e ≡ true)) (filter (straddles now) first) (λ e held.
+            let h = (Contains-filter (straddles now) first e).0 held in
+            let listed = Contains-take tested.first all e h.0 in
+            (kept.sound e ((reaching_is now due later is_due e).0 listed).0, h.1));
+        is = tested.is ∙ ap (λ (n : ℕ). raised_by n before) (sym (length-filter (straddles now) first));
+      }
 
 -- the tests so far, and that of one more edge
 pub tested_more : (now : ℕ) (edges : List Edge) (i : ℕ) (old mid new : ℕ) → (d : Edge) → i < length edges
@@ -133,6 +147,6 @@ tested_more now edges i old mid new d below so_far one =
           sym a ∙ length-filter_more (straddles now) edges i d below ∙ ap (λ (n : ℕ). n + cond (straddles now (get_or edges i d)) 1 0) b
 
 -- the list of edges, as the code makes it
-pub listed : (now : ℕ) (pairs seen_pairs : List OpenPair) (due seen_due first all : List Edge) → seen_pairs ≡ pairs → seen_due ≡ due
-    → first ≡ filter (is_lasting now) (map edge_of seen_pairs) → all ≡ first ++ filter (is_lasting now) seen_due → all ≡ reaching now pairs due
-listed now pairs seen_pairs due seen_due first all e f g h = rw (← e, ← f, ← g) h
+pub listed : (old now : ℕ) (pairs seen_pairs : List OpenPair) (due seen_due first all : List Edge) → seen_pairs ≡ pairs → seen_due ≡ due
+    → first ≡ filter (has_begun old now) (map edge_of seen_pairs) → all ≡ first ++ filter (is_lasting now) seen_due → all ≡ reaching old now pairs due
+listed old now pairs seen_pairs due seen_due first all e f g h = rw (← e, ← f, ← g) h

@@ -6,7 +6,10 @@ use Rattle.std.specs.FinMap.{slice_cmp-IsAntisymmetric, nat_cmp-IsAntisymmetric}
 use Rattle.std.specs.Cmp.Lexicographic.{slice_cmp}
 use Rattle.std.specs.List.Sorted.{IsStrictlySortedBy}
 use Rattle.std.specs.Ordering.{nat_cmp, is_lt, ordering_reverse}
-use Rattle.std.proofs.lemmas.List.Elements.{Contains-append_left, Contains-push, Contains-push_cases}
+use Rattle.std.specs.List.{filter}
+use Rattle.std.specs.Option.{option_to_list}
+use Rattle.std.proofs.lemmas.List.{append-nil, map-append}
+use Rattle.std.proofs.lemmas.List.Elements.{All-push, Contains-append_left, Contains-push, Contains-push_cases, filter-append}
 use Rattle.mt_track.specs.declared.roster.Item.{Item}
 use Rattle.mt_track.specs.Named.{named}
 use Rattle.std.specs.declared.cmp.Ordering.{Ordering}
@@ -22,11 +25,11 @@ use Rattle.mt_kept.specs.Places.{at, held, seen}
 use Rattle.mt_base.specs.Trajectory.{horizon}
 use Rattle.mt_kept.specs.Losing.{IsPair, LoseSeparation}
 use Rattle.mt_kept.specs.Private.Losing.{AreKept}
-use Rattle.mt_kept.specs.Window.{IsFoundOf, IsOpen, ShowsInWindow, edge_of}
-use Rattle.mt_kept.specs.Private.Window.{AreOpen, Shows}
-use Rattle.mt_kept.specs.Private.Made.{IsInOrder}
+use Rattle.mt_kept.specs.Window.{IsFoundOf, IsOpen, ShowsInWindow, edge_of, straddles}
+use Rattle.mt_kept.specs.Private.Window.{AreOpen, AreOpened, Shows, ShowsWhole}
+use Rattle.mt_kept.specs.Private.Made.{IsInOrder, is_straddler}
 use Rattle.mt_base.proofs.Members.{Contains-cases, Contains-head, Contains-later, Contains-map_cases, Contains-none, IsSeen}
-use Rattle.mt_kept.proofs.Windows.{IsLossSecond-sym, IsSpanOfLoss-sym, is_open_at}
+use Rattle.mt_kept.proofs.Windows.{IsLossSecond-sym, IsSpanOfLoss-sym, is_open_at, span_in_window}
 
 -- a trajectory that stands in some place
 pub record Stands (places : List (Option NamedTrajectory)) (t : NamedTrajectory) : Type 0 where
@@ -90,6 +93,16 @@ found_between rules places now e left right shown h between = ⊎_elim
     inr (subst (λ (y : NamedTrajectory). IsFoundOf rules now right y shown) r (subst (λ (x : NamedTrajectory). IsFoundOf rules now x h.right shown) l h.found)))
     between.is
 
+-- what a pair shows is one thing
+pub one_shown : (rules : Rules) (places : List (Option NamedTrajectory)) (now : ℕ) (e : Edge) (x : Option Conflict) (c : Conflict)
+    → ShowsInWindow rules places now e x → ShowsInWindow rules places now e (Some c) → x ≡ Some c
+one_shown rules places now e x c any is =
+    let found : IsFoundOf rules now is.left is.right x ⊎ IsFoundOf rules now is.right is.left x =
+    found_between rules places now e is.left is.right x any (record { is = inl (is.left_is, is.right_is) }) in
+    ⊎_elim
+    (λ of. found_is rules now is.left is.right c x of found)
+    (λ of. found_is rules now is.right is.left c x of (⊎_elim (λ f. inr f) (λ f. inl f) found)) is.found
+
 -- two trajectories in places, one of which is the lesser: their pair is open, and shows their conflict
 shows_between : (rules : Rules) (places : List (Option NamedTrajectory)) (now : ℕ) (edges : List Edge) (open_pairs : List OpenPair) (c : Conflict)
     (left right : NamedTrajectory) (a b : ℕ) (first second : NamedTrajectory) → now ≤ 10000000 → AreKept rules places edges
@@ -151,7 +164,7 @@ shows rules places now edges open_pairs c early kept opened some =
     (cases_order l.place r.place)
 
 -- what an open pair shows is a conflict of two of the trajectories
-shown_is : (rules : Rules) (places : List (Option NamedTrajectory)) (now : ℕ) (e : Edge) (c : Conflict) → ShowsInWindow rules places now e (Some c)
+pub shown_is : (rules : Rules) (places : List (Option NamedTrajectory)) (now : ℕ) (e : Edge) (c : Conflict) → ShowsInWindow rules places now e (Some c)
     → IsConflictAmong rules now (held places) c
 shown_is rules places now e c shown =
     let l = held_at places e.a shown.left shown.left_is in
@@ -207,6 +220,31 @@ found_pair rules now left right span c is order = ⊎_elim
     (record { calls = (refl, refl); kinds = (refl, refl); apart = o.0; span = IsSpanOfLoss-sym rules left.path right.path now (window_end now) span.0 span.1 is })))
     order
 
+-- one trajectory stands in a place
+pub one_there : (places : List (Option NamedTrajectory)) (i : ℕ) (s t : NamedTrajectory) → at places i ≡ Some s → at places i ≡ Some t → s ≡ t
+one_there places i s t s_is t_is = let e : Some s ≡ Some t = sym s_is ∙ t_is in cc
+
+-- an open pair that straddles no edge of the window shows its whole span
+pub whole_shown : (rules : Rules) (places : List (Option NamedTrajectory)) (now : ℕ) (e : Edge) (shown : Option Conflict) → now ≤ 10000000
+    → IsPair rules places e → IsOpen now e → straddles now e ≡ false → ShowsWhole places e shown → ShowsInWindow rules places now e shown
+whole_shown rules places now e shown early pair meets none whole =
+    let span : ℕ × ℕ = (e.first, e.last) in
+    let l : whole.left ≡ pair.left = let p = pair.left_is in let q = whole.left_is in cc in
+    let r : whole.right ≡ pair.right = let p = pair.right_is in let q = whole.right_is in cc in
+    let order : IsInOrder pair.left pair.right span whole.conflict ⊎ IsInOrder pair.right pair.left span whole.conflict =
+    subst (λ (y : NamedTrajectory). IsInOrder pair.left y span whole.conflict ⊎ IsInOrder y pair.left span whole.conflict) r
+    (subst (λ (x : NamedTrajectory). IsInOrder x whole.right span whole.conflict ⊎ IsInOrder whole.right x span whole.conflict) l whole.order) in
+    let found : IsFoundOf rules now pair.left pair.right (Some whole.conflict) =
+    found_pair rules now pair.left pair.right span whole.conflict
+    (span_in_window rules pair.left.path pair.right.path now e early meets none pair.span) order in
+    record {
+      left = pair.left;
+      right = pair.right;
+      left_is = pair.left_is;
+      right_is = pair.right_is;
+      found = subst (IsFoundOf rules now pair.left pair.right) (sym whole.is) found;
+    }
+
 pub shown_of : (rules : Rules) (places : List (Option NamedTrajectory)) (now : ℕ) (e : Edge) (pair : IsPair rules places e) (left right : NamedTrajectory)
     (shown : Option Conflict) → pair.left ≡ left → pair.right ≡ right → IsFoundOf rules now left right shown → ShowsInWindow rules places now e shown
 shown_of rules places now e pair left right shown l r found =
@@ -220,14 +258,14 @@ span_of rules places e pair left right l r =
     (subst (λ (x : NamedTrajectory). IsSpanOfLoss rules x.path pair.right.path 0 horizon e.first e.last) l pair.span)
 
 -- of some open pairs, one more
-pub Shows-none : (pairs : List OpenPair) (o : OpenPair) → o.conflict ≡ None → (c : Conflict) → Shows (pairs ++ o ∷ []) c ↔ Shows pairs c
+Shows-none : (pairs : List OpenPair) (o : OpenPair) → o.conflict ≡ None → (c : Conflict) → Shows (pairs ++ o ∷ []) c ↔ Shows pairs c
 Shows-none pairs o none c = (
   (λ h. ⊎_elim (λ old. record { pair = h.pair; held = old; shown = h.shown })
       (λ same. absurd (let e : o.conflict ≡ Some c = ap (λ (p : OpenPair). p.conflict) same ∙ h.shown in cc)) (Contains-push_cases pairs o h.pair h.held)),
   (λ h. record { pair = h.pair; held = Contains-append_left pairs (o ∷ []) h.pair h.held; shown = h.shown }),
 )
 
-pub Shows-some : (pairs : List OpenPair) (o : OpenPair) (d : Conflict) → o.conflict ≡ Some d → (c : Conflict)
+Shows-some : (pairs : List OpenPair) (o : OpenPair) (d : Conflict) → o.conflict ≡ Some d → (c : Conflict)
     → Shows (pairs ++ o ∷ []) c ↔ (Shows pairs c ⊎ (d ≡ c))
 Shows-some pairs o d some c = (
   (λ h. ⊎_elim (λ old. inl (record { pair = h.pair; held = old; shown = h.shown }))
@@ -237,7 +275,7 @@ Shows-some pairs o d some c = (
       (λ same. record { pair = o; held = Contains-push pairs o; shown = some ∙ ap Some same }) either),
 )
 
-pub list_more : (pairs : List OpenPair) (o : OpenPair) (list list' : List Conflict) (d : Conflict) → ((c : Conflict) → Contains list c ↔ Shows pairs c)
+list_more : (pairs : List OpenPair) (o : OpenPair) (list list' : List Conflict) (d : Conflict) → ((c : Conflict) → Contains list c ↔ Shows pairs c)
     → o.conflict ≡ Some d → list' ≡ list ++ d ∷ [] → (c : Conflict) → Contains list' c ↔ Shows (pairs ++ o ∷ []) c
 list_more pairs o list list' d so_far some pushed = rw pushed (λ c. (
   (λ held. (Shows-some pairs o d some c).1 (⊎_elim (λ old. inl ((so_far c).0 old)) (λ same. inr same) (Contains-push_cases list d c held))),
@@ -245,9 +283,39 @@ list_more pairs o list list' d so_far some pushed = rw pushed (λ c. (
       ((Shows-some pairs o d some c).0 h)),
 ))
 
-pub list_same : (pairs : List OpenPair) (o : OpenPair) (list list' : List Conflict) → ((c : Conflict) → Contains list c ↔ Shows pairs c)
+list_same : (pairs : List OpenPair) (o : OpenPair) (list list' : List Conflict) → ((c : Conflict) → Contains list c ↔ Shows pairs c)
     → o.conflict ≡ None → list' ≡ list → (c : Conflict) → Contains list' c ↔ Shows (pairs ++ o ∷ []) c
 list_same pairs o list list' so_far none same = rw same (λ c. (
   (λ held. (Shows-none pairs o none c).1 ((so_far c).0 held)),
   (λ h. (so_far c).1 ((Shows-none pairs o none c).0 h)),
 ))
+
+pub shows_more : (pairs : List OpenPair) (o : OpenPair) (list : List Conflict) → ((c : Conflict) → Contains list c ↔ Shows pairs c)
+    → (c : Conflict) → Contains (list ++ option_to_list o.conflict) c ↔ Shows (pairs ++ o ∷ []) c
+shows_more pairs o list so_far = step o.conflict refl where
+  step : (x : Option Conflict) → o.conflict ≡ x → (c : Conflict) → Contains (list ++ option_to_list x) c ↔ Shows (pairs ++ o ∷ []) c
+  step None none = list_same pairs o list (list ++ []) so_far none (append-nil list)
+  step (Some d) some = list_more pairs o list (list ++ d ∷ []) d so_far some refl
+
+-- of some pairs that were opened, one more
+pub opened_none : (rules : Rules) (places : List (Option NamedTrajectory)) (now : ℕ) → AreOpened rules places now [] [] []
+opened_none rules places now = record {
+  pairs = [];
+  same = refl;
+  shown = λ k d below. absurd (omega arith);
+  straddlers = refl;
+  exact = λ c. ((λ held. absurd (Contains-none c held)), (λ h. absurd (Contains-none h.pair h.held)));
+}
+
+pub opened_more : (rules : Rules) (places : List (Option NamedTrajectory)) (now : ℕ) (edges : List Edge) (o : OpenPair) (straddling after : List OpenPair)
+    (list new : List Conflict) → AreOpened rules places now edges straddling list → ShowsInWindow rules places now o.edge o.conflict
+    → after ≡ straddling ++ filter (is_straddler now) (o ∷ []) → new ≡ list ++ option_to_list o.conflict
+    → AreOpened rules places now (edges ++ o.edge ∷ []) after new
+opened_more rules places now edges o straddling after list new so_far shows here there = record {
+  pairs = so_far.pairs ++ o ∷ [];
+  same = map-append edge_of so_far.pairs (o ∷ []) ∙ ap (λ (es : List Edge). es ++ o.edge ∷ []) so_far.same;
+  shown = All-push (λ (p : OpenPair). ShowsInWindow rules places now p.edge p.conflict) so_far.pairs o so_far.shown shows;
+  straddlers = here ∙ ap (λ (os : List OpenPair). os ++ filter (is_straddler now) (o ∷ [])) so_far.straddlers
+      ∙ sym (filter-append (is_straddler now) so_far.pairs (o ∷ []));
+  exact = rw there (shows_more so_far.pairs o list so_far.exact);
+}

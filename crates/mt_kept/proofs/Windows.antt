@@ -83,6 +83,13 @@ span_in_window rules a b now e early is_open none whole =
       none_outside = λ k low high loss. whole.none_outside k (omega arith) (omega arith) loss;
     }
 
+-- a pair that straddles an edge of the window is open, and one that begins before the window and goes on in it does
+pub straddles_open : (now : ℕ) (e : Edge) → straddles now e ≡ true → IsOpen now e
+straddles_open now e some = grind (arith, nat_tests)
+
+pub straddles_begun : (now : ℕ) (e : Edge) → e.first < now → now ≤ e.last → straddles now e ≡ true
+straddles_begun now e begun lasting = grind (arith, nat_tests)
+
 -- a pair with a loss second in the window is open
 pub is_open_at : (rules : Rules) (a b : Trajectory) (now k : ℕ) (e : Edge) → now ≤ 10000000 → IsSpanOfLoss rules a b 0 horizon e.first e.last
     → now ≤ k → k < window_end now → IsLossSecond rules a b k → IsOpen now e

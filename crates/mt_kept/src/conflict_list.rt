@@ -1,32 +1,31 @@
 //! Conflicts in the order of publishing.
-ghost use Rattle.std.specs.Prelude.{◌≡◌, ◌≢◌, ◌≤◌, ◌↔◌, ◌⊎◌, [], Contains, OnOk, length};
+ghost use Rattle.std.specs.Prelude.{◌≡◌, ◌+◌, ◌≤◌, ◌↔◌, ◌⊎◌, [], Contains, OnOk, length};
 ghost use Rattle.std.specs.List.Sorted.{IsStrictlySortedBy};
 ghost use Rattle.mt_base.specs.declared.conflict.Conflict.{Conflict};
 ghost use Rattle.mt_base.specs.Picture.{conflict_cmp};
 
-use crate::merging::merge;
+use crate::merging::{merge, put_back, stretch};
 use mt_base::{Conflict, Memory};
 use std::alloc::Global;
 use std::marker::Model;
-use std::mem;
 
-/// Conflicts in the order of publishing, each once, with how many may be put in before the next `reserve`.
+/// Conflicts in the order of publishing, each once, with how many there is room for.
 #[derive(Drop)]
 pub(crate) struct ConflictList {
     values: Vec<Conflict>,
-    /// Room in which the conflicts are made one list with others. What it holds says nothing.
-    room: Vec<Conflict>,
+    /// Where a stretch of the conflicts is made anew. What it holds says nothing.
+    aside: Vec<Conflict>,
 }
 
 impl Model for ConflictList {
-    ghost use Rattle.std.specs.Prelude.{◌-◌, vec_len, vec_capacity};
+    ghost use Rattle.std.specs.Prelude.{min, vec_capacity};
     ghost use Rattle.std.specs.List.Sorted.{IsStrictlySortedBy};
     ghost use Rattle.mt_base.specs.Picture.{conflict_cmp};
     ghost use Rattle.mt_kept.specs.Private.ConflictList.{Ordered};
 
     ghost Value = { Ordered };
 
-    ghost view = { λ l. record { conflicts = l.values.items; spare = vec_capacity l.room - vec_len l.values } };
+    ghost view = { λ l. record { conflicts = l.values.items; room = min (vec_capacity l.values) (vec_capacity l.aside) } };
 
     ghost invariant = { λ l. IsStrictlySortedBy conflict_cmp l.values.items };
 }
@@ -38,7 +37,7 @@ impl ConflictList {
     {
         ConflictList {
             values: Vec::new(alloc),
-            room: Vec::new(alloc),
+            aside: Vec::new(alloc),
         }
     }
 
@@ -50,7 +49,7 @@ impl ConflictList {
         values.dedup();
         ConflictList {
             values,
-            room: Vec::new(alloc),
+            aside: Vec::new(alloc),
         }
     }
 
@@ -62,39 +61,34 @@ impl ConflictList {
         &self.values
     }
 
-    /// Takes memory, so that at least n conflicts may be put in. The conflicts stay.
+    /// Takes memory, so that there is room for at least n conflicts more. The conflicts stay.
     pub(crate) fn reserve(&mut self, n: usize) -> Result<(), Memory>
-        ensures room { OnOk result (n ≤ self.new.spare) }
+        ensures room { OnOk result (length self.new.conflicts + n ≤ self.new.room) }
         ensures same { self.new.conflicts ≡ self.old.conflicts }
     {
-        if n == 0 {
-            return Ok(());
-        }
         let count = self.values.len().checked_add(n).ok_or(Memory)?;
-        self.room.clear();
-        self.room.reserve(count)?;
+        self.values.reserve(n)?;
+        self.aside.clear();
+        self.aside.reserve(count)?;
         Ok(())
     }
 
-    /// Takes a conflict out, if it is there.
-    pub(crate) fn remove(&mut self, conflict: &Conflict)
-        ensures exact { (c : Conflict) → Contains self.new.conflicts c ↔ (Contains self.old.conflicts c × (conflict.now ≢ c)) }
-        ensures spare { self.old.spare ≤ self.new.spare }
+    /// Takes the conflicts of one list out, where they are there, and puts those of another in. It takes no memory.
+    ///
+    /// It touches only what lies between the least and the greatest place that changes, and what comes behind only where the number of
+    /// conflicts changes.
+    pub(crate) fn replace(&mut self, hidden: &ConflictList, shown: &ConflictList)
+        requires { length self.old.conflicts + length shown.now.conflicts ≤ self.old.room }
+        ensures { (c : Conflict) → Contains self.new.conflicts c
+            ↔ ((Contains self.old.conflicts c × (¬ Contains hidden.now.conflicts c)) ⊎ Contains shown.now.conflicts c) }
     {
-        if let Ok(index) = self.values.binary_search(conflict) {
-            self.values.remove(index);
-        }
-    }
-
-    /// Puts the conflicts of another list in. It takes no memory.
-    pub(crate) fn add_all(&mut self, others: &ConflictList)
-        requires { length others.now.conflicts ≤ self.old.spare }
-        ensures { (c : Conflict) → Contains self.new.conflicts c ↔ (Contains self.old.conflicts c ⊎ Contains others.now.conflicts c) }
-    {
-        if others.values.is_empty() {
-            return;
-        }
-        merge(&mut self.room, &self.values, &others.values);
-        mem::swap(&mut self.values, &mut self.room);
+        let (low, high) = stretch(&self.values, &hidden.values, &shown.values);
+        merge(
+            &mut self.aside,
+            &self.values[low..high],
+            &hidden.values,
+            &shown.values,
+        );
+        put_back(&mut self.values, low, high, &mut self.aside);
     }
 }

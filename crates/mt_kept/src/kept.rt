@@ -1,22 +1,24 @@
-ghost use Rattle.std.specs.Prelude.{◌≡◌, ◌+◌, ◌*◌, ◌<◌, ◌≤◌, [], All, AllPairs, IfOk, List, None, OnErr, OnOk, Option, length, map, replicate};
+ghost use Rattle.std.specs.Prelude.{◌≡◌, ◌+◌, ◌*◌, ◌<◌, ◌≤◌, ◌↔◌, [], All, AllPairs, Contains, IfOk, List, None, OnErr, OnOk, Option, filter, length, map, replicate};
 ghost use Rattle.std.specs.List.{sum_by};
 ghost use Rattle.mt_base.specs.Bounds.{AreWithinBounds};
+ghost use Rattle.mt_base.specs.declared.conflict.Conflict.{Conflict};
 ghost use Rattle.mt_base.specs.Picture.{IsPublishedOf, NamedTrajectory};
 ghost use Rattle.mt_edges.specs.Pairs.{AreDistinctPairs, HaveSameEnds, IsEdge};
 ghost use Rattle.mt_track.specs.Named.{named};
 ghost use Rattle.mt_kept.specs.Dropped.{WereStepsOf};
 ghost use Rattle.mt_kept.specs.Finds.{Agree, AreCandidates, AreFindsOfSlot, AreFindsAt, cost};
 ghost use Rattle.mt_kept.specs.Losing.{TouchesSlot};
-ghost use Rattle.mt_kept.specs.Private.Made.{AreReplaced, WereDropped};
+ghost use Rattle.mt_kept.specs.Private.Made.{AreReplaced, WereDropped, is_straddler, opens};
+ghost use Rattle.mt_kept.specs.Private.Window.{AreShownAt, Shows};
 ghost use Rattle.mt_kept.specs.Places.{HaveOwnSlots, held, seen, with_slot};
 ghost use Rattle.mt_base.specs.Tally.{RoseUpTo};
 ghost use Rattle.mt_kept.specs.Window.{WasTestedOnce};
 
 use crate::conflict_list::ConflictList;
 use crate::finds::{Candidate, gather};
-use crate::lists::{add_closed, add_lasting, at_place, drop_slot, lasting, open_of};
+use crate::lists::{add_lasting, at_place, begun, drop_slot, straddling_of};
 use crate::open_pair::OpenPair;
-use crate::showing::{hide_slot, opened, published};
+use crate::showing::{add_inner, opened, shown_of};
 use mt_base::{Conflict, Memory, Rules, Second, Steps, Tally, WINDOW};
 use mt_edges::Edges;
 use mt_track::Item;
@@ -24,14 +26,15 @@ use std::alloc::Global;
 use std::marker::Model;
 
 /// The conflicts of the trajectories in some places, kept while these change: the pairs of places that lose separation over all
-/// seconds, those of them that are open, and what is published. Slot s has the places 2 s and 2 s + 1.
+/// seconds, those of them that straddle an edge of the window, and what is published. Slot s has the places 2 s and 2 s + 1.
 #[derive(Drop)]
 pub struct Kept {
     rules: Rules,
     moment: Second,
     places: Vec<Option<Item>>,
     pairs: Edges,
-    open_pairs: Vec<OpenPair>,
+    /// The open pairs whose span straddles an edge of the window. What the others show follows from their span.
+    straddling: Vec<OpenPair>,
     published: ConflictList,
 }
 
@@ -45,7 +48,7 @@ impl Model for Kept {
 
     ghost view = { λ k. record { rules = k.rules; moment = k.moment; places = map seen k.places.items; published = k.published.conflicts } };
 
-    ghost invariant = { λ k. ArePairsKept k.rules k.moment (map seen k.places.items) k.pairs.edges k.pairs.ends k.open_pairs.items k.published.conflicts };
+    ghost invariant = { λ k. ArePairsKept k.rules k.moment (map seen k.places.items) k.pairs.edges k.pairs.ends k.straddling.items k.published.conflicts };
 }
 
 /// Takes the pairs of a slot out and puts the found ones in. It takes no memory.
@@ -85,7 +88,7 @@ impl Kept {
             moment: 0,
             places,
             pairs: Edges::make(alloc, count)?,
-            open_pairs: Vec::new(alloc),
+            straddling: Vec::new(alloc),
             published: ConflictList::make(alloc),
         })
     }
@@ -150,17 +153,49 @@ impl Kept {
         requires { place < length self.now.places }
         ensures { IfOk result (λ finds. AreFindsAt self.now.rules self.now.places self.now.moment place finds.items) }
     {
-        let mut finds = at_place(alloc, &self.open_pairs, place)?;
+        let mut finds = at_place(alloc, &self.straddling, place)?;
         let edges = self.pairs.of(place)?;
-        add_closed(&mut finds, &edges, self.moment)?;
+        add_inner(&mut finds, &self.places, &edges, self.moment)?;
         Ok(finds)
+    }
+
+    /// What the pairs of a slot show.
+    fn shown_at(&self, alloc: Global, slot: u32) -> Result<ConflictList, Memory>
+        requires { 2 * slot + 1 < length self.now.places }
+        ensures { IfOk result (λ list. AreShownAt self.now.rules self.now.places self.now.moment slot list.conflicts) }
+    {
+        let now = self.moment;
+        let mut finds = self.of(alloc, 2 * slot)?;
+        let others = self.of(alloc, 2 * slot + 1)?;
+        finds.extend_from_slice(&others)?;
+        shown_of(alloc, &finds, now)
+    }
+
+    /// What the pairs of a slot show, what those show that were found for it, and which of these straddle an edge of the window.
+    fn prepare(
+        &self,
+        alloc: Global,
+        slot: u32,
+        finds: &[OpenPair],
+    ) -> Result<(ConflictList, ConflictList, Vec<OpenPair>), Memory>
+        requires { 2 * slot + 1 < length self.now.places }
+        ensures hidden { IfOk result (λ it. AreShownAt self.now.rules self.now.places self.now.moment slot it.0.conflicts) }
+        ensures shown { IfOk result (λ it. (c : Conflict) → Contains it.1.conflicts c ↔ Shows (filter (opens self.now.moment) finds.now) c) }
+        ensures straddling { IfOk result (λ it. it.2.items ≡ filter (is_straddler self.now.moment) finds.now) }
+    {
+        let hidden = self.shown_at(alloc, slot)?;
+        let shown = shown_of(alloc, finds, self.moment)?;
+        let straddling = straddling_of(alloc, finds, self.moment)?;
+        Ok((hidden, shown, straddling))
     }
 
     /// Puts two items, or nothing, into the places of a slot, with the pairs that were found for them. It makes no test, and takes all
     /// its memory before it changes anything, so on an error all stays as it was.
     ///
-    /// It makes at most six steps for each pair that the slot had, and two. A caller that bounds no steps hands in a `Steps::new()` and
-    /// forgets it.
+    /// It makes at most six steps for each pair that the slot had, and two; a step is one link written or one node of a pair visited.
+    /// Besides it looks at the slot's pairs and at the finds, at the pairs that straddle an edge of the window, and at what is published
+    /// between the first and the last place that changes there; at what is published behind, only where its number changes. A caller that
+    /// bounds no steps hands in a `Steps::new()` and forgets it.
     pub fn change(
         &mut self,
         slot: u32,
@@ -181,17 +216,15 @@ impl Kept {
         let Ok(count) = u32::try_from(finds.len()) else {
             return Err(Memory);
         };
-        let alloc = *self.open_pairs.allocator();
-        let fresh = open_of(alloc, finds, self.moment)?;
-        let shown = published(alloc, &fresh)?;
+        let alloc = *self.straddling.allocator();
+        let (hidden, shown, straddling) = self.prepare(alloc, slot, finds)?;
         self.pairs.reserve(count)?;
-        self.open_pairs.reserve(fresh.len())?;
+        self.straddling.reserve(straddling.len())?;
         self.published.reserve(shown.items().len())?;
         replace_pairs(&mut self.pairs, slot, finds, steps);
-        hide_slot(&mut self.published, &self.open_pairs, slot);
-        drop_slot(&mut self.open_pairs, slot);
-        let _ = self.open_pairs.extend_from_slice(&fresh);
-        self.published.add_all(&shown);
+        drop_slot(&mut self.straddling, slot);
+        let _ = self.straddling.extend_from_slice(&straddling);
+        self.published.replace(&hidden, &shown);
         self.places[2 * slot as usize] = first;
         self.places[2 * slot as usize + 1] = second;
         Ok(())
@@ -228,13 +261,12 @@ impl Kept {
         ensures err { OnErr result (self.new ≡ self.old) }
         ensures counted { WasTestedOnce self.old.rules self.old.places now tests.old tests.new }
     {
-        let mut edges = lasting(alloc, &self.open_pairs, now)?;
-        let due = self.pairs.due(self.moment + WINDOW, now + WINDOW)?;
+        let mut edges = begun(alloc, &self.straddling, self.moment, now)?;
+        let due = self.pairs.due(self.moment, now + WINDOW)?;
         add_lasting(&mut edges, &due, now)?;
-        let opened_pairs = opened(alloc, &self.places, &edges, &self.rules, now, tests)?;
-        let listed = published(alloc, &opened_pairs)?;
+        let (straddling, listed) = opened(alloc, &self.places, &edges, &self.rules, now, tests)?;
         self.moment = now;
-        self.open_pairs = opened_pairs;
+        self.straddling = straddling;
         self.published = listed;
         Ok(())
     }

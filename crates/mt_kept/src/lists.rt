@@ -1,20 +1,32 @@
 //! Which pairs a change and a move keep.
 ghost use Rattle.std.specs.Prelude.{◌≡◌, ◌++◌, ◌≤◌, map, filter, IfOk, OnOk, vec_len, vec_capacity};
-ghost use Rattle.mt_kept.specs.Private.Made.{avoids, is_closed_pair, is_lasting, opens, quiet, touches_place};
+ghost use Rattle.mt_kept.specs.Private.Made.{avoids, has_begun, is_lasting, is_straddler, touches_place};
 ghost use Rattle.mt_kept.specs.Window.{edge_of};
 
-use crate::open_pair::{OpenPair, is_open};
+use crate::open_pair::{OpenPair, is_straddling};
 use mt_base::{Memory, Second};
 use mt_edges::Edge;
 use std::alloc::Global;
 
-/// The open pairs that don't end before `now`.
-pub(crate) fn lasting(alloc: Global, pairs: &[OpenPair], now: Second) -> Result<Vec<Edge>, Memory>
-    ensures { IfOk result (λ edges. edges.items ≡ filter (is_lasting now) (map edge_of pairs.now)) }
+/// Whether a pair begins before `moment` and doesn't end before `now`.
+fn has_begun(edge: &Edge, moment: Second, now: Second) -> bool
+    ensures { result ≡ has_begun moment now edge.now }
+{
+    edge.first < moment && now <= edge.last
+}
+
+/// The open pairs that begin before `moment` and don't end before `now`.
+pub(crate) fn begun(
+    alloc: Global,
+    pairs: &[OpenPair],
+    moment: Second,
+    now: Second,
+) -> Result<Vec<Edge>, Memory>
+    ensures { IfOk result (λ edges. edges.items ≡ filter (has_begun moment now) (map edge_of pairs.now)) }
 {
     let mut edges = Vec::new(alloc);
     for pair in pairs {
-        if now <= pair.edge.last {
+        if has_begun(&pair.edge, moment, now) {
             edges.push(pair.edge)?;
         }
     }
@@ -34,7 +46,7 @@ pub(crate) fn add_lasting(edges: &mut Vec<Edge>, others: &[Edge], now: Second) -
 }
 
 /// Whether no end of an open pair is a place of that slot.
-pub(crate) fn is_elsewhere(pair: &OpenPair, slot: u32) -> bool
+fn is_elsewhere(pair: &OpenPair, slot: u32) -> bool
     ensures { result ≡ avoids slot pair.now }
 {
     pair.edge.a / 2 != slot && pair.edge.b / 2 != slot
@@ -49,18 +61,18 @@ pub(crate) fn drop_slot(pairs: &mut Vec<OpenPair>, slot: u32)
     pairs.retain(|pair| is_elsewhere(pair, slot));
 }
 
-/// Those of these pairs that are open.
-pub(crate) fn open_of(
+/// Those of these pairs whose span straddles an edge of the window.
+pub(crate) fn straddling_of(
     alloc: Global,
     pairs: &[OpenPair],
     now: Second,
 ) -> Result<Vec<OpenPair>, Memory>
     requires { now ≤ 10000000 }
-    ensures { IfOk result (λ list. list.items ≡ filter (opens now) pairs.now) }
+    ensures { IfOk result (λ list. list.items ≡ filter (is_straddler now) pairs.now) }
 {
     let mut list = Vec::new(alloc);
     for pair in pairs {
-        if is_open(&pair.edge, now) {
+        if is_straddling(&pair.edge, now) {
             list.push(*pair)?;
         }
     }
@@ -82,24 +94,4 @@ pub(crate) fn at_place(
         }
     }
     Ok(list)
-}
-
-/// Puts after some open pairs those of others that are not open, and show nothing.
-pub(crate) fn add_closed(
-    pairs: &mut Vec<OpenPair>,
-    edges: &[Edge],
-    now: Second,
-) -> Result<(), Memory>
-    requires { now ≤ 10000000 }
-    ensures { OnOk result (pairs.new.items ≡ pairs.old.items ++ map quiet (filter (is_closed_pair now) edges.now)) }
-{
-    for edge in edges {
-        if !is_open(edge, now) {
-            pairs.push(OpenPair {
-                edge: *edge,
-                conflict: None,
-            })?;
-        }
-    }
-    Ok(())
 }

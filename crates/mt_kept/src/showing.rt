@@ -1,20 +1,21 @@
 //! What pairs show in the window.
-ghost use Rattle.std.specs.Prelude.{◌≡◌, ◌≢◌, ◌+◌, ◌<◌, ◌≤◌, ◌↔◌, ◌⊎◌, map, filter, All, Contains, IfOk, Some, if◌then◌else◌};
+ghost use Rattle.std.specs.Prelude.{◌≡◌, ◌≢◌, ◌+◌, ◌<◌, ◌≤◌, ◌↔◌, ◌⊎◌, ◌++◌, ◌∷◌, [], map, filter, All, Contains, IfOk, OnOk, if◌then◌else◌};
+ghost use Rattle.std.specs.Option.{option_to_list};
 ghost use Rattle.mt_base.specs.declared.conflict.Conflict.{Conflict};
+ghost use Rattle.mt_base.specs.declared.rules.Rules.{Rules};
 ghost use Rattle.mt_base.specs.Bounds.{AreWithinBounds};
 ghost use Rattle.mt_base.specs.Conflict.{IsSpanOfLoss};
 ghost use Rattle.mt_track.specs.Named.{named};
 ghost use Rattle.mt_kept.specs.Losing.{IsPair};
-ghost use Rattle.mt_kept.specs.Private.Made.{IsInOrder, WereTested, conflict_of, meets};
-ghost use Rattle.mt_kept.specs.Places.{seen};
+ghost use Rattle.mt_kept.specs.Private.Made.{IsInOrder, WereTested, conflict_of, is_straddler, opens};
+ghost use Rattle.mt_kept.specs.Places.{at, seen};
 ghost use Rattle.mt_base.specs.Trajectory.{horizon};
 ghost use Rattle.mt_base.specs.Tally.{raised_by};
-ghost use Rattle.mt_kept.specs.Window.{IsFoundOf, IsOpen, ShowsInWindow, edge_of, straddles};
-ghost use Rattle.mt_kept.specs.Private.Window.{Shows};
+ghost use Rattle.mt_kept.specs.Window.{IsFoundOf, IsOpen, ShowsInWindow, straddles};
+ghost use Rattle.mt_kept.specs.Private.Window.{AreInnerAdded, AreOpened, Shows, ShowsWhole};
 
 use crate::conflict_list::ConflictList;
-use crate::lists::is_elsewhere;
-use crate::open_pair::{OpenPair, is_open, is_straddling};
+use crate::open_pair::{OpenPair, is_open, is_straddling, push_pair};
 use mt_base::{Conflict, Memory, Rules, Second, Tally, WINDOW};
 use mt_edges::Edge;
 use mt_pair::lose;
@@ -73,6 +74,21 @@ pub(crate) fn shown_pair(
     Some(paired(left, right, span))
 }
 
+/// The two items of a pair of places.
+fn items_of<'a>(places: &'a [Option<Item>], edge: &Edge) -> (&'a Item, &'a Item)
+    requires { (rules : Rules) × IsPair rules (map seen places.now) edge.now }
+    ensures left { at (map seen places.now) edge.now.a ≡ Some (named result.0.now) }
+    ensures right { at (map seen places.now) edge.now.b ≡ Some (named result.1.now) }
+{
+    let Some(left) = &places[edge.a as usize] else {
+        unreachable!()
+    };
+    let Some(right) = &places[edge.b as usize] else {
+        unreachable!()
+    };
+    (left, right)
+}
+
 /// What an open pair of places shows in the window.
 fn shown(
     places: &[Option<Item>],
@@ -88,16 +104,74 @@ fn shown(
     ensures shown { ShowsInWindow rules.now (map seen places.now) now edge.now result }
     ensures counted { tests.new ≡ raised_by (if straddles now edge.now then 1 else 0) tests.old }
 {
-    let Some(left) = &places[edge.a as usize] else {
-        unreachable!()
-    };
-    let Some(right) = &places[edge.b as usize] else {
-        unreachable!()
-    };
+    let (left, right) = items_of(places, edge);
     shown_pair(left, right, edge, rules, now, tests)
 }
 
-/// These pairs as open ones, each with what it shows in the window.
+/// What a pair of places shows where its span straddles no edge of the window: that span, if it is open.
+fn shown_whole(places: &[Option<Item>], edge: &Edge, now: Second) -> Option<Conflict>
+    requires early { now ≤ 10000000 }
+    requires pair { (rules : Rules) × IsPair rules (map seen places.now) edge.now }
+    ensures { IsOpen now edge.now → ShowsWhole (map seen places.now) edge.now result }
+{
+    if !is_open(edge, now) {
+        return None;
+    }
+    let (left, right) = items_of(places, edge);
+    Some(paired(left, right, (edge.first, edge.last)))
+}
+
+/// Puts after some pairs those of others whose span straddles no edge of the window, each with what it shows where it is open.
+pub(crate) fn add_inner(
+    pairs: &mut Vec<OpenPair>,
+    places: &[Option<Item>],
+    edges: &[Edge],
+    now: Second,
+) -> Result<(), Memory>
+    requires early { now ≤ 10000000 }
+    requires pairs { (rules : Rules) × All (IsPair rules (map seen places.now)) edges.now }
+    ensures { OnOk result (AreInnerAdded (map seen places.now) now edges.now pairs.old.items pairs.new.items) }
+{
+    for edge in edges {
+        if !is_straddling(edge, now) {
+            let conflict = shown_whole(places, edge, now);
+            pairs.push(OpenPair {
+                edge: *edge,
+                conflict,
+            })?;
+        }
+    }
+    Ok(())
+}
+
+/// Puts an open pair after some, if its span straddles an edge of the window.
+fn add_straddler(
+    straddling: &mut Vec<OpenPair>,
+    edge: &Edge,
+    conflict: &Option<Conflict>,
+    now: Second,
+) -> Result<(), Memory>
+    requires { now ≤ 10000000 }
+    ensures { OnOk result (straddling.new.items
+        ≡ straddling.old.items ++ filter (is_straddler now) (record { edge = edge.now; conflict = conflict.now } ∷ [])) }
+{
+    if is_straddling(edge, now) {
+        push_pair(straddling, *edge, *conflict)?;
+    }
+    Ok(())
+}
+
+/// Puts what a pair shows after what others do.
+fn add_shown(list: &mut Vec<Conflict>, conflict: &Option<Conflict>) -> Result<(), Memory>
+    ensures { OnOk result (list.new.items ≡ list.old.items ++ option_to_list conflict.now) }
+{
+    if let Some(conflict) = conflict {
+        list.push(*conflict)?;
+    }
+    Ok(())
+}
+
+/// Of open pairs those that straddle an edge of the window, each with what it shows, and what all of them show.
 pub(crate) fn opened(
     alloc: Global,
     places: &[Option<Item>],
@@ -105,57 +179,37 @@ pub(crate) fn opened(
     rules: &Rules,
     now: Second,
     tests: &mut Tally,
-) -> Result<Vec<OpenPair>, Memory>
+) -> Result<(Vec<OpenPair>, ConflictList), Memory>
     requires rules_kept { AreWithinBounds rules.now }
     requires early { now ≤ 10000000 }
     requires pairs { All (λ e. IsPair rules.now (map seen places.now) e × IsOpen now e) edges.now }
-    ensures same { IfOk result (λ pairs. map edge_of pairs.items ≡ edges.now) }
-    ensures shown { IfOk result (λ pairs. All (λ o. ShowsInWindow rules.now (map seen places.now) now o.edge o.conflict) pairs.items) }
+    ensures opened { IfOk result (λ it. AreOpened rules.now (map seen places.now) now edges.now it.0.items it.1.conflicts) }
     ensures counted { WereTested now edges.now tests.old tests.new }
 {
-    let mut pairs = Vec::new(alloc);
+    let mut straddling = Vec::new(alloc);
+    let mut list = Vec::new(alloc);
     for edge in edges {
         let conflict = shown(places, edge, rules, now, tests);
-        pairs.push(OpenPair {
-            edge: *edge,
-            conflict,
-        })?;
+        add_straddler(&mut straddling, edge, &conflict, now)?;
+        add_shown(&mut list, &conflict)?;
     }
-    Ok(pairs)
+    Ok((straddling, ConflictList::of(alloc, list)))
 }
 
-/// What the open pairs show.
-pub(crate) fn published(alloc: Global, pairs: &[OpenPair]) -> Result<ConflictList, Memory>
-    ensures { IfOk result (λ list. (c : Conflict) → Contains list.conflicts c ↔ Shows pairs.now c) }
+/// What those of some pairs show that are open.
+pub(crate) fn shown_of(
+    alloc: Global,
+    pairs: &[OpenPair],
+    now: Second,
+) -> Result<ConflictList, Memory>
+    requires { now ≤ 10000000 }
+    ensures { IfOk result (λ list. (c : Conflict) → Contains list.conflicts c ↔ Shows (filter (opens now) pairs.now) c) }
 {
     let mut list = Vec::new(alloc);
     for pair in pairs {
-        if let Some(conflict) = pair.conflict {
-            list.push(conflict)?;
+        if is_open(&pair.edge, now) {
+            add_shown(&mut list, &pair.conflict)?;
         }
     }
     Ok(ConflictList::of(alloc, list))
-}
-
-/// Takes out what a pair shows.
-fn hide(list: &mut ConflictList, pair: &OpenPair)
-    ensures exact { (c : Conflict) → Contains list.new.conflicts c ↔ (Contains list.old.conflicts c × (pair.now.conflict ≢ Some c)) }
-    ensures spare { list.old.spare ≤ list.new.spare }
-{
-    if let Some(conflict) = pair.conflict {
-        list.remove(&conflict);
-    }
-}
-
-/// Takes out what the open pairs of a slot show.
-pub(crate) fn hide_slot(list: &mut ConflictList, pairs: &[OpenPair], slot: u32)
-    ensures exact { (c : Conflict) → Contains list.new.conflicts c
-        ↔ (Contains list.old.conflicts c × (¬ Shows (filter (meets slot) pairs.now) c)) }
-    ensures spare { list.old.spare ≤ list.new.spare }
-{
-    for pair in pairs {
-        if !is_elsewhere(pair, slot) {
-            hide(list, pair);
-        }
-    }
 }

@@ -3,7 +3,7 @@
 use Rattle.std.specs.Prelude.{ℕ, List}
 use Rattle.mt_base.specs.declared.conflict.Conflict.{Conflict}
 
--- conflicts in the order of publishing, each once, and the room left before the next `reserve`
+-- conflicts in the order of publishing, each once, and how many there is room for
 pub record Ordered : Type 0 where
   pub conflicts : List Conflict
-  pub spare : ℕ
+  pub room : ℕ

@@ -1,5 +1,5 @@
 -- No public contract names these: they are of private steps and of proofs.
-use Rattle.std.specs.Prelude.{◌≡◌, ℕ, ◌<◌, ◌≤◌, ◌^◌, ◌↔◌, List, length, Contains, Option}
+use Rattle.std.specs.Prelude.{◌≡◌, ℕ, ◌<◌, ◌≤◌, ◌^◌, ◌↔◌, List, length, filter, Contains, Option}
 use Rattle.mt_base.specs.declared.conflict.Conflict.{Conflict}
 use Rattle.mt_base.specs.declared.rules.Rules.{Rules}
 use Rattle.mt_base.specs.Bounds.{AreWithinBounds}
@@ -7,17 +7,21 @@ use Rattle.mt_base.specs.Picture.{NamedTrajectory}
 use Rattle.mt_edges.specs.declared.edge.Edge.{Edge}
 use Rattle.mt_kept.specs.declared.open_pair.OpenPair.{OpenPair}
 use Rattle.mt_kept.specs.Private.Losing.{AreKept}
+use Rattle.mt_kept.specs.Private.Made.{is_straddler}
 use Rattle.mt_kept.specs.Places.{HaveOwnSlots}
 use Rattle.mt_kept.specs.Private.Window.{AreOpen, Shows}
 
--- the pairs of the places are kept, those that are open, and what these show is published. Each flight has one slot.
+-- the pairs of the places are kept, and what the open ones show is published. Of these only those that straddle an edge of the look-ahead are kept with
+-- what they show. Each flight has one slot.
 pub record ArePairsKept (rules : Rules) (now : ℕ) (places : List (Option NamedTrajectory)) (edges : List Edge) (ends : ℕ)
-    (open_pairs : List OpenPair) (published : List Conflict) : Type 0 where
+    (straddling : List OpenPair) (published : List Conflict) : Type 0 where
   pub bounds : AreWithinBounds rules
   pub early : now ≤ 10000000
   pub few : length places < 2 ^ 32
   pub all : ends ≡ length places
   pub kept : AreKept rules places edges
+  pub open_pairs : List OpenPair
   pub opened : AreOpen rules places now edges open_pairs
+  pub straddlers : straddling ≡ filter (is_straddler now) open_pairs
   pub exact : (c : Conflict) → Contains published c ↔ Shows open_pairs c
   pub own : HaveOwnSlots places

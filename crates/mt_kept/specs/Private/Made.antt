@@ -1,5 +1,5 @@
 -- No public contract names these: they are of private steps and of proofs.
-use Rattle.std.specs.Prelude.{◌≡◌, ℕ, ◌<◌, ◌↔◌, ◌⊎◌, ◌++◌, ◌∷◌, [], ◌+◌, ◌*◌, ◌≤◌, List, map, take, length, filter, Contains, Option, None, Bool, ⊤, not, ◌==◌, ◌&&◌, ◌||◌, nat_le}
+use Rattle.std.specs.Prelude.{◌≡◌, ℕ, ◌<◌, ◌↔◌, ◌⊎◌, ◌++◌, ◌∷◌, [], ◌+◌, ◌*◌, ◌≤◌, List, map, take, length, filter, Contains, Option, Bool, ⊤, not, ◌==◌, ◌&&◌, ◌||◌, nat_le, nat_lt}
 use Rattle.std.specs.List.{count_by}
 use Rattle.std.specs.Cmp.Lexicographic.{slice_cmp}
 use Rattle.std.specs.Ordering.{nat_cmp}
@@ -22,16 +22,24 @@ use Rattle.mt_base.specs.Tally.{raised_by}
 use Rattle.mt_kept.specs.Window.{IsFoundOf, IsOpen, edge_of, straddles}
 use Rattle.mt_kept.specs.Made.{is_open_pair}
 
--- `is_lasting`, `is_closed_pair`: a pair doesn't end before the moment; it is not open
+-- `is_lasting`, `has_begun`, `is_inner`: a pair doesn't end before the moment; it begins before an earlier one too; it straddles no edge of the
+-- look-ahead
 abbrev pub is_lasting : ℕ → Edge → Bool
 is_lasting now e = nat_le now e.last
 
-abbrev pub is_closed_pair : ℕ → Edge → Bool
-is_closed_pair now e = not (is_open_pair now e)
+abbrev pub has_begun : ℕ → ℕ → Edge → Bool
+has_begun moment now e = nat_lt e.first moment && nat_le now e.last
 
--- `opens`, `avoids`, `meets`, `touches_place`: of an open pair: it is open; no end is in that slot; some end is; one end is that place
+abbrev pub is_inner : ℕ → Edge → Bool
+is_inner now e = not (straddles now e)
+
+-- `opens`, `is_straddler`, `avoids`, `meets`, `touches_place`: of a pair with what it shows: it is open; it straddles an edge of the look-ahead; no end
+-- is in that slot; some end is; one end is that place
 abbrev pub opens : ℕ → OpenPair → Bool
 opens now o = is_open_pair now o.edge
+
+abbrev pub is_straddler : ℕ → OpenPair → Bool
+is_straddler now o = straddles now o.edge
 
 abbrev pub avoids : ℕ → OpenPair → Bool
 avoids slot o = not (slot_of o.edge.a == slot) && not (slot_of o.edge.b == slot)
@@ -41,10 +49,6 @@ meets slot o = not (avoids slot o)
 
 abbrev pub touches_place : ℕ → OpenPair → Bool
 touches_place place o = touches place o.edge
-
--- a pair as an open one that shows nothing
-abbrev pub quiet : Edge → OpenPair
-quiet e = record { edge = e; conflict = None }
 
 -- `conflict_of`, `IsInOrder`: the conflict of two trajectories over a span, the lesser callsign first
 abbrev pub conflict_of : NamedTrajectory → NamedTrajectory → ℕ → ℕ → Conflict

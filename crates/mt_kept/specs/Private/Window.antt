@@ -1,10 +1,13 @@
 -- No public contract names these: they are of private steps and of proofs.
-use Rattle.std.specs.Prelude.{◌≡◌, ◌≢◌, ℕ, List, map, Contains, AllPairs, Option, Some}
+use Rattle.std.specs.Prelude.{◌≡◌, ◌≢◌, ℕ, ◌+◌, ◌*◌, ◌⊎◌, ◌↔◌, List, ◌++◌, map, filter, All, Contains, AllPairs, Option, Some}
 use Rattle.mt_base.specs.declared.conflict.Conflict.{Conflict}
 use Rattle.mt_base.specs.declared.rules.Rules.{Rules}
 use Rattle.mt_base.specs.Picture.{NamedTrajectory}
 use Rattle.mt_edges.specs.declared.edge.Edge.{Edge}
 use Rattle.mt_kept.specs.declared.open_pair.OpenPair.{OpenPair}
+use Rattle.mt_kept.specs.Finds.{AreFindsAt}
+use Rattle.mt_kept.specs.Places.{at}
+use Rattle.mt_kept.specs.Private.Made.{IsInOrder, is_inner, is_straddler, opens}
 use Rattle.mt_kept.specs.Window.{IsOpen, ShowsInWindow, edge_of}
 
 -- exactly the kept pairs that are open, each once, with what it shows
@@ -20,3 +23,37 @@ pub record Shows (open_pairs : List OpenPair) (c : Conflict) : Type 0 where
   pub pair : OpenPair
   pub held : Contains open_pairs pair
   pub shown : pair.conflict ≡ Some c
+
+-- a pair shows its whole span, the lesser callsign first
+pub record ShowsWhole (places : List (Option NamedTrajectory)) (e : Edge) (shown : Option Conflict) : Type 0 where
+  pub left : NamedTrajectory
+  pub right : NamedTrajectory
+  pub left_is : at places e.a ≡ Some left
+  pub right_is : at places e.b ≡ Some right
+  pub conflict : Conflict
+  pub is : shown ≡ Some conflict
+  pub order : IsInOrder left right (e.first, e.last) conflict ⊎ IsInOrder right left (e.first, e.last) conflict
+
+-- those of some pairs that straddle no edge of the look-ahead were put after others. Each that is open shows its whole span.
+pub record AreInnerAdded (places : List (Option NamedTrajectory)) (now : ℕ) (edges : List Edge) (old new : List OpenPair) : Type 0 where
+  pub added : List OpenPair
+  pub is : new ≡ old ++ added
+  pub same : map edge_of added ≡ filter (is_inner now) edges
+  pub shown : All (λ o. IsOpen now o.edge → ShowsWhole places o.edge o.conflict) added
+
+-- these pairs were opened: those of them that straddle an edge of the look-ahead, with what they show, and what all of them show
+pub record AreOpened (rules : Rules) (places : List (Option NamedTrajectory)) (now : ℕ) (edges : List Edge) (straddling : List OpenPair)
+    (conflicts : List Conflict) : Type 0 where
+  pub pairs : List OpenPair
+  pub same : map edge_of pairs ≡ edges
+  pub shown : All (λ o. ShowsInWindow rules places now o.edge o.conflict) pairs
+  pub straddlers : straddling ≡ filter (is_straddler now) pairs
+  pub exact : (c : Conflict) → Contains conflicts c ↔ Shows pairs c
+
+-- exactly what the open pairs of a slot's two places show
+pub record AreShownAt (rules : Rules) (places : List (Option NamedTrajectory)) (now slot : ℕ) (conflicts : List Conflict) : Type 0 where
+  pub first : List OpenPair
+  pub second : List OpenPair
+  pub first_are : AreFindsAt rules places now (2 * slot) first
+  pub second_are : AreFindsAt rules places now (2 * slot + 1) second
+  pub exact : (c : Conflict) → Contains conflicts c ↔ Shows (filter (opens now) (first ++ second)) c

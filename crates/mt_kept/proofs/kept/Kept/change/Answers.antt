@@ -1,14 +1,15 @@
-use Rattle.std.proofs.Common.{◌≡◌, ◌↔◌, ◌++◌, Contains, true, ap, arith, map, refl, sym, ◌∙◌}
+use Rattle.std.proofs.Common.{◌≡◌, ◌↔◌, ◌⊎◌, ◌++◌, Contains, true, ap, arith, map, refl, sym, ◌∙◌}
 use Rattle.std.specs.List.{filter}
 use Rattle.std.specs.Result.{is_ok}
 use Rattle.mt_base.specs.declared.conflict.Conflict.{Conflict}
 use Rattle.mt_kept.specs.Finds.{AreFindsOfSlot}
-use Rattle.mt_kept.specs.Private.Made.{AreReplaced, WereDropped, avoids, meets, opens}
+use Rattle.mt_kept.specs.Private.Made.{AreReplaced, WereDropped, avoids, is_straddler, opens}
 use Rattle.mt_kept.specs.Places.{HaveOwnSlots, seen, with_slot}
-use Rattle.mt_kept.specs.Private.Window.{Shows}
-use Rattle.mt_kept.proofs.Keeping.{kept_put, length_slot, map_slot, open_put}
+use Rattle.mt_kept.specs.Private.Window.{AreShownAt, Shows}
+use Rattle.mt_kept.proofs.Keeping.{kept_put, length_slot, map_slot, open_put, straddlers_put}
 use Rattle.mt_kept.proofs.Replacing.{finds_sound, were_steps}
-use Rattle.mt_kept.proofs.Shown.{shown_all, shown_put}
+use Rattle.mt_kept.proofs.Shown.{shown_put}
+use Rattle.mt_kept.proofs.Slots.{shown_slot}
 use Rattle.std.proofs.lemmas.Result.{MatchResult-from_err}
 use Rattle.mt_base.proofs.Members.{All-from_held}
 use Rattle.mt_kept.specs.declared.open_pair.OpenPair.{OpenPair}
@@ -30,41 +31,44 @@ pub invariant_of-self-2 : goal.invariant_of-self-2
 invariant_of-self-2 c =
     let k = c.self.invariant in
     let now = c.self.inside.moment in
+    let slot = c.args.slot in
+    let finds_now = c.args.finds.now in
     let places = map seen c.self.inside.places.items in
-    let pairs = c.self.inside.open_pairs.items in
+    let edges = c.self.inside.pairs.edges in
     let list = c.self.inside.published.conflicts in
+    let hidden = c.in_ok-hidden.hidden.conflicts in
     let first = seen c.args.first in
     let second = seen c.args.second in
-    let own : HaveOwnSlots (with_slot places c.args.slot first second) = rw (← c.self.view_is) at c.requires.own in
-    let finds : AreFindsOfSlot c.self.inside.rules (with_slot places c.args.slot first second) now c.args.slot c.args.finds.now = rw (← c.self.view_is) at c.requires.finds in
-    let replaced : AreReplaced c.args.slot c.args.finds.now c.self.inside.pairs.edges c.replace_pairs.new.pairs.edges =
-    rw c.in_ok-reserve.ensures.edges at c.replace_pairs.ensures.replaced in
-    let hidden : (d : Conflict) → Contains c.hide_slot.new.list.conflicts d ↔ (Contains list d × (¬ Shows (filter (meets c.args.slot) pairs) d)) =
-    rw (c.deref-2.ensures.value, c.in_ok-reserve-2.ensures.items, c.in_ok-reserve-3.ensures.same) at c.hide_slot.ensures.exact in
-    let fresh : c.in_ok-fresh.fresh.items ≡ filter (opens now) c.args.finds.now = c.in_ok-fresh.ensures in
-    let shown : (d : Conflict) → Contains c.in_ok-shown.shown.conflicts d ↔ Shows (filter (opens now) c.args.finds.now) d =
-    rw (c.deref.ensures.value, fresh) at c.in_ok-shown.ensures in
-    let listed : c.extend_from_slice.new.self.items ≡ filter (avoids c.args.slot) pairs ++ filter (opens now) c.args.finds.now =
+    let own : HaveOwnSlots (with_slot places slot first second) = rw (← c.self.view_is) at c.requires.own in
+    let finds : AreFindsOfSlot c.self.inside.rules (with_slot places slot first second) now slot finds_now = rw (← c.self.view_is) at c.requires.finds in
+    let replaced : AreReplaced slot finds_now edges c.replace_pairs.new.pairs.edges = rw c.in_ok-reserve.ensures.edges at c.replace_pairs.ensures.replaced in
+    let shown_at : AreShownAt c.self.inside.rules places now slot hidden = rw (← c.self.view_is) at c.in_ok-hidden.ensures.hidden in
+    let gone = shown_slot c.self.inside.rules places now slot edges k.open_pairs hidden k.early k.own k.kept k.opened shown_at in
+    let fresh : (d : Conflict) → Contains c.in_ok-hidden.shown.conflicts d ↔ Shows (filter (opens now) finds_now) d = rw (← c.self.view_is) at c.in_ok-hidden.ensures.shown in
+    let published : (d : Conflict) → Contains c.replace.new.self.conflicts d ↔ ((Contains list d × (¬ Contains hidden d)) ⊎ Contains c.in_ok-hidden.shown.conflicts d) =
+    rw c.in_ok-reserve-3.ensures.same at c.replace.ensures in
+    let listed : c.extend_from_slice.new.self.items ≡ filter (avoids slot) c.self.inside.straddling.items ++ filter (is_straddler now) finds_now =
+    let came : c.in_ok-hidden.straddling.items ≡ filter (is_straddler now) finds_now = rw (← c.self.view_is) at c.in_ok-hidden.ensures.straddling in
     let reserved = c.in_ok-reserve-2.ensures.ok in
     let same = c.in_ok-reserve-2.ensures.len in
     let shorter = c.drop_slot.ensures.len in
     let capacity = c.drop_slot.ensures.capacity in
     let count = c.len.ensures in
-    let long = c.deref-3.ensures.len in
+    let long = c.deref.ensures.len in
     let room : is_ok c.extend_from_slice.result ≡ true = c.extend_from_slice.ensures.succeeds (omega arith) in
-    rw (room, c.drop_slot.ensures.rest, c.in_ok-reserve-2.ensures.items, c.deref-3.ensures.value, fresh) at c.extend_from_slice.ensures.items in
-    rw (map_slot c.self.inside.places.items c.args.slot c.args.first c.args.second) (record {
+    rw (room, c.drop_slot.ensures.rest, c.in_ok-reserve-2.ensures.items, c.deref.ensures.value, came) at c.extend_from_slice.ensures.items in
+    rw (map_slot c.self.inside.places.items slot c.args.first c.args.second) (record {
       bounds = k.bounds;
       early = k.early;
-      few = rw (length_slot places c.args.slot first second) k.few;
-      all = c.replace_pairs.ensures.ends ∙ c.in_ok-reserve.ensures.ends ∙ k.all ∙ sym (length_slot places c.args.slot first second);
-      kept = kept_put c.self.inside.rules places now c.args.slot first second c.self.inside.pairs.edges c.replace_pairs.new.pairs.edges c.args.finds.now
-          k.kept finds replaced c.replace_pairs.ensures.once;
-      opened = rw listed (open_put c.self.inside.rules places now c.args.slot first second c.self.inside.pairs.edges c.replace_pairs.new.pairs.edges
-          c.args.finds.now pairs k.opened finds replaced);
-      exact = rw listed (shown_put c.self.inside.rules places now c.args.slot c.self.inside.pairs.edges pairs c.args.finds.now list c.hide_slot.new.list.conflicts
-          c.add_all.new.self.conflicts k.own k.opened k.exact hidden (shown_all (filter (opens now) c.args.finds.now) c.in_ok-shown.shown.conflicts c.hide_slot.new.list.conflicts
-          c.add_all.new.self.conflicts c.add_all.ensures shown));
+      few = rw (length_slot places slot first second) k.few;
+      all = c.replace_pairs.ensures.ends ∙ c.in_ok-reserve.ensures.ends ∙ k.all ∙ sym (length_slot places slot first second);
+      kept = kept_put c.self.inside.rules places now slot first second edges c.replace_pairs.new.pairs.edges finds_now k.kept finds replaced
+          c.replace_pairs.ensures.once;
+      open_pairs = filter (avoids slot) k.open_pairs ++ filter (opens now) finds_now;
+      opened = open_put c.self.inside.rules places now slot first second edges c.replace_pairs.new.pairs.edges finds_now k.open_pairs k.opened finds replaced;
+      straddlers = straddlers_put now slot k.open_pairs finds_now c.self.inside.straddling.items c.extend_from_slice.new.self.items k.straddlers listed;
+      exact = shown_put c.self.inside.rules places now slot edges k.open_pairs finds_now list hidden c.in_ok-hidden.shown.conflicts
+          c.replace.new.self.conflicts k.own k.opened k.exact gone fresh published;
       own = own;
     })
 
@@ -77,17 +81,11 @@ returns-clause-steps c =
     rw (← c.self.view_is) (were_steps c.self.inside.rules (map seen c.self.inside.places.items) c.args.slot c.self.inside.pairs.edges c.args.steps.now c.replace_pairs.new.steps
     c.self.invariant.kept dropped)
 
-pub returns-in_err-fresh-clause-err : goal.returns-in_err-fresh-clause-err
-returns-in_err-fresh-clause-err c = MatchResult-from_err c.from_residual.result _ _ c.from_residual.ensures.0 (λ err. refl)
+pub returns-in_err-hidden-clause-err : goal.returns-in_err-hidden-clause-err
+returns-in_err-hidden-clause-err c = MatchResult-from_err c.from_residual.result _ _ c.from_residual.ensures.0 (λ err. refl)
 
-pub returns-in_err-fresh-clause-steps : goal.returns-in_err-fresh-clause-steps
-returns-in_err-fresh-clause-steps c = none_dropped _ _ _ _
-
-pub returns-in_err-shown-clause-err : goal.returns-in_err-shown-clause-err
-returns-in_err-shown-clause-err c = MatchResult-from_err c.from_residual-in_err-shown.result _ _ c.from_residual-in_err-shown.ensures.0 (λ err. refl)
-
-pub returns-in_err-shown-clause-steps : goal.returns-in_err-shown-clause-steps
-returns-in_err-shown-clause-steps c = none_dropped _ _ _ _
+pub returns-in_err-hidden-clause-steps : goal.returns-in_err-hidden-clause-steps
+returns-in_err-hidden-clause-steps c = none_dropped _ _ _ _
 
 pub returns-in_err-reserve-clause-err : goal.returns-in_err-reserve-clause-err
 returns-in_err-reserve-clause-err c =

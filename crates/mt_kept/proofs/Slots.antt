@@ -1,0 +1,124 @@
+-- What the pairs of a slot show.
+use Rattle.std.proofs.Common.{◌≡◌, ℕ, ◌+◌, ◌*◌, ◌≤◌, inl, inr, ⊎_elim, ◌↔◌, not, List, ◌++◌, map, Contains, Option, Some, sym, ◌∙◌, ap, subst, arith}
+use Rattle.std.specs.List.{filter}
+use Rattle.std.proofs.lemmas.Bool.{cases_Bool}
+use Rattle.std.proofs.lemmas.List.Elements.{Contains-append_cases, Contains-append_left, Contains-append_right}
+use Rattle.mt_base.specs.declared.conflict.Conflict.{Conflict}
+use Rattle.mt_base.specs.declared.rules.Rules.{Rules}
+use Rattle.mt_base.specs.Picture.{NamedTrajectory}
+use Rattle.mt_base.proofs.Members.{Contains-filter, Contains-map_cases}
+use Rattle.mt_edges.specs.declared.edge.Edge.{Edge}
+use Rattle.mt_kept.specs.declared.open_pair.OpenPair.{OpenPair}
+use Rattle.mt_kept.specs.Finds.{AreFindsAt}
+use Rattle.mt_kept.specs.Losing.{IsPair, Joins, Touches, TouchesSlot}
+use Rattle.mt_kept.specs.Places.{HaveOwnSlots, slot_of}
+use Rattle.mt_kept.specs.Window.{IsOpen, ShowsInWindow, edge_of}
+use Rattle.mt_kept.specs.Private.Losing.{AreKept, AvoidsSlot}
+use Rattle.mt_kept.specs.Private.Made.{avoids, meets, opens}
+use Rattle.mt_kept.specs.Private.Window.{AreOpen, AreShownAt, Shows}
+use Rattle.mt_kept.proofs.Again.{same_pair}
+use Rattle.mt_kept.proofs.Keeping.{avoids_is, even_half, halves, is_open_is, odd_half}
+use Rattle.mt_kept.proofs.Publishing.{one_shown, shown_is, shows}
+use Rattle.mt_kept.proofs.Shown.{meets_is, one_slot}
+
+-- a found pair of the slot, and what it shows
+record IsFoundIn (rules : Rules) (places : List (Option NamedTrajectory)) (now slot : ℕ) (o : OpenPair) : Type 0 where
+  touching : TouchesSlot slot o.edge
+  pair : IsPair rules places o.edge
+  shown : IsOpen now o.edge → ShowsInWindow rules places now o.edge o.conflict
+
+found_in : (rules : Rules) (places : List (Option NamedTrajectory)) (now slot place : ℕ) (finds : List OpenPair) (o : OpenPair) → slot_of place ≡ slot
+    → AreFindsAt rules places now place finds → Contains finds o → IsFoundIn rules places now slot o
+found_in rules places now slot place finds o half found held =
+    let h = found.sound o held in
+    record { touching = ⊎_elim (λ a. inl (ap slot_of a ∙ half)) (λ b. inr (ap slot_of b ∙ half)) h.0; pair = h.1; shown = h.2 }
+
+-- an open pair of a place is found there, and shows the same
+shows_there : (rules : Rules) (places : List (Option NamedTrajectory)) (now place : ℕ) (finds : List OpenPair) (e : Edge) (c : Conflict)
+    → AreFindsAt rules places now place finds → IsPair rules places e → IsOpen now e → ShowsInWindow rules places now e (Some c) → Touches place e
+    → Shows (filter (opens now) finds) c
+shows_there rules places now place finds e c found pair meets shown touching =
+    let joined : Joins (map edge_of finds) e.a e.b = found.complete e.a e.b e.first pair.before touching (record {
+      left = pair.left;
+      right = pair.right;
+      left_is = pair.left_is;
+      right_is = pair.right_is;
+      apart = pair.apart;
+      loss = pair.span.first_is;
+      early = omega (arith, pair.span.inside.1, pair.span.inside.2);
+    }) in
+    let x = Contains-map_cases edge_of finds joined.edge joined.held in
+    let o = x.of in
+    let h = found.sound o x.held in
+    let same : o.edge ≡ e = same_pair rules places o.edge e h.1 pair
+    (ap (λ (f : Edge). f.a) x.is ∙ joined.ends.0, ap (λ (f : Edge). f.b) x.is ∙ joined.ends.1) in
+    let meets_here : IsOpen now o.edge = subst (IsOpen now) (sym same) meets in
+    record {
+      pair = o;
+      held = (Contains-filter (opens now) finds o).1 (x.held, (is_open_is now o.edge).1 meets_here);
+      shown = one_shown rules places now o.edge o.conflict c (h.2 meets_here)
+          (subst (λ (f : Edge). ShowsInWindow rules places now f (Some c)) (sym same) shown);
+    }
+
+-- what is found for the two places of a slot shows exactly what the open pairs of the slot do
+pub shown_slot : (rules : Rules) (places : List (Option NamedTrajectory)) (now slot : ℕ) (edges : List Edge) (pairs : List OpenPair) (hidden : List Conflict)
+    → now ≤ 10000000 → HaveOwnSlots places → AreKept rules places edges → AreOpen rules places now edges pairs → AreShownAt rules places now slot hidden
+    → (c : Conflict) → Contains hidden c ↔ Shows (filter (meets slot) pairs) c
+shown_slot rules places now slot edges pairs hidden early own kept opened are c = (
+  (λ held. from_finds ((are.exact c).0 held)),
+  (λ s. (are.exact c).1 (to_finds s)),
+) where
+  all : List OpenPair
+  all = are.first ++ are.second
+
+  found : (o : OpenPair) → Contains all o → IsFoundIn rules places now slot o
+  found o held = ⊎_elim
+      (λ one. found_in rules places now slot (2 * slot) are.first o (even_half slot) are.first_are one)
+      (λ two. found_in rules places now slot (2 * slot + 1) are.second o (odd_half slot) are.second_are two) (Contains-append_cases are.first are.second o held)
+
+  from_finds : Shows (filter (opens now) all) c → Shows (filter (meets slot) pairs) c
+  from_finds h =
+      let both = (Contains-filter (opens now) all h.pair).0 h.held in
+      let it = found h.pair both.0 in
+      let shown : ShowsInWindow rules places now h.pair.edge (Some c) =
+      subst (λ (x : Option Conflict). ShowsInWindow rules places now h.pair.edge x) h.shown (it.shown ((is_open_is now h.pair.edge).0 both.1)) in
+      let s = shows rules places now edges pairs c early kept opened (shown_is rules places now h.pair.edge c shown) in
+      let there : ShowsInWindow rules places now s.pair.edge (Some c) =
+      subst (λ (x : Option Conflict). ShowsInWindow rules places now s.pair.edge x) s.shown (opened.sound s.pair s.held).2 in
+      let near : ¬ AvoidsSlot slot s.pair.edge = one_slot rules places now slot h.pair.edge s.pair.edge c own shown there it.touching in
+      record {
+        pair = s.pair;
+        held = (Contains-filter (meets slot) pairs s.pair).1 (
+          s.held,
+          ⊎_elim
+              (λ away. absurd (near ((avoids_is slot s.pair).0 away))) (λ not_away. ap not not_away) (cases_Bool (avoids slot s.pair)),
+        );
+        shown = s.shown;
+      }
+
+  to_finds : Shows (filter (meets slot) pairs) c → Shows (filter (opens now) all) c
+  to_finds s =
+      let o = s.pair in
+      let both = (Contains-filter (meets slot) pairs o).0 s.held in
+      let h = opened.sound o both.0 in
+      let pair = kept.sound o.edge h.0 in
+      let shown : ShowsInWindow rules places now o.edge (Some c) = subst (λ (x : Option Conflict). ShowsInWindow rules places now o.edge x) s.shown h.2 in
+      let first : Touches (2 * slot) o.edge → Shows (filter (opens now) all) c = λ touching.
+      let it = shows_there rules places now (2 * slot) are.first o.edge c are.first_are pair h.1 shown touching in
+      let held = (Contains-filter (opens now) are.first it.pair).0 it.held in
+      record {
+        pair = it.pair;
+        held = (Contains-filter (opens now) all it.pair).1 (Contains-append_left are.first are.second it.pair held.0, held.1);
+        shown = it.shown;
+      } in
+      let second : Touches (2 * slot + 1) o.edge → Shows (filter (opens now) all) c = λ touching.
+      let it = shows_there rules places now (2 * slot + 1) are.second o.edge c are.second_are pair h.1 shown touching in
+      let held = (Contains-filter (opens now) are.second it.pair).0 it.held in
+      record {
+        pair = it.pair;
+        held = (Contains-filter (opens now) all it.pair).1 (Contains-append_right are.first are.second it.pair held.0, held.1);
+        shown = it.shown;
+      } in
+      ⊎_elim
+      (λ a. ⊎_elim (λ even. first (inl even)) (λ odd. second (inl odd)) (halves o.edge.a slot a))
+      (λ b. ⊎_elim (λ even. first (inr even)) (λ odd. second (inr odd)) (halves o.edge.b slot b)) (meets_is slot o both.1)
