@@ -2,8 +2,10 @@
 
 import json
 import os
+import re
 import subprocess
 import sys
+import tempfile
 import time
 
 TOP = os.path.dirname(os.path.dirname(os.path.abspath(__file__)))
@@ -19,18 +21,22 @@ def draws(seed=1):
         yield state >> 33
 
 
-def text(lines):
+def text(lines, separators=None):
     """The bytes of a script."""
-    return b"".join(json.dumps(line).encode() + b"\n" for line in lines)
+    return b"".join(json.dumps(line, separators=separators).encode() + b"\n" for line in lines)
 
 
-def tables():
-    """64 fixes, 32 nautical miles apart, a type, and the line that begins."""
+def fix(place):
+    """The name of one of 64 fixes, eight by eight."""
+    return "F%d%d" % divmod(place, 8)
+
+
+def tables(others=()):
+    """64 fixes, 32 nautical miles apart, and others, a type, and the line that begins."""
     fixes = [
-        {"do": "fix", "name": "F%02d" % place, "x": -403_200 + 115_200 * (place // 8), "y": -403_200 + 115_200 * (place % 8)}
-        for place in range(64)
+        {"do": "fix", "name": fix(place), "x": -403_200 + 115_200 * (place // 8), "y": -403_200 + 115_200 * (place % 8)} for place in range(64)
     ]
-    return fixes + [{"do": "type", "name": "JA1", "bands": [[245, 400, 2000, 2000], [410, 480, 2100, 2100]]}, {"do": "begin"}]
+    return fixes + list(others) + [{"do": "type", "name": "JA1", "bands": [[245, 400, 2000, 2000], [410, 480, 2100, 2100]]}, {"do": "begin"}]
 
 
 def route(fixes, draw):
@@ -40,7 +46,7 @@ def route(fixes, draw):
         place = next(draw) % 64
         if place != places[-1]:
             places.append(place)
-    return ["F%02d" % place for place in places]
+    return [fix(place) for place in places]
 
 
 def plans(count, fixes, climb, asked=()):
@@ -84,6 +90,16 @@ def spent(data, program=PROGRAM, word="replay"):
     if process.returncode != 0:
         sys.exit("%s answered the status %d" % (program, process.returncode))
     return usage.ru_utime + usage.ru_stime
+
+
+def instructions(data=b"", program=PROGRAM, words=("replay",), profile="/dev/null"):
+    """The instructions of user code of one run by valgrind's callgrind, which don't move with the load of the machine, and what it wrote."""
+    command = ["valgrind", "--tool=callgrind", "--callgrind-out-file=" + profile, program, *words]
+    with tempfile.TemporaryFile() as script:
+        script.write(data)
+        script.seek(0)
+        done = subprocess.run(command, stdin=script, capture_output=True, check=True)
+    return int(re.search(rb"Collected : (\d+)", done.stderr).group(1)), done.stdout
 
 
 def least(data, repeats=REPEATS, word="replay"):
