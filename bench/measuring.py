@@ -3,6 +3,7 @@
 import json
 import os
 import re
+import shutil
 import subprocess
 import sys
 import tempfile
@@ -67,6 +68,29 @@ def plans(count, fixes, climb, asked=()):
 def build():
     """Builds the program, where it isn't built."""
     subprocess.run([os.path.join(TOP, "bin", "mtcd"), "replay"], stdin=subprocess.DEVNULL, check=True)
+
+
+def build_added(folder, crate, patch, below="", borrowed=(), commit="HEAD", words=()):
+    """Builds the crate that a patch adds to a clone of this repository in that folder, and gives the path of its program.
+
+    Below are the crates that it stands on. Borrowed files are those of the crate of bench/containers.patch.
+    """
+    clone = os.path.join(folder, "clone")
+    added, containers = (os.path.join(clone, "crates", name) for name in (crate, "containers"))
+    subprocess.run(["git", "clone", "--quiet", TOP, clone], check=True)
+    subprocess.run(["git", "-C", clone, "checkout", "--quiet", commit], check=True)
+    for name in [patch, "containers.patch"] if borrowed else [patch]:
+        subprocess.run(["git", "-C", clone, "apply", os.path.join(TOP, "bench", name)], check=True)
+    for name in borrowed:
+        shutil.move(os.path.join(containers, "src", name), os.path.join(added, "src", name))
+    if borrowed:
+        shutil.rmtree(containers)
+    if below:
+        with open(os.path.join(clone, "crates.txt"), "a") as crates:
+            crates.write("%s: %s\n" % (crate, below))
+    print("bench: building %s" % crate, file=sys.stderr)
+    subprocess.run(["rt", "run", *words], cwd=added, stdin=subprocess.DEVNULL, stdout=sys.stderr, check=True)
+    return os.path.join(added, "out", crate)
 
 
 def run(data, program=PROGRAM):
