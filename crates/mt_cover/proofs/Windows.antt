@@ -1,14 +1,14 @@
 -- Slices that hold several others, window by window.
-use Rattle.std.proofs.Common.{◌≡◌, ◌≤◌, ◌<◌, ◌+◌, ◌-◌, ◌*◌, ◌/◌, ℕ, [], List, ◌++◌, ◌∷◌, min, max, length, get_or, length-append, ⊎_elim, sym, subst, arith}
+use Rattle.std.proofs.Common.{◌≡◌, ◌≤◌, ◌<◌, ◌+◌, ◌-◌, ◌*◌, ◌/◌, ℕ, [], List, ◌++◌, ◌∷◌, min, max, length, get_or, take, drop, length-append, ⊎_elim, sym, subst, arith}
 use Rattle.std.proofs.lemmas.Bool.{cases_lt}
 use Rattle.std.proofs.lemmas.Int.{ints}
-use Rattle.std.proofs.lemmas.List.{get_or_append_left, get_or_push}
+use Rattle.std.proofs.lemmas.List.{get_or-drop, get_or_append_left, get_or_push, take_rest}
 use Rattle.std.proofs.lemmas.List.Elements.{All-push}
 use Rattle.std.specs.Int.{div_ceil}
 use Rattle.mt_cover.specs.Layer.{IsLayerKept}
 use Rattle.mt_cover.specs.declared.sliced.Slice.{Slice}
 use Rattle.mt_cover.specs.Sliced.{Holds, no_slice}
-use Rattle.mt_cover.specs.Private.Wide.{AreWideUntil}
+use Rattle.mt_cover.specs.Private.Wide.{AreWide, AreWideUntil}
 
 pub holds_on : (a b c : Slice) → Holds a b → Holds b c → Holds a c
 holds_on a b c h g = record {
@@ -49,3 +49,11 @@ one_wide start end window begin until first past list wide own on begin_is until
       (cases_lt (k / 1024) window);
   kept = All-push (λ (slice : Slice). IsLayerKept slice.layer) wide own so_far.kept kept;
 }
+
+-- those of the windows from one on
+pub wide_after : (start end from i k : ℕ) (list wide : List Slice) → AreWide start end list wide → start ≤ from → start ≤ k → k < end → k / 1024 ≡ from / 1024 + i
+    → Holds (get_or (take (length wide - (from / 1024 - start / 1024)) (drop (from / 1024 - start / 1024) wide)) i no_slice) (get_or list ((k - start) / 256) no_slice)
+wide_after start end from i k list wide are late begun within same =
+    let place : (from / 1024 - start / 1024) + i ≡ k / 1024 - start / 1024 = omega (arith, late, same) in
+    rw (take_rest wide (from / 1024 - start / 1024), get_or-drop (from / 1024 - start / 1024) wide i no_slice, place)
+    (are.hold k begun within (omega (arith, within)))

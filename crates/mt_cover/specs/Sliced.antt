@@ -83,6 +83,10 @@ pub record Holds (a b : Slice) : Type 0 where
 abbrev pub HoldsWindow : Sliced → ℕ → Slice → Type 0
 HoldsWindow s window wide = (k : ℕ) → Have s k → k / 1024 ≡ window → Holds wide (slice_at s k)
 
+-- each of some slices holds all seconds of its window. The first one has this number.
+abbrev pub HoldWindows : Sliced → ℕ → List Slice → Type 0
+HoldWindows s first list = (i : ℕ) → i < length list → HoldsWindow s (first + i) (get_or list i no_slice)
+
 -- where slices touch in a second, covers share a cell
 abbrev pub TouchingIsNear : Type 0
 TouchingIsNear = (rules : Rules) (a b : Trajectory) (k : ℕ) → AreWithinBounds rules → IsStrand a → IsStrand b → Have (slices_of rules a) k

@@ -108,7 +108,7 @@ pub fn slices(alloc: Global, strand: &Strand, rules: &Rules) -> Result<Slices, M
     let start = strand.start();
     let end = strand.end();
     let segments = strand.segments();
-    let mut list = Vec::new(alloc);
+    let mut list = Vec::with_capacity(alloc, (end - start).div_ceil(SLICE) as usize)?;
     let mut layer = no_layer();
     let mut index = 0;
     for slice in 0..(end - start).div_ceil(SLICE) {

@@ -97,7 +97,8 @@ pub(crate) fn wide(
     requires kept { All (λ (slice : Cut). IsLayerKept slice.layer) list.now }
     ensures { IfOk result (λ wide. AreWide start end list.now wide.items) }
 {
-    let mut wide = Vec::new(alloc);
+    let number = end.div_ceil(WINDOW) - start / WINDOW;
+    let mut wide = Vec::with_capacity(alloc, number as usize)?;
     for window in start / WINDOW..end.div_ceil(WINDOW) {
         let begin = start.max(WINDOW * window);
         let until = end.min(WINDOW * window + WINDOW);

@@ -14,7 +14,7 @@ use Rattle.mt_base.specs.Loss.{IsNearAt, LosesIn, height}
 use Rattle.mt_cover.specs.declared.layer.Layer.{Layer}
 use Rattle.mt_cover.specs.Layer.{IsLayerKept}
 use Rattle.mt_cover.specs.Layer.{IsInLayer}
-use Rattle.mt_meet.specs.Heights.{AreApartBy, EndBelow, LieApart}
+use Rattle.mt_meet.specs.Heights.{EndBelow, LieApart}
 use Rattle.mt_meet.specs.Private.Heights.{IsMinimumIn}
 use Rattle.mt_pair.specs.High.{LosesAbove, level_of}
 use Rattle.mt_pair.proofs.Instants.{loses_above}
@@ -103,23 +103,6 @@ pub lying_apart : (rules : Rules) (pa pb : Bool) (one other : Layer) (a b : Row)
 lying_apart rules pa pb one other a b greater apart in_one in_other = ⊎_elim
     (λ most. rows_apart rules pa pb one other rules.sv2 a b (record { greater = greater; minimum = inl refl; apart = most }) in_one in_other)
     (λ lesser. rows_apart rules pa pb one other rules.sv a b (record { greater = greater; minimum = inr (refl, lesser.0); apart = lesser.1 }) in_one in_other)
-    apart
-
--- the minimum that the code takes says whether layers lie apart
-apart_more : (s t : ℤ) (one other : Layer) → s ≤ℤ t → AreApartBy t one other → AreApartBy s one other
-apart_more s t one other more apart = ⊎_elim (λ h. inl (omega (arith, lin, more, h))) (λ h. inr (omega (arith, lin, more, h))) apart
-
-pub apart_by : (rules : Rules) (level : ℤ) (one other : Layer) (least : ℤ) → IsMinimumIn rules level one other least → AreApartBy least one other → LieApart rules level one other
-apart_by rules level one other least minimum apart = ⊎_elim
-    (λ most. inl (rw most at apart))
-    (λ lesser. inr (lesser.1, rw (lesser.0) at apart))
-    minimum
-
-pub apart_for : (rules : Rules) (level : ℤ) (one other : Layer) (least : ℤ) → rules.sv ≤ℤ rules.sv2 → IsMinimumIn rules level one other least
-    → (EndBelow level one other → least ≡ rules.sv) → LieApart rules level one other → AreApartBy least one other
-apart_for rules level one other least greater minimum lesser apart = ⊎_elim
-    (λ most. apart_more least rules.sv2 one other (⊎_elim (λ e. omega (arith, lin, e)) (λ e. omega (arith, lin, e.0, greater)) minimum) most)
-    (λ some. apart_more least rules.sv one other (omega (arith, lin, lesser some.0)) some.1)
     apart
 
 -- the comparison of two layers, as the code has it

@@ -1,6 +1,9 @@
+pub mod Bits
 pub mod Hulls
 pub mod Kept
 pub mod Layers
 pub mod Listing
+pub mod Marked
 pub mod Meetings
+pub mod Turns
 pub mod Windows

@@ -101,7 +101,7 @@ beyond_apart rules own r guard is beyond close = close.heights (inl (⊎_elim
     (λ above. inl (omega (arith, ints, is.high, above))) (λ below. inr (omega (arith, ints, is.low, below))) beyond))
 
 -- nothing is close to that of no slices
-nothing_close : (rules : Rules) (own r : Reach) → r ≡ nowhere → ¬ AreClose rules own r
+pub nothing_close : (rules : Rules) (own r : Reach) → r ≡ nowhere → ¬ AreClose rules own r
 nothing_close rules own r is close = let none : r.to ≡ 0 = ap (λ (x : Reach). x.to) is in omega (arith, close.left, none)
 
 pub within : (all : List (Option Sliced)) (item : ℕ) (theirs : Sliced) → get_or all item None ≡ Some theirs → item < length all

@@ -1,12 +1,14 @@
 -- Of a window of the clock the slices that hold all others are compared first.
-use Rattle.std.proofs.Common.{◌≡◌, ◌≤◌, ◌<◌, ◌+◌, ◌*◌, ◌/◌, ◌&&◌, ◌↔◌, Bool, false, IsTrue, ℕ, rules, subst, arith}
+use Rattle.std.proofs.Common.{◌≡◌, ◌≤◌, ◌<◌, ◌+◌, ◌-◌, ◌*◌, ◌/◌, ◌&&◌, Bool, ℕ, List, Some, None, length, max, min, arith}
 use Rattle.std.proofs.lemmas.Int.{ints}
+use Rattle.std.specs.Int.{div_ceil}
 use Rattle.mt_base.specs.declared.rules.Rules.{Rules}
 use Rattle.mt_cover.specs.declared.sliced.Slice.{Slice}
 use Rattle.mt_cover.specs.declared.bounding_box.Extent.{Extent}
-use Rattle.mt_cover.specs.Sliced.{Holds, HoldsWindow, Reaches, Sliced, Touch, slice_at}
+use Rattle.mt_cover.specs.Sliced.{HoldWindows, Holds, Reaches, Sliced, Touch, slice_at}
 use Rattle.mt_pair.specs.High.{level_of}
-use Rattle.mt_meet.specs.Meeting.{MeetAt, SlicesMeet}
+use Rattle.mt_meet.specs.Meeting.{IsHull, MeetAt, SlicesMeet}
+use Rattle.mt_meet.specs.Private.Meeting.{Before, MeetOnlyIn, PlaceMeets}
 use Rattle.mt_meet.proofs.Meetings.{lie_within}
 
 touch_held : (a b c d : Extent) → Reaches c a → Reaches d b → Touch a b → Touch c d
@@ -23,11 +25,39 @@ meet_held minima approved a b c d left right meet = record {
       (record { low = left.low; high = left.high }) (record { low = right.low; high = right.high }) apart);
 }
 
-pub window_apart : (minima : Rules) (a b : Sliced) (approved : Bool) (x y : Slice) (met : Bool) (at until : ℕ) → approved ≡ (a.rvsm && b.rvsm)
-    → HoldsWindow a (at / 1024) x → HoldsWindow b (at / 1024) y → (IsTrue met ↔ SlicesMeet minima approved x y) → until ≤ 1024 * (at / 1024) + 1024
-    → met ≡ false → (k : ℕ) → at ≤ k → k < until → ¬ MeetAt minima a b k
-window_apart minima a b approved x y met at until approved_is left right meeting ends is k late early meet =
-    let same : k / 1024 ≡ at / 1024 = omega (arith, late, early, ends) in
-    let no : IsTrue false = subst IsTrue is (meeting.1 (meet_held minima approved (slice_at a k) (slice_at b k) x y (left k meet.left same)
-    (right k meet.right same) (rw approved_is meet.meet))) in
-    search rules
+-- where slices meet, those that hold their window do
+module _ (minima : Rules) (a b : Sliced) (approved : Bool) (window number : ℕ) (left right : List Slice) (approved_is : approved ≡ (a.rvsm && b.rvsm))
+    (left_holds : HoldWindows a window left) (right_holds : HoldWindows b window right) (left_enough : number ≤ length left) (right_enough : number ≤ length right) where
+  place_meets : (k : ℕ) → window ≤ k / 1024 → k / 1024 - window < number → MeetAt minima a b k → PlaceMeets minima approved left right (k / 1024 - window)
+  place_meets k late early meet =
+      let same : k / 1024 ≡ window + (k / 1024 - window) = omega (arith, late) in
+      meet_held minima approved (slice_at a k) (slice_at b k) _ _
+      (left_holds (k / 1024 - window) (omega (arith, early, left_enough)) k meet.left same)
+      (right_holds (k / 1024 - window) (omega (arith, early, right_enough)) k meet.right same)
+      (rw approved_is meet.meet)
+
+  module _ (begin end : ℕ) (outside : MeetOnlyIn minima a b begin end) (window_is : window ≡ begin / 1024) (number_is : number ≡ div_ceil end 1024 - window) where
+    at_place : (k : ℕ) → MeetAt minima a b k → Before (PlaceMeets minima approved left right) number (k / 1024 - window)
+    at_place k meet =
+        let in_them = outside.all k meet in
+        let early : k / 1024 - window < number = omega (arith, in_them.0, in_them.1, window_is, number_is) in
+        (early, place_meets k (omega (arith, in_them.0, window_is)) early meet)
+
+    pub none_meet : IsHull (Before (PlaceMeets minima approved left right) number) None → (k : ℕ) → ¬ MeetAt minima a b k
+    none_meet none k meet = none (k / 1024 - window) (at_place k meet)
+
+    pub narrower : (first last least past : ℕ) → IsHull (Before (PlaceMeets minima approved left right) number) (Some (first, last))
+        → least ≡ 1024 * (window + first) → past ≡ 1024 * (window + last) + 1024 → MeetOnlyIn minima a b (max begin least) (min end past)
+    narrower first last least past hull least_is past_is = record {
+      some = (let within = hull.first_is.0 in let rising = (hull.none_outside first hull.first_is).1 in
+          omega (arith, within, rising, outside.some, window_is, number_is, least_is, past_is));
+      a_begun = omega (arith, outside.a_begun);
+      b_begun = omega (arith, outside.b_begun);
+      a_within = omega (arith, outside.a_within);
+      b_within = omega (arith, outside.b_within);
+      all = λ k meet. let in_them = outside.all k meet in
+          let between = hull.none_outside (k / 1024 - window) (at_place k meet) in (
+            omega (arith, in_them.0, between.0, window_is, least_is),
+            omega (arith, in_them.0, in_them.1, between.1, window_is, past_is),
+          );
+    }

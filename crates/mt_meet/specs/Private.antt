@@ -1,4 +1,5 @@
 -- What no public contract names: invariants and relations of private steps.
 pub mod Heights
+pub mod Marking
 pub mod Meeting
 pub mod Reaching

@@ -2,8 +2,7 @@
 ghost use Rattle.std.specs.Prelude.{◌≡◌, ◌↔◌, pos, ◌≤ℤ◌, ◌-ℤ◌, IsTrue};
 ghost use Rattle.mt_base.specs.Bounds.{AreWithinBounds, IsWithin};
 ghost use Rattle.mt_cover.specs.Layer.{IsLayerKept};
-ghost use Rattle.mt_meet.specs.Heights.{EndBelow, LieApart};
-ghost use Rattle.mt_meet.specs.Private.Heights.{IsMinimumIn};
+ghost use Rattle.mt_meet.specs.Heights.{AreApartBy, EndBelow, LieApart};
 ghost use Rattle.mt_pair.specs.High.{level_of};
 
 use mt_base::Rules;
@@ -18,20 +17,6 @@ fn end_below(approved: bool, a: &Layer, b: &Layer) -> bool
     a.high <= top && b.high <= top
 }
 
-/// The vertical minimum of two layers: the lesser one where neither reaches above that level, else the greater one.
-fn minimum<'a>(rules: &'a Rules, approved: bool, a: &Layer, b: &Layer) -> &'a i64
-    requires { AreWithinBounds rules.now }
-    ensures is { IsMinimumIn rules.now (level_of approved) a.now b.now result.now }
-    ensures lesser { EndBelow (level_of approved) a.now b.now → result.now ≡ rules.now.sv }
-    ensures kept { IsWithin (pos 1) (pos 600000) result.now }
-{
-    if end_below(approved, a, b) {
-        &rules.sv
-    } else {
-        &rules.sv2
-    }
-}
-
 /// Whether one layer lies above another by at least that much.
 fn is_above(least: &i64, low: &Layer, high: &Layer) -> bool
     requires least_kept { IsWithin (pos 1) (pos 600000) least.now }
@@ -42,6 +27,16 @@ fn is_above(least: &i64, low: &Layer, high: &Layer) -> bool
     high.low - low.high >= *least
 }
 
+/// Whether one of two layers lies above the other by at least that much.
+fn are_apart_by(least: &i64, a: &Layer, b: &Layer) -> bool
+    requires least_kept { IsWithin (pos 1) (pos 600000) least.now }
+    requires a_kept { IsLayerKept a.now }
+    requires b_kept { IsLayerKept b.now }
+    ensures { IsTrue result ↔ AreApartBy least.now a.now b.now }
+{
+    is_above(least, a, b) || is_above(least, b, a)
+}
+
 /// Whether two layers lie apart by the vertical minimum: the greater one, or the lesser one where neither reaches above the level from which
 /// on the greater one holds; that is flight level 410 where both aircraft are approved, else 290.
 pub fn lie_apart(rules: &Rules, approved: bool, a: &Layer, b: &Layer) -> bool
@@ -50,6 +45,5 @@ pub fn lie_apart(rules: &Rules, approved: bool, a: &Layer, b: &Layer) -> bool
     requires b_kept { IsLayerKept b.now }
     ensures { IsTrue result ↔ LieApart rules.now (level_of approved) a.now b.now }
 {
-    let least = minimum(rules, approved, a, b);
-    is_above(least, a, b) || is_above(least, b, a)
+    are_apart_by(&rules.sv, a, b) && (end_below(approved, a, b) || are_apart_by(&rules.sv2, a, b))
 }

@@ -6,6 +6,7 @@
 
 mod heights;
 mod laws;
+mod marks;
 mod meeting;
 mod reach;
 mod reaches;

@@ -1,10 +1,12 @@
 //! The seconds in which the slices of two trajectories meet.
-ghost use Rattle.std.specs.Prelude.{◌≡◌, ◌↔◌, ◌≤◌, ◌<◌, ◌&&◌, IsTrue};
+ghost use Rattle.std.specs.Prelude.{◌≡◌, ◌↔◌, ◌-◌, ◌≤◌, ◌<◌, ◌&&◌, All, IsTrue, length};
+ghost use Rattle.std.specs.Int.{div_ceil};
 ghost use Rattle.mt_base.specs.Bounds.{AreWithinBounds};
 ghost use Rattle.mt_cover.specs.Layer.{IsLayerKept};
+ghost use Rattle.mt_cover.specs.declared.sliced.Slice.{Slice as Cut};
 ghost use Rattle.mt_cover.specs.Sliced.{Touch};
 ghost use Rattle.mt_meet.specs.Meeting.{IsHull, MeetAt, SlicesMeet};
-ghost use Rattle.mt_meet.specs.Private.Meeting.{Before, hull_on};
+ghost use Rattle.mt_meet.specs.Private.Meeting.{AreNarrowed, AreTurns, Before, MeetInTurn, MeetOnlyIn, PlaceMeets, first_met, hull_join};
 
 use crate::heights::lie_apart;
 use mt_base::{Rules, Second};
@@ -12,6 +14,9 @@ use mt_cover::{Extent, Slice, Slices};
 
 // How many seconds of the clock a window has.
 const WINDOW: Second = 1024;
+
+// How many seconds a slice has.
+const SLICE: Second = 256;
 
 // Whether two extents have a coordinate in common. Their ends belong to them.
 fn touch(a: &Extent, b: &Extent) -> bool
@@ -30,21 +35,13 @@ fn slices_meet(rules: &Rules, approved: bool, a: &Slice, b: &Slice) -> bool
     touch(&a.x, &b.x) && touch(&a.y, &b.y) && !lie_apart(rules, approved, &a.layer, &b.layer)
 }
 
-// The first and the last of some seconds, and of some later ones, where these count.
-fn hull_on(
-    hull: Option<(Second, Second)>,
-    met: bool,
-    first: Second,
-    last: Second,
-) -> Option<(Second, Second)>
-    ensures { result ≡ hull_on hull met first last }
+// The first of some places, and of a later one.
+fn first_met(first: Option<usize>, place: usize) -> usize
+    ensures { result ≡ first_met first place }
 {
-    if !met {
-        return hull;
-    }
-    match hull {
-        Some((begin, _)) => Some((begin, last)),
-        None => Some((first, last)),
+    match first {
+        Some(first) => first,
+        None => place,
     }
 }
 
@@ -55,34 +52,137 @@ fn are_approved(a: &Slices, b: &Slices) -> bool
     a.rvsm() && b.rvsm()
 }
 
-// What is so of the seconds before one, with those from there on and before another one: slice by slice.
-fn meet_until(
+// The first and the last of some places at which the slices of two lists meet.
+#[inline(always)]
+fn places_that_meet(
+    rules: &Rules,
+    approved: bool,
+    a: &[Slice],
+    b: &[Slice],
+    number: usize,
+) -> Option<(usize, usize)>
+    requires rules { AreWithinBounds rules.now }
+    requires a_enough { number ≤ length a.now }
+    requires b_enough { number ≤ length b.now }
+    requires a_kept { All (λ (slice : Cut). IsLayerKept slice.layer) a.now }
+    requires b_kept { All (λ (slice : Cut). IsLayerKept slice.layer) b.now }
+    ensures { IsHull (Before (PlaceMeets rules.now approved a.now b.now) number) result }
+{
+    let mut first = None;
+    let mut last = 0;
+    for place in 0..number {
+        if slices_meet(rules, approved, &a[place], &b[place]) {
+            first = Some(first_met(first, place));
+            last = place;
+        }
+    }
+    match first {
+        Some(first) => Some((first, last)),
+        None => None,
+    }
+}
+
+// Of seconds outside of which slices never meet, those from the first window to the last one in which the slices that hold all others meet.
+fn narrowed(
     a: &Slices,
     b: &Slices,
     rules: &Rules,
-    hull: Option<(Second, Second)>,
     begin: Second,
     end: Second,
 ) -> Option<(Second, Second)>
     requires rules { AreWithinBounds rules.now }
-    requires a_begun { a.now.from ≤ begin }
-    requires b_begun { b.now.from ≤ begin }
-    requires some { begin < end }
-    requires a_within { end ≤ a.now.to }
-    requires b_within { end ≤ b.now.to }
-    requires before { IsHull (Before (MeetAt rules.now a.now b.now) begin) hull }
-    ensures { IsHull (Before (MeetAt rules.now a.now b.now) end) result }
+    requires outside { MeetOnlyIn rules.now a.now b.now begin end }
+    ensures { AreNarrowed rules.now a.now b.now result }
 {
+    a.keeps();
     let approved = are_approved(a, b);
-    let mut at = begin;
-    let mut hull = hull;
-    while at < end {
-        let until = a.until(at).min(b.until(at)).min(end);
-        let met = slices_meet(rules, approved, a.at(at), b.at(at));
-        hull = hull_on(hull, met, at, until - 1);
-        at = until;
+    let (left, right) = (a.wide_from(begin), b.wide_from(begin));
+    let window = begin / WINDOW;
+    let number = (end.div_ceil(WINDOW) - window) as usize;
+    let Some((first, last)) = places_that_meet(rules, approved, left, right, number) else {
+        return None;
+    };
+    let least = WINDOW * (window + first as Second);
+    let past = WINDOW * (window + last as Second) + WINDOW;
+    Some((begin.max(least), end.min(past)))
+}
+
+// The first and the last second, from one on and before another one, in which the slices at one place of two lists meet. Those at the first
+// place both have the seconds from `start` on and before `stop`, those at each later place the seconds 256 later.
+#[inline(always)]
+fn meet_in_turn(
+    rules: &Rules,
+    approved: bool,
+    a: &[Slice],
+    b: &[Slice],
+    start: Second,
+    stop: Second,
+    begin: Second,
+    end: Second,
+) -> Option<(Second, Second)>
+    requires rules { AreWithinBounds rules.now }
+    requires times { AreTurns start stop begin end }
+    requires a_enough { div_ceil (end - start) 256 ≤ length a.now }
+    requires b_enough { div_ceil (end - start) 256 ≤ length b.now }
+    requires a_kept { All (λ (slice : Cut). IsLayerKept slice.layer) a.now }
+    requires b_kept { All (λ (slice : Cut). IsLayerKept slice.layer) b.now }
+    ensures { IsHull (MeetInTurn rules.now approved a.now b.now start stop begin end) result }
+{
+    let number = end.saturating_sub(start).div_ceil(SLICE) as usize;
+    let Some((first, last)) = places_that_meet(rules, approved, a, b, number) else {
+        return None;
+    };
+    let least = start + SLICE * first as Second;
+    let past = stop + SLICE * last as Second;
+    Some((begin.max(least), end.min(past) - 1))
+}
+
+// The first and the last of two kinds of seconds, where there is one.
+fn joined(a: Option<(Second, Second)>, b: Option<(Second, Second)>) -> Option<(Second, Second)>
+    ensures { result ≡ hull_join a b }
+{
+    let Some((a_first, a_last)) = a else {
+        return b;
+    };
+    let Some((b_first, b_last)) = b else {
+        return a;
+    };
+    Some((a_first.min(b_first), a_last.max(b_last)))
+}
+
+// The first and the last second in which slices meet, of seconds outside of which they never do: slice by slice. Where those of one trajectory
+// begin earlier, each of them meets two of the other one's, in turn.
+fn meet_between(
+    a: &Slices,
+    b: &Slices,
+    rules: &Rules,
+    begin: Second,
+    end: Second,
+) -> Option<(Second, Second)>
+    requires rules { AreWithinBounds rules.now }
+    requires outside { MeetOnlyIn rules.now a.now b.now begin end }
+    ensures { IsHull (MeetAt rules.now a.now b.now) result }
+{
+    a.keeps();
+    b.keeps();
+    let approved = are_approved(a, b);
+    let a_start = begin - (begin - a.from()) % SLICE;
+    let b_start = begin - (begin - b.from()) % SLICE;
+    let (a_next, b_next) = (a_start + SLICE, b_start + SLICE);
+    let (left, right) = (a.slices_from(begin), b.slices_from(begin));
+    if a_start < b_start {
+        let both = meet_in_turn(rules, approved, left, right, b_start, a_next, begin, end);
+        let left = a.slices_after(begin);
+        let next = meet_in_turn(rules, approved, left, right, a_next, b_next, begin, end);
+        return joined(both, next);
     }
-    hull
+    let both = meet_in_turn(rules, approved, left, right, a_start, b_next, begin, end);
+    if a_start == b_start {
+        return both;
+    }
+    let right = b.slices_after(begin);
+    let next = meet_in_turn(rules, approved, left, right, b_next, a_next, begin, end);
+    joined(both, next)
 }
 
 /// The first and the last second in which slices of both meet; `None` exactly where there is no such second. Of each window of the clock the
@@ -91,16 +191,11 @@ pub fn meet(a: &Slices, b: &Slices, rules: &Rules) -> Option<(Second, Second)>
     requires { AreWithinBounds rules.now }
     ensures { IsHull (MeetAt rules.now a.now b.now) result }
 {
-    let approved = are_approved(a, b);
+    let begin = a.from().max(b.from());
     let end = a.to().min(b.to());
-    let mut at = a.from().max(b.from());
-    let mut hull = None;
-    while at < end {
-        let until = end.min(WINDOW * (at / WINDOW) + WINDOW);
-        if slices_meet(rules, approved, a.wide_at(at), b.wide_at(at)) {
-            hull = meet_until(a, b, rules, hull, at, until);
-        }
-        at = until;
+    if begin >= end {
+        return None;
     }
-    hull
+    let (begin, end) = narrowed(a, b, rules, begin, end)?;
+    meet_between(a, b, rules, begin, end)
 }

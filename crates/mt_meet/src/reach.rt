@@ -3,7 +3,7 @@ ghost use Rattle.std.specs.Prelude.{◌≡◌, ◌↔◌, IsTrue};
 ghost use Rattle.mt_base.specs.Bounds.{AreWithinBounds};
 ghost use Rattle.mt_cover.specs.Layer.{IsLayerKept};
 ghost use Rattle.mt_cover.specs.Sliced.{AreSlices};
-ghost use Rattle.mt_meet.specs.Private.Reaching.{AreClose, IsGuard, LiesBeyond, reach_of, nowhere};
+ghost use Rattle.mt_meet.specs.Private.Reaching.{AreClose, IsGuard, reach_of, nowhere};
 
 use crate::heights::lie_apart;
 use mt_base::{Rules, Second};
@@ -72,11 +72,4 @@ pub(crate) fn guarded(rules: &Rules, layer: &Layer) -> Layer
         low: layer.low - rules.sv2,
         high: layer.high + rules.sv2,
     }
-}
-
-/// Whether heights lie above or below others.
-pub(crate) fn lies_beyond(guard: &Layer, layer: &Layer) -> bool
-    ensures { IsTrue result → LiesBeyond guard.now layer.now }
-{
-    layer.low >= guard.high || layer.high <= guard.low
 }

@@ -3,13 +3,15 @@ ghost use Rattle.std.specs.Prelude.{◌≡◌, ◌<◌, ◌+◌, ◌*◌, None, 
 ghost use Rattle.std.specs.Arc.{arc_value};
 ghost use Rattle.mt_base.specs.Bounds.{AreWithinBounds};
 ghost use Rattle.mt_meet.specs.Meeting.{AreMet, IsMetAt, IsNextMet};
-ghost use Rattle.mt_meet.specs.Private.Reaching.{AreReachesOn, AreSlicesIn, IsGuard, IsNextOn, IsReachOf, reach_in, reach_of};
+ghost use Rattle.mt_meet.specs.Private.Marking.{AreCloseMarked};
+ghost use Rattle.mt_meet.specs.Private.Reaching.{AreReachesOn, AreSlicesIn, IsNextOn, IsReachOf, reach_in, reach_of};
 
+use crate::marks::{band, first_mark, marks_from, without_mark};
 use crate::meeting::meet;
-use crate::reach::{Reach, are_close, guarded, lies_beyond, nowhere, reach_of};
+use crate::reach::{Reach, are_close, guarded, nowhere, reach_of};
 use crate::reaches::{ITEMS, ReachPage, with_reach};
 use mt_base::{Memory, Rules, Second};
-use mt_cover::{Layer, Slices};
+use mt_cover::Slices;
 use mt_paged::Paged;
 use std::alloc::Global;
 use std::marker::Model;
@@ -27,7 +29,8 @@ pub struct Met {
 }
 
 /// The slices of items, each of which may have none. They stand in pages that tables share; beside them, in pages of their own, stand the
-/// heights of each item and its first and last seconds, which are gone over whole, but for the pages that no item with slices was on.
+/// heights of each item and its first and last seconds. Of these only the items are gone over that are marked in the bands of heights in
+/// question; pages that no item with slices was on are passed over.
 #[derive(Drop)]
 pub struct SliceTable {
     alloc: Global,
@@ -83,7 +86,7 @@ impl SliceTable {
             return self.share();
         }
         let own = reach_in(slices.as_ref());
-        let (number, place) = (item / ITEMS, (item % ITEMS) as usize);
+        let (number, place) = (item / ITEMS, item % ITEMS);
         let page = with_reach(self.alloc, self.pages.get(number), place, own)?;
         Ok(SliceTable {
             alloc: self.alloc,
@@ -93,27 +96,21 @@ impl SliceTable {
         })
     }
 
-    // The seconds in which the slices of an item meet some, where there is one. `own` is what is compared first, with that of the item;
-    // and before it the item's heights with `guard`.
+    // The seconds in which the slices of an item meet some, where there is one. `own` is what is compared first, with that of the item.
     fn met_at(
         &self,
         item: u32,
         reach: &Reach,
         own: &Reach,
-        guard: &Layer,
         mine: &Slices,
         rules: &Rules,
     ) -> Option<Met>
         requires rules { AreWithinBounds rules.now }
         requires reach { IsReachOf (get_or self.now item None) reach.now }
         requires own { own.now ≡ reach_of mine.now }
-        requires guard { IsGuard rules.now own.now.layer guard.now }
         ensures { IsMetAt rules.now mine.now self.now item result }
     {
         mine.keeps();
-        if lies_beyond(guard, &reach.layer) {
-            return None;
-        }
         if !are_close(rules, own, reach) {
             return None;
         }
@@ -122,30 +119,35 @@ impl SliceTable {
         Some(Met { item, first, last })
     }
 
-    // The first item of a page, from a place on, whose slices meet some.
+    // The first item of a page, from a place on, whose slices meet some. Only those with a mark may be close.
     fn next_on(
         &self,
         page: &ReachPage,
         number: u32,
         from: u32,
+        near: u64,
         own: &Reach,
-        guard: &Layer,
         mine: &Slices,
         rules: &Rules,
     ) -> Option<Met>
         requires rules { AreWithinBounds rules.now }
         requires few { number < 67108864 }
+        requires begun { from < 64 }
         requires page { AreReachesOn self.now number page.now }
         requires own { own.now ≡ reach_of mine.now }
-        requires guard { IsGuard rules.now own.now.layer guard.now }
+        requires near { AreCloseMarked rules.now own.now page.now near }
         ensures { IsNextOn rules.now mine.now self.now number from result }
     {
+        mine.keeps();
         let list = page.list();
-        for place in from..ITEMS {
+        let mut marks = marks_from(near, from);
+        while marks != 0 {
+            let place = first_mark(marks);
             let reach = &list[place as usize];
-            if let Some(met) = self.met_at(number * ITEMS + place, reach, own, guard, mine, rules) {
+            if let Some(met) = self.met_at(number * ITEMS + place, reach, own, mine, rules) {
                 return Some(met);
             }
+            marks = without_mark(marks, place);
         }
         None
     }
@@ -158,12 +160,14 @@ impl SliceTable {
     {
         let own = reach_of(mine);
         let guard = guarded(rules, &own.layer);
+        let (low, high) = (band(&guard.low), band(&guard.high));
         for number in from / ITEMS..self.count.div_ceil(ITEMS) {
             let place = from.saturating_sub(number * ITEMS);
             let Some(page) = self.pages.get(number) else {
                 continue;
             };
-            if let Some(met) = self.next_on(page, number, place, &own, &guard, mine, rules) {
+            let near = page.near(low, high);
+            if let Some(met) = self.next_on(page, number, place, near, &own, mine, rules) {
                 return Some(met);
             }
         }

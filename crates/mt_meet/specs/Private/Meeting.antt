@@ -1,12 +1,60 @@
 -- No public contract names these: they are of private steps and of proofs.
-use Rattle.std.specs.Prelude.{◌<◌, Bool, true, false, ℕ, Option, Some, None}
+use Rattle.std.specs.Prelude.{◌≤◌, ◌<◌, ◌+◌, ◌*◌, Bool, ℕ, min, max, List, Option, Some, None, get_or}
+use Rattle.mt_base.specs.declared.rules.Rules.{Rules}
+use Rattle.mt_cover.specs.declared.sliced.Slice.{Slice}
+use Rattle.mt_cover.specs.Sliced.{Sliced, no_slice}
+use Rattle.mt_meet.specs.Meeting.{MeetAt, SlicesMeet}
 
--- the first and the last of some seconds and of some later ones, where these count
-abbrev pub hull_on : Option (ℕ × ℕ) → Bool → ℕ → ℕ → Option (ℕ × ℕ)
-hull_on hull false first last = hull
-hull_on (Some span) true first last = Some (span.0, last)
-hull_on None true first last = Some (first, last)
+-- `first_met`, `span_of`: the first of some places and of a later one; the first and the last one. There is a last one where there is a first one.
+abbrev pub first_met : Option ℕ → ℕ → ℕ
+first_met (Some first) place = first
+first_met None place = place
+
+abbrev pub span_of : Option ℕ → ℕ → Option (ℕ × ℕ)
+span_of (Some first) last = Some (first, last)
+span_of None last = None
+
+-- the first of two first seconds, and the last of two last ones, where there are some
+abbrev pub hull_join : Option (ℕ × ℕ) → Option (ℕ × ℕ) → Option (ℕ × ℕ)
+hull_join None b = b
+hull_join (Some a) None = Some a
+hull_join (Some a) (Some b) = Some (min a.0 b.0, max a.1 b.1)
 
 -- the hull of earlier seconds lies before that of later ones
 abbrev pub Before : (ℕ → Type 0) → ℕ → ℕ → Type 0
 Before P at k = (k < at) × P k
+
+-- the slices at one place of two lists meet
+abbrev pub PlaceMeets : Rules → Bool → List Slice → List Slice → ℕ → Type 0
+PlaceMeets rules approved a b place = SlicesMeet rules approved (get_or a place no_slice) (get_or b place no_slice)
+
+-- two trajectories have all seconds from one on and before another one, and outside of these their slices never meet
+pub record MeetOnlyIn (rules : Rules) (a b : Sliced) (begin end : ℕ) : Type 0 where
+  pub some : begin < end
+  pub a_begun : a.from ≤ begin
+  pub b_begun : b.from ≤ begin
+  pub a_within : end ≤ a.to
+  pub b_within : end ≤ b.to
+  pub all : (k : ℕ) → MeetAt rules a b k → (begin ≤ k) × (k < end)
+
+-- such seconds; or none, where slices never meet
+abbrev pub AreNarrowed : Rules → Sliced → Sliced → Option (ℕ × ℕ) → Type 0
+AreNarrowed rules a b (Some span) = MeetOnlyIn rules a b span.0 span.1
+AreNarrowed rules a b None = (k : ℕ) → ¬ MeetAt rules a b k
+
+-- times that recur each 256 seconds, from a start on and before a stop, of which the first ones last until after a beginning
+pub record AreTurns (start stop begin end : ℕ) : Type 0 where
+  pub some : start < stop
+  pub short : stop ≤ start + 256
+  pub begun : begin < stop
+  pub ahead : begin < end
+  pub early : end ≤ 10014400
+
+-- a second from a beginning on and before an end, in which the slices at a place of two lists meet, whose turn it is
+pub record MeetInTurn (rules : Rules) (approved : Bool) (a b : List Slice) (start stop begin end k : ℕ) : Type 0 where
+  pub place : ℕ
+  pub late : start + 256 * place ≤ k
+  pub early : k < stop + 256 * place
+  pub begun : begin ≤ k
+  pub within : k < end
+  pub meet : PlaceMeets rules approved a b place

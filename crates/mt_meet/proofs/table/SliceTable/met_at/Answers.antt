@@ -1,7 +1,7 @@
-use Rattle.std.proofs.Common.{IsTrue, false, rules, refl, sym, subst}
+use Rattle.std.proofs.Common.{IsTrue, false, rules, sym, subst}
 use Rattle.mt_cover.specs.Layer.{IsLayerKept}
 use Rattle.mt_meet.specs.declared.reach.Reach.{Reach}
-use Rattle.mt_meet.proofs.Meetings.{beyond_apart, far_apart, layer_kept}
+use Rattle.mt_meet.proofs.Meetings.{far_apart, layer_kept}
 use Rattle.mt_meet.proofs.table.SliceTable.met_at.Goals as goal
 
 pub are_close-requires-clause-a_kept : goal.are_close-requires-clause-a_kept
@@ -14,8 +14,3 @@ pub returns-then-not-are_close : goal.returns-then-not-are_close
 returns-then-not-are_close c =
     far_apart c.args.rules.now c.args.mine.now c.args.self.now c.args.item c.args.own.now c.args.reach.now c.keeps.ensures c.requires.own c.requires.reach
     (λ close. (let no : IsTrue false = c.if-not-are_close.ensures.1 close in search rules))
-
-pub returns-then-lies_beyond : goal.returns-then-lies_beyond
-returns-then-lies_beyond c =
-    far_apart c.args.rules.now c.args.mine.now c.args.self.now c.args.item c.args.own.now c.args.reach.now c.keeps.ensures c.requires.own c.requires.reach
-    (beyond_apart c.args.rules.now c.args.own.now c.args.reach.now c.args.guard.now c.requires.guard (c.if-lies_beyond.ensures refl))
