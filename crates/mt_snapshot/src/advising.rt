@@ -14,7 +14,7 @@ use std::thread::Threads;
 /// order; or its first refusal, at the snapshot's version, that no flight has the callsign, that it is an external one, or that its trajectory
 /// has ended.
 ///
-/// The candidates are tried on at most four threads, and the answer is that of one thread, whichever of them is done first. At most sixteen are
+/// The candidates are tried on the caller's thread; on more the answer would be the same, whichever of them is done first. At most sixteen are
 /// advised. Each was tried from the moment on and has no hit, and its probe holds what was prepared for its acceptance. Nothing is asked of the
 /// caller, and `Memory` is answered where one of the tries wanted some. The definitions are `IsAdvice` and `IsProbe`.
 pub fn advise<R: Threads + Sync>(

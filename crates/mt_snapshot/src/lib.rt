@@ -1,5 +1,5 @@
 //! What is told of a snapshot, with no lock held: the flights for which a new trajectory is due, what is to be seen of a flight, all trajectories,
-//! the published conflicts from nothing; and advice, the clearances of a flight that are free there, tried on several threads.
+//! the published conflicts from nothing; and advice, the clearances of a flight that are free there.
 #![tactic(auto)]
 
 mod advising;

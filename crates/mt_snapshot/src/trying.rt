@@ -11,8 +11,8 @@ use std::alloc::Global;
 use std::thread;
 use std::thread::Threads;
 
-/// On how many threads candidates are tried at most.
-const THREADS: usize = 4;
+/// On how many threads candidates are tried at most. An advice takes less time than to start a thread and wait for it, so it is one.
+const THREADS: usize = 1;
 
 // One candidate, tried from the moment on: its probe where it is free. Its tests are counted on a tally that nobody reads.
 fn try_one<R: Threads + Sync>(
