@@ -14,6 +14,5 @@ pub mod Shown
 pub mod Merged
 pub mod Leaving
 pub mod Anew
-pub mod Stretch
 pub mod Slots
 pub mod Inner

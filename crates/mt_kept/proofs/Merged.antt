@@ -68,12 +68,6 @@ front_rear xs i j rise order c d held there =
     let high = dropped j xs d there in
     between xs low.0 high.0 c d rise (let a = low.1 in let b = high.1 in omega arith) high.2 low.3 high.3
 
-long_front : (i : ℕ) (xs : List Conflict) → i ≤ length xs → i ≡ length (take i xs)
-long_front i xs inside = let short = length-take i xs in omega arith
-
-short_rear : (i : ℕ) (xs : List Conflict) → i ≤ length xs → i ≡ length xs - length (drop i xs)
-short_rear i xs inside = let short = length-drop i xs in omega arith
-
 pub found_parted : (xs : List Conflict) (x : Conflict) (i : ℕ) → IsStrictlySortedBy conflict_cmp xs → i < length xs
     → HoldsAt (λ y. conflict_cmp y x ≡ Equal) xs i → IsParted x xs (take i xs) (drop (i + 1) xs)
 found_parted xs x i sorted inside at =
@@ -94,8 +88,6 @@ found_parted xs x i sorted inside at =
           (λ same. inr (inl (sym here ∙ ap (λ (k : ℕ). get_or xs k x) (sym same) ∙ get_or_default xs held.0 x c held.1 ∙ held.2)))
           (λ other. inr (inr (in_rear (i + 1) held.0 xs c (omega arith) held.1 held.2))) (cases_eq held.0 i)) (cases_lt held.0 i);
       short = let a = length-take i xs in let b = length-drop (i + 1) xs in omega arith;
-      front = ap (λ (n : ℕ). take n xs) (long_front i xs (omega arith));
-      rear = ap (λ (n : ℕ). drop n xs) (short_rear (i + 1) xs (omega arith));
     }
 
 pub absent_parted : (xs : List Conflict) (x : Conflict) (i : ℕ) → IsStrictlySortedBy conflict_cmp xs → i ≤ length xs
@@ -122,8 +114,6 @@ absent_parted xs x i sorted inside parts =
           (λ low. inl (in_front i held.0 xs c low held.1 held.2))
           (λ past. inr (inr (in_rear i held.0 xs c past held.1 held.2))) (cases_lt held.0 i);
       short = let a = length-take i xs in let b = length-drop i xs in omega arith;
-      front = ap (λ (n : ℕ). take n xs) (long_front i xs inside);
-      rear = ap (λ (n : ℕ). drop n xs) (short_rear i xs inside);
     }
 
 -- the others from one on

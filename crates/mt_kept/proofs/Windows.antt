@@ -1,10 +1,10 @@
 -- A conflict over all seconds, and the one in a window; and that a loss doesn't tell which of the two comes first.
-use Rattle.std.proofs.Common.{◌≡◌, ◌&&◌, ◌⊎◌, inl, inr, ⊎_elim, refl, Bool, true, ℕ, ◌<◌, ◌≤◌, ℤ, ◌+ℤ◌, ◌-ℤ◌, ◌*ℤ◌, ◌<ℤ◌, neg_ℤ, false, arith}
+use Rattle.std.proofs.Common.{◌≡◌, max, min, Option, Some, None, ◌&&◌, ◌⊎◌, inl, inr, ⊎_elim, refl, Bool, true, ℕ, ◌+◌, ◌<◌, ◌≤◌, ℤ, ◌+ℤ◌, ◌-ℤ◌, ◌*ℤ◌, ◌<ℤ◌, neg_ℤ, false, arith}
 use Rattle.std.proofs.lemmas.Bool.Decides.{nat_tests}
 use Rattle.mt_ring.proofs.Ring.{lin, spread}
 use Rattle.mt_base.specs.declared.row.Row.{Row}
 use Rattle.mt_base.specs.declared.rules.Rules.{Rules}
-use Rattle.mt_base.specs.Conflict.{IsLossSecond, IsSpanOfLoss}
+use Rattle.mt_base.specs.Conflict.{IsConflict, IsLossSecond, IsSpanOfLoss}
 use Rattle.mt_base.specs.Instant.{value_at}
 use Rattle.mt_base.specs.Loss.{IsNearAt, LosesAt}
 use Rattle.mt_base.specs.Picture.{window_end}
@@ -82,6 +82,20 @@ span_in_window rules a b now e early is_open none whole =
       last_is = whole.last_is;
       none_outside = λ k low high loss. whole.none_outside k (omega arith) (omega arith) loss;
     }
+
+-- a pair's conflict in the window is the one in what of its span lies within
+pub window_within : (rules : Rules) (a b : Trajectory) (now first last from to : ℕ) (found : Option (ℕ × ℕ)) → now ≤ 10000000
+    → from ≡ max now first → to ≡ min (window_end now) (last + 1) → IsSpanOfLoss rules a b 0 horizon first last
+    → IsConflict rules a b from to found → IsConflict rules a b now (window_end now) found
+window_within rules a b now first last from to None early from_is to_is whole none = λ k low high loss.
+    let h = whole.none_outside k (omega arith) (omega arith) loss in none k (omega arith) (omega arith) loss
+window_within rules a b now first last from to (Some span) early from_is to_is whole some = record {
+  inside = (let h = some.inside.0 in omega arith, some.inside.1, let h = some.inside.2 in omega arith);
+  first_is = some.first_is;
+  last_is = some.last_is;
+  none_outside = λ k low high loss.
+      let h = whole.none_outside k (omega arith) (omega arith) loss in some.none_outside k (omega arith) (omega arith) loss;
+}
 
 -- a pair that straddles an edge of the window is open, and one that begins before the window and goes on in it does
 pub straddles_open : (now : ℕ) (e : Edge) → straddles now e ≡ true → IsOpen now e

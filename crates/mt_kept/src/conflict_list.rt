@@ -4,16 +4,17 @@ ghost use Rattle.std.specs.List.Sorted.{IsStrictlySortedBy};
 ghost use Rattle.mt_base.specs.declared.conflict.Conflict.{Conflict};
 ghost use Rattle.mt_base.specs.Picture.{conflict_cmp};
 
-use crate::merging::{merge, put_back, stretch};
+use crate::merging::merge;
 use mt_base::{Conflict, Memory};
 use std::alloc::Global;
 use std::marker::Model;
+use std::mem::swap;
 
 /// Conflicts in the order of publishing, each once, with how many there is room for.
 #[derive(Drop)]
 pub(crate) struct ConflictList {
     values: Vec<Conflict>,
-    /// Where a stretch of the conflicts is made anew. What it holds says nothing.
+    /// Where the list is made anew, in turns with the values. What it holds says nothing.
     aside: Vec<Conflict>,
 }
 
@@ -74,21 +75,12 @@ impl ConflictList {
     }
 
     /// Takes the conflicts of one list out, where they are there, and puts those of another in. It takes no memory.
-    ///
-    /// It touches only what lies between the least and the greatest place that changes, and what comes behind only where the number of
-    /// conflicts changes.
     pub(crate) fn replace(&mut self, hidden: &ConflictList, shown: &ConflictList)
         requires { length self.old.conflicts + length shown.now.conflicts ≤ self.old.room }
         ensures { (c : Conflict) → Contains self.new.conflicts c
             ↔ ((Contains self.old.conflicts c × (¬ Contains hidden.now.conflicts c)) ⊎ Contains shown.now.conflicts c) }
     {
-        let (low, high) = stretch(&self.values, &hidden.values, &shown.values);
-        merge(
-            &mut self.aside,
-            &self.values[low..high],
-            &hidden.values,
-            &shown.values,
-        );
-        put_back(&mut self.values, low, high, &mut self.aside);
+        merge(&mut self.aside, &self.values, &hidden.values, &shown.values);
+        swap(&mut self.values, &mut self.aside);
     }
 }

@@ -193,9 +193,8 @@ impl Kept {
     /// its memory before it changes anything, so on an error all stays as it was.
     ///
     /// It makes at most six steps for each pair that the slot had, and two; a step is one link written or one node of a pair visited.
-    /// Besides it looks at the slot's pairs and at the finds, at the pairs that straddle an edge of the window, and at what is published
-    /// between the first and the last place that changes there; at what is published behind, only where its number changes. A caller that
-    /// bounds no steps hands in a `Steps::new()` and forgets it.
+    /// Besides it looks at the slot's pairs and at the finds, and at the pairs that straddle an edge of the window, and copies what is
+    /// published. A caller that bounds no steps hands in a `Steps::new()` and forgets it.
     pub fn change(
         &mut self,
         slot: u32,

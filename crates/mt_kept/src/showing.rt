@@ -48,8 +48,8 @@ fn paired(left: &Item, right: &Item, span: (Second, Second)) -> Conflict
     }
 }
 
-/// What a pair that is open shows in the window. It is tested only where its span straddles an edge of the window; else the span lies
-/// within the window, and is what it shows.
+/// What a pair that is open shows in the window. It is tested only where its span straddles an edge of the window, over what of the span lies
+/// within; else the whole span does, and is what it shows.
 pub(crate) fn shown_pair(
     left: &Item,
     right: &Item,
@@ -67,7 +67,9 @@ pub(crate) fn shown_pair(
     ensures counted { tests.new ≡ raised_by (if straddles now edge.now then 1 else 0) tests.old }
 {
     let span = if is_straddling(edge, now) {
-        lose(&left.strand, &right.strand, rules, now, now + WINDOW, tests)?
+        let from = now.max(edge.first);
+        let to = (now + WINDOW).min(edge.last + 1);
+        lose(&left.strand, &right.strand, rules, from, to, tests)?
     } else {
         (edge.first, edge.last)
     };

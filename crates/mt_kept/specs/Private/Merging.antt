@@ -1,6 +1,6 @@
 -- No public contract names these: they are of private steps and of proofs.
 -- Lists of conflicts in the order of publishing: one without those that are hidden and with those that are shown.
-use Rattle.std.specs.Prelude.{◌≡◌, ℕ, ◌+◌, ◌-◌, ◌≤◌, ◌↔◌, ◌⊎◌, List, ◌++◌, length, take, drop, Contains, AllPairs}
+use Rattle.std.specs.Prelude.{◌≡◌, ℕ, ◌+◌, ◌≤◌, ◌↔◌, ◌⊎◌, List, ◌++◌, length, take, drop, Contains, AllPairs}
 use Rattle.std.specs.declared.cmp.Ordering.TheVariants.{Less}
 use Rattle.mt_base.specs.declared.conflict.Conflict.{Conflict}
 use Rattle.mt_base.specs.Picture.{conflict_cmp}
@@ -25,8 +25,6 @@ pub record IsParted (x : Conflict) (list before after : List Conflict) : Type 0 
   pub parts : (c : Conflict) → (Contains before c ⊎ Contains after c) → Contains list c
   pub whole : (c : Conflict) → Contains list c → Contains before c ⊎ ((x ≡ c) ⊎ Contains after c)
   pub short : length before + length after ≤ length list
-  pub front : before ≡ take (length before) list
-  pub rear : after ≡ drop (length list - length after) list
 
 -- how far the hidden ones are left out of a list. The first n of them are, what of the list comes before the n-th is kept, in order, and the rest of
 -- the list.
@@ -54,10 +52,3 @@ pub record AreMerging (list hidden shown : List Conflict) (n : ℕ) (merged rest
   pub ahead : LieBefore merged (drop n shown)
   pub exact : (c : Conflict) → (Contains merged c ⊎ (Contains rest c × (¬ Contains gone c)))
       ↔ ((Contains list c × (¬ Contains hidden c)) ⊎ Contains (take n shown) c)
-
--- some conflicts lie between two places of a list: after what comes before the first place, and before what comes from the second on
-pub record LieBetween (list some : List Conflict) (low high : ℕ) : Type 0 where
-  pub low_in : low ≤ length list
-  pub high_in : high ≤ length list
-  pub first : LieBefore (take low list) some
-  pub second : LieBefore some (drop high list)

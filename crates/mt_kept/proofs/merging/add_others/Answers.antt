@@ -1,6 +1,5 @@
-use Rattle.std.proofs.Common.{◌≡◌, ◌+◌, ◌++◌, [], length, true, sym, ◌∙◌, ap, List, arith, vec_len}
+use Rattle.std.proofs.Common.{◌++◌, [], sym, ◌∙◌, ap, List, arith}
 use Rattle.std.proofs.lemmas.List.{append-nil, append_assoc, take_all}
-use Rattle.std.specs.Result.{is_ok}
 use Rattle.mt_base.specs.declared.conflict.Conflict.{Conflict}
 use Rattle.mt_kept.proofs.Leaving.{leaving_more, leaving_none, others_added}
 use Rattle.mt_kept.proofs.Merged.{rise_of, sorted_whole}
@@ -17,6 +16,13 @@ loop-conflict-init c = record {
 pub parted-requires : goal.parted-requires
 parted-requires c = sorted_whole c.loop-conflict.rest.now c.loop-conflict.invariant.so_far.2.rest_rise
 
+pub add_all-requires : goal.add_all-requires
+add_all-requires c =
+    let fits = c.loop-conflict.invariant.short in
+    let room = c.loop-conflict.invariant.room in
+    let short = c.parted.ensures.short in
+    omega arith
+
 pub loop-conflict-preserved : goal.loop-conflict-preserved
 loop-conflict-preserved c =
     let so_far = c.loop-conflict.invariant.so_far in
@@ -26,14 +32,13 @@ loop-conflict-preserved c =
     let most = c.loop-conflict.invariant.capacity in
     let short = c.parted.ensures.short in
     let inside = c.loop-conflict-test.true in
-    let ok : is_ok c.extend_from_slice.result ≡ true = c.extend_from_slice.ensures.succeeds (omega arith) in
-    let front : c.extend_from_slice.new.self.items ≡ c.loop-conflict.merged.items ++ c.parted.result.0.now = rw ok at c.extend_from_slice.ensures.items in
-    let long : vec_len c.extend_from_slice.new.self ≡ vec_len c.loop-conflict.merged + length c.parted.result.0.now = rw ok at c.extend_from_slice.ensures.len in
-    let capacity = c.extend_from_slice.ensures.capacity in
+    let long = c.add_all.ensures.len in
+    let capacity = c.add_all.ensures.capacity in
     record {
       so_far = (
         kept ++ c.parted.result.0.now,
-        front ∙ ap (λ (cs : List Conflict). cs ++ c.parted.result.0.now) so_far.1 ∙ append_assoc c.args.merged.now.items kept c.parted.result.0.now,
+        c.add_all.ensures.items ∙ ap (λ (cs : List Conflict). cs ++ c.parted.result.0.now) so_far.1
+            ∙ append_assoc c.args.merged.now.items kept c.parted.result.0.now,
         leaving_more c.args.list.now c.args.hidden.now kept c.loop-conflict.rest.now c.parted.result.0.now c.parted.result.1.now c.loop-conflict.conflict-index
             c.conflict-item.result (rise_of c.args.hidden.now c.requires.hidden_sorted) inside c.conflict-item.is so_far.2 c.parted.ensures,
       );
@@ -42,25 +47,20 @@ loop-conflict-preserved c =
       capacity = omega arith;
     }
 
+pub add_all-requires-2 : goal.add_all-requires-2
+add_all-requires-2 c = let fits = c.loop-conflict.invariant.short in let room = c.loop-conflict.invariant.room in omega arith
+
 pub returns-clause-added : goal.returns-clause-added
 returns-clause-added c =
     let all = take_all c.loop-conflict.conflict-index c.args.hidden.now c.loop-conflict-test.false in
     let so_far = c.loop-conflict.invariant.so_far in
-    let fits = c.loop-conflict.invariant.short in
-    let room = c.loop-conflict.invariant.room in
-    let ok : is_ok c.extend_from_slice-2.result ≡ true = c.extend_from_slice-2.ensures.succeeds (omega arith) in
-    let whole : c.extend_from_slice-2.new.self.items ≡ c.loop-conflict.merged.items ++ c.loop-conflict.rest.now = rw ok at c.extend_from_slice-2.ensures.items in
-    others_added c.args.list.now c.args.hidden.now so_far.0 c.loop-conflict.rest.now c.args.merged.now.items c.extend_from_slice-2.new.self.items
+    others_added c.args.list.now c.args.hidden.now so_far.0 c.loop-conflict.rest.now c.args.merged.now.items c.add_all-2.new.merged.items
     c.loop-conflict.conflict-index all so_far.2
-    (whole ∙ ap (λ (cs : List Conflict). cs ++ c.loop-conflict.rest.now) so_far.1 ∙ append_assoc c.args.merged.now.items so_far.0 c.loop-conflict.rest.now)
+    (c.add_all-2.ensures.items ∙ ap (λ (cs : List Conflict). cs ++ c.loop-conflict.rest.now) so_far.1
+    ∙ append_assoc c.args.merged.now.items so_far.0 c.loop-conflict.rest.now)
 
 pub returns-clause-len : goal.returns-clause-len
-returns-clause-len c =
-    let fits = c.loop-conflict.invariant.short in
-    let room = c.loop-conflict.invariant.room in
-    let ok : is_ok c.extend_from_slice-2.result ≡ true = c.extend_from_slice-2.ensures.succeeds (omega arith) in
-    let long : vec_len c.extend_from_slice-2.new.self ≡ vec_len c.loop-conflict.merged + length c.loop-conflict.rest.now = rw ok at c.extend_from_slice-2.ensures.len in
-    omega arith
+returns-clause-len c = let fits = c.loop-conflict.invariant.short in let long = c.add_all-2.ensures.len in omega arith
 
 pub returns-clause-capacity : goal.returns-clause-capacity
-returns-clause-capacity c = let most = c.loop-conflict.invariant.capacity in let capacity = c.extend_from_slice-2.ensures.capacity in omega arith
+returns-clause-capacity c = let most = c.loop-conflict.invariant.capacity in let capacity = c.add_all-2.ensures.capacity in omega arith
