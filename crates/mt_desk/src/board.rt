@@ -1,10 +1,7 @@
 //! A hand's calls.
-ghost use Rattle.std.specs.Prelude.{◌≡◌};
 ghost use Rattle.std.specs.Thread.{IsSync};
 ghost use Rattle.mt_base.specs.Bounds.{IsAskedFor, IsBoundedCommand};
 ghost use Rattle.mt_board.specs.Changing.{IsChanged};
-ghost use Rattle.mt_board.specs.Probing.{acceptance};
-ghost use Rattle.mt_probe.specs.Hits.{told_of};
 ghost use Rattle.mt_probe.specs.Prepared.{MakesStrand};
 ghost use Rattle.mt_turn.specs.Lending.{AreViewsOfOneSeat};
 ghost use Rattle.mt_desk.specs.Desk.{IsSeatOfDesk, seat_of};
@@ -13,24 +10,12 @@ use crate::desk::{Desk, Seat};
 use crate::hand::Hand;
 use crate::home::Home;
 use mt_base::{Callsign, Clearance, Command, Entered, Second, Tally};
-use mt_board::{Advised, Answer, Ask, Board, No, Probed};
+use mt_board::{Advised, Answer, Ask, Board, No};
 use mt_io::Gate;
 use mt_probe::{Probe, makes_strand, prepare, what_if};
 use mt_snapshot::advise;
 use std::sync::Wait;
 use std::thread::Threads;
-
-// The command that accepts a probe.
-fn acceptance(probe: &Probe) -> Command
-    ensures { result ≡ acceptance (told_of probe.now) }
-{
-    Command::Accept {
-        call: probe.call(),
-        clearance: probe.clearance(),
-        eff: probe.eff(),
-        probed: probe.version(),
-    }
-}
 
 // Prepares a command on a snapshot, outside of the turn, and enters it with its prep.
 fn change_prepared<R: Threads + Wait + Sync, G: Gate>(
@@ -135,8 +120,7 @@ impl<'a> Board for Hand<'a> {
         gate: &G,
     ) -> Result<Entered, No> {
         gate.between(self.seat.number());
-        let command = acceptance(probe);
-        self.desk
-            .publish(rt, &mut self.seat, &command, Some(probe.prep()))
+        let (command, prep) = (probe.acceptance(), probe.prep());
+        self.desk.publish(rt, &mut self.seat, command, Some(prep))
     }
 }

@@ -104,16 +104,10 @@ impl Centre {
         if !probe.hits().is_empty() {
             return self.refused(Refusal::NotFree);
         }
-        let command = Command::Accept {
-            call: probe.call(),
-            clearance: probe.clearance(),
-            eff: probe.eff(),
-            probed: probe.version(),
-        };
-        let prep = probe.prep();
+        let (command, prep) = (probe.acceptance(), probe.prep());
         changed(
             self.picture
-                .publish(self.alloc, who, &command, Some(prep), tests),
+                .publish(self.alloc, who, command, Some(prep), tests),
         )
     }
 }

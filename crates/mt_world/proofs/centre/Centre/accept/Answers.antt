@@ -1,6 +1,5 @@
 use Rattle.std.proofs.Common.{◌≡◌, ◌<◌, ◌∙◌, ◌⊎◌, ap, inl, option_copied, subst, sym, arith}
 use Rattle.mt_base.specs.declared.command.Command.{Command}
-use Rattle.mt_base.specs.declared.command.Command.TheVariants.{Accept}
 use Rattle.mt_base.specs.History.{WasFree}
 use Rattle.mt_probe.specs.Hits.{Trial}
 use Rattle.mt_write.specs.declared.reply.Reply.TheVariants as replies
@@ -27,7 +26,7 @@ publish-requires-clause-bounded c =
     let story : Story = c.self.inside.picture in
     let below : c.args.who < 16 = omega (arith, c.requires) in
     let found = sym c.get.ensures.value ∙ ap option_copied c.in-Some.is in
-    rw (c.clearance.ensures, c.eff.ensures, c.version.ensures)
+    rw c.acceptance-command.ensures
     (accept_bounded c.self.inside.areas story c.self.inside.actors.items c.args.who c.index.result.now c.self.invariant below c.index.ensures c.args.number c.in-Some.probe.now found
     c.prep-prep.ensures.kept)
 
@@ -36,7 +35,7 @@ publish-requires-clause-in_time c =
     let story : Story = c.self.inside.picture in
     let below : c.args.who < 16 = omega (arith, c.requires) in
     let found = sym c.get.ensures.value ∙ ap option_copied c.in-Some.is in
-    rw c.version.ensures
+    rw c.acceptance-command.ensures
     (accept_in_time c.self.inside.areas story c.self.inside.actors.items c.args.who c.index.result.now c.self.invariant below c.index.ensures c.args.number c.in-Some.probe.now found)
 
 pub publish-requires-clause-prepared : goal.publish-requires-clause-prepared
@@ -44,7 +43,7 @@ publish-requires-clause-prepared c =
     let story : Story = c.self.inside.picture in
     let below : c.args.who < 16 = omega (arith, c.requires) in
     let found = sym c.get.ensures.value ∙ ap option_copied c.in-Some.is in
-    rw (c.call.ensures, c.clearance.ensures, c.eff.ensures, c.version.ensures, c.prep-prep.ensures.prep)
+    rw (c.acceptance-command.ensures, c.prep-prep.ensures.prep)
     (accept_given c.self.inside.areas story c.self.inside.actors.items c.args.who c.index.result.now c.self.invariant below c.index.ensures c.args.number c.in-Some.probe.now found
     c.prep-prep.ensures.kept)
 
@@ -55,9 +54,8 @@ invariant_of-self c =
     let p : Trial = c.in-Some.probe.now in
     let found = sym c.get.ensures.value ∙ ap option_copied c.in-Some.is in
     let none = empty_list p.hits (rw c.hits.ensures.told at (sym c.if-not-is_empty.ensures)) in
-    let command : Command = Accept c.call.result c.clearance.result c.eff.result c.version.result in
-    let same : command ≡ accepting p =
-    λ i. Accept (c.call.ensures i) (c.clearance.ensures i) (c.eff.ensures i) (c.version.ensures i) in
+    let command : Command = c.acceptance-command.result.now in
+    let same : command ≡ accepting p = c.acceptance-command.ensures in
     let free = accept_free c.self.inside.areas story c.self.inside.actors.items c.args.who c.index.result.now c.self.invariant below c.index.ensures c.args.number p found
     c.prep-prep.ensures.kept none in
     sound_after story c.publish.new.self c.self.inside.actors.items c.args.who command c.publish.result c.self.invariant
@@ -70,9 +68,8 @@ returns-clause-answered c =
     let p : Trial = c.in-Some.probe.now in
     let found = sym c.get.ensures.value ∙ ap option_copied c.in-Some.is in
     let none = empty_list p.hits (rw c.hits.ensures.told at (sym c.if-not-is_empty.ensures)) in
-    let command : Command = Accept c.call.result c.clearance.result c.eff.result c.version.result in
-    let same : command ≡ accepting p =
-    λ i. Accept (c.call.ensures i) (c.clearance.ensures i) (c.eff.ensures i) (c.version.ensures i) in
+    let command : Command = c.acceptance-command.result.now in
+    let same : command ≡ accepting p = c.acceptance-command.ensures in
     let actors = c.self.inside.actors.items in
     let after : Story = c.publish.new.self in
     let changed = published_is c.self.inside.areas story after actors c.args.who command c.publish.result c.publish.ensures.entered c.publish.ensures.refused c.publish.ensures.unchanged in
