@@ -1,5 +1,5 @@
 -- The numbers of the pair test are that great.
-use Rattle.std.proofs.Common.{◌≡◌, refl, ◌⊎◌, ⊎_elim, Bool, ℕ, ◌*◌, ◌+◌, ◌<◌, ◌≤◌, ◌^◌, ℤ, pos, neg_ℤ, ◌+ℤ◌, ◌-ℤ◌, ◌*ℤ◌, ◌<ℤ◌, unsigned_abs, arith}
+use Rattle.std.proofs.Common.{◌≡◌, refl, ⊎_elim, Bool, ℕ, ◌*◌, ◌+◌, ◌≤◌, ℤ, pos, neg_ℤ, ◌+ℤ◌, ◌-ℤ◌, ◌*ℤ◌, arith}
 use Rattle.std.proofs.lemmas.Int.{ints}
 use Rattle.std.proofs.lemmas.List.Elements.{All-from_recursion}
 use Rattle.mt_ring.proofs.Signs.{square_nonneg}
@@ -11,7 +11,7 @@ use Rattle.mt_track.proofs.Strands.{IsBoundedRow-row_at}
 use Rattle.mt_frac.specs.declared.linear.Linear.{Linear}
 use Rattle.mt_frac.specs.declared.quadratic.Quad.{Quad}
 use Rattle.mt_pair.specs.Gap.{above_of, excess_of, gain_of, gap_of, offset_of, product}
-use Rattle.mt_pair.specs.Greatest.{AreCutsWithinSizes, AreWithinSizes, IsAtMost, IsCutBy, IsFractionWithinSizes, NumbersFit, vertical_lines}
+use Rattle.mt_pair.specs.Greatest.{AreCutsWithinSizes, AreWithinSizes, IsAtMost, IsFractionWithinSizes, NumbersFit, vertical_lines}
 use Rattle.mt_pair.specs.High.{level_of}
 use Rattle.mt_pair.proofs.Gaps.{level_size}
 use Rattle.mt_pair.proofs.Sizes.{least_size, row_sizes, sh_size, sv2_kept}

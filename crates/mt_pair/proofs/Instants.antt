@@ -10,6 +10,7 @@ use Rattle.mt_base.specs.declared.rules.Rules.{Rules}
 use Rattle.mt_base.specs.Instant.{value_at}
 use Rattle.mt_base.specs.Loss.{IsNearAt, IsOneAboveAt, LosesAt, LosesIn, apart_x, apart_y, apart_z, fl290, fl410, height, width}
 use Rattle.mt_track.specs.Rows.{row_after}
+use Rattle.mt_track.proofs.Ranges.{moved}
 use Rattle.mt_frac.specs.declared.linear.Linear.{Linear}
 use Rattle.mt_frac.specs.declared.quadratic.Quad.{Quad}
 use Rattle.mt_frac.specs.Polynomials.{value, line_value}
@@ -137,10 +138,6 @@ loses_above rules pa pb a b n d d+ =
     )
 
 -- ---- later seconds
-
--- a value at an instant of a later second, by the row then and by the first row
-moved : (z v k n d : ℤ) → value_at (z +ℤ v *ℤ k) v n d ≡ value_at z v (n +ℤ k *ℤ d) d
-moved z v k n d = simp spread (omega (arith, lin))
 
 apart_x_moved : (a b : Row) (k : ℕ) (n d : ℤ) → apart_x (row_after a k) (row_after b k) n d ≡ apart_x a b (n +ℤ pos k *ℤ d) d
 apart_x_moved a b k n d = ap₂ (λ (p q : ℤ). p -ℤ q) (moved b.x b.vx (pos k) n d) (moved a.x a.vx (pos k) n d)

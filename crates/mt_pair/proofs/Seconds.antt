@@ -5,7 +5,8 @@ use Rattle.mt_frac.specs.declared.fraction.Frac.{Frac}
 use Rattle.mt_frac.specs.FractionOrder.{IsBetween}
 use Rattle.mt_frac.proofs.Openness.{HoldsInside, IsOpen}
 use Rattle.mt_frac.proofs.Seconds.{inside_over}
-use Rattle.mt_frac.specs.Instants.{HoldsOver}
+use Rattle.mt_frac.specs.Instants.{HoldsIn}
+use Rattle.mt_track.specs.Seconds.{HasSome}
 use Rattle.mt_pair.specs.Private.Below.{HoldsBetween}
 
 between_of : (lo hi : Frac) (low high : ℕ) (n d : ℤ) → lo.num ≡ pos low → lo.den ≡ pos 1 → hi.num ≡ pos high → hi.den ≡ pos 1
@@ -14,7 +15,7 @@ between_of lo hi low high n d lo_num lo_den hi_num hi_den after until =
     record { after = rw (lo_num, lo_den) after; until = rw (hi_num, hi_den) until }
 
 pub between_over : (P : ℤ → ℤ → Type 0) → IsOpen P → (lo hi : Frac) (low high : ℕ) → lo.num ≡ pos low → lo.den ≡ pos 1 → hi.num ≡ pos high → hi.den ≡ pos 1
-    → HoldsBetween P lo hi ↔ HoldsOver P low high
+    → HoldsBetween P lo hi ↔ HasSome (HoldsIn P) low high
 between_over P open_p lo hi low high lo_num lo_den hi_num hi_den =
     let same = inside_over P low high open_p in (
       (λ some.
@@ -26,9 +27,10 @@ between_over P open_p lo hi low high lo_num lo_den hi_num hi_den =
             until = rw (hi_num, hi_den) at some.between.until;
             holds = some.holds;
           } in
-          same.0 inside),
+          let over = same.0 inside in
+          record { k = over.k; begun = over.begun; ahead = over.ahead; holds = over.holds }),
       (λ over.
-          let inside = same.1 over in
+          let inside = same.1 (record { k = over.k; begun = over.begun; ahead = over.ahead; holds = over.holds }) in
           record {
             n = inside.n;
             d = inside.d;

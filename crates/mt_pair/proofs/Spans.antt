@@ -1,18 +1,17 @@
 -- The span of the loss seconds of a range.
-use Rattle.std.proofs.Common.{◌≡◌, Bool, ℕ, ◌+◌, ◌-◌, ◌<◌, ◌≤◌, Option, Some, None, length, sym, ap, subst, ◌∙◌, ◌↔◌, arith, refl, ⊎_elim}
-use Rattle.std.proofs.lemmas.Bool.{cases_lt, le-ltb, lt-ltb}
-use Rattle.std.proofs.lemmas.Option.{slice_get_within}
+use Rattle.std.proofs.Common.{◌≡◌, Bool, ℕ, ◌+◌, ◌-◌, ◌<◌, ◌≤◌, Option, Some, length, sym, ap, subst, ◌∙◌, ◌↔◌, arith, le_refl}
 use Rattle.mt_base.specs.declared.row.Row.{Row}
 use Rattle.mt_base.specs.declared.rules.Rules.{Rules}
-use Rattle.mt_base.specs.Conflict.{IsConflict, IsLossSecond}
+use Rattle.mt_base.specs.Conflict.{IsLossSecond}
 use Rattle.mt_base.specs.Loss.{LosesIn}
 use Rattle.mt_base.specs.Trajectory.{Trajectory, row_at}
 use Rattle.mt_track.specs.Rows.{row_after}
+use Rattle.mt_track.proofs.Places.{covered}
 use Rattle.mt_track.proofs.Straight.{row_after-add}
 use Rattle.mt_pair.specs.declared.approach.Approach.{Approach}
 use Rattle.mt_frac.specs.Instants.{HoldsIn}
 use Rattle.mt_pair.specs.Private.Cases.{IsLoss}
-use Rattle.mt_base.specs.Span.{IsSpan}
+use Rattle.mt_base.specs.Span.{IsLeast, IsSpan}
 use Rattle.mt_base.proofs.Spans.{IsSpan-later, IsSpan-same, shifted}
 
 -- a second where both rows are known
@@ -40,33 +39,11 @@ pub record AreCovering (a b : Trajectory) (k : ℕ) : Type 0 where
   pub b_begun : b.start ≤ k
   pub b_within : k < b.start + length b.rows
 
-covers : (t : Trajectory) (k : ℕ) (row : Row) → row_at t k ≡ Some row → (t.start ≤ k) × (k < t.start + length t.rows)
-covers t k row at = ⊎_elim
-    (λ early. let none : row_at t k ≡ None = rw (lt-ltb k t.start early) refl in cc)
-    (λ begun. let within = slice_get_within t.rows (k - t.start) row (rw (le-ltb k t.start begun) at at) in (begun, omega arith))
-    (cases_lt k t.start)
-
 pub both_cover : (rules : Rules) (a b : Trajectory) (k : ℕ) → IsLossSecond rules a b k → AreCovering a b k
 both_cover rules a b k loss =
-    let left = covers a k _ loss.left_is in
-    let right = covers b k _ loss.right_is in
+    let left = covered a k _ loss.left_is in
+    let right = covered b k _ loss.right_is in
     record { a_begun = left.0; a_within = left.1; b_begun = right.0; b_within = right.1 }
-
--- a range that leaves out only seconds that one of the two does not cover
-pub IsConflict-cut : (rules : Rules) (a b : Trajectory) (from to begin end : ℕ) (span : Option (ℕ × ℕ)) → from ≤ begin → end ≤ to
-    → ((k : ℕ) → from ≤ k → k < to → AreCovering a b k → (begin ≤ k) × (k < end))
-    → IsConflict rules a b begin end span → IsConflict rules a b from to span
-IsConflict-cut rules a b from to begin end None later sooner covered cut = λ k low high loss.
-    let h = covered k low high (both_cover rules a b k loss) in
-    cut k h.0 h.1 loss
-IsConflict-cut rules a b from to begin end (Some span) later sooner covered cut = record {
-  inside = (omega (arith, cut.inside.0), cut.inside.1, omega (arith, cut.inside.2));
-  first_is = cut.first_is;
-  last_is = cut.last_is;
-  none_outside = λ k low high loss.
-      let h = covered k low high (both_cover rules a b k loss) in
-      cut.none_outside k h.0 h.1 loss;
-}
 
 -- the span of the seconds with a loss of an approach, told in the seconds from which its time is counted
 pub IsSpan-after : (x : Approach) (from to : ℕ) (span : Option (ℕ × ℕ)) → from < to → IsSpan (HoldsIn (IsLoss x)) 0 (to - from) span
@@ -82,3 +59,7 @@ pub IsSpan-loss : (rules : Rules) (pa pb : Bool) (a b : Row) (from to : ℕ) (x 
 IsSpan-loss rules pa pb a b from to x span some same is =
     IsSpan-same (λ k. HoldsIn (IsLoss x) (k - from)) (λ k. LosesIn rules pa pb (row_after a (k - from)) (row_after b (k - from)))
     from to span (λ k begun ahead. same (k - from) (omega arith)) is
+
+-- at the first second of all it is the least
+pub least_first : (P : ℕ → Type 0) (high : ℕ) → 0 < high → P 0 → IsLeast P 0 high 0
+least_first P high some is = record { begun = le_refl 0; ahead = some; is = is; none_before = λ k begun less at. absurd (omega arith) }

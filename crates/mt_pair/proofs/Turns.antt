@@ -10,7 +10,8 @@ use Rattle.mt_ring.proofs.Signs.{cases_ℤ, mul_nonneg, square_nonneg, weaken}
 use Rattle.mt_frac.specs.declared.linear.Linear.{Linear}
 use Rattle.mt_frac.specs.declared.quadratic.Quad.{Quad}
 use Rattle.mt_frac.specs.Polynomials.{value, line_value, slope}
-use Rattle.mt_frac.specs.Instants.{HoldsIn, HoldsOver}
+use Rattle.mt_frac.specs.Instants.{HoldsIn}
+use Rattle.mt_track.specs.Seconds.{HasSome}
 use Rattle.mt_pair.specs.Private.Below.{AreBelowAt}
 use Rattle.mt_pair.specs.Private.Turning.{IsFalling, IsSooner}
 use Rattle.mt_pair.proofs.Instants.{are_open}
@@ -75,38 +76,38 @@ contradicts : (z : ℤ) → pos 0 ≤ℤ z → z <ℤ pos 0 → ⊥
 contradicts z h k = omega (arith, lin)
 
 pub none_before_gap : (gap : Quad) (over under : Linear) (low m : ℕ) → pos 0 ≤ℤ gap.a → IsFalling (value gap.a gap.b gap.c (pos m) (pos 1)) (slope gap.a gap.b (pos m) (pos 1))
-    → ¬ HoldsOver (AreBelowAt gap over under) low m
+    → ¬ HasSome (HoldsIn (AreBelowAt gap over under)) low m
 none_before_gap gap over under low m convex later some =
     let at = some.holds in
     contradicts _ (gap_until gap.a gap.b gap.c (pos m) _ at.d convex (omega (arith, lin, at.begun, at.within)) (early m some.k at.n at.d some.ahead at.begun at.within) later)
     at.holds.gap_is
 
-pub none_before_over : (gap : Quad) (over under : Linear) (low m : ℕ) → IsFalling (line_value over.b over.c (pos m) (pos 1)) over.b → ¬ HoldsOver (AreBelowAt gap over under) low m
+pub none_before_over : (gap : Quad) (over under : Linear) (low m : ℕ) → IsFalling (line_value over.b over.c (pos m) (pos 1)) over.b → ¬ HasSome (HoldsIn (AreBelowAt gap over under)) low m
 none_before_over gap over under low m later some =
     let at = some.holds in
     contradicts _ (line_until over.b over.c (pos m) _ at.d (omega (arith, lin, at.begun, at.within)) (early m some.k at.n at.d some.ahead at.begun at.within) later)
     at.holds.over_is
 
-pub none_before_under : (gap : Quad) (over under : Linear) (low m : ℕ) → IsFalling (line_value under.b under.c (pos m) (pos 1)) under.b → ¬ HoldsOver (AreBelowAt gap over under) low m
+pub none_before_under : (gap : Quad) (over under : Linear) (low m : ℕ) → IsFalling (line_value under.b under.c (pos m) (pos 1)) under.b → ¬ HasSome (HoldsIn (AreBelowAt gap over under)) low m
 none_before_under gap over under low m later some =
     let at = some.holds in
     contradicts _ (line_until under.b under.c (pos m) _ at.d (omega (arith, lin, at.begun, at.within)) (early m some.k at.n at.d some.ahead at.begun at.within) later)
     at.holds.under_is
 
 pub none_from_gap : (gap : Quad) (over under : Linear) (m high : ℕ) → pos 0 ≤ℤ gap.a → IsSooner (value gap.a gap.b gap.c (pos m) (pos 1)) (slope gap.a gap.b (pos m) (pos 1))
-    → ¬ HoldsOver (AreBelowAt gap over under) m high
+    → ¬ HasSome (HoldsIn (AreBelowAt gap over under)) m high
 none_from_gap gap over under m high convex sooner some =
     let at = some.holds in
     contradicts _ (gap_since gap.a gap.b gap.c (pos m) _ at.d convex (omega (arith, lin, at.begun, at.within)) (late m some.k at.n at.d some.begun at.begun at.within) sooner)
     at.holds.gap_is
 
-pub none_from_over : (gap : Quad) (over under : Linear) (m high : ℕ) → IsSooner (line_value over.b over.c (pos m) (pos 1)) over.b → ¬ HoldsOver (AreBelowAt gap over under) m high
+pub none_from_over : (gap : Quad) (over under : Linear) (m high : ℕ) → IsSooner (line_value over.b over.c (pos m) (pos 1)) over.b → ¬ HasSome (HoldsIn (AreBelowAt gap over under)) m high
 none_from_over gap over under m high sooner some =
     let at = some.holds in
     contradicts _ (line_since over.b over.c (pos m) _ at.d (omega (arith, lin, at.begun, at.within)) (late m some.k at.n at.d some.begun at.begun at.within) sooner)
     at.holds.over_is
 
-pub none_from_under : (gap : Quad) (over under : Linear) (m high : ℕ) → IsSooner (line_value under.b under.c (pos m) (pos 1)) under.b → ¬ HoldsOver (AreBelowAt gap over under) m high
+pub none_from_under : (gap : Quad) (over under : Linear) (m high : ℕ) → IsSooner (line_value under.b under.c (pos m) (pos 1)) under.b → ¬ HasSome (HoldsIn (AreBelowAt gap over under)) m high
 none_from_under gap over under m high sooner some =
     let at = some.holds in
     contradicts _ (line_since under.b under.c (pos m) _ at.d (omega (arith, lin, at.begun, at.within)) (late m some.k at.n at.d some.begun at.begun at.within) sooner)
@@ -157,8 +158,8 @@ pub record AreNone (P : ℤ → ℤ → Type 0) (gap : Quad) (over under : Linea
   pub over_is : ¬ P (line_value over.b over.c (pos m) (pos 1)) over.b
   pub under_is : ¬ P (line_value under.b under.c (pos m) (pos 1)) under.b
 
-pub some_before : (gap : Quad) (over under : Linear) (low high m : ℕ) → pos 0 ≤ℤ gap.a → low < m → AreNone IsFalling gap over under m → HoldsOver (AreBelowAt gap over under) low high
-    → HoldsOver (AreBelowAt gap over under) low m
+pub some_before : (gap : Quad) (over under : Linear) (low high m : ℕ) → pos 0 ≤ℤ gap.a → low < m → AreNone IsFalling gap over under m → HasSome (HoldsIn (AreBelowAt gap over under)) low high
+    → HasSome (HoldsIn (AreBelowAt gap over under)) low m
 some_before gap over under low high zero convex less none some = absurd (omega arith)
 some_before gap over under low high (suc m) convex less none some = ⊎_elim
     (λ sooner. record { k = some.k; begun = some.begun; ahead = sooner; holds = some.holds })
@@ -175,8 +176,8 @@ some_before gap over under low high (suc m) convex less none some = ⊎_elim
     record { k = m; begun = omega (arith, less); ahead = omega arith; holds = before_second gap over under m (record { gap_is = g; over_is = o; under_is = u }) })
     (cases_lt some.k (suc m))
 
-pub some_since : (gap : Quad) (over under : Linear) (low high m : ℕ) → pos 0 ≤ℤ gap.a → m < high → AreNone IsSooner gap over under m → HoldsOver (AreBelowAt gap over under) low high
-    → HoldsOver (AreBelowAt gap over under) m high
+pub some_since : (gap : Quad) (over under : Linear) (low high m : ℕ) → pos 0 ≤ℤ gap.a → m < high → AreNone IsSooner gap over under m → HasSome (HoldsIn (AreBelowAt gap over under)) low high
+    → HasSome (HoldsIn (AreBelowAt gap over under)) m high
 some_since gap over under low high m convex less none some = ⊎_elim
     (λ sooner.
     let at = some.holds in

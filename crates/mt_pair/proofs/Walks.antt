@@ -1,5 +1,5 @@
 -- A walk along the segments of a strand, and what one of them says of the seconds that it covers.
-use Rattle.std.proofs.Common.{◌≡◌, ℕ, zero, suc, ◌+◌, ◌-◌, ◌<◌, ◌≤◌, List, [], ◌∷◌, length, get_or, pos, Option, subst, arith, refl}
+use Rattle.std.proofs.Common.{◌≡◌, ℕ, zero, suc, ◌+◌, ◌-◌, ◌<◌, ◌≤◌, List, [], ◌∷◌, length, get_or, Option, subst, arith}
 use Rattle.std.specs.Prelude.{slice_index_or}
 use Rattle.mt_base.specs.declared.row.Row.{Row}
 use Rattle.mt_base.specs.declared.rules.Rules.{Rules}
@@ -11,6 +11,7 @@ use Rattle.mt_track.specs.Laid.{Adjoin, AreSegmentsOf, Covers, CoversSecond, IsL
 use Rattle.mt_track.specs.Rows.{row_after}
 use Rattle.mt_track.proofs.Apart.{few_segments, same_segments}
 use Rattle.mt_track.proofs.Joined.{one_element}
+use Rattle.mt_track.proofs.Places.{at_place, blank, edge_to}
 use Rattle.mt_track.proofs.Segments.{edge_from, lies_at}
 use Rattle.mt_track.proofs.Strands.{found}
 use Rattle.mt_pair.specs.Private.Held.{BeginsBy}
@@ -18,28 +19,12 @@ use Rattle.mt_base.specs.Span.{IsSpan, joined}
 use Rattle.mt_base.proofs.Spans.{IsSpan-joined, IsSpan-same}
 use Rattle.mt_pair.proofs.Spans.{loss_second}
 
--- what the code reads where a list has no such place
-abbrev pub blank : Segment
-blank = record { from = 0; to = 0; first = record { x = pos 0; y = pos 0; z = pos 0; r = pos 0; w = pos 0; vx = pos 0; vy = pos 0; vz = pos 0; gr = pos 0; gw = pos 0; leg = 0 } }
-
--- a place of a list of segments, as the code reads it
-at_place : (ss : List Segment) (i : ℕ) (d : Segment) → i < length ss → slice_index_or ss i d ≡ get_or ss i (slice_index_or ss i d)
-at_place [] i d below = absurd (omega arith)
-at_place (s ∷ ss) zero d below = refl
-at_place (s ∷ ss) (suc i) d below = at_place ss i d (omega arith)
-
 -- a place whose edge is not after a covered second is one of a segment
 below_length : (from to : ℕ) (ss : List Segment) (i k : ℕ) → Adjoin from ss to → edge from ss i ≤ k → k < to → i < length ss
 below_length from to [] zero k lie begun ahead = absurd (omega (arith, lie))
 below_length from to [] (suc i) k lie begun ahead = absurd (omega (arith, lie))
 below_length from to (s ∷ ss) zero k lie begun ahead = omega arith
 below_length from to (s ∷ ss) (suc i) k lie begun ahead = let h = below_length s.to to ss i k lie.2 begun ahead in omega (arith, h)
-
--- no segment ends after the end
-edge_to : (from to : ℕ) (ss : List Segment) (i : ℕ) → Adjoin from ss to → i ≤ length ss → edge from ss i ≤ to
-edge_to from to ss zero lie below = let h = few_segments from to ss lie in omega (arith, h)
-edge_to from to [] (suc i) lie below = absurd (omega arith)
-edge_to from to (s ∷ ss) (suc i) lie below = edge_to s.to to ss i lie.2 (omega arith)
 
 -- what the code reads at a place whose segment begins by a covered second
 pub record Reads (t : Trajectory) (ss : List Segment) (i k : ℕ) (s : Segment) : Type 0 where

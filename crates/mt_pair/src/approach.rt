@@ -6,6 +6,7 @@ use crate::turning::{are_quiet, begins_before, lasts_until};
 use crate::vertical::{above, excess};
 use mt_base::{Row, Rules, Second, Steps};
 use mt_frac::{Frac, Linear, Quad};
+use mt_track::{Halved, first_over, last_over};
 
 /// The lines of the greater vertical minimum: the two that are below 0 where two trajectories are nearer than that, and for each of the two
 /// one that is below 0 where it is above the level from which that minimum holds.
@@ -50,10 +51,8 @@ impl High {
         requires ordered { IsBefore lo hi }
         ensures { IsTrue result ↔ HoldsBetween (IsHighAt gap self.now) lo hi }
     {
-        if are_below_with(gap, self.over, self.under, self.left, lo, hi) {
-            return true;
-        }
-        are_below_with(gap, self.over, self.under, self.right, lo, hi)
+        are_below_with(gap, self.over, self.under, self.left, lo, hi)
+            || are_below_with(gap, self.over, self.under, self.right, lo, hi)
     }
 }
 
@@ -76,11 +75,12 @@ impl<'a> Approach<'a> {
     ghost use Rattle.mt_base.specs.Bounds.{AreWithinBounds, IsBoundedRow};
     ghost use Rattle.mt_base.specs.Tally.{raised};
     ghost use Rattle.mt_frac.specs.FractionOrder.{IsBefore};
-    ghost use Rattle.mt_frac.specs.Instants.{HoldsIn, HoldsOver};
+    ghost use Rattle.mt_frac.specs.Instants.{HoldsIn};
     ghost use Rattle.mt_pair.specs.Private.Below.{HoldsBetween};
     ghost use Rattle.mt_pair.specs.Private.Cases.{IsLoss};
     ghost use Rattle.mt_pair.specs.Gap.{excess_of, gap_of};
-    ghost use Rattle.mt_base.specs.Span.{IsGreatest, IsLeast, IsSpan};
+    ghost use Rattle.mt_base.specs.Span.{IsSpan};
+    ghost use Rattle.mt_track.specs.Seconds.{HasSome};
     ghost use Rattle.mt_pair.specs.Private.Span.{IsFirst};
 
     /// That of two rows of one second, with the lines of the greater minimum where one of the two is high in the seconds that are asked for.
@@ -118,7 +118,7 @@ impl<'a> Approach<'a> {
     /// Whether some instant of the seconds from `low` up to `high` has a loss. This is one step.
     fn loses_over(&self, low: Second, high: Second, steps: &mut Steps) -> bool
         requires ordered { low < high }
-        ensures is { IsTrue result ↔ HoldsOver (IsLoss self.now) low high }
+        ensures is { IsTrue result ↔ HasSome (HoldsIn (IsLoss self.now)) low high }
         ensures counted { steps.new ≡ raised steps.old }
     {
         steps.raise();
@@ -129,93 +129,15 @@ impl<'a> Approach<'a> {
     fn goes_by_values(&self) -> bool
         ensures { result ≡ true → (pos 0 ≤ℤ self.now.gap.a) × (self.now.high ≡ None) }
     {
-        if self.gap.a < 0 {
-            return false;
-        }
-        let Some(_) = self.high else {
-            return true;
-        };
-        false
-    }
-
-    /// Whether some instant from second `low` on and before second `middle` has a loss, where some instant of those up to `high` has one.
-    /// This is one step.
-    fn loses_before(&self, low: Second, middle: Second, high: Second, steps: &mut Steps) -> bool
-        requires begun { low < middle }
-        requires short { middle ≤ 16384 }
-        requires some { HoldsOver (IsLoss self.now) low high }
-        ensures is { IsTrue result ↔ HoldsOver (IsLoss self.now) low middle }
-        ensures counted { steps.new ≡ raised steps.old }
-    {
-        if !self.goes_by_values() {
-            return self.loses_over(low, middle, steps);
-        }
-        steps.raise();
-        begins_before(self.gap, self.over, self.under, middle)
-    }
-
-    /// Whether some instant from second `middle` on and before second `high` has a loss, where some instant of those from `low` on has one.
-    /// This is one step.
-    fn loses_from(&self, low: Second, middle: Second, high: Second, steps: &mut Steps) -> bool
-        requires ahead { middle < high }
-        requires short { middle ≤ 16384 }
-        requires some { HoldsOver (IsLoss self.now) low high }
-        ensures is { IsTrue result ↔ HoldsOver (IsLoss self.now) middle high }
-        ensures counted { steps.new ≡ raised steps.old }
-    {
-        if !self.goes_by_values() {
-            return self.loses_over(middle, high, steps);
-        }
-        steps.raise();
-        lasts_until(self.gap, self.over, self.under, middle)
-    }
-
-    /// The first second with a loss from `low` up to `high`, by halving.
-    fn first_over(&self, low: Second, high: Second, steps: &mut Steps) -> Second
-        requires some { HoldsOver (IsLoss self.now) low high }
-        requires short { high ≤ 16384 }
-        ensures is { IsLeast (HoldsIn (IsLoss self.now)) low high result }
-        ensures counted { steps.new ≤ steps.old + 14 }
-    {
-        let mut begin = low;
-        let mut end = high;
-        while end - begin > 1 {
-            let middle = begin + (end - begin) / 2;
-            if self.loses_before(begin, middle, end, steps) {
-                end = middle;
-            } else {
-                begin = middle;
-            }
-        }
-        begin
-    }
-
-    /// The last second with a loss from `low` up to `high`, by halving.
-    fn last_over(&self, low: Second, high: Second, steps: &mut Steps) -> Second
-        requires some { HoldsOver (IsLoss self.now) low high }
-        requires short { high ≤ 16384 }
-        ensures is { IsGreatest (HoldsIn (IsLoss self.now)) low high result }
-        ensures counted { steps.new ≤ steps.old + 14 }
-    {
-        let mut begin = low;
-        let mut end = high;
-        while end - begin > 1 {
-            let middle = begin + (end - begin) / 2;
-            if self.loses_from(begin, middle, end, steps) {
-                begin = middle;
-            } else {
-                end = middle;
-            }
-        }
-        begin
+        self.gap.a >= 0 && self.high.is_none()
     }
 
     /// Whether the values at both ends tell that no instant before second `seconds` has a loss. Where it says no, nothing is said. This is
     /// one step.
     fn is_quiet(&self, seconds: Second, steps: &mut Steps) -> bool
         requires some { 0 < seconds }
-        requires short { seconds ≤ 16384 }
-        ensures is { result ≡ true → ¬ HoldsOver (IsLoss self.now) 0 seconds }
+        requires short { seconds ≤ 14400 }
+        ensures is { result ≡ true → ¬ HasSome (HoldsIn (IsLoss self.now)) 0 seconds }
         ensures counted { steps.new ≡ raised steps.old }
     {
         steps.raise();
@@ -234,7 +156,7 @@ impl<'a> Approach<'a> {
     /// Whether the quadratic alone tells that no instant has a loss, since it is nowhere below 0. Where it says no, nothing is said. This is
     /// one step.
     fn keeps_distance(&self, steps: &mut Steps) -> bool
-        ensures is { result ≡ true → (low high : ℕ) → ¬ HoldsOver (IsLoss self.now) low high }
+        ensures is { result ≡ true → (low high : ℕ) → ¬ HasSome (HoldsIn (IsLoss self.now)) low high }
         ensures counted { steps.new ≡ raised steps.old }
     {
         steps.raise();
@@ -259,7 +181,7 @@ impl<'a> Approach<'a> {
     /// The first second with a loss before the `seconds`-th; `None` exactly where none has. At most 18 steps.
     fn first_before(&self, seconds: Second, steps: &mut Steps) -> Option<Second>
         requires some { 0 < seconds }
-        requires short { seconds ≤ 16384 }
+        requires short { seconds ≤ 14400 }
         ensures is { IsFirst (HoldsIn (IsLoss self.now)) 0 seconds result }
         ensures counted { steps.new ≤ steps.old + 18 }
     {
@@ -275,20 +197,41 @@ impl<'a> Approach<'a> {
         if !self.loses_over(0, seconds, steps) {
             return None;
         }
-        Some(self.first_over(0, seconds, steps))
+        Some(first_over(self, 0, seconds, steps))
     }
 
     /// The first and the last second with a loss before the `seconds`-th; `None` exactly where none has. At most 32 steps.
     pub(crate) fn span_before(&self, seconds: Second, steps: &mut Steps) -> Option<(Second, Second)>
         requires some { 0 < seconds }
-        requires short { seconds ≤ 16384 }
+        requires short { seconds ≤ 14400 }
         ensures span { IsSpan (HoldsIn (IsLoss self.now)) 0 seconds result }
         ensures counted { steps.new ≤ steps.old + 32 }
     {
-        let Some(first) = self.first_before(seconds, steps) else {
-            return None;
-        };
-        let last = self.last_over(first, seconds, steps);
+        let first = self.first_before(seconds, steps)?;
+        let last = last_over(self, first, seconds, steps);
         Some((first, last))
+    }
+}
+
+impl<'a> Halved for Approach<'a> {
+    ghost use Rattle.mt_frac.specs.Instants.{HoldsIn};
+    ghost use Rattle.mt_pair.specs.Private.Cases.{IsLoss};
+
+    ghost holds = { λ x. HoldsIn (IsLoss x) };
+
+    fn is_before(&self, low: Second, middle: Second, steps: &mut Steps) -> bool {
+        if !self.goes_by_values() {
+            return self.loses_over(low, middle, steps);
+        }
+        steps.raise();
+        begins_before(self.gap, self.over, self.under, middle)
+    }
+
+    fn is_from(&self, middle: Second, high: Second, steps: &mut Steps) -> bool {
+        if !self.goes_by_values() {
+            return self.loses_over(middle, high, steps);
+        }
+        steps.raise();
+        lasts_until(self.gap, self.over, self.under, middle)
     }
 }

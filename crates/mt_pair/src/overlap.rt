@@ -25,9 +25,7 @@ fn span_after(
     ensures span { IsSpan (λ k. HoldsIn (IsLoss approach.now) (k - from)) from to result }
     ensures counted { steps.new ≤ steps.old + 32 }
 {
-    let Some((first, last)) = approach.span_before(to - from, steps) else {
-        return None;
-    };
+    let (first, last) = approach.span_before(to - from, steps)?;
     Some((from + first, from + last))
 }
 

@@ -4,24 +4,10 @@ ghost use Rattle.mt_base.specs.Conflict.{IsConflict};
 ghost use Rattle.mt_base.specs.Tally.{raised};
 ghost use Rattle.mt_track.specs.Laid.{Covers};
 ghost use Rattle.mt_pair.specs.Private.Held.{BeginsBy};
-ghost use Rattle.mt_base.specs.Span.{joined};
 
 use crate::overlap::stretch;
 use mt_base::{Rules, Second, Steps, Tally};
-use mt_track::Strand;
-
-/// The span of the seconds of a span and of a later one.
-fn join(span: Option<(Second, Second)>, more: Option<(Second, Second)>) -> Option<(Second, Second)>
-    ensures { result ≡ joined span more }
-{
-    let Some((first, _)) = span else {
-        return more;
-    };
-    let Some((_, last)) = more else {
-        return span;
-    };
-    Some((first, last))
-}
+use mt_track::{Strand, join};
 
 /// A segment of a strand: its place, and the second after its last one.
 #[derive(Clone, Copy)]

@@ -2,7 +2,8 @@
 ghost use Rattle.std.specs.Prelude.{◌≡◌, ◌↔◌, ℕ, true, ◌<◌, ◌≤◌, pos, ◌≤ℤ◌, IsTrue};
 ghost use Rattle.mt_frac.specs.Polynomials.{value, line_value, slope};
 ghost use Rattle.mt_frac.specs.Signs.{IsBoundedLine, IsBoundedQuad};
-ghost use Rattle.mt_frac.specs.Instants.{HoldsOver};
+ghost use Rattle.mt_frac.specs.Instants.{HoldsIn};
+ghost use Rattle.mt_track.specs.Seconds.{HasSome};
 ghost use Rattle.mt_pair.specs.Private.Below.{AreBelowAt};
 ghost use Rattle.mt_pair.specs.Private.Turning.{IsFalling, IsSooner};
 
@@ -79,7 +80,7 @@ pub(crate) fn begins_before(gap: Quad, over: Linear, under: Linear, k: Second) -
     requires under_bounded { IsBoundedLine under }
     requires convex { pos 0 ≤ℤ gap.a }
     requires short { k ≤ 16384 }
-    ensures { (low high : ℕ) → low < k → HoldsOver (AreBelowAt gap over under) low high → IsTrue result ↔ HoldsOver (AreBelowAt gap over under) low k }
+    ensures { (low high : ℕ) → low < k → HasSome (HoldsIn (AreBelowAt gap over under)) low high → IsTrue result ↔ HasSome (HoldsIn (AreBelowAt gap over under)) low k }
 {
     if gap_is_later(gap, k) {
         return false;
@@ -100,7 +101,7 @@ pub(crate) fn lasts_until(gap: Quad, over: Linear, under: Linear, k: Second) -> 
     requires under_bounded { IsBoundedLine under }
     requires convex { pos 0 ≤ℤ gap.a }
     requires short { k ≤ 16384 }
-    ensures { (low high : ℕ) → k < high → HoldsOver (AreBelowAt gap over under) low high → IsTrue result ↔ HoldsOver (AreBelowAt gap over under) k high }
+    ensures { (low high : ℕ) → k < high → HasSome (HoldsIn (AreBelowAt gap over under)) low high → IsTrue result ↔ HasSome (HoldsIn (AreBelowAt gap over under)) k high }
 {
     if gap_is_sooner(gap, k) {
         return false;
@@ -122,7 +123,7 @@ pub(crate) fn are_quiet(gap: Quad, over: Linear, under: Linear, seconds: Second)
     requires convex { pos 0 ≤ℤ gap.a }
     requires some { 0 < seconds }
     requires short { seconds ≤ 16384 }
-    ensures { result ≡ true → ¬ HoldsOver (AreBelowAt gap over under) 0 seconds }
+    ensures { result ≡ true → ¬ HasSome (HoldsIn (AreBelowAt gap over under)) 0 seconds }
 {
     if !lasts_until(gap, over, under, 0) {
         return true;

@@ -99,8 +99,5 @@ pub(crate) fn are_far(rules: &Rules, a: &Row, b: &Row, seconds: Second) -> bool
     requires b_kept { IsBoundedRow b.now }
     ensures { IsTrue result ↔ AreFar rules.now a.now b.now seconds }
 {
-    if stays_above(excess(&rules.sv, a, b), seconds) {
-        return true;
-    }
-    stays_above(excess(&rules.sv, b, a), seconds)
+    stays_above(excess(&rules.sv, a, b), seconds) || stays_above(excess(&rules.sv, b, a), seconds)
 }

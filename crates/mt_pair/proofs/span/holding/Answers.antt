@@ -1,6 +1,7 @@
 use Rattle.std.proofs.Common.{arith, le_refl}
 use Rattle.std.specs.Prelude.{slice_index_or}
-use Rattle.mt_pair.proofs.Walks.{blank, reads}
+use Rattle.mt_track.proofs.Places.{blank}
+use Rattle.mt_pair.proofs.Walks.{reads}
 use Rattle.mt_pair.proofs.span.holding.Goals as goal
 
 pub offset_bounds-segments-place : goal.offset_bounds-segments-place
