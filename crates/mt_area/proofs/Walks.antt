@@ -1,7 +1,6 @@
 -- What a segment of a strand says of the seconds that it holds.
-use Rattle.std.proofs.Common.{◌≡◌, ℕ, zero, suc, ◌+◌, ◌-◌, ◌<◌, ◌≤◌, ◌↔◌, List, [], ◌∷◌, length, get_or, pos, Option, Some, None, subst, refl, ⊎_elim, arith}
-use Rattle.std.proofs.lemmas.Bool.{cases_lt, le-ltb, lt-ltb}
-use Rattle.std.proofs.lemmas.Option.{slice_get_within}
+use Rattle.std.proofs.Common.{◌≡◌, ℕ, zero, suc, ◌+◌, ◌-◌, ◌<◌, ◌≤◌, ◌↔◌, List, [], ◌∷◌, length, Option, Some, subst, ⊎_elim, arith}
+use Rattle.std.proofs.lemmas.Bool.{cases_lt}
 use Rattle.std.specs.Prelude.{slice_index_or}
 use Rattle.mt_base.specs.declared.area.Area.{Area}
 use Rattle.mt_base.specs.declared.row.Row.{Row}
@@ -12,28 +11,13 @@ use Rattle.mt_base.specs.Trajectory.{Trajectory, row_at}
 use Rattle.mt_track.specs.declared.segment.Segment.{Segment}
 use Rattle.mt_track.specs.Laid.{Adjoin, AreSegmentsOf, CoversSecond, IsLaid, IsStrand, edge}
 use Rattle.mt_track.specs.Rows.{row_after}
-use Rattle.mt_track.proofs.Apart.{few_segments}
 use Rattle.mt_track.proofs.Joined.{IsBoundedOver-segment}
+use Rattle.mt_track.proofs.Places.{at_place, blank, covered, edge_to}
 use Rattle.mt_track.proofs.Segments.{edge_from, lies_at}
 use Rattle.mt_track.proofs.Strands.{found}
 use Rattle.mt_base.proofs.Spans.{IsSpan-joined, IsSpan-same}
 
--- what the code reads where a list has no such place
-abbrev pub blank : Segment
-blank = record { from = 0; to = 0; first = record { x = pos 0; y = pos 0; z = pos 0; r = pos 0; w = pos 0; vx = pos 0; vy = pos 0; vz = pos 0; gr = pos 0; gw = pos 0; leg = 0 } }
-
--- a place of a list of segments, as the code reads it
-at_place : (ss : List Segment) (i : ℕ) (d : Segment) → i < length ss → slice_index_or ss i d ≡ get_or ss i (slice_index_or ss i d)
-at_place [] i d below = absurd (omega arith)
-at_place (s ∷ ss) zero d below = refl
-at_place (s ∷ ss) (suc i) d below = at_place ss i d (omega arith)
-
--- no segment ends after the end
-edge_to : (from to : ℕ) (ss : List Segment) (i : ℕ) → Adjoin from ss to → i ≤ length ss → edge from ss i ≤ to
-edge_to from to ss zero lie below = let h = few_segments from to ss lie in omega (arith, h)
-edge_to from to [] (suc i) lie below = absurd (omega arith)
-edge_to from to (s ∷ ss) (suc i) lie below = edge_to s.to to ss i lie.2 (omega arith)
-
+-- where the last segment ends
 pub edge_end : (from to : ℕ) (ss : List Segment) (i : ℕ) → Adjoin from ss to → length ss ≤ i → i ≤ length ss → edge from ss i ≡ to
 edge_end from to [] zero lie done within = lie
 edge_end from to [] (suc i) lie done within = absurd (omega arith)
@@ -100,24 +84,6 @@ pub record IsHeld (t : Trajectory) (area : Area) (k : ℕ) : Type 0 where
   pub closed : k < area.to
 
 pub held : (t : Trajectory) (area : Area) (k : ℕ) → IsInsideSecond t area k → IsHeld t area k
-held t area k second = ⊎_elim
-    (λ early. let none : row_at t k ≡ None = rw (lt-ltb k t.start early) refl in let is = second.row_is in cc)
-    (λ begun.
-    let within = slice_get_within t.rows (k - t.start) second.row (rw (le-ltb k t.start begun) at second.row_is) in
-    record { begun = begun; within = omega arith; opened = second.hours.0; closed = second.hours.1 })
-    (cases_lt k t.start)
-
--- a range that leaves out only seconds that are not held
-pub IsPierce-cut : (t : Trajectory) (area : Area) (from to begin end : ℕ) (span : Option (ℕ × ℕ)) → from ≤ begin → end ≤ to
-    → ((k : ℕ) → from ≤ k → k < to → IsHeld t area k → (begin ≤ k) × (k < end)) → IsPierce t area begin end span → IsPierce t area from to span
-IsPierce-cut t area from to begin end None later sooner covered cut = λ k low high second.
-    let h = covered k low high (held t area k second) in
-    cut k h.0 h.1 second
-IsPierce-cut t area from to begin end (Some span) later sooner covered cut = record {
-  inside = (omega (arith, cut.inside.0), cut.inside.1, omega (arith, cut.inside.2));
-  first_is = cut.first_is;
-  last_is = cut.last_is;
-  none_outside = λ k low high second.
-      let h = covered k low high (held t area k second) in
-      cut.none_outside k h.0 h.1 second;
-}
+held t area k second =
+    let at = covered t k second.row second.row_is in
+    record { begun = at.0; within = at.1; opened = second.hours.0; closed = second.hours.1 }

@@ -1,4 +1,4 @@
 -- What no public contract names: invariants and relations of private steps.
 pub mod Lines
-pub mod Reach
+pub mod Volume
 pub mod Telling

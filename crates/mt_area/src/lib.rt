@@ -15,11 +15,11 @@ mod levels;
 mod lines;
 mod passages;
 mod piercing;
-mod reach;
 mod seconds;
 mod segment;
 mod shape;
 mod telling;
+mod volume;
 
 pub use area_no::AreaNo;
 pub use areas::Areas;

@@ -6,7 +6,7 @@ ghost use Rattle.mt_track.specs.Named.{named};
 ghost use Rattle.mt_area.specs.Private.Telling.{AddsPierced, IsPiercedByOne};
 
 use crate::piercing::pierce;
-use crate::reach::{lie_apart, reach_over};
+use crate::volume::{lie_apart, volume_over};
 use mt_base::{Area, Memory, Pierced, Pierces, Second, WINDOW};
 use mt_track::Item;
 use std::alloc::Global;
@@ -40,10 +40,10 @@ pub(crate) fn passages(
     requires early { now ≤ 10000000 }
     ensures { IfOk result (λ found. (p : Pierced) → Contains found p ↔ IsPiercedByOne now areas.now (named item.now) p) }
 {
-    let reach = reach_over(&item.strand, now, now + WINDOW);
+    let volume = volume_over(&item.strand, now, now + WINDOW);
     let mut found = Pierces::make(alloc)?;
     for area in areas {
-        if lie_apart(area, &reach) {
+        if lie_apart(area, &volume) {
             continue;
         }
         add_passage(item, area, now, &mut found)?;

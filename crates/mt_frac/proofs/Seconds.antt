@@ -9,7 +9,7 @@ use Rattle.std.specs.Prelude.{◌/◌, ◌%◌}
 use Rattle.mt_ring.proofs.Ring.{lin, spread}
 use Rattle.mt_ring.proofs.Signs.{mul_nonneg}
 use Rattle.mt_frac.specs.declared.linear.Linear.{Linear}
-use Rattle.mt_frac.specs.Instants.{HoldsOver}
+use Rattle.mt_frac.specs.Instants.{HoldsIn}
 use Rattle.mt_frac.specs.Meeting.{AreBelow, MeetBelow}
 use Rattle.mt_frac.specs.Polynomials.{line_value}
 use Rattle.mt_frac.proofs.Openness.{HoldsFrom, HoldsInside, IsOpen, both_open, half_open, line_is_open, same_open}
@@ -24,6 +24,13 @@ pub before_end : (h k n d : ℤ) → (k +ℤ pos 1) ≤ℤ h → n <ℤ d → po
 before_end h k n d sooner within d+ =
     let p = mul_nonneg (h -ℤ k -ℤ pos 1) d (omega (arith, lin)) d+ in
     simp spread (omega (arith, lin, simp spread at p))
+
+-- P holds at some instant of some second from low up to high
+pub record HoldsOver (P : ℤ → ℤ → Type 0) (low high : ℕ) : Type 0 where
+  pub k : ℕ
+  pub begun : low ≤ k
+  pub ahead : k < high
+  pub holds : HoldsIn P k
 
 -- in which second a fraction lies
 below_quotient : (low n d q : ℕ) → low * d < n → n < q * d + d → low ≤ q

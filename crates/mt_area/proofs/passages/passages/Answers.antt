@@ -4,7 +4,7 @@ use Rattle.mt_base.specs.declared.area.Area.{Area}
 use Rattle.mt_track.specs.Named.{named}
 use Rattle.mt_area.specs.Private.Telling.{AddsPierced, IsPiercedByOne}
 use Rattle.mt_base.specs.Area.{IsBoundedArea}
-use Rattle.mt_area.proofs.Reaching.{none_pierced}
+use Rattle.mt_area.proofs.Passing.{none_pierced}
 use Rattle.mt_area.proofs.Tellings.{Adds-more, Adds-none, from_nothing, none_told, one_area_more}
 use Rattle.mt_base.proofs.Members.{take_push}
 use Rattle.std.proofs.lemmas.Result.{IfOk-from_err}
@@ -14,8 +14,8 @@ pub loop-area-preserved-then-lie_apart : goal.loop-area-preserved-then-lie_apart
 loop-area-preserved-then-lie_apart c =
     let areas = c.args.areas.now in
     let kept = subst IsBoundedArea (sym c.area-item.is) (c.requires.kept c.loop-area.area-index c.area-item.result c.loop-area-test.true) in
-    let none = none_pierced (named c.args.item.now).path c.area-item.result c.reach_over-reach.result c.args.now (c.args.now + 1200) kept
-    (c.lie_apart.ensures.0 c.if-lie_apart.true) (rw c.deref.ensures at c.reach_over-reach.ensures) in
+    let none = none_pierced (named c.args.item.now).path c.area-item.result c.volume_over-volume.result c.args.now (c.args.now + 1200) kept
+    (c.lie_apart.ensures.0 c.if-lie_apart.true) (rw c.deref.ensures at c.volume_over-volume.ensures) in
     rw (take_push areas c.loop-area.area-index c.area-item.result c.loop-area-test.true c.area-item.is)
     (Adds-more _ _ _ [] c.loop-area.found _ (one_area_more c.args.now (take c.loop-area.area-index areas) c.area-item.result (named c.args.item.now))
     c.loop-area.invariant (Adds-none _ c.loop-area.found (none_told c.args.now c.area-item.result (named c.args.item.now) none)))

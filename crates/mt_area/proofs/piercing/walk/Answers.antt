@@ -2,7 +2,8 @@ use Rattle.std.proofs.Common.{◌≡◌, ◌+◌, ℕ, length, arith, subst, ⊎
 use Rattle.std.proofs.lemmas.Bool.{cases_lt}
 use Rattle.mt_base.specs.Area.{IsPierce}
 use Rattle.mt_track.specs.Laid.{edge}
-use Rattle.mt_area.proofs.Walks.{blank, edge_end, pierce_joined, reads}
+use Rattle.mt_track.proofs.Places.{blank}
+use Rattle.mt_area.proofs.Walks.{edge_end, pierce_joined, reads}
 use Rattle.std.specs.Prelude.{slice_index_or}
 use Rattle.mt_area.proofs.piercing.walk.Goals as goal
 

@@ -3,8 +3,8 @@ use Rattle.mt_ring.proofs.Ring.{lin}
 use Rattle.mt_base.specs.Area.{IsInside}
 use Rattle.mt_track.specs.Rows.{row_after}
 use Rattle.mt_area.proofs.Instants.{inside_after}
-use Rattle.mt_area.proofs.Reaches.{none_inside}
-use Rattle.mt_area.proofs.Reaching.{HoldsRowAt-segment}
+use Rattle.mt_area.proofs.Volumes.{none_inside}
+use Rattle.mt_area.proofs.Passing.{HoldsRowAt-segment}
 use Rattle.mt_base.proofs.Spans.{IsSpan-same}
 use Rattle.mt_area.proofs.segment.pierce_segment.Goals as goal
 
@@ -20,9 +20,9 @@ returns c =
 pub returns-then-lie_apart : goal.returns-then-lie_apart
 returns-then-lie_apart c = λ k begun ahead inside.
     let s = c.args.segment.now in
-    let reach = c.reach_between.result in
-    let row = rw c.later-row.ensures at c.reach_between.ensures.row in
-    let end = rw c.later-end.ensures at c.reach_between.ensures.end in
-    none_inside c.args.area.now reach (row_after s.first (k - s.from)) inside.n inside.d c.requires.area_kept (omega (arith, lin, inside.begun, inside.within))
-    (HoldsRowAt-segment reach s.first s.from c.args.from c.args.to k c.requires.begun begun ahead row end inside.n inside.d inside.begun inside.within)
+    let volume = c.volume_between.result in
+    let row = rw c.later-row.ensures at c.volume_between.ensures.row in
+    let end = rw c.later-end.ensures at c.volume_between.ensures.end in
+    none_inside c.args.area.now volume (row_after s.first (k - s.from)) inside.n inside.d c.requires.area_kept (omega (arith, lin, inside.begun, inside.within))
+    (HoldsRowAt-segment volume s.first s.from c.args.from c.args.to k c.requires.begun begun ahead row end inside.n inside.d inside.begun inside.within)
     (c.lie_apart.ensures.0 c.if-lie_apart.true) inside.at

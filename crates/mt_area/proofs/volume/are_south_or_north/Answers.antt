@@ -1,6 +1,6 @@
 use Rattle.std.proofs.Common.{inl, inr, ⊎_elim}
 use Rattle.std.proofs.lemmas.Bool.Decides.{not_from_Decides}
-use Rattle.mt_area.proofs.reach.are_south_or_north.Goals as goal
+use Rattle.mt_area.proofs.volume.are_south_or_north.Goals as goal
 
 pub returns-then-are_south : goal.returns-then-are_south
 returns-then-are_south c = ((λ t. inl (c.are_south.ensures.0 t)), (λ either. c.if-are_south.true))

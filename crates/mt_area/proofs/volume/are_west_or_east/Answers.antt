@@ -1,6 +1,6 @@
 use Rattle.std.proofs.Common.{inl, inr, ⊎_elim}
 use Rattle.std.proofs.lemmas.Bool.Decides.{not_from_Decides}
-use Rattle.mt_area.proofs.reach.are_west_or_east.Goals as goal
+use Rattle.mt_area.proofs.volume.are_west_or_east.Goals as goal
 
 pub returns-then-are_west : goal.returns-then-are_west
 returns-then-are_west c = ((λ t. inl (c.are_west.ensures.0 t)), (λ either. c.if-are_west.true))

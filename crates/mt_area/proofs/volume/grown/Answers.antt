@@ -1,5 +1,5 @@
-use Rattle.mt_area.proofs.Reaches.{Holds-by_bits, height_in_plane}
-use Rattle.mt_area.proofs.reach.grown.Goals as goal
+use Rattle.mt_area.proofs.Volumes.{Holds-by_bits, height_in_plane}
+use Rattle.mt_area.proofs.volume.grown.Goals as goal
 
 pub returns-clause-holds : goal.returns-clause-holds
 returns-clause-holds c =

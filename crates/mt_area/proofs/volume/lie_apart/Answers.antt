@@ -1,6 +1,6 @@
 use Rattle.std.proofs.Common.{inr, ⊎_elim}
 use Rattle.std.proofs.lemmas.Bool.Decides.{not_from_Decides}
-use Rattle.mt_area.proofs.reach.lie_apart.Goals as goal
+use Rattle.mt_area.proofs.volume.lie_apart.Goals as goal
 
 pub returns-else-are_west_or_east : goal.returns-else-are_west_or_east
 returns-else-are_west_or_east c = (

@@ -2,15 +2,16 @@ use Rattle.std.proofs.Common.{◌≡◌, ◌+◌, length, ⊎_elim, arith}
 use Rattle.std.proofs.lemmas.Bool.{cases_lt}
 use Rattle.std.specs.Prelude.{slice_index_or}
 use Rattle.mt_track.specs.Laid.{edge}
-use Rattle.mt_area.proofs.Reaches.{HoldsRow-wider, IsWiderReach-twice, placed_after}
-use Rattle.mt_area.proofs.Reaching.{HoldsBefore-more, HoldsBefore-skip, HoldsSecond-behind}
-use Rattle.mt_area.proofs.Walks.{blank, edge_end, reads}
-use Rattle.mt_area.proofs.reach.reach_over.Goals as goal
+use Rattle.mt_area.proofs.Volumes.{HoldsRow-wider, IsWiderVolume-twice, placed_after}
+use Rattle.mt_area.proofs.Passing.{HoldsBefore-more, HoldsBefore-skip, HoldsSecond-behind}
+use Rattle.mt_track.proofs.Places.{blank}
+use Rattle.mt_area.proofs.Walks.{edge_end, reads}
+use Rattle.mt_area.proofs.volume.volume_over.Goals as goal
 
 pub loop-segment-preserved-then-end-begin : goal.loop-segment-preserved-then-end-begin
 loop-segment-preserved-then-end-begin c =
     let at = reads c.args.strand.now c.segments-segments.result.now c.loop-segment.segment-index c.segments-segments.ensures.kept c.segments-segments.ensures.are c.loop-segment-test.true in
-    HoldsBefore-skip c.loop-segment.reach c.args.strand.now c.segments-segments.result.now c.loop-segment.segment-index _ c.args.from c.args.to at
+    HoldsBefore-skip c.loop-segment.volume c.args.strand.now c.segments-segments.result.now c.loop-segment.segment-index _ c.args.from c.args.to at
     (λ k begun within low high. absurd (omega (arith, c.max-begin.ensures, c.min-end.ensures, c.if-end-begin.true))) c.loop-segment.invariant
 
 pub later-requires : goal.later-requires
@@ -18,8 +19,8 @@ later-requires c =
     let at = reads c.args.strand.now c.segments-segments.result.now c.loop-segment.segment-index c.segments-segments.ensures.kept c.segments-segments.ensures.are c.loop-segment-test.true in
     at.kept c.max-begin.result (omega (arith, c.max-begin.ensures)) (omega (arith, c.min-end.ensures, c.if-end-begin.false))
 
-pub grown-reach-requires : goal.grown-reach-requires
-grown-reach-requires c =
+pub grown-volume-requires : goal.grown-volume-requires
+grown-volume-requires c =
     let at = reads c.args.strand.now c.segments-segments.result.now c.loop-segment.segment-index c.segments-segments.ensures.kept c.segments-segments.ensures.are c.loop-segment-test.true in
     rw c.later.ensures (placed_after _ _ (at.kept c.max-begin.result (omega (arith, c.max-begin.ensures)) (omega (arith, c.min-end.ensures, c.if-end-begin.false))))
 
@@ -28,22 +29,22 @@ later-requires-in-loop-segment c =
     let at = reads c.args.strand.now c.segments-segments.result.now c.loop-segment.segment-index c.segments-segments.ensures.kept c.segments-segments.ensures.are c.loop-segment-test.true in
     at.kept c.min-end.result (omega (arith, c.max-begin.ensures, c.if-end-begin.false)) (omega (arith, c.min-end.ensures))
 
-pub grown-reach-requires-in-loop-segment : goal.grown-reach-requires-in-loop-segment
-grown-reach-requires-in-loop-segment c =
+pub grown-volume-requires-in-loop-segment : goal.grown-volume-requires-in-loop-segment
+grown-volume-requires-in-loop-segment c =
     let at = reads c.args.strand.now c.segments-segments.result.now c.loop-segment.segment-index c.segments-segments.ensures.kept c.segments-segments.ensures.are c.loop-segment-test.true in
     rw c.later-in-loop-segment.ensures (placed_after _ _ (at.kept c.min-end.result (omega (arith, c.max-begin.ensures, c.if-end-begin.false)) (omega (arith, c.min-end.ensures))))
 
 pub loop-segment-preserved : goal.loop-segment-preserved
 loop-segment-preserved c =
     let at = reads c.args.strand.now c.segments-segments.result.now c.loop-segment.segment-index c.segments-segments.ensures.kept c.segments-segments.ensures.are c.loop-segment-test.true in
-    let wider = c.grown-reach-in-loop-segment.ensures.wider in
-    HoldsBefore-more c.loop-segment.reach c.grown-reach-in-loop-segment.result c.args.strand.now c.segments-segments.result.now c.loop-segment.segment-index
+    let wider = c.grown-volume-in-loop-segment.ensures.wider in
+    HoldsBefore-more c.loop-segment.volume c.grown-volume-in-loop-segment.result c.args.strand.now c.segments-segments.result.now c.loop-segment.segment-index
     (slice_index_or c.segments-segments.result.now c.loop-segment.segment-index blank) c.args.from c.args.to c.max-begin.result c.min-end.result at
-    (IsWiderReach-twice c.loop-segment.reach c.grown-reach.result c.grown-reach-in-loop-segment.result c.grown-reach.ensures.wider wider)
+    (IsWiderVolume-twice c.loop-segment.volume c.grown-volume.result c.grown-volume-in-loop-segment.result c.grown-volume.ensures.wider wider)
     (omega (arith, c.max-begin.ensures)) (omega (arith, c.min-end.ensures))
     (λ k begun within low high. (omega (arith, c.max-begin.ensures), omega (arith, c.min-end.ensures)))
-    (HoldsRow-wider c.grown-reach.result c.grown-reach-in-loop-segment.result _ wider (rw c.later.ensures at c.grown-reach.ensures.holds))
-    (rw c.later-in-loop-segment.ensures at c.grown-reach-in-loop-segment.ensures.holds) c.loop-segment.invariant
+    (HoldsRow-wider c.grown-volume.result c.grown-volume-in-loop-segment.result _ wider (rw c.later.ensures at c.grown-volume.ensures.holds))
+    (rw c.later-in-loop-segment.ensures at c.grown-volume-in-loop-segment.ensures.holds) c.loop-segment.invariant
 
 pub returns : goal.returns
 returns c =
@@ -52,5 +53,5 @@ returns c =
     edge_end _ _ _ _ c.segments-segments.ensures.are.adjoin c.loop-segment-test.false c.loop-segment.auto.segment-index-end in
     λ k low high. ⊎_elim
     (λ less. c.loop-segment.invariant k (omega (arith, less, ended)) low high)
-    (λ late. HoldsSecond-behind c.loop-segment.reach t k late)
+    (λ late. HoldsSecond-behind c.loop-segment.volume t k late)
     (cases_lt k (t.start + length t.rows))
