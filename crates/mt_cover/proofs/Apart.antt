@@ -41,13 +41,13 @@ pub record Meet (a b : Extent) : Type 0 where
   pub right : b.low ≤ℤ a.high
 
 -- a value at an instant is at least what it is at both ends of the second, and at most
-not_below : (l z v n d : ℤ) → l ≤ℤ z → l ≤ℤ (z +ℤ v) → pos 0 ≤ℤ n → n <ℤ d → (l *ℤ d) ≤ℤ (z *ℤ d +ℤ v *ℤ n)
+pub not_below : (l z v n d : ℤ) → l ≤ℤ z → l ≤ℤ (z +ℤ v) → pos 0 ≤ℤ n → n <ℤ d → (l *ℤ d) ≤ℤ (z *ℤ d +ℤ v *ℤ n)
 not_below l z v n d first last begun within =
     let p = mul_nonneg (z -ℤ l) (d -ℤ n) (omega (arith, lin)) (omega (arith, lin)) in
     let q = mul_nonneg (z +ℤ v -ℤ l) n (omega (arith, lin)) begun in
     omega (arith, lin, simp spread at p, simp spread at q)
 
-not_above : (l z v n d : ℤ) → z ≤ℤ l → (z +ℤ v) ≤ℤ l → pos 0 ≤ℤ n → n <ℤ d → (z *ℤ d +ℤ v *ℤ n) ≤ℤ (l *ℤ d)
+pub not_above : (l z v n d : ℤ) → z ≤ℤ l → (z +ℤ v) ≤ℤ l → pos 0 ≤ℤ n → n <ℤ d → (z *ℤ d +ℤ v *ℤ n) ≤ℤ (l *ℤ d)
 not_above l z v n d first last begun within =
     let p = mul_nonneg (l -ℤ z) (d -ℤ n) (omega (arith, lin)) (omega (arith, lin)) in
     let q = mul_nonneg (l -ℤ z -ℤ v) n (omega (arith, lin)) begun in

@@ -1,6 +1,7 @@
 -- The segment at which a slice stands, and what its rows add.
 use Rattle.std.proofs.Common.{◌≡◌, ℕ, zero, suc, min, ◌+◌, ◌-◌, ◌<◌, ◌≤◌, ⊎_elim, List, [], ◌∷◌, ◌++◌, Some, length, get_or, refl, sym, ap, ◌∙◌, arith}
 use Rattle.std.proofs.lemmas.Bool.{cases_lt}
+use Rattle.std.proofs.lemmas.List.{get_or_default}
 use Rattle.std.specs.Prelude.{slice_get}
 use Rattle.mt_base.specs.declared.row.Row.{Row}
 use Rattle.mt_base.specs.Bounds.{IsBoundedOver}
@@ -104,12 +105,6 @@ gathered_on start end ss index from at until s row a b laid stands early is cove
     ∙ ap (λ (rows : List Row). grown_by (box_of row) (part (all_rows ss) (from - start) (at - from) ++ rows)) (sym new)
     ∙ rw (count, all, seam) refl
 
--- an element is the same whatever stands for one that isn't there
-pub any_default : {X : Type 0} (xs : List X) (i : ℕ) (d e : X) → i < length xs → get_or xs i d ≡ get_or xs i e
-any_default [] i d e below = absurd (omega arith)
-any_default (x ∷ xs) zero d e below = refl
-any_default (x ∷ xs) (suc i) d e below = any_default xs i d e (omega arith)
-
 -- the next second to be gathered
 pub stands_on : (start end : ℕ) (ss : List Segment) (index at until : ℕ) (s : Segment) → IsLaid start end ss → StandsAtSecond start ss index at → at < end → s ≡ get_or ss index s
     → at ≤ until → until < s.to → StandsAtSecond start ss index until
@@ -128,12 +123,12 @@ stands_next start end ss index at s t laid stands early is =
       within = omega (arith, below);
       begun = omega (arith, lies.to);
       ahead = λ next. let more = lies_at start end ss (suc index) (get_or ss (suc index) s) laid.adjoin next
-          (any_default ss (suc index) s (get_or ss (suc index) s) next) in omega (arith, more.some, more.from, more.to, lies.to);
+          (get_or_default ss (suc index) s (get_or ss (suc index) s) next) in omega (arith, more.some, more.from, more.to, lies.to);
     })
 
 pub at_element : (start end : ℕ) (ss : List Segment) (index k : ℕ) (d : Segment) → IsLaid start end ss → StandsAtSecond start ss index k → k < end
     → get_or ss index d ≡ get_or ss index (get_or ss index d)
-at_element start end ss index k d laid stands early = any_default ss index d (get_or ss index d) (stands_within start end ss index k laid stands early)
+at_element start end ss index k d laid stands early = get_or_default ss index d (get_or ss index d) (stands_within start end ss index k laid stands early)
 
 pub here_or : (start end : ℕ) (ss : List Segment) (index k : ℕ) (d : Segment) → IsLaid start end ss → StandsAtSecond start ss index k → k < end
     → Here end ss index k (get_or ss index d)

@@ -1,10 +1,10 @@
-ghost use Rattle.std.specs.Prelude.{◌≡◌, ◌+◌, ◌-◌, ◌*◌, ◌/◌, All, drop, length};
+ghost use Rattle.std.specs.Prelude.{◌≡◌, ◌-◌, ◌/◌, All, drop, length};
 ghost use Rattle.std.specs.Int.{div_ceil};
 ghost use Rattle.mt_base.specs.Bounds.{AreWithinBounds};
 ghost use Rattle.mt_cover.specs.Layer.{IsLayerKept};
 ghost use Rattle.mt_cover.specs.Private.InPlane.{IsBoxInPlane};
 ghost use Rattle.mt_cover.specs.declared.sliced.Slice.{Slice as Cut};
-ghost use Rattle.mt_cover.specs.Sliced.{AreSlices, Have, HoldWindows, HoldsWindow, layer_over, slice_at, slice_by};
+ghost use Rattle.mt_cover.specs.Sliced.{AreSlices, Have, HoldWindows, layer_over, slice_by};
 
 use crate::bounding_box::{BoundingBox, Extent, half, wider};
 use crate::layer::Layer;
@@ -99,33 +99,6 @@ impl Slices {
         &self.list[((k - self.from) / SLICE) as usize..]
     }
 
-    /// The slices after that of a second.
-    pub fn slices_after(&self, k: Second) -> &[Slice]
-        requires { Have self.now k }
-        ensures is { result.now ≡ drop ((k - self.now.from) / 256 + 1) self.now.list }
-        ensures kept { All (λ (slice : Cut). IsLayerKept slice.layer) result.now }
-    {
-        &self.list[((k - self.from) / SLICE + 1) as usize..]
-    }
-
-    /// The slice of a second.
-    pub fn at(&self, k: Second) -> &Slice
-        requires { Have self.now k }
-        ensures is { result.now ≡ slice_at self.now k }
-        ensures kept { IsLayerKept result.now.layer }
-    {
-        &self.list[((k - self.from) / SLICE) as usize]
-    }
-
-    /// A slice that holds those of all seconds in the window of a second: in those 1,024 of the clock's seconds among which it is.
-    pub fn wide_at(&self, k: Second) -> &Slice
-        requires { Have self.now k }
-        ensures holds { HoldsWindow self.now (k / 1024) result.now }
-        ensures kept { IsLayerKept result.now.layer }
-    {
-        &self.wide[(k / WINDOW - self.from / WINDOW) as usize]
-    }
-
     /// The slices of the windows from that of a second on: each holds those of all seconds in its window.
     pub fn wide_from(&self, k: Second) -> &[Slice]
         requires { Have self.now k }
@@ -134,14 +107,6 @@ impl Slices {
         ensures kept { All (λ (slice : Cut). IsLayerKept slice.layer) result.now }
     {
         &self.wide[(k / WINDOW - self.from / WINDOW) as usize..]
-    }
-
-    /// The second after the slice of a second.
-    pub fn until(&self, k: Second) -> Second
-        requires { Have self.now k }
-        ensures { result ≡ self.now.from + 256 * ((k - self.now.from) / 256 + 1) }
-    {
-        self.from + SLICE * ((k - self.from) / SLICE + 1)
     }
 }
 

@@ -1,9 +1,10 @@
 -- A table and the reaches of its items, page by page.
-use Rattle.std.proofs.Common.{◌≡◌, ◌≢◌, ◌<◌, ◌≤◌, ◌*◌, ◌/◌, ◌%◌, ◌^◌, ◌⊎◌, inl, inr, ⊎_elim, Bool, true, false, ℕ, zero, suc, List, Option, Some, None, get_or, length, replicate, nat_eq, refl, sym, subst, ap, ◌∙◌, length-set, arith}
+use Rattle.std.proofs.Common.{◌≡◌, ◌≢◌, ◌<◌, ◌≤◌, ◌*◌, ◌/◌, ◌%◌, ◌^◌, ⊎_elim, Bor, false, true≢false, ℕ, zero, suc, List, Option, Some, None, get_or, length, replicate, refl, sym, subst, ap, ◌∙◌, length-set, arith}
 use Rattle.std.proofs.Math.ListN.{set}
-use Rattle.std.proofs.lemmas.Bool.Decides.{nat_tests}
-use Rattle.std.proofs.lemmas.List.{get_or-set_other, get_or-set_same, length-replicate}
+use Rattle.std.proofs.lemmas.Bool.{cases_eq}
+use Rattle.std.proofs.lemmas.List.{get_or-set_other, get_or-set_same, length-replicate, set-get_or}
 use Rattle.std.proofs.lemmas.List.Elements.{All-replicate, All-set}
+use Rattle.std.specs.Option.{is_some, option_copied}
 use Rattle.mt_cover.specs.Sliced.{Sliced}
 use Rattle.mt_meet.specs.declared.reach.Reach.{Reach}
 use Rattle.mt_meet.specs.Private.Reaching.{AreSlicesIn, AreReachesKept, nowhere, page_of, reach_at, reach_in}
@@ -27,12 +28,12 @@ kept_empty n k few enough = record {
   reaches_are = λ item. nowhere_at k item ∙ sym (ap reach_in (same n item None));
 }
 
--- two numbers are the same, or not
-same_or_not : (i j : ℕ) → (j ≡ i) ⊎ (j ≢ i)
-same_or_not i j = by_test (nat_eq j i) refl where
-  by_test : (b : Bool) → nat_eq j i ≡ b → (j ≡ i) ⊎ (j ≢ i)
-  by_test true e = let it : j ≡ i = grind (arith, nat_tests) in inl it
-  by_test false e = let it : j ≢ i = grind (arith, nat_tests) in inr it
+-- where an item has no slices, and gets none, all stays
+pub unchanged : (table : List (Option Sliced)) (i : ℕ) (x : Option Sliced) (entry : Option (Bor Sliced)) → is_some x ≡ false → is_some entry ≡ false
+    → option_copied entry ≡ get_or table i None → set table i x ≡ table
+unchanged table i None None own none is = subst (λ (y : Option Sliced). set table i y ≡ table) (sym is) (set-get_or table i None)
+unchanged table i None (Some it) own none is = absurd (true≢false none)
+unchanged table i (Some s) entry own none is = absurd (true≢false own)
 
 module _ (n : ℕ) (table : List (Option Sliced)) (pages : List (Option (List Reach))) (i : ℕ) (x : Option Sliced) (kept : AreReachesKept n table pages)
     (inside : i < length table) (full : length (page_of (get_or pages (i / 64) None)) ≡ 64) where
@@ -61,7 +62,7 @@ module _ (n : ℕ) (table : List (Option Sliced)) (pages : List (Option (List Re
       (get_or-set_other pages (i / 64) (j / 64) (Some (set (page_of (get_or pages (i / 64) None)) (i % 64) (reach_in x))) None page)
 
   other : (j : ℕ) → j ≢ i → reach_at after j ≡ reach_at pages j
-  other j apart = ⊎_elim (λ page. beside j page (omega (arith, page, apart))) (λ page. elsewhere j page) (same_or_not (i / 64) (j / 64))
+  other j apart = ⊎_elim (λ page. beside j page (omega (arith, page, apart))) (λ page. elsewhere j page) (cases_eq (j / 64) (i / 64))
 
   pub kept_with : AreSlicesIn x → AreReachesKept n (set table i x) after
   kept_with own = record {
@@ -73,5 +74,5 @@ module _ (n : ℕ) (table : List (Option Sliced)) (pages : List (Option (List Re
         (λ it. subst (λ (k : ℕ). reach_at after k ≡ reach_in (get_or (set table i x) k None)) (sym it)
         (here ∙ sym (ap reach_in (get_or-set_same table i x None inside))))
         (λ it. other j it ∙ kept.reaches_are j ∙ sym (ap reach_in (get_or-set_other table i j x None it)))
-        (same_or_not i j);
+        (cases_eq j i);
   }

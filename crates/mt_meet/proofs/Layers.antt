@@ -12,26 +12,13 @@ use Rattle.mt_base.specs.Instant.{value_at}
 use Rattle.mt_base.specs.Bounds.{IsWithin}
 use Rattle.mt_base.specs.Loss.{IsNearAt, LosesIn, height}
 use Rattle.mt_cover.specs.declared.layer.Layer.{Layer}
-use Rattle.mt_cover.specs.Layer.{IsLayerKept}
-use Rattle.mt_cover.specs.Layer.{IsInLayer}
+use Rattle.mt_cover.specs.Layer.{IsInLayer, IsLayerKept}
+use Rattle.mt_cover.proofs.Apart.{not_above, not_below}
 use Rattle.mt_meet.specs.Heights.{EndBelow, LieApart}
 use Rattle.mt_meet.specs.Private.Heights.{IsMinimumIn}
 use Rattle.mt_pair.specs.High.{LosesAbove, level_of}
 use Rattle.mt_pair.proofs.Instants.{loses_above}
 use Rattle.mt_pair.proofs.Tests.{is_le, le_is, no_le}
-
--- a value at an instant is at least what it is at both ends of the second, and at most
-not_below : (l z v n d : ℤ) → l ≤ℤ z → l ≤ℤ (z +ℤ v) → pos 0 ≤ℤ n → n <ℤ d → (l *ℤ d) ≤ℤ (z *ℤ d +ℤ v *ℤ n)
-not_below l z v n d first last begun within =
-    let p = mul_nonneg (z -ℤ l) (d -ℤ n) (omega (arith, lin)) (omega (arith, lin)) in
-    let q = mul_nonneg (z +ℤ v -ℤ l) n (omega (arith, lin)) begun in
-    omega (arith, lin, simp spread at p, simp spread at q)
-
-not_above : (l z v n d : ℤ) → z ≤ℤ l → (z +ℤ v) ≤ℤ l → pos 0 ≤ℤ n → n <ℤ d → (z *ℤ d +ℤ v *ℤ n) ≤ℤ (l *ℤ d)
-not_above l z v n d first last begun within =
-    let p = mul_nonneg (l -ℤ z) (d -ℤ n) (omega (arith, lin)) (omega (arith, lin)) in
-    let q = mul_nonneg (l -ℤ z -ℤ v) n (omega (arith, lin)) begun in
-    omega (arith, lin, simp spread at p, simp spread at q)
 
 -- what lies above by at least a minimum is not nearer than it, at one instant
 not_nearer : (low high s za wa va ga zb wb vb gb n d : ℤ) → (za +ℤ wa) ≤ℤ high → ((za +ℤ va) +ℤ (wa +ℤ ga)) ≤ℤ high

@@ -73,9 +73,9 @@ module _ (rules : Rules) (mine : Sliced) (table : List (Option Sliced)) where
       (λ last. let same : item ≡ n = omega (arith, last, below) in subst (λ (i : ℕ). IsMetAt rules mine table i None) (sym same) at)
       (cases_lt item n)
 
-  pub none_until : (from n m end : ℕ) → m ≤ n → MeetNone rules mine table from n → MeetNone rules mine table m end → MeetNone rules mine table from end
+  pub none_until : (from n m end : ℕ) → m ≤ n + (from - n) → MeetNone rules mine table from n → MeetNone rules mine table m end → MeetNone rules mine table from end
   none_until from n m end on before after = λ item late below. ⊎_elim
-      (λ early. before item late early) (λ later. after item (omega (arith, on, later)) below) (cases_lt item n)
+      (λ early. before item late early) (λ later. after item (omega (arith, on, late, later)) below) (cases_lt item n)
 
   pub first_at : (from n : ℕ) (met : Met) → from ≤ n → MeetNone rules mine table from n → IsMetAt rules mine table n (Some met) → IsFirstMet rules mine table from met
   first_at from n met on before is = record {

@@ -1,10 +1,9 @@
 -- Which items of a page are marked in some bands of heights.
-use Rattle.std.proofs.Common.{◌≡◌, ◌≢◌, ◌∙◌, ◌<◌, ◌≤◌, inl, inr, ⊎_elim, ℕ, List, ◌++◌, drop, length, get_or, length-set, take, ℤ, pos, negsuc, ◌≤ℤ◌, bit_and, subst, sym, arith}
+use Rattle.std.proofs.Common.{◌≡◌, ◌≢◌, ◌∙◌, ◌<◌, ◌≤◌, inl, inr, ⊎_elim, ℕ, List, length, get_or, length-set, replicate, ℤ, pos, negsuc, ◌≤ℤ◌, bit_and, subst, sym, arith}
 use Rattle.std.proofs.Math.ListN.{set}
-use Rattle.std.proofs.Math.Seq.{take-append_seam}
 use Rattle.std.proofs.lemmas.Bool.{cases_eq, cases_lt}
 use Rattle.std.proofs.lemmas.Int.{ints}
-use Rattle.std.proofs.lemmas.List.{get_or-set_other, get_or-set_same}
+use Rattle.std.proofs.lemmas.List.{get_or-replicate, get_or-set_other, get_or-set_same, length-replicate}
 use Rattle.std.proofs.lemmas.Nat.Bits.{bit_at_and}
 use Rattle.std.specs.Int.{bit_at}
 use Rattle.mt_base.specs.declared.rules.Rules.{Rules}
@@ -15,9 +14,14 @@ use Rattle.mt_meet.specs.Private.Marking.{AreMarkedInBands, IsMarkedInBands, Lie
 use Rattle.mt_meet.specs.Private.Reaching.{AreClose, IsGuard, nowhere}
 use Rattle.mt_meet.proofs.Meetings.{beyond_apart, nothing_close}
 
--- a list of the same length in the stead of another one
-pub refilled : (xs ys : List ℕ) (n : ℕ) → n ≡ length xs → take n (xs ++ drop (length xs) ys) ≡ xs
-refilled xs ys n is = rw is (take-append_seam xs (drop (length xs) ys))
+-- where no item has slices, none is marked
+pub none_marked : AreMarkedInBands (replicate 64 nowhere) (replicate 64 0) (replicate 64 0)
+none_marked = record {
+  full = length-replicate 64 nowhere;
+  low_number = length-replicate {A = ℕ} 64 0;
+  high_number = length-replicate {A = ℕ} 64 0;
+  each = λ place within. inl (get_or-replicate 64 place nowhere nowhere within);
+}
 
 -- a greater height is in no lesser band
 band_rises : (y z : ℤ) → y ≤ℤ z → height_band y ≤ height_band z

@@ -1,185 +1,116 @@
 -- Slices of two trajectories, each of which meets two of the other one's in turn.
-use Rattle.std.proofs.Common.{◌≡◌, ◌≤◌, ◌<◌, ◌+◌, ◌-◌, ◌*◌, ◌/◌, ◌%◌, ◌&&◌, ◌∙◌, inl, inr, ⊎_elim, Bool, ℕ, List, Option, Some, None, drop, get_or, max, min, refl, arith}
+use Rattle.std.proofs.Common.{◌≡◌, ◌≤◌, ◌<◌, ◌+◌, ◌-◌, ◌*◌, ◌/◌, ◌%◌, ◌&&◌, ◌⊎◌, inl, inr, ⊎_elim, Bool, ℕ, List, Option, None, drop, get_or, length, max, min, refl, sym, arith}
 use Rattle.std.proofs.lemmas.Bool.{cases_lt}
-use Rattle.std.proofs.lemmas.List.{get_or-drop}
+use Rattle.std.proofs.lemmas.List.{get_or-drop, length-drop}
 use Rattle.std.specs.Int.{div_ceil}
 use Rattle.mt_base.specs.declared.rules.Rules.{Rules}
 use Rattle.mt_cover.specs.declared.sliced.Slice.{Slice}
-use Rattle.mt_cover.specs.Sliced.{Sliced, no_slice, slice_at}
+use Rattle.mt_cover.specs.Sliced.{AreSlices, Have, Sliced, no_slice, slice_at}
 use Rattle.mt_meet.specs.Meeting.{IsHull, IsHullOf, MeetAt}
-use Rattle.mt_meet.specs.Private.Meeting.{AreTurns, Before, MeetInTurn, MeetOnlyIn, PlaceMeets, hull_join}
+use Rattle.mt_meet.specs.Private.Meeting.{AreTurns, Before, InTurn, LastsOver, MeetInTurn, MeetOnlyIn, PlaceMeets, hull_join}
 use Rattle.mt_meet.proofs.Hulls.{hull_both}
 
--- the first and the last place give the first and the last second
-pub turn_hull : (minima : Rules) (approved : Bool) (a b : List Slice) (start stop begin end number first last : ℕ) → AreTurns start stop begin end
-    → number ≡ div_ceil (end - start) 256 → IsHullOf (Before (PlaceMeets minima approved a b) number) first last
-    → IsHullOf (MeetInTurn minima approved a b start stop begin end) (max begin (start + 256 * first)) (min end (stop + 256 * last) - 1)
-turn_hull minima approved a b start stop begin end number first last times number_is hull =
-    let rising = (hull.none_outside first hull.first_is).1 in
-    let first_in = hull.first_is.0 in
-    let last_in = hull.last_is.0 in
-    record {
-      first_is = record {
-        place = first;
-        late = omega arith;
-        early = omega (arith, times.begun, times.some);
-        begun = omega arith;
-        within = omega (arith, times.ahead, first_in, number_is);
-        meet = hull.first_is.1;
+-- a second in the turn of a number is in the slice of that number
+slice_in_turn : (s : Sliced) (start stop at number k : ℕ) → LastsOver s start stop at → start + 256 * number ≤ k → k < stop + 256 * number
+    → slice_at s k ≡ get_or (drop ((at - s.from) / 256) s.list) number no_slice
+slice_in_turn s start stop at number k lasts late early =
+    let place : (k - s.from) / 256 ≡ (at - s.from) / 256 + number = omega (arith, lasts.begun, lasts.within, late, early) in
+    rw (get_or-drop ((at - s.from) / 256) s.list number no_slice, place) refl
+
+-- both have the second at which the first turn that isn't over begins
+pub begun_in : (s : Sliced) (begin end start at past : ℕ) → s.from ≤ begin → end ≤ s.to → at ≡ max start begin → past ≤ end → at < past → Have s at
+begun_in s begin end start at past begun within at_is past_is ahead = record { begun = omega (arith, begun, at_is); within = omega (arith, within, past_is, ahead) }
+
+-- there are slices for all turns
+pub enough : (s : Sliced) (start stop at end count : ℕ) (list : List Slice) → AreSlices s → LastsOver s start stop at → start < end → end ≤ s.to
+    → list ≡ drop ((at - s.from) / 256) s.list → count ≡ div_ceil (end - start) 256 → count ≤ length list
+enough s start stop at end count list kept lasts some within list_is count_is =
+    let long = length-drop ((at - s.from) / 256) s.list in
+    rw list_is (omega (arith, long, kept.number, lasts.begun, some, within, count_is))
+
+module _ (minima : Rules) (a b : Sliced) (begin end start stop : ℕ) (outside : MeetOnlyIn minima a b begin end) (turns : AreTurns a b start stop begin) (at : ℕ)
+    (at_is : at ≡ max start begin) where
+  -- none is left
+  pub turns_over : (past : ℕ) → past ≡ min end stop → past ≤ at → (k : ℕ) → ¬ MeetInTurn minima a b start stop k
+  turns_over past past_is over k it =
+      let within = (outside.all k it.meet).1 in
+      omega (arith, within, it.turn.late, it.turn.early, turns.ahead, outside.some, at_is, past_is, over)
+
+  module _ (approved : Bool) (approved_is : approved ≡ (a.rvsm && b.rvsm)) (left right : List Slice) (left_is : left ≡ drop ((at - a.from) / 256) a.list)
+      (right_is : right ≡ drop ((at - b.from) / 256) b.list) (count : ℕ) (count_is : count ≡ div_ceil (end - start) 256) where
+    left_at : (number k : ℕ) → start + 256 * number ≤ k → k < stop + 256 * number → slice_at a k ≡ get_or left number no_slice
+    left_at number k late early = rw left_is (slice_in_turn a start stop at number k (rw at_is turns.left) late early)
+
+    right_at : (number k : ℕ) → start + 256 * number ≤ k → k < stop + 256 * number → slice_at b k ≡ get_or right number no_slice
+    right_at number k late early = rw right_is (slice_in_turn b start stop at number k (rw at_is turns.right) late early)
+
+    meets : (number k : ℕ) → begin ≤ k → k < end → start + 256 * number ≤ k → k < stop + 256 * number → PlaceMeets minima approved left right number
+        → MeetInTurn minima a b start stop k
+    meets number k begun within late early meet = record {
+      turn = record { number = number; late = late; early = early };
+      meet = record {
+        left = record { begun = omega (arith, outside.a_begun, begun); within = omega (arith, outside.a_within, within) };
+        right = record { begun = omega (arith, outside.b_begun, begun); within = omega (arith, outside.b_within, within) };
+        meet = rw (left_at number k late early, right_at number k late early, ← approved_is) meet;
       };
-      last_is = record {
-        place = last;
-        late = omega (arith, times.some, last_in, number_is);
-        early = omega (arith, times.some, last_in, number_is);
-        begun = omega (arith, times.begun, times.ahead);
-        within = omega (arith, times.ahead);
-        meet = hull.last_is.1;
-      };
-      none_outside = λ k turn.
-          let between = hull.none_outside turn.place (omega (arith, turn.late, turn.within, number_is), turn.meet) in (
-            omega (arith, between.0, turn.begun, turn.late),
-            omega (arith, between.1, turn.within, turn.early),
-          );
     }
 
-pub no_turn : (minima : Rules) (approved : Bool) (a b : List Slice) (start stop begin end number : ℕ) → number ≡ div_ceil (end - start) 256
-    → IsHull (Before (PlaceMeets minima approved a b) number) None → (k : ℕ) → ¬ MeetInTurn minima approved a b start stop begin end k
-no_turn minima approved a b start stop begin end number number_is none k turn = none turn.place (omega (arith, turn.late, turn.within, number_is), turn.meet)
+    at_place : (k : ℕ) (it : MeetInTurn minima a b start stop k) → Before (PlaceMeets minima approved left right) count it.turn.number
+    at_place k it = (
+      (let within = (outside.all k it.meet).1 in omega (arith, it.turn.late, within, count_is)),
+      rw (left_at it.turn.number k it.turn.late it.turn.early, right_at it.turn.number k it.turn.late it.turn.early, ← approved_is) at it.meet.meet,
+    )
 
--- a second of one place
-at_place : (s : Sliced) (first place k : ℕ) → s.from + 256 * first + 256 * place ≤ k → k < s.from + 256 * first + 256 * place + 256
-    → slice_at s k ≡ get_or (drop first s.list) place no_slice
-at_place s first place k late early =
-    let number : (k - s.from) / 256 ≡ first + place = omega (arith, late, early) in
-    rw (get_or-drop first s.list place no_slice, number) refl
+    pub no_turn : IsHull (Before (PlaceMeets minima approved left right) count) None → (k : ℕ) → ¬ MeetInTurn minima a b start stop k
+    no_turn none k it = none it.turn.number (at_place k it)
 
--- the turns of two slices lie within both
-pub record AreWithin (a b : Sliced) (i j start stop : ℕ) : Type 0 where
-  pub a_start : a.from + 256 * i ≤ start
-  pub a_stop : stop ≤ a.from + 256 * i + 256
-  pub b_start : b.from + 256 * j ≤ start
-  pub b_stop : stop ≤ b.from + 256 * j + 256
+    -- the first and the last place give the first and the last second
+    pub turn_hull : (first last : ℕ) → start < stop → IsHullOf (Before (PlaceMeets minima approved left right) count) first last
+        → IsHullOf (MeetInTurn minima a b start stop) (max begin (start + 256 * first)) (min end (stop + 256 * last) - 1)
+    turn_hull first last some hull =
+        let first_in = hull.first_is.0 in
+        let last_in = hull.last_is.0 in
+        record {
+          first_is = meets first (max begin (start + 256 * first)) (omega arith) (omega (arith, outside.some, first_in, count_is)) (omega arith)
+              (omega (arith, turns.ahead, some)) hull.first_is.1;
+          last_is = meets last (min end (stop + 256 * last) - 1) (omega (arith, turns.ahead, outside.some)) (omega (arith, outside.some))
+              (omega (arith, some, last_in, count_is)) (omega (arith, some, last_in, count_is)) hull.last_is.1;
+          none_outside = λ k it. let in_them = outside.all k it.meet in
+              let between = hull.none_outside it.turn.number (at_place k it) in (
+                omega (arith, between.0, in_them.0, it.turn.late),
+                omega (arith, between.1, in_them.1, it.turn.early),
+              );
+        }
 
-module _ (minima : Rules) (a b : Sliced) (approved : Bool) (begin end : ℕ) (outside : MeetOnlyIn minima a b begin end) (approved_is : approved ≡ (a.rvsm && b.rvsm)) where
-  abbrev Turn : ℕ → ℕ → ℕ → ℕ → ℕ → Type 0
-  Turn i j start stop k = MeetInTurn minima approved (drop i a.list) (drop j b.list) start stop begin end k
+-- each second is in one of two turns, where the second one ends 256 seconds after the start of the first
+in_two : (start stop past k : ℕ) → start ≤ k → past ≡ start + 256 → InTurn start stop k ⊎ InTurn stop past k
+in_two start stop past k begun past_is = ⊎_elim
+    (λ early. inl (record { number = (k - start) / 256; late = omega (arith, begun); early = early }))
+    (λ later. inr (record { number = (k - start) / 256; late = later; early = omega (arith, begun, past_is) }))
+    (cases_lt k (stop + 256 * ((k - start) / 256)))
 
-  turn_meets : (i j start stop : ℕ) → AreWithin a b i j start stop → (k : ℕ) → Turn i j start stop k → MeetAt minima a b k
-  turn_meets i j start stop within k turn = record {
-    left = record { begun = omega (arith, outside.a_begun, turn.begun); within = omega (arith, outside.a_within, turn.within) };
-    right = record { begun = omega (arith, outside.b_begun, turn.begun); within = omega (arith, outside.b_within, turn.within) };
-    meet = rw (
-      at_place a i turn.place k (omega (arith, within.a_start, turn.late)) (omega (arith, within.a_stop, turn.early)),
-      at_place b j turn.place k (omega (arith, within.b_start, turn.late)) (omega (arith, within.b_stop, turn.early)),
-      ← approved_is,
-    ) turn.meet;
+pub two_turns : (minima : Rules) (a b : Sliced) (begin end start stop past : ℕ) → MeetOnlyIn minima a b begin end → start ≤ begin → past ≡ start + 256
+    → (x y : Option (ℕ × ℕ)) → IsHull (MeetInTurn minima a b start stop) x → IsHull (MeetInTurn minima a b stop past) y → IsHull (MeetAt minima a b) (hull_join x y)
+two_turns minima a b begin end start stop past outside begun past_is = hull_both
+    (MeetInTurn minima a b start stop) (MeetInTurn minima a b stop past) (MeetAt minima a b) (λ k it. it.meet) (λ k it. it.meet)
+    (λ k meet. let late = (outside.all k meet).0 in ⊎_elim
+    (λ one. inl (record { turn = one; meet = meet }))
+    (λ other. inr (record { turn = other; meet = meet }))
+    (in_two start stop past k (omega (arith, begun, late)) past_is))
+
+-- the slices of two trajectories that begin at x and y last over the turns
+module _ (a b : Sliced) (begin x y : ℕ) (a_begun : a.from ≤ begin) (b_begun : b.from ≤ begin) (x_is : x ≡ begin - (begin - a.from) % 256)
+    (y_is : y ≡ begin - (begin - b.from) % 256) where
+  pub first_turns : (start next : ℕ) → start ≡ max x y → next ≡ min x y + 256 → AreTurns a b start next begin
+  first_turns start next start_is next_is = record {
+    left = record { begun = omega (arith, a_begun, x_is, y_is, start_is); within = omega (arith, a_begun, x_is, y_is, start_is, next_is) };
+    right = record { begun = omega (arith, b_begun, x_is, y_is, start_is); within = omega (arith, b_begun, x_is, y_is, start_is, next_is) };
+    ahead = omega (arith, x_is, y_is, next_is);
   }
 
-  has_turn : (i j start stop place k : ℕ) → AreWithin a b i j start stop → start + 256 * place ≤ k → k < stop + 256 * place → MeetAt minima a b k
-      → Turn i j start stop k
-  has_turn i j start stop place k within late early meet = record {
-    place = place;
-    late = late;
-    early = early;
-    begun = (outside.all k meet).0;
-    within = (outside.all k meet).1;
-    meet = rw (
-      at_place a i place k (omega (arith, within.a_start, late)) (omega (arith, within.a_stop, early)),
-      at_place b j place k (omega (arith, within.b_start, late)) (omega (arith, within.b_stop, early)),
-      ← approved_is,
-    ) at meet.meet;
+  pub next_turns : (next past : ℕ) → next ≡ min x y + 256 → past ≡ max x y + 256 → AreTurns a b next past begin
+  next_turns next past next_is past_is = record {
+    left = record { begun = omega (arith, a_begun, x_is, y_is, next_is); within = omega (arith, a_begun, x_is, y_is, next_is, past_is) };
+    right = record { begun = omega (arith, b_begun, x_is, y_is, next_is); within = omega (arith, b_begun, x_is, y_is, next_is, past_is) };
+    ahead = omega (arith, x_is, y_is, past_is);
   }
-
-  -- turns that take all seconds between them
-  pub turns_hull : (i j start stop n m next past : ℕ) (x y : Option (ℕ × ℕ)) → AreWithin a b i j start stop → AreWithin a b n m next past
-      → next ≡ stop → past ≡ start + 256 → start ≤ begin → IsHull (Turn i j start stop) x → IsHull (Turn n m next past) y
-      → IsHull (MeetAt minima a b) (hull_join x y)
-  turns_hull i j start stop n m next past x y first second next_is past_is begun one other =
-      hull_both (Turn i j start stop) (Turn n m next past) (MeetAt minima a b) (turn_meets i j start stop first) (turn_meets n m next past second)
-      (λ k meet. let late = (outside.all k meet).0 in ⊎_elim
-      (λ early. inl (has_turn i j start stop ((k - start) / 256) k first (omega (arith, begun, late)) early meet))
-      (λ more. inr (has_turn n m next past ((k - start) / 256) k second (omega (arith, more, next_is)) (omega (arith, begun, late, past_is)) meet))
-      (cases_lt k (stop + 256 * ((k - start) / 256))))
-      x y one other
-
-  -- turns that take all seconds alone
-  pub turn_alone : (i j start stop : ℕ) (x : Option (ℕ × ℕ)) → AreWithin a b i j start stop → stop ≡ start + 256 → start ≤ begin → IsHull (Turn i j start stop) x
-      → IsHull (MeetAt minima a b) x
-  turn_alone i j start stop None within stop_is begun none = λ k meet. let late = (outside.all k meet).0 in
-      none k (has_turn i j start stop ((k - start) / 256) k within (omega (arith, begun, late)) (omega (arith, begun, late, stop_is)) meet)
-  turn_alone i j start stop (Some x) within stop_is begun hull = record {
-    first_is = turn_meets i j start stop within x.0 hull.first_is;
-    last_is = turn_meets i j start stop within x.1 hull.last_is;
-    none_outside = λ k meet. let late = (outside.all k meet).0 in
-        hull.none_outside k (has_turn i j start stop ((k - start) / 256) k within (omega (arith, begun, late)) (omega (arith, begun, late, stop_is)) meet);
-  }
-
-  place_is : (from : ℕ) → from ≤ begin → begin - (begin - from) % 256 ≡ from + 256 * ((begin - from) / 256)
-  place_is from begun = omega (arith, begun)
-
-  module _ (x y from_a from_b : ℕ) (from_a_is : from_a ≡ a.from) (from_b_is : from_b ≡ b.from) (x_is : x ≡ begin - (begin - from_a) % 256)
-      (y_is : y ≡ begin - (begin - from_b) % 256) where
-    x_start : x ≡ a.from + 256 * ((begin - a.from) / 256)
-    x_start = x_is ∙ rw from_a_is (place_is a.from outside.a_begun)
-
-    y_start : y ≡ b.from + 256 * ((begin - b.from) / 256)
-    y_start = y_is ∙ rw from_b_is (place_is b.from outside.b_begun)
-
-    x_below : x ≤ begin
-    x_below = omega (arith, x_is)
-
-    y_below : y ≤ begin
-    y_below = omega (arith, y_is)
-
-    x_near : begin < x + 256
-    x_near = omega (arith, x_is)
-
-    y_near : begin < y + 256
-    y_near = omega (arith, y_is)
-
-    -- the first one's slices begin earlier, the second one's do, or both at once
-    pub first_earlier : (both next : Option (ℕ × ℕ)) → x < y → IsHull (Turn ((begin - a.from) / 256) ((begin - b.from) / 256) y (x + 256)) both
-        → IsHull (Turn ((begin - a.from) / 256 + 1) ((begin - b.from) / 256) (x + 256) (y + 256)) next → IsHull (MeetAt minima a b) (hull_join both next)
-    first_earlier both next less one other = turns_hull ((begin - a.from) / 256) ((begin - b.from) / 256) y (x + 256)
-        ((begin - a.from) / 256 + 1) ((begin - b.from) / 256) (x + 256) (y + 256) both next
-        (record {
-          a_start = omega (arith, less, x_start);
-          a_stop = omega (arith, x_start);
-          b_start = omega (arith, y_start);
-          b_stop = omega (arith, less, y_start);
-        })
-        (record {
-          a_start = omega (arith, x_start);
-          a_stop = omega (arith, x_start, x_near, y_below);
-          b_start = omega (arith, y_start, x_near, y_below);
-          b_stop = omega (arith, y_start);
-        })
-        refl refl y_below one other
-
-    pub second_earlier : (both next : Option (ℕ × ℕ)) → y < x → IsHull (Turn ((begin - a.from) / 256) ((begin - b.from) / 256) x (y + 256)) both
-        → IsHull (Turn ((begin - a.from) / 256) ((begin - b.from) / 256 + 1) (y + 256) (x + 256)) next → IsHull (MeetAt minima a b) (hull_join both next)
-    second_earlier both next less one other = turns_hull ((begin - a.from) / 256) ((begin - b.from) / 256) x (y + 256)
-        ((begin - a.from) / 256) ((begin - b.from) / 256 + 1) (y + 256) (x + 256) both next
-        (record {
-          a_start = omega (arith, x_start);
-          a_stop = omega (arith, less, x_start);
-          b_start = omega (arith, less, y_start);
-          b_stop = omega (arith, y_start);
-        })
-        (record {
-          a_start = omega (arith, x_start, y_near, x_below);
-          a_stop = omega (arith, x_start);
-          b_start = omega (arith, y_start);
-          b_stop = omega (arith, y_start, y_near, x_below);
-        })
-        refl refl x_below one other
-
-    pub at_once : (both : Option (ℕ × ℕ)) → x ≡ y → IsHull (Turn ((begin - a.from) / 256) ((begin - b.from) / 256) x (y + 256)) both → IsHull (MeetAt minima a b) both
-    at_once both same one = turn_alone ((begin - a.from) / 256) ((begin - b.from) / 256) x (y + 256) both
-        (record {
-          a_start = omega (arith, x_start);
-          a_stop = omega (arith, same, x_start);
-          b_start = omega (arith, same, y_start);
-          b_stop = omega (arith, y_start);
-        })
-        (omega (arith, same)) x_below one

@@ -1,6 +1,5 @@
 //! The seconds in which the slices of two trajectories meet.
-ghost use Rattle.std.specs.Prelude.{◌≡◌, ◌↔◌, ◌-◌, ◌≤◌, ◌<◌, ◌&&◌, All, IsTrue, length};
-ghost use Rattle.std.specs.Int.{div_ceil};
+ghost use Rattle.std.specs.Prelude.{◌≡◌, ◌↔◌, ◌≤◌, ◌&&◌, All, IsTrue, length};
 ghost use Rattle.mt_base.specs.Bounds.{AreWithinBounds};
 ghost use Rattle.mt_cover.specs.Layer.{IsLayerKept};
 ghost use Rattle.mt_cover.specs.declared.sliced.Slice.{Slice as Cut};
@@ -99,39 +98,37 @@ fn narrowed(
     let (left, right) = (a.wide_from(begin), b.wide_from(begin));
     let window = begin / WINDOW;
     let number = (end.div_ceil(WINDOW) - window) as usize;
-    let Some((first, last)) = places_that_meet(rules, approved, left, right, number) else {
-        return None;
-    };
+    let (first, last) = places_that_meet(rules, approved, left, right, number)?;
     let least = WINDOW * (window + first as Second);
     let past = WINDOW * (window + last as Second) + WINDOW;
     Some((begin.max(least), end.min(past)))
 }
 
-// The first and the last second, from one on and before another one, in which the slices at one place of two lists meet. Those at the first
-// place both have the seconds from `start` on and before `stop`, those at each later place the seconds 256 later.
-#[inline(always)]
+// The first and the last second in which slices meet, of those in turn: from a start on and before a stop, and so each 256 seconds later.
 fn meet_in_turn(
+    a: &Slices,
+    b: &Slices,
     rules: &Rules,
-    approved: bool,
-    a: &[Slice],
-    b: &[Slice],
     start: Second,
     stop: Second,
     begin: Second,
     end: Second,
 ) -> Option<(Second, Second)>
     requires rules { AreWithinBounds rules.now }
-    requires times { AreTurns start stop begin end }
-    requires a_enough { div_ceil (end - start) 256 ≤ length a.now }
-    requires b_enough { div_ceil (end - start) 256 ≤ length b.now }
-    requires a_kept { All (λ (slice : Cut). IsLayerKept slice.layer) a.now }
-    requires b_kept { All (λ (slice : Cut). IsLayerKept slice.layer) b.now }
-    ensures { IsHull (MeetInTurn rules.now approved a.now b.now start stop begin end) result }
+    requires outside { MeetOnlyIn rules.now a.now b.now begin end }
+    requires turns { AreTurns a.now b.now start stop begin }
+    ensures { IsHull (MeetInTurn rules.now a.now b.now start stop) result }
 {
-    let number = end.saturating_sub(start).div_ceil(SLICE) as usize;
-    let Some((first, last)) = places_that_meet(rules, approved, a, b, number) else {
+    a.keeps();
+    b.keeps();
+    let at = start.max(begin);
+    if at >= end.min(stop) {
         return None;
-    };
+    }
+    let approved = are_approved(a, b);
+    let (left, right) = (a.slices_from(at), b.slices_from(at));
+    let number = (end - start).div_ceil(SLICE) as usize;
+    let (first, last) = places_that_meet(rules, approved, left, right, number)?;
     let least = start + SLICE * first as Second;
     let past = stop + SLICE * last as Second;
     Some((begin.max(least), end.min(past) - 1))
@@ -164,25 +161,12 @@ fn meet_between(
     ensures { IsHull (MeetAt rules.now a.now b.now) result }
 {
     a.keeps();
-    b.keeps();
-    let approved = are_approved(a, b);
     let a_start = begin - (begin - a.from()) % SLICE;
     let b_start = begin - (begin - b.from()) % SLICE;
-    let (a_next, b_next) = (a_start + SLICE, b_start + SLICE);
-    let (left, right) = (a.slices_from(begin), b.slices_from(begin));
-    if a_start < b_start {
-        let both = meet_in_turn(rules, approved, left, right, b_start, a_next, begin, end);
-        let left = a.slices_after(begin);
-        let next = meet_in_turn(rules, approved, left, right, a_next, b_next, begin, end);
-        return joined(both, next);
-    }
-    let both = meet_in_turn(rules, approved, left, right, a_start, b_next, begin, end);
-    if a_start == b_start {
-        return both;
-    }
-    let right = b.slices_after(begin);
-    let next = meet_in_turn(rules, approved, left, right, b_next, a_next, begin, end);
-    joined(both, next)
+    let (start, next) = (a_start.max(b_start), a_start.min(b_start) + SLICE);
+    let both = meet_in_turn(a, b, rules, start, next, begin, end);
+    let later = meet_in_turn(a, b, rules, next, start + SLICE, begin, end);
+    joined(both, later)
 }
 
 /// The first and the last second in which slices of both meet; `None` exactly where there is no such second. Of each window of the clock the

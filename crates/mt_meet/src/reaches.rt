@@ -1,13 +1,11 @@
 //! The reaches of many items, in pages.
-ghost use Rattle.std.specs.Prelude.{◌≡◌, ◌<◌, ℕ, None, length, get_or, slice_set, IfOk, option_copied};
+ghost use Rattle.std.specs.Prelude.{◌≡◌, ◌<◌, ℕ, None, length, get_or, replicate, slice_set, option_copied};
 ghost use Rattle.std.specs.Int.{bit_at};
 ghost use Rattle.mt_meet.specs.Private.Marking.{LiesOutside};
 ghost use Rattle.mt_meet.specs.Private.Reaching.{nowhere, page_of};
 
 use crate::marks::{BANDS, band, mark};
 use crate::reach::{Reach, nowhere};
-use mt_base::Memory;
-use std::alloc::Global;
 use std::marker::Model;
 
 /// How many items have their reaches on one page.
@@ -17,9 +15,9 @@ pub(crate) const ITEMS: u32 = 64;
 /// above its start. Where none of the items has slices, a page may be absent.
 #[derive(Drop)]
 pub(crate) struct ReachPage {
-    list: Vec<Reach>,
-    lows: Vec<u64>,
-    highs: Vec<u64>,
+    list: [Reach; ITEMS as usize],
+    lows: [u64; BANDS as usize],
+    highs: [u64; BANDS as usize],
 }
 
 impl Model for ReachPage {
@@ -29,35 +27,47 @@ impl Model for ReachPage {
 
     ghost Value = { List Kept };
 
-    ghost view = { λ s. s.list.items };
+    ghost view = { λ s. s.list };
 
-    ghost invariant = { λ s. AreMarkedInBands s.list.items s.lows.items s.highs.items };
+    ghost invariant = { λ s. AreMarkedInBands s.list s.lows s.highs };
+}
+
+// The reaches of 64 items that have no slices.
+fn no_reaches() -> [Reach; ITEMS as usize]
+    ensures { result ≡ page_of None }
+{
+    [nowhere(); ITEMS as usize]
+}
+
+// No mark in any band.
+fn no_marks() -> [u64; BANDS as usize]
+    ensures { result ≡ replicate 64 0 }
+{
+    [0; BANDS as usize]
 }
 
 impl ReachPage {
     // That of 64 items that have no slices.
-    fn empty(alloc: Global) -> Result<ReachPage, Memory>
-        ensures { IfOk result (λ page. page ≡ page_of None) }
+    fn empty() -> ReachPage
+        ensures { result ≡ page_of None }
     {
-        Ok(ReachPage {
-            list: vec![in alloc; nowhere(); ITEMS as usize]?,
-            lows: vec![in alloc; 0; BANDS as usize]?,
-            highs: vec![in alloc; 0; BANDS as usize]?,
-        })
+        ReachPage {
+            list: no_reaches(),
+            lows: no_marks(),
+            highs: no_marks(),
+        }
     }
 
     // The same once more.
-    fn copied(&self, alloc: Global) -> Result<ReachPage, Memory>
-        ensures page { IfOk result (λ page. page ≡ self.now) }
+    fn copied(&self) -> ReachPage
+        ensures page { result ≡ self.now }
         ensures full { length self.now ≡ 64 }
     {
-        let mut list = Vec::new(alloc);
-        list.extend_from_slice(&self.list)?;
-        let mut lows = Vec::new(alloc);
-        lows.extend_from_slice(&self.lows)?;
-        let mut highs = Vec::new(alloc);
-        highs.extend_from_slice(&self.highs)?;
-        Ok(ReachPage { list, lows, highs })
+        ReachPage {
+            list: self.list,
+            lows: self.lows,
+            highs: self.highs,
+        }
     }
 
     /// The list of them.
@@ -89,20 +99,15 @@ impl ReachPage {
 }
 
 /// A page, which may be absent, with another reach at a place. The page itself stays.
-pub(crate) fn with_reach(
-    alloc: Global,
-    page: Option<&ReachPage>,
-    place: u32,
-    reach: Reach,
-) -> Result<ReachPage, Memory>
+pub(crate) fn with_reach(page: Option<&ReachPage>, place: u32, reach: Reach) -> ReachPage
     requires { place < 64 }
-    ensures page { IfOk result (λ after. after ≡ slice_set (page_of (option_copied page.entry)) place reach) }
+    ensures page { result ≡ slice_set (page_of (option_copied page.entry)) place reach }
     ensures full { length (page_of (option_copied page.entry)) ≡ 64 }
 {
     let mut after = match page {
-        Some(page) => page.copied(alloc)?,
-        None => ReachPage::empty(alloc)?,
+        Some(page) => page.copied(),
+        None => ReachPage::empty(),
     };
     after.put(place, reach);
-    Ok(after)
+    after
 }

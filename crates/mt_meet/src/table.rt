@@ -1,10 +1,9 @@
 //! The slices of many trajectories.
-ghost use Rattle.std.specs.Prelude.{◌≡◌, ◌<◌, ◌+◌, ◌*◌, None, length, get_or, replicate, slice_set, IfOk, option_copied, option_map};
-ghost use Rattle.std.specs.Arc.{arc_value};
+ghost use Rattle.std.specs.Prelude.{◌≡◌, ◌<◌, ◌+◌, ◌*◌, ◌/◌, ◌%◌, Some, None, length, get_or, replicate, slice_set, IfOk, option_copied};
 ghost use Rattle.mt_base.specs.Bounds.{AreWithinBounds};
 ghost use Rattle.mt_meet.specs.Meeting.{AreMet, IsMetAt, IsNextMet};
 ghost use Rattle.mt_meet.specs.Private.Marking.{AreCloseMarked};
-ghost use Rattle.mt_meet.specs.Private.Reaching.{AreReachesOn, AreSlicesIn, IsNextOn, IsReachOf, reach_in, reach_of};
+ghost use Rattle.mt_meet.specs.Private.Reaching.{AreReachesOn, AreSlicesIn, IsNextOn, IsReachOf, page_of, reach_in, reach_of};
 
 use crate::marks::{band, first_mark, marks_from, without_mark};
 use crate::meeting::meet;
@@ -86,13 +85,12 @@ impl SliceTable {
             return self.share();
         }
         let own = reach_in(slices.as_ref());
-        let (number, place) = (item / ITEMS, item % ITEMS);
-        let page = with_reach(self.alloc, self.pages.get(number), place, own)?;
+        let pages = with_reach_of(self.alloc, &self.pages, item, own)?;
         Ok(SliceTable {
             alloc: self.alloc,
             count: self.count,
-            slices: self.slices.set(item, shared(self.alloc, slices)?)?,
-            pages: self.pages.set(number, Some(Arc::new(self.alloc, page)?))?,
+            slices: with_slices(self.alloc, &self.slices, item, slices)?,
+            pages,
         })
     }
 
@@ -200,12 +198,34 @@ fn reach_in(slices: Option<&Slices>) -> Reach
     }
 }
 
-// What is kept of an item, to be shared.
-fn shared(alloc: Global, slices: Option<Slices>) -> Result<Option<Arc<Slices>>, Memory>
-    ensures { IfOk result (λ shared. option_map arc_value shared ≡ slices) }
+// Pages of reaches with another one of an item. Those before stay.
+fn with_reach_of(
+    alloc: Global,
+    pages: &Paged<ReachPage>,
+    item: u32,
+    reach: Reach,
+) -> Result<Paged<ReachPage>, Memory>
+    requires { item / 64 < length pages.now }
+    ensures pages { IfOk result (λ after. after ≡ slice_set pages.now (item / 64) (Some (slice_set (page_of (get_or pages.now (item / 64) None)) (item % 64) reach))) }
+    ensures full { length (page_of (get_or pages.now (item / 64) None)) ≡ 64 }
+{
+    let (number, place) = (item / ITEMS, item % ITEMS);
+    let page = with_reach(pages.get(number), place, reach);
+    pages.set(number, Some(Arc::new(alloc, page)?))
+}
+
+// The slices of items with other ones of an item, or none. Those before stay.
+fn with_slices(
+    alloc: Global,
+    all: &Paged<Slices>,
+    item: u32,
+    slices: Option<Slices>,
+) -> Result<Paged<Slices>, Memory>
+    requires { item < length all.now }
+    ensures { IfOk result (λ after. after ≡ slice_set all.now item slices) }
 {
     match slices {
-        Some(slices) => Ok(Some(Arc::new(alloc, slices)?)),
-        None => Ok(None),
+        Some(slices) => all.set(item, Some(Arc::new(alloc, slices)?)),
+        None => all.set(item, None),
     }
 }

@@ -1,5 +1,5 @@
 -- No public contract names these: they are of private steps and of proofs.
-use Rattle.std.specs.Prelude.{◌≤◌, ◌<◌, ◌+◌, ◌*◌, Bool, ℕ, min, max, List, Option, Some, None, get_or}
+use Rattle.std.specs.Prelude.{◌≤◌, ◌<◌, ◌+◌, ◌-◌, ◌*◌, ◌/◌, Bool, ℕ, min, max, List, Option, Some, None, get_or}
 use Rattle.mt_base.specs.declared.rules.Rules.{Rules}
 use Rattle.mt_cover.specs.declared.sliced.Slice.{Slice}
 use Rattle.mt_cover.specs.Sliced.{Sliced, no_slice}
@@ -42,19 +42,24 @@ abbrev pub AreNarrowed : Rules → Sliced → Sliced → Option (ℕ × ℕ) →
 AreNarrowed rules a b (Some span) = MeetOnlyIn rules a b span.0 span.1
 AreNarrowed rules a b None = (k : ℕ) → ¬ MeetAt rules a b k
 
--- times that recur each 256 seconds, from a start on and before a stop, of which the first ones last until after a beginning
-pub record AreTurns (start stop begin end : ℕ) : Type 0 where
-  pub some : start < stop
-  pub short : stop ≤ start + 256
-  pub begun : begin < stop
-  pub ahead : begin < end
-  pub early : end ≤ 10014400
+-- second k is in the turn of a number. The first turn lasts from a start on and before a stop, and each later one is 256 seconds later.
+pub record InTurn (start stop k : ℕ) : Type 0 where
+  pub number : ℕ
+  pub late : start + 256 * number ≤ k
+  pub early : k < stop + 256 * number
 
--- a second from a beginning on and before an end, in which the slices at a place of two lists meet, whose turn it is
-pub record MeetInTurn (rules : Rules) (approved : Bool) (a b : List Slice) (start stop begin end k : ℕ) : Type 0 where
-  pub place : ℕ
-  pub late : start + 256 * place ≤ k
-  pub early : k < stop + 256 * place
-  pub begun : begin ≤ k
-  pub within : k < end
-  pub meet : PlaceMeets rules approved a b place
+-- the slice of second `at` lasts at least from a start to a stop
+pub record LastsOver (s : Sliced) (start stop at : ℕ) : Type 0 where
+  pub begun : s.from + 256 * ((at - s.from) / 256) ≤ start
+  pub within : stop ≤ s.from + 256 * ((at - s.from) / 256) + 256
+
+-- in each turn two trajectories have one slice each. The first turn isn't over at a beginning.
+pub record AreTurns (a b : Sliced) (start stop begin : ℕ) : Type 0 where
+  pub left : LastsOver a start stop (max start begin)
+  pub right : LastsOver b start stop (max start begin)
+  pub ahead : begin < stop
+
+-- in a second in turn slices of both meet
+pub record MeetInTurn (rules : Rules) (a b : Sliced) (start stop k : ℕ) : Type 0 where
+  pub turn : InTurn start stop k
+  pub meet : MeetAt rules a b k

@@ -1,4 +1,4 @@
-use Rattle.std.proofs.Common.{◌+◌, ◌*◌, List, Option, subst, sym, arith}
+use Rattle.std.proofs.Common.{◌+◌, ◌*◌, List, Option, length, ap, subst, sym, arith}
 use Rattle.mt_cover.specs.Sliced.{Sliced}
 use Rattle.mt_meet.specs.Private.Reaching.{AreReachesKept}
 use Rattle.mt_meet.proofs.Listing.{first_after, none_until}
@@ -35,3 +35,27 @@ pub next_on-requires-clause-near : goal.next_on-requires-clause-near
 next_on-requires-clause-near c = λ place within none.
     outside_apart c.args.rules.now c.reach_of-own.result _ c.guarded-guard.result c.band-low.result c.band-high.result c.guarded-guard.ensures c.band-low.ensures.is
     c.band-high.ensures.is (c.near-near.ensures place within none)
+
+pub overflow_mul-number : goal.overflow_mul-number
+overflow_mul-number c = omega (arith, c.loop-number-test.true, c.div_ceil-number-end.ensures, c.self.invariant.few)
+
+pub get-requires : goal.get-requires
+get-requires c = omega (arith, c.loop-number-test.true, c.div_ceil-number-end.ensures, c.self.invariant.enough)
+
+pub next_on-requires-clause-few : goal.next_on-requires-clause-few
+next_on-requires-clause-few c = omega (arith, c.loop-number-test.true, c.div_ceil-number-end.ensures, c.self.invariant.few)
+
+pub loop-number-init : goal.loop-number-init
+loop-number-init c = λ item late below. absurd (omega (arith, late, below))
+
+pub loop-number-preserved : goal.loop-number-preserved
+loop-number-preserved c = λ item late below.
+    let n = c.loop-number.number in
+    none_until c.args.rules.now c.args.mine.now c.args.self.now c.args.from (64 * n) (64 * n + c.saturating_sub-place.result) (64 * n + 64)
+    (omega (arith, c.saturating_sub-place.ensures)) c.loop-number.invariant c.in_default-next_on.ensures item late (omega (arith, below))
+
+pub returns : goal.returns
+returns c = λ item late below.
+    let count = ap (λ (t : List (Option Sliced)). length t) c.self.view_is in
+    c.loop-number.invariant item late
+    (omega (arith, below, count, c.self.invariant.count_is, c.loop-number-test.false, c.div_ceil-number-end.ensures))

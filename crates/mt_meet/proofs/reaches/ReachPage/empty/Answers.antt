@@ -1,0 +1,5 @@
+use Rattle.mt_meet.proofs.Marked.{none_marked}
+use Rattle.mt_meet.proofs.reaches.ReachPage.empty.Goals as goal
+
+pub invariant_of-result : goal.invariant_of-result
+invariant_of-result c = rw (c.no_reaches.ensures, c.no_marks.ensures, c.no_marks-2.ensures) none_marked
