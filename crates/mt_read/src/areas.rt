@@ -1,4 +1,4 @@
-//! The lines on restricted areas: `area`, before the picture begins, and `areas`.
+//! The line `area`, on a restricted area, before the picture begins.
 ghost use Rattle.std.specs.Prelude.{◌≡◌, []};
 ghost use Rattle.mt_json.specs.Shown.{members};
 ghost use Rattle.mt_read.specs.Private.Field.{IsUnlessMemory};
@@ -48,14 +48,4 @@ pub(crate) fn area_line(
         to: to.unwrap_or(HORIZON),
     };
     Ok((who, Request::Area(area)))
-}
-
-/// `areas`.
-#[tactic(auto, unfolding(crate::specs::Line::checked))]
-pub(crate) fn areas_line(fields: &Fields, origin: Origin) -> Result<(u32, Request), Fault>
-    ensures { result ≡ checked origin [] (layout_of word.Areas) (members fields.now) }
-{
-    actor_kind(fields, origin)?;
-    let who = actor(fields, origin)?;
-    Ok((who, Request::Areas))
 }

@@ -11,7 +11,7 @@ use crate::entry::held;
 use crate::key::Fault;
 use crate::object::{form, named, no_other, value_of};
 use crate::origin::Origin;
-use crate::plain::{bye_line, check_line, due_line, flight_line, list_line};
+use crate::plain::{bare_line, flight_line};
 use crate::request::{LineNo, Request, Sender};
 use mt_base::Entry;
 use mt_json::{Fields, Scratch};
@@ -77,11 +77,11 @@ fn checked(fields: &Fields, word: Reading) -> Result<(u32, Request), Fault>
 {
     let origin = Origin::Line(Sender::Plain);
     match word {
-        Reading::List => list_line(fields, origin),
-        Reading::Check => check_line(fields, origin),
+        Reading::List => bare_line(fields, origin, Request::List),
+        Reading::Check => bare_line(fields, origin, Request::Check),
         Reading::Flight => flight_line(fields, origin),
-        Reading::Due => due_line(fields, origin),
-        Reading::Bye => bye_line(fields, origin),
+        Reading::Due => bare_line(fields, origin, Request::Due),
+        Reading::Bye => bare_line(fields, origin, Request::Bye),
     }
 }
 

@@ -7,17 +7,14 @@ ghost use Rattle.mt_read.specs.Line.{GivesReading, checked, line, read_members, 
 ghost use Rattle.mt_read.specs.Table.{as_request, change_layout, layout_of};
 ghost use Rattle.mt_read.specs.declared.origin.Origin.TheVariants.{Line};
 
-use crate::areas::{area_line, areas_line};
+use crate::areas::area_line;
 use crate::change::change_of;
 use crate::clearance::{accept_line, probe_line};
 use crate::object::{form, named, no_other, value_of};
 use crate::origin::Origin;
-use crate::plain::{
-    advise_line, bye_line, check_line, due_line, flight_line, hello_line, history_line, list_line,
-    settle_line, take_line,
-};
+use crate::plain::{advise_line, bare_line, flight_line, hello_line, history_line};
 use crate::request::{LineNo, Request, Sender};
-use crate::setup::{begin_line, rule_line};
+use crate::setup::rule_line;
 use crate::stop::Stop;
 use crate::tables::{fix_line, type_line};
 use crate::word::{Change, Word, is_allowed, keys_of, word_of};
@@ -67,21 +64,21 @@ fn checked(
         Word::TypeLine => type_line(alloc, fields, origin),
         Word::Area => area_line(alloc, fields, origin),
         Word::Rule => Ok(rule_line(fields, origin, rules)?),
-        Word::Begin => Ok(begin_line(fields, origin)?),
-        Word::Take => Ok(take_line(fields, origin)?),
-        Word::Areas => Ok(areas_line(fields, origin)?),
+        Word::Begin => Ok(bare_line(fields, origin, Request::Begin)?),
+        Word::Take => Ok(bare_line(fields, origin, Request::Take)?),
+        Word::Areas => Ok(bare_line(fields, origin, Request::Areas)?),
         Word::Change(change) => change_line(alloc, fields, origin, change),
         Word::Probe => Ok(probe_line(fields, origin)?),
         Word::Accept => Ok(accept_line(fields, origin)?),
         Word::Advise => Ok(advise_line(fields, origin)?),
         Word::Hello => Ok(hello_line(fields, origin)?),
-        Word::List => Ok(list_line(fields, origin)?),
-        Word::Check => Ok(check_line(fields, origin)?),
-        Word::Due => Ok(due_line(fields, origin)?),
+        Word::List => Ok(bare_line(fields, origin, Request::List)?),
+        Word::Check => Ok(bare_line(fields, origin, Request::Check)?),
+        Word::Due => Ok(bare_line(fields, origin, Request::Due)?),
         Word::Flight => Ok(flight_line(fields, origin)?),
         Word::History => Ok(history_line(fields, origin)?),
-        Word::Settle => Ok(settle_line(fields, origin)?),
-        Word::Bye => Ok(bye_line(fields, origin)?),
+        Word::Settle => Ok(bare_line(fields, origin, Request::Settle)?),
+        Word::Bye => Ok(bare_line(fields, origin, Request::Bye)?),
     }
 }
 

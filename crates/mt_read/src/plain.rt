@@ -1,8 +1,8 @@
-//! The lines that change nothing by themselves: `list`, `check`, `due`, `flight`, `history`, `advise`, `hello`, `settle`, `bye` and `take`.
+//! The lines without fields of their own, and of the others those that change nothing: `flight`, `history`, `advise` and `hello`.
 ghost use Rattle.std.specs.Prelude.{◌≡◌, []};
 ghost use Rattle.mt_json.specs.Shown.{members};
 ghost use Rattle.mt_read.specs.Line.{checked};
-ghost use Rattle.mt_read.specs.Table.{layout_of};
+ghost use Rattle.mt_read.specs.Table.{bare_layout, layout_of};
 ghost use Rattle.mt_read.specs.declared.word.Word.TheVariants as word;
 
 use crate::actor::{actor, actor_kind};
@@ -13,64 +13,18 @@ use crate::request::Request;
 use mt_base::HORIZON;
 use mt_json::Fields;
 
-/// `list`.
+/// A command without fields of its own: `begin`, `areas`, `list`, `check`, `due`, `settle`, `bye` or `take`.
 #[tactic(auto, unfolding(crate::specs::Line::checked))]
-pub(crate) fn list_line(fields: &Fields, origin: Origin) -> Result<(u32, Request), Fault>
-    ensures { result ≡ checked origin [] (layout_of word.List) (members fields.now) }
+pub(crate) fn bare_line(
+    fields: &Fields,
+    origin: Origin,
+    asked: Request,
+) -> Result<(u32, Request), Fault>
+    ensures { (text : _) (group : _) → result ≡ checked origin [] (bare_layout text group asked) (members fields.now) }
 {
     actor_kind(fields, origin)?;
     let who = actor(fields, origin)?;
-    Ok((who, Request::List))
-}
-
-/// `check`.
-#[tactic(auto, unfolding(crate::specs::Line::checked))]
-pub(crate) fn check_line(fields: &Fields, origin: Origin) -> Result<(u32, Request), Fault>
-    ensures { result ≡ checked origin [] (layout_of word.Check) (members fields.now) }
-{
-    actor_kind(fields, origin)?;
-    let who = actor(fields, origin)?;
-    Ok((who, Request::Check))
-}
-
-/// `due`.
-#[tactic(auto, unfolding(crate::specs::Line::checked))]
-pub(crate) fn due_line(fields: &Fields, origin: Origin) -> Result<(u32, Request), Fault>
-    ensures { result ≡ checked origin [] (layout_of word.Due) (members fields.now) }
-{
-    actor_kind(fields, origin)?;
-    let who = actor(fields, origin)?;
-    Ok((who, Request::Due))
-}
-
-/// `settle`.
-#[tactic(auto, unfolding(crate::specs::Line::checked))]
-pub(crate) fn settle_line(fields: &Fields, origin: Origin) -> Result<(u32, Request), Fault>
-    ensures { result ≡ checked origin [] (layout_of word.Settle) (members fields.now) }
-{
-    actor_kind(fields, origin)?;
-    let who = actor(fields, origin)?;
-    Ok((who, Request::Settle))
-}
-
-/// `bye`.
-#[tactic(auto, unfolding(crate::specs::Line::checked))]
-pub(crate) fn bye_line(fields: &Fields, origin: Origin) -> Result<(u32, Request), Fault>
-    ensures { result ≡ checked origin [] (layout_of word.Bye) (members fields.now) }
-{
-    actor_kind(fields, origin)?;
-    let who = actor(fields, origin)?;
-    Ok((who, Request::Bye))
-}
-
-/// `take`.
-#[tactic(auto, unfolding(crate::specs::Line::checked))]
-pub(crate) fn take_line(fields: &Fields, origin: Origin) -> Result<(u32, Request), Fault>
-    ensures { result ≡ checked origin [] (layout_of word.Take) (members fields.now) }
-{
-    actor_kind(fields, origin)?;
-    let who = actor(fields, origin)?;
-    Ok((who, Request::Take))
+    Ok((who, asked))
 }
 
 /// `flight`.

@@ -1,4 +1,4 @@
-//! The lines of the commands before the picture begins: `rule` and `begin`.
+//! The line `rule`, of the commands before the picture begins.
 ghost use Rattle.std.specs.Prelude.{◌≡◌, [], map};
 ghost use Rattle.mt_base.specs.Checks.{check, judged};
 ghost use Rattle.mt_json.specs.Field.{as_whole};
@@ -18,16 +18,6 @@ use crate::origin::Origin;
 use crate::request::{Request, RuleSet};
 use mt_base::{RuleName, Rules};
 use mt_json::{Bad, Fields};
-
-/// `begin`.
-#[tactic(auto, unfolding(crate::specs::Line::checked))]
-pub(crate) fn begin_line(fields: &Fields, origin: Origin) -> Result<(u32, Request), Fault>
-    ensures { result ≡ checked origin [] (layout_of word.Begin) (members fields.now) }
-{
-    actor_kind(fields, origin)?;
-    let who = actor(fields, origin)?;
-    Ok((who, Request::Begin))
-}
 
 // The fields of `rule` are of their kind, each where it is there.
 fn rule_kinds(fields: &Fields, origin: Origin) -> Result<(), Fault>

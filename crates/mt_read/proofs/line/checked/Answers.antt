@@ -27,38 +27,38 @@ returns-in_ok-rule_line-in-Rule c =
     ap (λ w. checked (Line c.args.sender) (standing_rules w c.args.rules.now (members c.args.fields.now)) (layout_of w) (members c.args.fields.now))
     c.in-Rule.is ∙ sym c.in_ok-rule_line-in-Rule.ensures
 
-pub returns-in_err-begin_line-in-Begin : goal.returns-in_err-begin_line-in-Begin
-returns-in_err-begin_line-in-Begin c =
-    stops c.from_residual-in_err-begin_line-in-Begin.result c.in_err-begin_line-in-Begin.field-0.0 _
-    c.from_residual-in_err-begin_line-in-Begin.ensures.1 (ap (λ w. checked (Line c.args.sender) (standing_rules w c.args.rules.now (members
-    c.args.fields.now)) (layout_of w) (members c.args.fields.now)) c.in-Begin.is ∙ sym c.in_err-begin_line-in-Begin.ensures)
+pub returns-in_err-bare_line-in-Begin : goal.returns-in_err-bare_line-in-Begin
+returns-in_err-bare_line-in-Begin c =
+    stops c.from_residual-in_err-bare_line-in-Begin.result c.in_err-bare_line-in-Begin.field-0.0 _
+    c.from_residual-in_err-bare_line-in-Begin.ensures.1 (ap (λ w. checked (Line c.args.sender) (standing_rules w c.args.rules.now (members
+    c.args.fields.now)) (layout_of w) (members c.args.fields.now)) c.in-Begin.is ∙ sym (c.in_err-bare_line-in-Begin.ensures _ _))
 
-pub returns-in_ok-begin_line-in-Begin : goal.returns-in_ok-begin_line-in-Begin
-returns-in_ok-begin_line-in-Begin c =
+pub returns-in_ok-bare_line-in-Begin : goal.returns-in_ok-bare_line-in-Begin
+returns-in_ok-bare_line-in-Begin c =
     ap (λ w. checked (Line c.args.sender) (standing_rules w c.args.rules.now (members c.args.fields.now)) (layout_of w) (members c.args.fields.now))
-    c.in-Begin.is ∙ sym c.in_ok-begin_line-in-Begin.ensures
+    c.in-Begin.is ∙ sym (c.in_ok-bare_line-in-Begin.ensures _ _)
 
-pub returns-in_err-take_line-in-Take : goal.returns-in_err-take_line-in-Take
-returns-in_err-take_line-in-Take c =
-    stops c.from_residual-in_err-take_line-in-Take.result c.in_err-take_line-in-Take.field-0.0 _ c.from_residual-in_err-take_line-in-Take.ensures.1
+pub returns-in_err-bare_line-in-Take : goal.returns-in_err-bare_line-in-Take
+returns-in_err-bare_line-in-Take c =
+    stops c.from_residual-in_err-bare_line-in-Take.result c.in_err-bare_line-in-Take.field-0.0 _ c.from_residual-in_err-bare_line-in-Take.ensures.1
     (ap (λ w. checked (Line c.args.sender) (standing_rules w c.args.rules.now (members c.args.fields.now)) (layout_of w) (members c.args.fields.now))
-    c.in-Take.is ∙ sym c.in_err-take_line-in-Take.ensures)
+    c.in-Take.is ∙ sym (c.in_err-bare_line-in-Take.ensures _ _))
 
-pub returns-in_ok-take_line-in-Take : goal.returns-in_ok-take_line-in-Take
-returns-in_ok-take_line-in-Take c =
+pub returns-in_ok-bare_line-in-Take : goal.returns-in_ok-bare_line-in-Take
+returns-in_ok-bare_line-in-Take c =
     ap (λ w. checked (Line c.args.sender) (standing_rules w c.args.rules.now (members c.args.fields.now)) (layout_of w) (members c.args.fields.now))
-    c.in-Take.is ∙ sym c.in_ok-take_line-in-Take.ensures
+    c.in-Take.is ∙ sym (c.in_ok-bare_line-in-Take.ensures _ _)
 
-pub returns-in_err-areas_line-in-Areas : goal.returns-in_err-areas_line-in-Areas
-returns-in_err-areas_line-in-Areas c =
-    stops c.from_residual-in_err-areas_line-in-Areas.result c.in_err-areas_line-in-Areas.field-0.0 _
-    c.from_residual-in_err-areas_line-in-Areas.ensures.1 (ap (λ w. checked (Line c.args.sender) (standing_rules w c.args.rules.now (members
-    c.args.fields.now)) (layout_of w) (members c.args.fields.now)) c.in-Areas.is ∙ sym c.in_err-areas_line-in-Areas.ensures)
+pub returns-in_err-bare_line-in-Areas : goal.returns-in_err-bare_line-in-Areas
+returns-in_err-bare_line-in-Areas c =
+    stops c.from_residual-in_err-bare_line-in-Areas.result c.in_err-bare_line-in-Areas.field-0.0 _
+    c.from_residual-in_err-bare_line-in-Areas.ensures.1 (ap (λ w. checked (Line c.args.sender) (standing_rules w c.args.rules.now (members
+    c.args.fields.now)) (layout_of w) (members c.args.fields.now)) c.in-Areas.is ∙ sym (c.in_err-bare_line-in-Areas.ensures _ _))
 
-pub returns-in_ok-areas_line-in-Areas : goal.returns-in_ok-areas_line-in-Areas
-returns-in_ok-areas_line-in-Areas c =
+pub returns-in_ok-bare_line-in-Areas : goal.returns-in_ok-bare_line-in-Areas
+returns-in_ok-bare_line-in-Areas c =
     ap (λ w. checked (Line c.args.sender) (standing_rules w c.args.rules.now (members c.args.fields.now)) (layout_of w) (members c.args.fields.now))
-    c.in-Areas.is ∙ sym c.in_ok-areas_line-in-Areas.ensures
+    c.in-Areas.is ∙ sym (c.in_ok-bare_line-in-Areas.ensures _ _)
 
 pub returns-in_err-probe_line-in-Probe : goal.returns-in_err-probe_line-in-Probe
 returns-in_err-probe_line-in-Probe c =
@@ -104,38 +104,38 @@ returns-in_ok-hello_line-in-Hello c =
     ap (λ w. checked (Line c.args.sender) (standing_rules w c.args.rules.now (members c.args.fields.now)) (layout_of w) (members c.args.fields.now))
     c.in-Hello.is ∙ sym c.in_ok-hello_line-in-Hello.ensures
 
-pub returns-in_err-list_line-in-List : goal.returns-in_err-list_line-in-List
-returns-in_err-list_line-in-List c =
-    stops c.from_residual-in_err-list_line-in-List.result c.in_err-list_line-in-List.field-0.0 _ c.from_residual-in_err-list_line-in-List.ensures.1
+pub returns-in_err-bare_line-in-List : goal.returns-in_err-bare_line-in-List
+returns-in_err-bare_line-in-List c =
+    stops c.from_residual-in_err-bare_line-in-List.result c.in_err-bare_line-in-List.field-0.0 _ c.from_residual-in_err-bare_line-in-List.ensures.1
     (ap (λ w. checked (Line c.args.sender) (standing_rules w c.args.rules.now (members c.args.fields.now)) (layout_of w) (members c.args.fields.now))
-    c.in-List.is ∙ sym c.in_err-list_line-in-List.ensures)
+    c.in-List.is ∙ sym (c.in_err-bare_line-in-List.ensures _ _))
 
-pub returns-in_ok-list_line-in-List : goal.returns-in_ok-list_line-in-List
-returns-in_ok-list_line-in-List c =
+pub returns-in_ok-bare_line-in-List : goal.returns-in_ok-bare_line-in-List
+returns-in_ok-bare_line-in-List c =
     ap (λ w. checked (Line c.args.sender) (standing_rules w c.args.rules.now (members c.args.fields.now)) (layout_of w) (members c.args.fields.now))
-    c.in-List.is ∙ sym c.in_ok-list_line-in-List.ensures
+    c.in-List.is ∙ sym (c.in_ok-bare_line-in-List.ensures _ _)
 
-pub returns-in_err-check_line-in-Check : goal.returns-in_err-check_line-in-Check
-returns-in_err-check_line-in-Check c =
-    stops c.from_residual-in_err-check_line-in-Check.result c.in_err-check_line-in-Check.field-0.0 _
-    c.from_residual-in_err-check_line-in-Check.ensures.1 (ap (λ w. checked (Line c.args.sender) (standing_rules w c.args.rules.now (members
-    c.args.fields.now)) (layout_of w) (members c.args.fields.now)) c.in-Check.is ∙ sym c.in_err-check_line-in-Check.ensures)
+pub returns-in_err-bare_line-in-Check : goal.returns-in_err-bare_line-in-Check
+returns-in_err-bare_line-in-Check c =
+    stops c.from_residual-in_err-bare_line-in-Check.result c.in_err-bare_line-in-Check.field-0.0 _
+    c.from_residual-in_err-bare_line-in-Check.ensures.1 (ap (λ w. checked (Line c.args.sender) (standing_rules w c.args.rules.now (members
+    c.args.fields.now)) (layout_of w) (members c.args.fields.now)) c.in-Check.is ∙ sym (c.in_err-bare_line-in-Check.ensures _ _))
 
-pub returns-in_ok-check_line-in-Check : goal.returns-in_ok-check_line-in-Check
-returns-in_ok-check_line-in-Check c =
+pub returns-in_ok-bare_line-in-Check : goal.returns-in_ok-bare_line-in-Check
+returns-in_ok-bare_line-in-Check c =
     ap (λ w. checked (Line c.args.sender) (standing_rules w c.args.rules.now (members c.args.fields.now)) (layout_of w) (members c.args.fields.now))
-    c.in-Check.is ∙ sym c.in_ok-check_line-in-Check.ensures
+    c.in-Check.is ∙ sym (c.in_ok-bare_line-in-Check.ensures _ _)
 
-pub returns-in_err-due_line-in-Due : goal.returns-in_err-due_line-in-Due
-returns-in_err-due_line-in-Due c =
-    stops c.from_residual-in_err-due_line-in-Due.result c.in_err-due_line-in-Due.field-0.0 _ c.from_residual-in_err-due_line-in-Due.ensures.1 (ap (λ
+pub returns-in_err-bare_line-in-Due : goal.returns-in_err-bare_line-in-Due
+returns-in_err-bare_line-in-Due c =
+    stops c.from_residual-in_err-bare_line-in-Due.result c.in_err-bare_line-in-Due.field-0.0 _ c.from_residual-in_err-bare_line-in-Due.ensures.1 (ap (λ
     w. checked (Line c.args.sender) (standing_rules w c.args.rules.now (members c.args.fields.now)) (layout_of w) (members c.args.fields.now))
-    c.in-Due.is ∙ sym c.in_err-due_line-in-Due.ensures)
+    c.in-Due.is ∙ sym (c.in_err-bare_line-in-Due.ensures _ _))
 
-pub returns-in_ok-due_line-in-Due : goal.returns-in_ok-due_line-in-Due
-returns-in_ok-due_line-in-Due c =
+pub returns-in_ok-bare_line-in-Due : goal.returns-in_ok-bare_line-in-Due
+returns-in_ok-bare_line-in-Due c =
     ap (λ w. checked (Line c.args.sender) (standing_rules w c.args.rules.now (members c.args.fields.now)) (layout_of w) (members c.args.fields.now))
-    c.in-Due.is ∙ sym c.in_ok-due_line-in-Due.ensures
+    c.in-Due.is ∙ sym (c.in_ok-bare_line-in-Due.ensures _ _)
 
 pub returns-in_err-flight_line-in-Flight : goal.returns-in_err-flight_line-in-Flight
 returns-in_err-flight_line-in-Flight c =
@@ -159,27 +159,27 @@ returns-in_ok-history_line-in-History c =
     ap (λ w. checked (Line c.args.sender) (standing_rules w c.args.rules.now (members c.args.fields.now)) (layout_of w) (members c.args.fields.now))
     c.in-History.is ∙ sym c.in_ok-history_line-in-History.ensures
 
-pub returns-in_err-settle_line-in-Settle : goal.returns-in_err-settle_line-in-Settle
-returns-in_err-settle_line-in-Settle c =
-    stops c.from_residual-in_err-settle_line-in-Settle.result c.in_err-settle_line-in-Settle.field-0.0 _
-    c.from_residual-in_err-settle_line-in-Settle.ensures.1 (ap (λ w. checked (Line c.args.sender) (standing_rules w c.args.rules.now (members
-    c.args.fields.now)) (layout_of w) (members c.args.fields.now)) c.in-Settle.is ∙ sym c.in_err-settle_line-in-Settle.ensures)
+pub returns-in_err-bare_line-in-Settle : goal.returns-in_err-bare_line-in-Settle
+returns-in_err-bare_line-in-Settle c =
+    stops c.from_residual-in_err-bare_line-in-Settle.result c.in_err-bare_line-in-Settle.field-0.0 _
+    c.from_residual-in_err-bare_line-in-Settle.ensures.1 (ap (λ w. checked (Line c.args.sender) (standing_rules w c.args.rules.now (members
+    c.args.fields.now)) (layout_of w) (members c.args.fields.now)) c.in-Settle.is ∙ sym (c.in_err-bare_line-in-Settle.ensures _ _))
 
-pub returns-in_ok-settle_line-in-Settle : goal.returns-in_ok-settle_line-in-Settle
-returns-in_ok-settle_line-in-Settle c =
+pub returns-in_ok-bare_line-in-Settle : goal.returns-in_ok-bare_line-in-Settle
+returns-in_ok-bare_line-in-Settle c =
     ap (λ w. checked (Line c.args.sender) (standing_rules w c.args.rules.now (members c.args.fields.now)) (layout_of w) (members c.args.fields.now))
-    c.in-Settle.is ∙ sym c.in_ok-settle_line-in-Settle.ensures
+    c.in-Settle.is ∙ sym (c.in_ok-bare_line-in-Settle.ensures _ _)
 
-pub returns-in_err-bye_line-in-Bye : goal.returns-in_err-bye_line-in-Bye
-returns-in_err-bye_line-in-Bye c =
-    stops c.from_residual-in_err-bye_line-in-Bye.result c.in_err-bye_line-in-Bye.field-0.0 _ c.from_residual-in_err-bye_line-in-Bye.ensures.1 (ap (λ
+pub returns-in_err-bare_line-in-Bye : goal.returns-in_err-bare_line-in-Bye
+returns-in_err-bare_line-in-Bye c =
+    stops c.from_residual-in_err-bare_line-in-Bye.result c.in_err-bare_line-in-Bye.field-0.0 _ c.from_residual-in_err-bare_line-in-Bye.ensures.1 (ap (λ
     w. checked (Line c.args.sender) (standing_rules w c.args.rules.now (members c.args.fields.now)) (layout_of w) (members c.args.fields.now))
-    c.in-Bye.is ∙ sym c.in_err-bye_line-in-Bye.ensures)
+    c.in-Bye.is ∙ sym (c.in_err-bare_line-in-Bye.ensures _ _))
 
-pub returns-in_ok-bye_line-in-Bye : goal.returns-in_ok-bye_line-in-Bye
-returns-in_ok-bye_line-in-Bye c =
+pub returns-in_ok-bare_line-in-Bye : goal.returns-in_ok-bare_line-in-Bye
+returns-in_ok-bare_line-in-Bye c =
     ap (λ w. checked (Line c.args.sender) (standing_rules w c.args.rules.now (members c.args.fields.now)) (layout_of w) (members c.args.fields.now))
-    c.in-Bye.is ∙ sym c.in_ok-bye_line-in-Bye.ensures
+    c.in-Bye.is ∙ sym (c.in_ok-bare_line-in-Bye.ensures _ _)
 
 pub returns-in-TypeLine : goal.returns-in-TypeLine
 returns-in-TypeLine c =
