@@ -1,13 +1,11 @@
 -- Bytes that answer lines, cut anywhere: what stands before the cut answers the first of the lines, but that the last reply is cut short.
-use Rattle.std.proofs.Common.{◌≡◌, ◌<◌, ◌≤◌, ◌^◌, ℕ, Bool, List, [], ◌∷◌, ◌++◌, length, take, drop, refl, sym, ◌∙◌, ap, inl, inr, arith, append_assoc, append-nil, length-append, take-append-drop, Some}
+use Rattle.std.proofs.Common.{◌≡◌, ◌<◌, ◌≤◌, ℕ, Bool, List, [], ◌∷◌, ◌++◌, length, take, drop, refl, sym, ◌∙◌, ap, inl, inr, arith, append_assoc, append-nil, length-append, take-append-drop, ⊎_elim}
 use Rattle.std.proofs.lemmas.Bool.{cases_lt}
 use Rattle.std.proofs.lemmas.List.{drop-append-le, take-append-le}
 use Rattle.std.proofs.Math.Seq.{drop-append_seam, take-append_seam}
-use Rattle.std.specs.declared.option.Option.{Option}
 use Rattle.mt_io.specs.HasRead.{AreRead}
-use Rattle.mt_io.specs.Reading.{Reading, TakesLine}
-use Rattle.mt_io.proofs.HasRead.{are_read, read_more, told}
-use Rattle.mt_lines.specs.Answering.{AnswersFront, AnswersToLast, AreReplied, AreRepliedTo, Explains, SoFar}
+use Rattle.mt_lines.specs.Answering.{AnswersFront, AreReplied, AreRepliedTo}
+use Rattle.mt_lines.specs.Ending.{LosesReplies}
 use Rattle.mt_lines.proofs.Fronts.{first_read}
 
 -- two ways to cut the same bytes: what stands between the cuts
@@ -154,55 +152,11 @@ module _ {W R : Type 0} (text : R → List ℕ) (is_last : R → Bool) (IsReplie
     },
   )
 
-  -- the answers of lines up to the last one, cut
-  pub last_cut : (start : W) (input left written rest : List ℕ) (end : W)
-      → AnswersToLast text is_last IsReplied IsFollowed start input left (written ++ rest) end → AnswersSomeFront start input left written
-  last_cut start input left written rest end to =
-      cut_read start input left (to.lines ++ to.line ∷ []) written to.read
-      (cut_to start to.lines to.line to.bytes written rest to.reply end to.replied (sym to.written_is))
-
-  abbrev Runs : W → Option (List ℕ) → Option (List ℕ) → Option (List ℕ) → Option (List ℕ) → Reading → W → Type 0
-  Runs start before now held held_now reader w = SoFar text is_last IsReplied IsFollowed start before now held held_now reader w
-
-  module _ (start : W) (before now : Option (List ℕ)) (reader : Reading) (w : W) where
-    -- the output failed before the next line was read
-    pub cut_so_far : (all written rest : List ℕ) → Runs start before now (Some []) (Some all) reader w → reader.store.taken ≤ 2 ^ 32
-        → all ≡ written ++ rest → 0 < length all
-        → Explains (AnswersSomeFront start) before now (Some []) (Some written)
-    cut_so_far all written rest so_far few is some =
-        let (left, tells, tells_after, at_end) = told before now so_far.taken so_far.read.from in
-        let read = are_read before now reader so_far.lines so_far.taken left so_far.read few at_end in
-        let bytes_are : so_far.bytes ≡ all = sym so_far.written in
-        record {
-          input = so_far.taken ++ left;
-          left = left;
-          written = written;
-          told = tells;
-          told_after = tells_after;
-          appended = refl;
-          means = cut_read start (so_far.taken ++ left) left so_far.lines written read
-              (cut_at start so_far.lines so_far.bytes written rest w so_far.replied (bytes_are ∙ is) (rw bytes_are some));
-        }
-
-    -- the output failed when one line more had been answered
-    pub cut_behind : (after : Option (List ℕ)) (new : Reading) (all written rest line : List ℕ) (reply : R) (end : W)
-        → Runs start before now (Some []) (Some all) reader w → TakesLine reader new now after line → IsReplied w line reply end
-        → all ++ text reply ≡ written ++ rest
-        → Explains (AnswersSomeFront start) before after (Some []) (Some written)
-    cut_behind after new all written rest line reply end so_far takes replied is =
-        let read = read_more before now after reader new so_far.lines so_far.taken line so_far.read takes in
-        let taken = so_far.taken ++ takes.passes.read in
-        let (left, tells, tells_after, at_end) = told before after taken read.from in
-        let are = are_read before after new (so_far.lines ++ line ∷ []) taken left read takes.passes.limit at_end in
-        let bytes_are : so_far.bytes ≡ all = sym so_far.written in
-        record {
-          input = taken ++ left;
-          left = left;
-          written = written;
-          told = tells;
-          told_after = tells_after;
-          appended = refl;
-          means = cut_read start (taken ++ left) left (so_far.lines ++ line ∷ []) written are
-              (cut_to start so_far.lines line so_far.bytes written rest reply end
-              (record { middle = w; replied = so_far.replied; last = replied }) (ap (λ bs. bs ++ text reply) bytes_are ∙ is));
-        }
+  -- where replies are lost, what was written answers some first lines
+  pub front_of_lost : (start : W) (input left written : List ℕ) (end : W) → LosesReplies text is_last IsReplied IsFollowed start input left written end
+      → AnswersSomeFront start input left written
+  front_of_lost start input left written end loses = ⊎_elim
+      (λ all. cut_read start input left all.lines written all.read (cut_at start all.lines (written ++ loses.lost) written loses.lost end all.replied refl all.some))
+      (λ to. cut_read start input left (to.lines ++ to.line ∷ []) written to.read
+      (cut_to start to.lines to.line to.others written loses.lost to.reply end to.replied (sym to.bytes_are)))
+      loses.answers

@@ -1,5 +1,10 @@
 pub mod Answering
 pub mod Brief
+pub mod Closing
 pub mod Cutting
+pub mod Endings
 pub mod Fronts
+pub mod Idle
 pub mod Leaving
+pub mod Streams
+pub mod Turning

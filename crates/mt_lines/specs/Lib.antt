@@ -1,7 +1,9 @@
 pub mod Answering
+pub mod Ending
 pub mod Fit
 pub mod Given
 pub mod Private
+pub mod Streams
 pub mod Told
 pub mod Waiting
 pub mod Waits

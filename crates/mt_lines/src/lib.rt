@@ -5,11 +5,14 @@
 //! A script and a session are instances; their runs are put together by the lemmas of `proofs/`, which speak of the same.
 #![tactic(auto)]
 
+mod ending;
 mod given_text;
 mod numbers;
+mod outgoing;
 mod telling;
 mod waiting;
 
+pub use ending::Ending;
 pub use numbers::put_number;
+pub use outgoing::Outgoing;
 pub use telling::{changed, refused, told, unread};
-pub use waiting::Waiting;

@@ -12,13 +12,13 @@ use mt_io::{Sink, WriteFault, put_all};
 use mt_write::Reply;
 use std::alloc::Global;
 
-/// How many bytes may wait.
-const ROOM: usize = 65_536;
+/// How many bytes of replies may wait, and how many a reply that follows a change may have.
+pub(crate) const ROOM: usize = 65_536;
 
 /// Replies that were given and not yet written, at most 65,536 bytes of them, in the order in which they were given. After a fault none waits: what
 /// was not written is lost.
 #[derive(Drop)]
-pub struct Waiting {
+pub(crate) struct Waiting {
     bytes: Vec<u8>,
     ghost room: { 65536 ≤ vec_capacity bytes },
     ghost few: { vec_len bytes ≤ 65536 },
@@ -28,7 +28,7 @@ impl Waiting {
     ghost use Rattle.mt_lines.specs.Waits.{waits};
 
     /// None waits. It takes all its memory here.
-    pub fn make(alloc: Global) -> Result<Waiting, Memory>
+    pub(crate) fn make(alloc: Global) -> Result<Waiting, Memory>
         ensures { IfOk result (λ waiting. waits waiting ≡ []) }
     {
         Ok(Waiting {
@@ -41,7 +41,7 @@ impl Waiting {
     ///
     /// `WriteFault` comes only where the output's count of faults rose in this call, or stands at its last value; then a front of what waited and
     /// of the text was written. A reply that is brief is made in the room, which is to have 65,536 bytes: it wants no memory.
-    pub fn give<K: Sink>(
+    pub(crate) fn give<K: Sink>(
         &mut self,
         alloc: Global,
         reply: &Reply,
@@ -57,14 +57,12 @@ impl Waiting {
         ensures kept { K.writes_to output.old output.new }
     {
         let text = text_of(alloc, reply, room);
-        match self.put(text.bytes(room), output) {
-            Ok(()) => Ok(text.is_last),
-            Err(fault) => Err(fault),
-        }
+        self.put(text.bytes(room), output)?;
+        Ok(text.is_last)
     }
 
     /// Writes all that waits. It fails as `give` does, and only where something waits.
-    pub fn flush<K: Sink>(&mut self, output: &mut K) -> Result<(), WriteFault>
+    pub(crate) fn flush<K: Sink>(&mut self, output: &mut K) -> Result<(), WriteFault>
         ensures ok { OnOk result (Appends (K.held output.old) (K.held output.new) (waits self.old)) }
         ensures err { OnErr result ((0 < length (waits self.old)) × AppendsFront (K.held output.old) (K.held output.new) (waits self.old)) }
         ensures none { waits self.new ≡ [] }
@@ -91,17 +89,12 @@ impl Waiting {
             self.add(text);
             return Ok(());
         }
-        if let Err(fault) = self.flush(output) {
-            return Err(fault);
-        }
+        self.flush(output)?;
         if text.len() <= ROOM {
             self.add(text);
             return Ok(());
         }
-        match put_all(output, text) {
-            Ok(()) => Ok(()),
-            Err(fault) => Err(fault),
-        }
+        put_all(output, text)
     }
 
     // Adds a text for which there is room.

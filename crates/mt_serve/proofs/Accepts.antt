@@ -1,5 +1,5 @@
 -- Links, one by one.
-use Rattle.std.proofs.Common.{◌≡◌, ◌<◌, ◌+◌, Bool, suc, List, [], ◌∷◌, ◌++◌, map, length, All, None, Some, refl, sym, ap, ◌∙◌, subst, append_assoc, append-nil, arith}
+use Rattle.std.proofs.Common.{◌≡◌, ◌<◌, ◌+◌, ℕ, Bool, suc, List, [], ◌∷◌, ◌++◌, map, length, All, None, Some, refl, sym, ap, ◌∙◌, subst, append_assoc, append-nil, arith}
 use Rattle.std.specs.Prelude.{MatchOption, false, is_some}
 use Rattle.std.specs.Option.{option_to_list}
 use Rattle.std.proofs.lemmas.List.Elements.{All-push}
@@ -10,7 +10,8 @@ use Rattle.mt_turn.specs.Seats.{SeatNow}
 use Rattle.mt_base.specs.declared.command.Entry.{Entry}
 use Rattle.mt_io.specs.Door.{Count, LosesFront, Gains, gave_one}
 use Rattle.mt_serve.specs.Sitting.{HaveNoChannel, Start, seats_of}
-use Rattle.mt_serve.specs.Private.Sitting.{HasSeatedLinks}
+use Rattle.mt_serve.specs.Private.Sitting.{HasServedLinks}
+use Rattle.mt_serve.specs.Tied.{Doorway, doorway_of}
 use Rattle.mt_serve.specs.Private.Accepting.{Accepting}
 
 pub loses_none : {A : Type 0} (a : Option (List A)) → LosesFront a a []
@@ -96,6 +97,8 @@ channels_more {L} {S} all before after job starts more s so taken is own none =
     (left.1, subst (λ (xs : List (Start L)). HaveNoChannel xs) (sym is) (All-push (λ (x : Start L). x.has_channel ≡ false) starts s was.1 quiet))
 
 -- what holds of the door that the scope gives back holds of the door afterwards
-pub begun_at : {L D : Type 0} (count : D → Count) (still : D → Option (List L)) (c : Count) (all : Option (List L)) (seats rest : List (SeatNow Entry Setup)) (starts : List (Start L)) (d e : D)
-    → HasSeatedLinks c (count e) all (still e) seats rest starts → d ≡ e → HasSeatedLinks c (count d) all (still d) seats rest starts
-begun_at count still c all seats rest starts d e begun is = subst (λ z. HasSeatedLinks c (count z) all (still z) seats rest starts) (sym is) begun
+pub links_at : {L D : Type 0} (count : D → Count) (still returned : D → Option (List L)) (faults : D → ℕ) (desk : Desk) (old : Doorway L) (seats rest : List (SeatNow Entry Setup))
+    (starts : List (Start L)) (faulted : Bool) (d e : D) → HasServedLinks desk old (doorway_of count still returned faults e) seats rest starts faulted → d ≡ e
+    → HasServedLinks desk old (doorway_of count still returned faults d) seats rest starts faulted
+links_at count still returned faults desk old seats rest starts faulted d e links is =
+    subst (λ z. HasServedLinks desk old (doorway_of count still returned faults z) seats rest starts faulted) (sym is) links

@@ -17,9 +17,9 @@ use Rattle.mt_turn.specs.Views.{first_view}
 use Rattle.mt_base.specs.declared.command.Entry.{Entry}
 use Rattle.mt_io.specs.Door.{Count, LosesFront, Gains, listened}
 use Rattle.mt_serve.specs.Sitting.{HaveNoChannel, Met, Start, starts_of, seats_of, links_of}
-use Rattle.mt_serve.specs.Private.Sitting.{HasSeatedLinks, IsDoorOver}
+use Rattle.mt_serve.specs.Private.Sitting.{HasSeatedLinks, HasServedLinks, IsDoorOver}
 use Rattle.mt_serve.specs.Private.Seating.{IsNewSeat, AllSplit, HasSplit}
-use Rattle.mt_serve.specs.Tied.{IsTied, HasServedAll, backs_of}
+use Rattle.mt_serve.specs.Tied.{Doorway, IsTied, HasServedAll, backs_of}
 use Rattle.mt_serve.specs.Private.Tied.{gave_back}
 use Rattle.mt_serve.proofs.Accepts.{loses_none}
 use Rattle.mt_serve.proofs.Seats.{length_map}
@@ -59,42 +59,44 @@ count_is c port sessions given back a b d e =
     ∙ ap (λ n. record { port = port; sessions = sessions; given = given; back = n }) e
 
 module _ {L : Type 0} (source : Source.Ghosts L) (sink : Sink.Ghosts L) where
-  pub served_all : (setup : Setup) (port sessions workers staff : ℕ) (c0 c1 c2 c3 : Count) (s0 s1 s2 s3 b0 b1 b2 b3 : Option (List L)) (f0 f1 f2 f3 : ℕ) (faulted : Bool) (h : List Entry) (mets : List (Met L)) (seats rest : List (SeatNow Entry Setup))
-      → c1 ≡ listened port sessions → s1 ≡ s0 → b1 ≡ b0 → f0 ≤ f1
-      → HasSeatedLinks c1 c2 s1 s2 seats rest (starts_of mets) → b2 ≡ b1 → f1 ≤ f2 → IsDoorOver faulted c2 f1 f2
-      → IsTied source sink setup h mets → c3 ≡ gave_back c2 (length mets) → s3 ≡ s2 → Gains b2 b3 (backs_of mets) → f2 ≤ f3
-      → staff ≤ workers → (staff ≡ 0 → HaveNoChannel (starts_of mets)) → HasServedAll source sink setup port sessions workers c0 c3 s0 s3 b0 b3 f0 f3 faulted h mets
-  served_all setup port sessions workers staff c0 c1 c2 c3 s0 s1 s2 s3 b0 b1 b2 b3 f0 f1 f2 f3 faulted h mets seats rest listen ss bs later1 begun bs2 later2 over tied back ss3 gains later3 staff_is channels =
+  -- the door was `d0` at first, `d1` once it listened, `d2` when it was over, and `d3` once the links were back
+  pub served_all : (setup : Setup) (port sessions workers staff : ℕ) (d0 d1 d2 d3 : Doorway L) (desk : Desk) (faulted : Bool) (h : List Entry) (mets : List (Met L)) (seats rest : List (SeatNow Entry Setup))
+      → d1.count ≡ listened port sessions → d1.still ≡ d0.still → d1.returned ≡ d0.returned → d0.faults ≤ d1.faults
+      → HasServedLinks desk d1 d2 seats rest (starts_of mets) faulted
+      → IsTied source sink setup h mets → d3.count ≡ gave_back d2.count (length mets) → d3.still ≡ d2.still → Gains d2.returned d3.returned (backs_of mets) → d2.faults ≤ d3.faults
+      → staff ≤ workers → (staff ≡ 0 → HaveNoChannel (starts_of mets)) → HasServedAll source sink setup port sessions workers d0 d3 faulted h mets
+  served_all setup port sessions workers staff d0 d1 d2 d3 desk faulted h mets seats rest listen ss bs later1 links tied back ss3 gains later3 staff_is channels =
+      let begun = links.begun in
       let many = length_map (λ (z : Met L). z.from) mets in
       let p1 = ap (λ (z : Count). z.port) listen in let n1 = ap (λ (z : Count). z.sessions) listen in let g1 = ap (λ (z : Count). z.given) listen in let k1 = ap (λ (z : Count). z.back) listen in
-      let given : c2.given ≡ length mets = omega (arith, begun.given, g1, many) in
-      let k3 : c3.back ≡ length mets = omega (arith, ap (λ (z : Count). z.back) back, begun.back, k1) in
+      let given : d2.count.given ≡ length mets = omega (arith, begun.given, g1, many) in
+      let k3 : d3.count.back ≡ length mets = omega (arith, ap (λ (z : Count). z.back) back, begun.back, k1) in
       record {
         tied = tied;
-        given = subst (λ s. LosesFront s s3 (links_of (starts_of mets))) ss (subst (λ s. LosesFront s1 s (links_of (starts_of mets))) (sym ss3) begun.links);
-        returned = subst (λ b. Gains b b3 (backs_of mets)) (bs2 ∙ bs) gains;
+        given = subst (λ s. LosesFront s d3.still (links_of (starts_of mets))) ss (subst (λ s. LosesFront d1.still s (links_of (starts_of mets))) (sym ss3) begun.links);
+        returned = subst (λ b. Gains b d3.returned (backs_of mets)) (links.returned ∙ bs) gains;
         count = inl (
-          count_is c3 port sessions (length mets) (length mets) (ap (λ (z : Count). z.port) back ∙ begun.port ∙ p1) (ap (λ (z : Count). z.sessions) back ∙ begun.sessions ∙ n1) (ap (λ (z : Count). z.given) back ∙ given) k3,
-          over_all faulted c2 f1 f2 (length mets) sessions over given (begun.sessions ∙ n1),
+          count_is d3.count port sessions (length mets) (length mets) (ap (λ (z : Count). z.port) back ∙ begun.port ∙ p1) (ap (λ (z : Count). z.sessions) back ∙ begun.sessions ∙ n1) (ap (λ (z : Count). z.given) back ∙ given) k3,
+          over_all faulted d2.count d1.faults d2.faults (length mets) sessions links.over given (begun.sessions ∙ n1),
         );
-        cause = λ is. let r = over_cause faulted c2 f1 f2 over is in omega (arith, r, later1, later3);
+        cause = λ is. let r = over_cause faulted d2.count d1.faults d2.faults links.over is in omega (arith, r, later1, later3);
         staff = staff;
         staff_is = staff_is;
         channels = channels;
       }
 
-  pub not_listened : (setup : Setup) (port sessions workers : ℕ) (c0 c1 c3 : Count) (s0 s1 s3 b0 b1 b3 : Option (List L)) (f0 f1 f3 : ℕ) (h : List Entry) (mets : List (Met L))
-      → c1 ≡ c0 → s1 ≡ s0 → b1 ≡ b0 → Rose f0 f1 → mets ≡ []
-      → IsTied source sink setup h mets → c3 ≡ gave_back c1 (length mets) → s3 ≡ s1 → Gains b1 b3 (backs_of mets) → f1 ≤ f3
-      → HasServedAll source sink setup port sessions workers c0 c3 s0 s3 b0 b3 f0 f3 true h mets
-  not_listened setup port sessions workers c0 c1 c3 s0 s1 s3 b0 b1 b3 f0 f1 f3 h mets listen ss bs rose none tied back ss3 gains later =
+  pub not_listened : (setup : Setup) (port sessions workers : ℕ) (d0 d1 d3 : Doorway L) (h : List Entry) (mets : List (Met L))
+      → d1.count ≡ d0.count → d1.still ≡ d0.still → d1.returned ≡ d0.returned → Rose d0.faults d1.faults → mets ≡ []
+      → IsTied source sink setup h mets → d3.count ≡ gave_back d1.count (length mets) → d3.still ≡ d1.still → Gains d1.returned d3.returned (backs_of mets) → d1.faults ≤ d3.faults
+      → HasServedAll source sink setup port sessions workers d0 d3 true h mets
+  not_listened setup port sessions workers d0 d1 d3 h mets listen ss bs rose none tied back ss3 gains later =
       let zero_ : length mets ≡ 0 = ap (λ (ms : List (Met L)). length ms) none in
-      let same : c1.back + length mets ≡ c1.back = omega (arith, zero_) in
+      let same : d1.count.back + length mets ≡ d1.count.back = omega (arith, zero_) in
       record {
         tied = tied;
-        given = subst (λ ms. LosesFront s0 s3 (links_of (starts_of ms))) (sym none) (subst (λ s. LosesFront s0 s []) (sym (ss3 ∙ ss)) (loses_none s0));
-        returned = subst (λ b. Gains b b3 (backs_of mets)) bs gains;
-        count = inr (back ∙ ap (λ n. record { port = c1.port; sessions = c1.sessions; given = c1.given; back = n }) same ∙ listen, zero_, refl);
+        given = subst (λ ms. LosesFront d0.still d3.still (links_of (starts_of ms))) (sym none) (subst (λ s. LosesFront d0.still s []) (sym (ss3 ∙ ss)) (loses_none d0.still));
+        returned = subst (λ b. Gains b d3.returned (backs_of mets)) bs gains;
+        count = inr (back ∙ ap (λ n. record { port = d1.count.port; sessions = d1.count.sessions; given = d1.count.given; back = n }) same ∙ listen, zero_, refl);
         cause = λ is. omega (arith, rose, later);
         staff = 0;
         staff_is = omega arith;
@@ -102,11 +104,11 @@ module _ {L : Type 0} (source : Source.Ghosts L) (sink : Sink.Ghosts L) where
       }
 
   -- the whole, by the closed picture
-  pub whole : (setup fixed : Setup) (port sessions workers : ℕ) (old new : Count) (still left back now : Option (List L)) (before after : ℕ) (failed faulted : Bool)
+  pub whole : (setup fixed : Setup) (port sessions workers : ℕ) (old new : Doorway L) (failed faulted : Bool)
       (picture : Story) (counts : Counts) (mets : List (Met L)) → setup ≡ fixed → faulted ≡ failed → picture.setup ≡ setup → IsLegal setup picture.history
-      → HasServedAll source sink setup port sessions workers old new still left back now before after failed picture.history mets → counts ≡ counted mets
-      → HasServedWhole source sink fixed port sessions workers old new still left back now before after faulted picture counts
-  whole setup fixed port sessions workers old new still left back now before after failed faulted picture counts mets same told own legal all are =
-      subst (λ (s : Setup). HasServedWhole source sink s port sessions workers old new still left back now before after faulted picture counts) same
-      (subst (λ (b : Bool). HasServedWhole source sink setup port sessions workers old new still left back now before after b picture counts) (sym told)
+      → HasServedAll source sink setup port sessions workers old new failed picture.history mets → counts ≡ counted mets
+      → HasServedWhole source sink fixed port sessions workers old new faulted picture counts
+  whole setup fixed port sessions workers old new failed faulted picture counts mets same told own legal all are =
+      subst (λ (s : Setup). HasServedWhole source sink s port sessions workers old new faulted picture counts) same
+      (subst (λ (b : Bool). HasServedWhole source sink setup port sessions workers old new b picture counts) (sym told)
       (record { mets = mets; setup_is = own; legal = legal; all = all; counts_are = are }))

@@ -1,8 +1,7 @@
 -- Sessions that are over, counted by their outcomes, and the history that ties them.
-use Rattle.std.specs.Prelude.{◌≡◌, ℕ, Bool, true, false, List, length, filter, Option}
+use Rattle.std.specs.Prelude.{◌≡◌, ℕ, Bool, true, false, List, length, filter}
 use Rattle.mt_base.specs.History.{IsLegal}
 use Rattle.mt_base.specs.Tables.{Setup}
-use Rattle.mt_io.specs.Door.{Count}
 use Rattle.mt_io.specs.declared.source.Source as Source
 use Rattle.mt_io.specs.declared.sink.Sink as Sink
 use Rattle.mt_picture.specs.Story.{Story}
@@ -10,7 +9,7 @@ use Rattle.mt_session.specs.declared.outcome.Outcome.{Outcome}
 use Rattle.mt_session.specs.declared.outcome.Outcome.TheVariants.{Ended, ReadFault, WriteFault, Spent, Memory}
 use Rattle.mt_serve.specs.declared.counts.Counts.{Counts}
 use Rattle.mt_serve.specs.Sitting.{Met}
-use Rattle.mt_serve.specs.Tied.{HasServedAll}
+use Rattle.mt_serve.specs.Tied.{Doorway, HasServedAll}
 
 -- a session ended by its link. By a fault, or by all bytes that a link may give.
 abbrev pub is_faulted : Outcome → Bool
@@ -36,10 +35,9 @@ counted {L} mets = record {
 module _ {L : Type 0} (source : Source.Ghosts L) (sink : Sink.Ghosts L) where
   -- the closed picture's legal history ties all links that the door gave and has back. By the rules and tables of the picture at first. The counts
   -- are those of their sessions.
-  pub record HasServedWhole (setup : Setup) (port sessions workers : ℕ) (old new : Count) (still left back now : Option (List L)) (before after : ℕ)
-      (faulted : Bool) (picture : Story) (counts : Counts) : Type 0 where
+  pub record HasServedWhole (setup : Setup) (port sessions workers : ℕ) (old new : Doorway L) (faulted : Bool) (picture : Story) (counts : Counts) : Type 0 where
     pub mets : List (Met L)
     pub setup_is : picture.setup ≡ setup
     pub legal : IsLegal setup picture.history
-    pub all : HasServedAll source sink setup port sessions workers old new still left back now before after faulted picture.history mets
+    pub all : HasServedAll source sink setup port sessions workers old new faulted picture.history mets
     pub counts_are : counts ≡ counted mets

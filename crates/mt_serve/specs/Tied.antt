@@ -20,6 +20,16 @@ number_of e = e.who
 abbrev pub backs_of : {L : Type 0} → List (Met L) → List L
 backs_of {L} mets = map (λ (m : Met L). m.link) mets
 
+-- `Doorway`, `doorway_of`: a door's counts, links left, links back and faults
+pub record Doorway (L : Type 0) : Type 0 where
+  pub count : Count
+  pub still : Option (List L)
+  pub returned : Option (List L)
+  pub faults : ℕ
+
+abbrev pub doorway_of : {D L : Type 0} → (D → Count) → (D → Option (List L)) → (D → Option (List L)) → (D → ℕ) → D → Doorway L
+doorway_of count still returned faults door = record { count = count door; still = still door; returned = returned door; faults = faults door }
+
 -- one of the sessions has this number
 abbrev pub IsSessions : {L : Type 0} → List (Met L) → ℕ → Type 0
 IsSessions {L} mets n = (m : Met L) × Contains mets m × (m.seat.view.number ≡ n)
@@ -43,14 +53,13 @@ module _ {L : Type 0} (source : Source.Ghosts L) (sink : Sink.Ghosts L) where
   -- each link that the door gave was served and is back, tied by one history. The door was asked for a port and so many sessions, and gave that many
   -- links, or failed while some were to come. They are back in order. Where the door doesn't listen, no link was given. Of so many workers some were
   -- started; where none was, no session had a channel.
-  pub record HasServedAll (setup : Setup) (port sessions workers : ℕ) (old new : Count) (still left back now : Option (List L)) (before after : ℕ)
-      (faulted : Bool) (h : List Entry) (mets : List (Met L)) : Type 0 where
+  pub record HasServedAll (setup : Setup) (port sessions workers : ℕ) (old new : Doorway L) (faulted : Bool) (h : List Entry) (mets : List (Met L)) : Type 0 where
     pub tied : IsTied setup h mets
-    pub given : LosesFront still left (links_of (starts_of mets))
-    pub returned : Gains back now (backs_of mets)
-    pub count : ((new ≡ record { port = port; sessions = sessions; given = length mets; back = length mets }) × MatchBool faulted (length mets < sessions) (length mets ≡ sessions))
-        ⊎ ((new ≡ old) × (length mets ≡ 0) × (faulted ≡ true))
-    pub cause : faulted ≡ true → Rose before after
+    pub given : LosesFront old.still new.still (links_of (starts_of mets))
+    pub returned : Gains old.returned new.returned (backs_of mets)
+    pub count : ((new.count ≡ record { port = port; sessions = sessions; given = length mets; back = length mets }) × MatchBool faulted (length mets < sessions) (length mets ≡ sessions))
+        ⊎ ((new.count ≡ old.count) × (length mets ≡ 0) × (faulted ≡ true))
+    pub cause : faulted ≡ true → Rose old.faults new.faults
     pub staff : ℕ
     pub staff_is : staff ≤ workers
     pub channels : staff ≡ 0 → HaveNoChannel (starts_of mets)

@@ -4,7 +4,8 @@ ghost use Rattle.std.specs.Thread.{IsSync};
 ghost use Rattle.std.specs.VecDeque.{deque_len, deque_capacity};
 ghost use Rattle.mt_desk.specs.Desk.{IsSeatOfDesk};
 ghost use Rattle.mt_serve.specs.Sitting.{HaveNoChannel, starts_of};
-ghost use Rattle.mt_serve.specs.Private.Sitting.{HasSeatedLinks, IsDoorOver, IsReadyToServe, IsSeated};
+ghost use Rattle.mt_serve.specs.Private.Sitting.{HasServedLinks, IsReadyToServe, IsSeated};
+ghost use Rattle.mt_serve.specs.Tied.{doorway_of};
 
 use crate::serving::{begin, finish};
 use crate::sitting::{Done, Sitting};
@@ -37,11 +38,8 @@ where
     requires seated { IsSeated (D.count door.old) seats.old.items }
     requires room { deque_len seats.old ≤ deque_capacity sittings.old }
     requires none { sittings.old.items ≡ [] }
-    ensures begun { HasSeatedLinks (D.count door.old) (D.count door.new) (D.still door.old) (D.still door.new) seats.old.items seats.new.items sittings.new.items }
-    ensures ready { All (IsSeatOfDesk desk.now) seats.new.items }
-    ensures returned { D.returned door.new ≡ D.returned door.old }
-    ensures faults { D.faults door.old ≤ D.faults door.new }
-    ensures over { IsDoorOver result (D.count door.new) (D.faults door.old) (D.faults door.new) }
+    ensures links { HasServedLinks desk.now (doorway_of D.count D.still D.returned D.faults door.old) (doorway_of D.count D.still D.returned D.faults door.new)
+        seats.old.items seats.new.items sittings.new.items result }
     ensures channels { senders.old.items ≡ [] → HaveNoChannel sittings.new.items }
 {
     for _ in rt.forever() {
@@ -78,7 +76,7 @@ fn join_all<R: Threads, D: Door>(
 }
 
 /// Serves each link that the door gives, each on a thread of its own, and returns when all sessions have ended. All senders are gone then.
-#[tactic(auto, using(crate::proofs::Accepts::begun_at))]
+#[tactic(auto, using(crate::proofs::Accepts::links_at))]
 pub(crate) fn serve_links<R: Threads + Wait + Sync, D: Door, G: Gate + Sync>(
     rt: &R,
     alloc: Global,
@@ -92,11 +90,8 @@ pub(crate) fn serve_links<R: Threads + Wait + Sync, D: Door, G: Gate + Sync>(
 ) -> (VecDeque<Seat>, VecDeque<Done<D::Link>>, bool)
     requires sync { IsSync R.row }
     requires prepared { IsReadyToServe desk.now (D.count door.old) seats.items (deque_len seats) (deque_capacity sittings) (deque_capacity dones) sittings.items dones.items }
-    ensures begun { HasSeatedLinks (D.count door.old) (D.count door.new) (D.still door.old) (D.still door.new) seats.items result.0.items (starts_of result.1.items) }
-    ensures ready { All (IsSeatOfDesk desk.now) result.0.items }
-    ensures returned { D.returned door.new ≡ D.returned door.old }
-    ensures faults { D.faults door.old ≤ D.faults door.new }
-    ensures over { IsDoorOver result.2 (D.count door.new) (D.faults door.old) (D.faults door.new) }
+    ensures links { HasServedLinks desk.now (doorway_of D.count D.still D.returned D.faults door.old) (doorway_of D.count D.still D.returned D.faults door.new)
+        seats.items result.0.items (starts_of result.1.items) result.2 }
     ensures channels { senders.items ≡ [] → HaveNoChannel (starts_of result.1.items) }
 {
     let (door, seats, dones, faulted) = thread::scope(
@@ -105,11 +100,8 @@ pub(crate) fn serve_links<R: Threads + Wait + Sync, D: Door, G: Gate + Sync>(
         move |scope| -> (&mut D, VecDeque<Seat>, VecDeque<Done<D::Link>>, bool)
             requires { IsReadyToServe desk.now (D.count door.now) seats.items (deque_len seats) (deque_capacity sittings) (deque_capacity dones) sittings.items dones.items }
             ensures same { result.0.ghost_name ≡ door.entry.ghost_name }
-            ensures begun { HasSeatedLinks (D.count door.entry.now) (D.count result.0.now) (D.still door.entry.now) (D.still result.0.now) seats.items result.1.items (starts_of result.2.items) }
-            ensures ready { All (IsSeatOfDesk desk.entry.now) result.1.items }
-            ensures returned { D.returned result.0.now ≡ D.returned door.entry.now }
-            ensures faults { D.faults door.entry.now ≤ D.faults result.0.now }
-            ensures over { IsDoorOver result.3 (D.count result.0.now) (D.faults door.entry.now) (D.faults result.0.now) }
+            ensures links { HasServedLinks desk.entry.now (doorway_of D.count D.still D.returned D.faults door.entry.now) (doorway_of D.count D.still D.returned D.faults result.0.now)
+                seats.items result.1.items (starts_of result.2.items) result.3 }
             ensures channels { senders.items ≡ [] → HaveNoChannel (starts_of result.2.items) }
         {
             let mut seats = seats;

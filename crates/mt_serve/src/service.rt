@@ -7,11 +7,11 @@ ghost use Rattle.mt_desk.specs.Desk.{IsSeatOfDesk};
 ghost use Rattle.mt_io.specs.Door.{Gains};
 ghost use Rattle.mt_serve.specs.Private.Seating.{AllSplit};
 ghost use Rattle.mt_serve.specs.Sitting.{HaveNoChannel, seats_of, starts_of};
-ghost use Rattle.mt_serve.specs.Private.Sitting.{HasSeatedLinks, IsDoorOver, IsReadyToServe};
+ghost use Rattle.mt_serve.specs.Private.Sitting.{HasServedLinks, IsReadyToServe};
 ghost use Rattle.mt_serve.specs.Summary.{HasServedWhole, counted};
-ghost use Rattle.mt_serve.specs.Tied.{IsTied, backs_of};
+ghost use Rattle.mt_serve.specs.Tied.{IsTied, backs_of, doorway_of};
 ghost use Rattle.mt_serve.specs.Private.Tied.{gave_back};
-ghost use Rattle.mt_serve.specs.Private.Working.{IsStaffed, froms_of};
+ghost use Rattle.mt_serve.specs.Private.Working.{HasStaffed, IsStaffed, froms_of};
 
 use crate::accepting::{serve_links, take_back};
 use crate::counts::Counts;
@@ -66,7 +66,7 @@ fn senders_to(alloc: Global, staff: u64, senders: VecDeque<JobSender>) -> VecDeq
 }
 
 // Serves the links with sessions, while workers work beside them. All threads are over when it returns.
-#[tactic(auto, using(crate::proofs::Accepts::begun_at))]
+#[tactic(auto, using(crate::proofs::Accepts::links_at))]
 fn serve_beside<R: Threads + Wait + Sync, D: Door, G: Gate + Sync>(
     rt: &R,
     alloc: Global,
@@ -81,14 +81,9 @@ fn serve_beside<R: Threads + Wait + Sync, D: Door, G: Gate + Sync>(
     requires sync { IsSync R.row }
     requires served { IsReadyToServe desk.now (D.count door.old) seats.items (deque_len seats) (deque_capacity room.sittings) (deque_capacity room.dones) room.sittings.items room.dones.items }
     requires staffed { IsStaffed desk.now hands.items (deque_len hands) (deque_capacity room.workings) (deque_capacity room.resteds) room.workings.items room.resteds.items }
-    ensures begun { HasSeatedLinks (D.count door.old) (D.count door.new) (D.still door.old) (D.still door.new) seats.items result.seats.items (starts_of result.dones.items) }
-    ensures ready { All (IsSeatOfDesk desk.now) result.seats.items }
-    ensures staff { hands.items ≡ froms_of result.resteds.items ++ result.hands.items }
-    ensures rest { All (IsSeatOfDesk desk.now) result.hands.items }
-    ensures returned { D.returned door.new ≡ D.returned door.old }
-    ensures faults { D.faults door.old ≤ D.faults door.new }
-    ensures over { IsDoorOver result.faulted (D.count door.new) (D.faults door.old) (D.faults door.new) }
-    ensures staffed { result.staff ≤ deque_len hands }
+    ensures links { HasServedLinks desk.now (doorway_of D.count D.still D.returned D.faults door.old) (doorway_of D.count D.still D.returned D.faults door.new)
+        seats.items result.seats.items (starts_of result.dones.items) result.faulted }
+    ensures staff { HasStaffed desk.now hands.items result.hands.items result.resteds.items result.staff (deque_len hands) }
     ensures channels { result.staff ≡ 0 → HaveNoChannel (starts_of result.dones.items) }
 {
     let Room {
@@ -106,14 +101,9 @@ fn serve_beside<R: Threads + Wait + Sync, D: Door, G: Gate + Sync>(
             requires served { IsReadyToServe desk.now (D.count door.now) seats.items (deque_len seats) (deque_capacity sittings) (deque_capacity dones) sittings.items dones.items }
             requires staffed { IsStaffed desk.now hands.items (deque_len hands) (deque_capacity workings) (deque_capacity resteds) workings.items resteds.items }
             ensures same { result.0.ghost_name ≡ door.entry.ghost_name }
-            ensures begun { HasSeatedLinks (D.count door.entry.now) (D.count result.0.now) (D.still door.entry.now) (D.still result.0.now) seats.items result.1.seats.items (starts_of result.1.dones.items) }
-            ensures ready { All (IsSeatOfDesk desk.entry.now) result.1.seats.items }
-            ensures staff { hands.items ≡ froms_of result.1.resteds.items ++ result.1.hands.items }
-            ensures rest { All (IsSeatOfDesk desk.entry.now) result.1.hands.items }
-            ensures returned { D.returned result.0.now ≡ D.returned door.entry.now }
-            ensures faults { D.faults door.entry.now ≤ D.faults result.0.now }
-            ensures over { IsDoorOver result.1.faulted (D.count result.0.now) (D.faults door.entry.now) (D.faults result.0.now) }
-            ensures staffed { result.1.staff ≤ deque_len hands }
+            ensures links { HasServedLinks desk.entry.now (doorway_of D.count D.still D.returned D.faults door.entry.now) (doorway_of D.count D.still D.returned D.faults result.0.now)
+                seats.items result.1.seats.items (starts_of result.1.dones.items) result.1.faulted }
+            ensures staff { HasStaffed desk.entry.now hands.items result.1.hands.items result.1.resteds.items result.1.staff (deque_len hands) }
             ensures channels { result.1.staff ≡ 0 → HaveNoChannel (starts_of result.1.dones.items) }
         {
             let mut hands = hands;
@@ -207,8 +197,8 @@ pub fn serve<R: Threads + Wait + Sync, D: Door, G: Gate + Sync>(
     requires sync { IsSync R.row }
     requires opening { picture.history ≡ [] }
     requires few { sessions + workers ≤ 2 ^ 31 }
-    ensures served { IfOk result (λ served. HasServedWhole D.Link.Source D.Link.Sink picture.setup port sessions workers (D.count door.old) (D.count door.new)
-        (D.still door.old) (D.still door.new) (D.returned door.old) (D.returned door.new) (D.faults door.old) (D.faults door.new)
+    ensures served { IfOk result (λ served. HasServedWhole D.Link.Source D.Link.Sink picture.setup port sessions workers
+        (doorway_of D.count D.still D.returned D.faults door.old) (doorway_of D.count D.still D.returned D.faults door.new)
         served.faulted served.picture served.counts) }
     ensures uncalled { IfErr result (λ _. door.new ≡ door.old) }
 {

@@ -1,7 +1,5 @@
 pub mod Advice
 pub mod Books
-pub mod Closing
-pub mod Idle
 pub mod Renewals
 pub mod Replying
 pub mod Stays

@@ -28,7 +28,7 @@ use Rattle.mt_read.specs.declared.request.Request.TheVariants as requests
 use Rattle.mt_write.specs.declared.reply.Reply.{Reply}
 use Rattle.mt_write.specs.declared.reply.Reply.TheVariants as replies
 use Rattle.mt_base.proofs.Cases.{on_either}
-use Rattle.mt_session.specs.Following.{IsRenewalDone, Standing, job_if, job_of}
+use Rattle.mt_session.specs.Following.{job_if, job_of}
 use Rattle.mt_lines.specs.Told.{entered_reply}
 use Rattle.mt_session.specs.Served.{IsAcceptanceAnswered, IsAskAnswered, IsCommanded, IsReplyGiven, IsSessionLeft, IsRepliedTo, IsServedInSession, IsStarvedOf, IsReadAnswered, IsTrialInSession, is_none_listed}
 use Rattle.mt_session.specs.Private.Served.{ask_of}
@@ -150,11 +150,8 @@ given_job a reply given for = ⊎_elim
 pub long_replied : (s : Session) (line : List ℕ) → 65536 < length line → IsRepliedTo s line replies.Long s
 long_replied s line long = inl (rw (lt-ltb 65536 (length line) long) (record { reply_is = refl; next_is = refl }))
 
-long_job : (s : Session) (line : List ℕ) → 65536 < length line → job_of (asked_in_role s.role line) replies.Long ≡ None
+pub long_job : (s : Session) (line : List ℕ) → 65536 < length line → job_of (asked_in_role s.role line) replies.Long ≡ None
 long_job s line long = rw (lt-ltb 65536 (length line) long) refl
-
-pub long_done : (s : Session) (line : List ℕ) → 65536 < length line → (w : Standing) → IsRenewalDone (job_of (asked_in_role s.role line) replies.Long) w w
-long_done s line long w = rw (long_job s line long) refl
 
 same_ask : {asked_in_role ask : Ask} → Some asked_in_role ≡ Some ask → asked_in_role ≡ ask
 same_ask is = cc

@@ -1,50 +1,26 @@
 -- What a whole session means.
-use Rattle.std.specs.Prelude.{◌≡◌, ◌⊎◌, ◌^◌, ◌<◌, ◌++◌, ℕ, List, [], ◌∷◌, length, Option, Some, None}
+use Rattle.std.specs.Prelude.{◌≡◌, ◌⊎◌, ℕ, List, [], Option, Some, None}
 use Rattle.mt_board.specs.Seat.{GoesOn, IsSameSeat, Seat}
 use Rattle.mt_io.specs.Causes.{Rose}
-use Rattle.mt_io.specs.HasRead.{AreRead}
-use Rattle.mt_lines.specs.Answering.{AnswersAll, AnswersToLast, AnswersWhole, AreReplied, AreRepliedTo, Explains}
+use Rattle.mt_lines.specs.Answering.{Explains}
+use Rattle.mt_lines.specs.Ending.{EndsSo}
 use Rattle.mt_lines.specs.Given.{is_farewell}
+use Rattle.mt_lines.specs.declared.ending.Ending.TheVariants as endings
 use Rattle.mt_workers.specs.Jobs.{Jobs, no_jobs}
-use Rattle.mt_write.specs.declared.reply.Reply.{Reply}
 use Rattle.mt_write.specs.Reply.{reply_text}
 use Rattle.mt_session.specs.declared.outcome.Outcome.{Outcome}
 use Rattle.mt_session.specs.declared.outcome.Outcome.TheVariants.{Ended, ReadFault, WriteFault, Spent, Memory}
 use Rattle.mt_session.specs.Following.{IsFollowed, TouchesNoJob, Standing}
 use Rattle.mt_session.specs.Session.{Session, new_session}
 
--- lines were read, and these bytes answer them, in order, each once
-pub record AnswersRead (start : Standing) (input left bytes : List ℕ) (end : Standing) : Type 0 where
-  pub lines : List (List ℕ)
-  pub read : AreRead input left lines
-  pub some : 0 < length bytes
-  pub replied : AreReplied reply_text is_farewell TouchesNoJob IsFollowed start lines bytes end
-
--- the same, but that what follows the last reply was not done
-pub record AnswersUnfollowed (start : Standing) (input left bytes : List ℕ) (end : Standing) : Type 0 where
-  pub lines : List (List ℕ)
-  pub line : List ℕ
-  pub read : AreRead input left (lines ++ line ∷ [])
-  pub others : List ℕ
-  pub reply : Reply
-  pub replied : AreRepliedTo reply_text is_farewell TouchesNoJob IsFollowed start lines line others reply end
-  pub bytes_are : bytes ≡ others ++ reply_text reply
-
--- of the bytes that answer the lines read a front was written, and the rest is lost: the end of a reply, and replies that waited
-pub record LosesReplies (start : Standing) (input left written : List ℕ) (end : Standing) : Type 0 where
-  pub lost : List ℕ
-  pub answers : AnswersRead start input left (written ++ lost) end ⊎ AnswersUnfollowed start input left (written ++ lost) end
-
 -- what an outcome says: lines answered one by one, up to the farewell or a fault. By the session at first and at last, of the link's whole input,
 -- what was left of it, and what was written. Memory can run out only before the first line: then nothing was read and nothing written.
 abbrev pub SessionMeans : Standing → Standing → Outcome → List ℕ → List ℕ → List ℕ → Type 0
-SessionMeans start end Ended input left written = AnswersAll reply_text is_farewell TouchesNoJob IsFollowed start input left written end
-    ⊎ AnswersToLast reply_text is_farewell TouchesNoJob IsFollowed start input left written end
-SessionMeans start end ReadFault input left written =
-    (taken : List ℕ) × AnswersWhole reply_text is_farewell TouchesNoJob IsFollowed start input left taken written end
-SessionMeans start end Spent input left written =
-    (taken : List ℕ) × (length taken ≡ 2 ^ 32) × AnswersWhole reply_text is_farewell TouchesNoJob IsFollowed start input left taken written end
-SessionMeans start end WriteFault input left written = LosesReplies start input left written end
+SessionMeans start end Ended input left written = EndsSo reply_text is_farewell TouchesNoJob IsFollowed start end endings.End input left written
+    ⊎ EndsSo reply_text is_farewell TouchesNoJob IsFollowed start end endings.Last input left written
+SessionMeans start end ReadFault input left written = EndsSo reply_text is_farewell TouchesNoJob IsFollowed start end endings.ReadFault input left written
+SessionMeans start end Spent input left written = EndsSo reply_text is_farewell TouchesNoJob IsFollowed start end endings.Spent input left written
+SessionMeans start end WriteFault input left written = EndsSo reply_text is_farewell TouchesNoJob IsFollowed start end endings.WriteFault input left written
 SessionMeans start end Memory input left written = (left ≡ input) × (written ≡ []) × (end ≡ start)
 
 -- a link's bytes left, bytes written and fault counts

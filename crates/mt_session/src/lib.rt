@@ -9,7 +9,6 @@ mod advising;
 mod answering;
 mod following;
 mod outcome;
-mod outgoing;
 mod over_link;
 mod probing;
 mod serving;

@@ -1,25 +1,26 @@
 //! A session, from its first line to its last.
-ghost use Rattle.std.specs.Prelude.{◌≡◌, ◌≤◌, ◌^◌, ◌+◌, ◌++◌, ℕ, List, [], None, Some, Contains, IfNone, IfOk, length};
+ghost use Rattle.std.specs.Prelude.{◌≡◌, ◌≤◌, ◌^◌, ◌+◌, ◌++◌, ℕ, List, [], None, Some, Contains, IfNone, IfOk};
 ghost use Rattle.std.specs.declared.option.Option.{Option};
 ghost use Rattle.mt_io.specs.Causes.{Rose};
 ghost use Rattle.mt_io.specs.Reading.{fresh};
 ghost use Rattle.mt_lines.specs.Answering.{Explains};
 ghost use Rattle.mt_lines.specs.Fit.{IsFit};
+ghost use Rattle.mt_lines.specs.Streams.{LeavesStream, TellsFault};
+ghost use Rattle.mt_lines.specs.declared.ending.Ending.TheVariants as endings;
 ghost use Rattle.mt_machine.specs.Book.{empty_book};
 ghost use Rattle.std.specs.Thread.{IsSync};
 ghost use Rattle.mt_session.specs.Following.{Standing};
 ghost use Rattle.mt_session.specs.Private.Keeping.{StaysOn};
 ghost use Rattle.mt_session.specs.Outboxes.{outbox_after, outbox_before};
-ghost use Rattle.mt_session.specs.Run.{IsNoLinkFault, IsSession, SessionMeans};
-ghost use Rattle.mt_session.specs.Private.SoFar.{GivesTill, HasRun, IsLineAnswered, SessionTurned, outcome_after};
-ghost use Rattle.mt_session.specs.declared.outcome.Outcome.TheVariants.{ReadFault, WriteFault};
+ghost use Rattle.mt_session.specs.Run.{IsNoLinkFault, IsSession};
+ghost use Rattle.mt_session.specs.Private.SoFar.{GivesTill, IsDoneUnless, SessionRuns, SessionEnds, SessionTurned};
 
 use crate::outcome::Outcome;
-use crate::outgoing::Outgoing;
 use crate::serving::Serving;
-use mt_base::Memory;
+use mt_base::{Callsign, Memory};
 use mt_board::Board;
-use mt_io::{Duplex, Gate, Line, LineFault, LineReader, Sink};
+use mt_io::{Duplex, Gate, Line, LineReader, Sink};
+use mt_lines::{Ending, Outgoing};
 use mt_machine::Book;
 use mt_wire::{Reply, Scratch};
 use mt_workers::{NoOutbox, Outbox};
@@ -76,23 +77,17 @@ fn serve_link<R: Threads + Wait + Sync, B: Board, L: Duplex, O: Outbox, G: Gate>
         (Some (O.jobs jobs.old)) (Some (O.jobs jobs.new)) result.1 }
     ensures home { B.home result.0 ≡ B.home board }
 {
-    let Ok((mut reader, book, mut outgoing)) = memory(alloc) else {
+    let Ok((reader, book, outgoing)) = memory(alloc) else {
         return (board, Outcome::Memory);
     };
-    let mut scratch = Scratch::new(alloc);
-    let mut serving = Serving::of(board, book);
-    let outcome = turns(
-        rt,
-        alloc,
-        &mut reader,
-        &mut scratch,
-        &mut serving,
-        &mut outgoing,
-        link,
-        jobs,
-        gate,
-    );
-    (serving.board(), outcome)
+    let mut lines = Lines {
+        reader,
+        scratch: Scratch::new(alloc),
+        serving: Serving::of(board, book),
+        outgoing,
+    };
+    let ending = lines.answer_all(rt, alloc, link, jobs, gate);
+    (lines.board(), Outcome::of(ending))
 }
 
 // What a session takes before its first line: its reader, its book, and the room for its replies.
@@ -107,164 +102,146 @@ fn memory<P: Drop>(alloc: Global) -> Result<(LineReader, Book<P>, Outgoing), Mem
     Ok((reader, book, outgoing))
 }
 
-// Answers line by line, to the outcome that the session ends with; and writes what waits then.
-fn turns<R: Threads + Wait + Sync, B: Board, L: Duplex, O: Outbox, G: Gate>(
-    rt: &R,
-    alloc: Global,
-    reader: &mut LineReader,
-    scratch: &mut Scratch,
-    serving: &mut Serving<B>,
-    outgoing: &mut Outgoing,
-    link: &mut L,
-    jobs: &mut O,
-    gate: &G,
-) -> Outcome
-    requires sync { IsSync R.row }
-    requires sound { reader.old.fault ≡ None }
-    requires bound { reader.old.given ≤ 2 ^ 32 }
-    requires none { outgoing.old ≡ [] }
-    ensures ended { (start : Standing) (before : Option (List ℕ))
-        → HasRun start before (L.left link.old) [] reader.old (record { session = serving.old.session; jobs = O.jobs jobs.old })
-        → Explains (SessionMeans start (record { session = serving.new.session; jobs = O.jobs jobs.new }) result)
-        before (L.left link.new) (L.held link.old) (L.held link.new) }
-    ensures on { StaysOn serving.old serving.new }
-    ensures read { result ≡ ReadFault → Rose (L.Source.faults link.old) (L.Source.faults link.new) }
-    ensures write { result ≡ WriteFault → Rose (L.Sink.faults link.old) (L.Sink.faults link.new) }
-{
-    loop {
-        if let Some(outcome) = turn(
-            rt, alloc, reader, scratch, serving, outgoing, link, jobs, gate,
-        ) {
-            return match outgoing.flush(link) {
-                Ok(()) => outcome,
-                Err(_) => Outcome::WriteFault,
-            };
+// The lines of a link: what reads them, what answers them, a scratch for texts with escapes, and the replies that wait.
+struct Lines<B: Board> {
+    reader: LineReader,
+    scratch: Scratch,
+    serving: Serving<B>,
+    outgoing: Outgoing,
+}
+
+impl<B: Board> Lines<B> {
+    // The board.
+    fn board(self) -> B
+        ensures seat { B.seat result ≡ self.serving.session.seat }
+        ensures home { B.home result ≡ self.serving.home }
+    {
+        let Lines {
+            reader: _reader,
+            scratch: _scratch,
+            serving,
+            outgoing: _outgoing,
+        } = self;
+        serving.board()
+    }
+
+    // Answers line by line, and writes what waits at the end.
+    fn answer_all<R: Threads + Wait + Sync, L: Duplex, O: Outbox, G: Gate>(
+        &mut self,
+        rt: &R,
+        alloc: Global,
+        link: &mut L,
+        jobs: &mut O,
+        gate: &G,
+    ) -> Ending
+        requires sync { IsSync R.row }
+        requires sound { self.old.reader.fault ≡ None }
+        requires bound { self.old.reader.given ≤ 2 ^ 32 }
+        requires none { self.old.outgoing ≡ [] }
+        ensures ended { (start : Standing) (before : Option (List ℕ))
+            → SessionRuns start before (L.left link.old) [] self.old.reader (record { session = self.old.serving.session; jobs = O.jobs jobs.old })
+            → Explains (SessionEnds start (record { session = self.new.serving.session; jobs = O.jobs jobs.new }) result)
+            before (L.left link.new) (L.held link.old) (L.held link.new) }
+        ensures on { StaysOn self.old.serving self.new.serving }
+        ensures reads { TellsFault (result ≡ endings.ReadFault) (L.Source.faults link.old) (L.Source.faults link.new) }
+        ensures writes { TellsFault (result ≡ endings.WriteFault) (L.Sink.faults link.old) (L.Sink.faults link.new) }
+    {
+        loop {
+            if let Some(ending) = self.turn(rt, alloc, link, jobs, gate) {
+                return match self.outgoing.flush(link) {
+                    Ok(()) => ending,
+                    Err(_) => Ending::WriteFault,
+                };
+            }
         }
     }
-}
 
-// The outcome that a session ends with, once a reply was given so; none where it goes on.
-fn ended_by(given: Result<bool, mt_io::WriteFault>) -> Option<Outcome>
-    ensures { result ≡ outcome_after given }
-{
-    match given {
-        Ok(true) => Some(Outcome::Ended),
-        Ok(false) => None,
-        Err(_) => Some(Outcome::WriteFault),
+    // Writes the replies that wait where no whole line is ahead; then reads one line and answers it. An ending where the session ends with it.
+    fn turn<R: Threads + Wait + Sync, L: Duplex, O: Outbox, G: Gate>(
+        &mut self,
+        rt: &R,
+        alloc: Global,
+        link: &mut L,
+        jobs: &mut O,
+        gate: &G,
+    ) -> Option<Ending>
+        requires sync { IsSync R.row }
+        requires sound { self.old.reader.fault ≡ None }
+        ensures turned { (start : Standing) (before : Option (List ℕ)) (sent : List ℕ)
+            → SessionRuns start before (L.left link.old) (sent ++ self.old.outgoing) self.old.reader (record { session = self.old.serving.session; jobs = O.jobs jobs.old })
+            → SessionTurned start result before (L.left link.new) sent (L.held link.old) (L.held link.new) self.new.outgoing
+            self.new.reader (record { session = self.new.serving.session; jobs = O.jobs jobs.new }) }
+        ensures rises { IfNone result ((self.new.reader.given ≡ self.old.reader.given + 1) × (self.new.reader.given ≤ 2 ^ 32) × (self.new.reader.fault ≡ None)) }
+        ensures on { StaysOn self.old.serving self.new.serving }
+        ensures reads { TellsFault (result ≡ Some endings.ReadFault) (L.Source.faults link.old) (L.Source.faults link.new) }
+        ensures writes { TellsFault (result ≡ Some endings.WriteFault) (L.Sink.faults link.old) (L.Sink.faults link.new) }
+    {
+        match self.outgoing.ready(self.reader.has_line(), link) {
+            Ok(()) => self.answer_next(rt, alloc, link, jobs, gate),
+            Err(_) => Some(Ending::WriteFault),
+        }
     }
-}
 
-// Gives a reply, and is done with it; an outcome where the session ends with it.
-fn give_whole<K: Sink>(
-    alloc: Global,
-    reply: Reply,
-    is_followed: bool,
-    outgoing: &mut Outgoing,
-    output: &mut K,
-) -> Option<Outcome>
-    requires fit { IsFit reply }
-    ensures given { GivesTill reply result outgoing.old outgoing.new (K.held output.old) (K.held output.new) }
-    ensures write { result ≡ Some WriteFault → Rose (K.faults output.old) (K.faults output.new) }
-    ensures later { K.faults output.old ≤ K.faults output.new }
-    ensures kept { K.writes_to output.old output.new }
-{
-    ended_by(outgoing.give(alloc, &reply, is_followed, output))
-}
-
-// Answers a line, and does what follows once the reply is written; an outcome where the session ends with it.
-fn answer_line<R: Threads + Wait + Sync, B: Board, K: Sink, O: Outbox, G: Gate>(
-    rt: &R,
-    alloc: Global,
-    scratch: &mut Scratch,
-    line: &[u8],
-    serving: &mut Serving<B>,
-    outgoing: &mut Outgoing,
-    output: &mut K,
-    jobs: &mut O,
-    gate: &G,
-) -> Option<Outcome>
-    requires sync { IsSync R.row }
-    requires short { length line.now ≤ 65536 }
-    ensures answered { IsLineAnswered (record { session = serving.old.session; jobs = O.jobs jobs.old }) line.now result
-        outgoing.old outgoing.new (K.held output.old) (K.held output.new) (record { session = serving.new.session; jobs = O.jobs jobs.new }) }
-    ensures on { StaysOn serving.old serving.new }
-    ensures write { result ≡ Some WriteFault → Rose (K.faults output.old) (K.faults output.new) }
-    ensures later { K.faults output.old ≤ K.faults output.new }
-    ensures kept { K.writes_to output.old output.new }
-{
-    let (reply, job) = serving.answer(rt, alloc, scratch, line, gate);
-    if let Some(outcome) = give_whole(alloc, reply, job.is_some(), outgoing, output) {
-        return Some(outcome);
+    // Reads one line and answers it; an ending where the session ends with it. No peer waits for a reply while it is waited for: where no whole line
+    // is ahead, so that the read may block, no reply waits.
+    fn answer_next<R: Threads + Wait + Sync, L: Duplex, O: Outbox, G: Gate>(
+        &mut self,
+        rt: &R,
+        alloc: Global,
+        link: &mut L,
+        jobs: &mut O,
+        gate: &G,
+    ) -> Option<Ending>
+        requires sync { IsSync R.row }
+        requires sound { self.old.reader.fault ≡ None }
+        requires idle { ¬ Contains self.old.reader.store.ahead 10 → self.old.outgoing ≡ [] }
+        ensures turned { (start : Standing) (before : Option (List ℕ)) (sent : List ℕ)
+            → SessionRuns start before (L.left link.old) (sent ++ self.old.outgoing) self.old.reader (record { session = self.old.serving.session; jobs = O.jobs jobs.old })
+            → SessionTurned start result before (L.left link.new) sent (L.held link.old) (L.held link.new) self.new.outgoing
+            self.new.reader (record { session = self.new.serving.session; jobs = O.jobs jobs.new }) }
+        ensures rises { IfNone result ((self.new.reader.given ≡ self.old.reader.given + 1) × (self.new.reader.given ≤ 2 ^ 32) × (self.new.reader.fault ≡ None)) }
+        ensures on { StaysOn self.old.serving self.new.serving }
+        ensures reads { TellsFault (result ≡ Some endings.ReadFault) (L.Source.faults link.old) (L.Source.faults link.new) }
+        ensures writes { TellsFault (result ≡ Some endings.WriteFault) (L.Sink.faults link.old) (L.Sink.faults link.new) }
+    {
+        match self.reader.next(link) {
+            Ok(Line::Text(line)) => {
+                let (reply, job) = self
+                    .serving
+                    .answer(rt, alloc, &mut self.scratch, line, gate);
+                self.finish(rt, alloc, reply, job, link, jobs, gate)
+            }
+            Ok(Line::Long) => self.finish(rt, alloc, Reply::Long, None, link, jobs, gate),
+            Ok(Line::End) => Some(Ending::End),
+            Err(fault) => Some(Ending::of(fault)),
+        }
     }
-    serving.follow(rt, job, jobs, gate);
-    None
-}
 
-// Writes the replies that wait where no whole line is ahead; then reads one line and answers it. An outcome where the session ends with it.
-fn turn<R: Threads + Wait + Sync, B: Board, L: Duplex, O: Outbox, G: Gate>(
-    rt: &R,
-    alloc: Global,
-    reader: &mut LineReader,
-    scratch: &mut Scratch,
-    serving: &mut Serving<B>,
-    outgoing: &mut Outgoing,
-    link: &mut L,
-    jobs: &mut O,
-    gate: &G,
-) -> Option<Outcome>
-    requires sync { IsSync R.row }
-    requires sound { reader.old.fault ≡ None }
-    ensures turned { (start : Standing) (before : Option (List ℕ)) (sent : List ℕ)
-        → HasRun start before (L.left link.old) (sent ++ outgoing.old) reader.old (record { session = serving.old.session; jobs = O.jobs jobs.old })
-        → SessionTurned start result before (L.left link.new) sent (L.held link.old) (L.held link.new) outgoing.new
-        reader.new (record { session = serving.new.session; jobs = O.jobs jobs.new }) }
-    ensures rises { IfNone result ((reader.new.given ≡ reader.old.given + 1) × (reader.new.given ≤ 2 ^ 32) × (reader.new.fault ≡ None)) }
-    ensures on { StaysOn serving.old serving.new }
-    ensures read { result ≡ Some ReadFault → Rose (L.Source.faults link.old) (L.Source.faults link.new) }
-    ensures write { result ≡ Some WriteFault → Rose (L.Sink.faults link.old) (L.Sink.faults link.new) }
-    ensures later { (L.Source.faults link.old ≤ L.Source.faults link.new) × (L.Sink.faults link.old ≤ L.Sink.faults link.new) }
-{
-    match outgoing.ready(reader.has_line(), link) {
-        Ok(()) => answer_next(
-            rt, alloc, reader, scratch, serving, outgoing, link, jobs, gate,
-        ),
-        Err(_) => Some(Outcome::WriteFault),
-    }
-}
-
-// Reads one line and answers it; an outcome where the session ends with it. No peer waits for a reply while it is waited for: where no whole line
-// is ahead, so that the read may block, no reply waits.
-fn answer_next<R: Threads + Wait + Sync, B: Board, L: Duplex, O: Outbox, G: Gate>(
-    rt: &R,
-    alloc: Global,
-    reader: &mut LineReader,
-    scratch: &mut Scratch,
-    serving: &mut Serving<B>,
-    outgoing: &mut Outgoing,
-    link: &mut L,
-    jobs: &mut O,
-    gate: &G,
-) -> Option<Outcome>
-    requires sync { IsSync R.row }
-    requires sound { reader.old.fault ≡ None }
-    requires idle { ¬ Contains reader.old.store.ahead 10 → outgoing.old ≡ [] }
-    ensures turned { (start : Standing) (before : Option (List ℕ)) (sent : List ℕ)
-        → HasRun start before (L.left link.old) (sent ++ outgoing.old) reader.old (record { session = serving.old.session; jobs = O.jobs jobs.old })
-        → SessionTurned start result before (L.left link.new) sent (L.held link.old) (L.held link.new) outgoing.new
-        reader.new (record { session = serving.new.session; jobs = O.jobs jobs.new }) }
-    ensures rises { IfNone result ((reader.new.given ≡ reader.old.given + 1) × (reader.new.given ≤ 2 ^ 32) × (reader.new.fault ≡ None)) }
-    ensures on { StaysOn serving.old serving.new }
-    ensures read { result ≡ Some ReadFault → Rose (L.Source.faults link.old) (L.Source.faults link.new) }
-    ensures write { result ≡ Some WriteFault → Rose (L.Sink.faults link.old) (L.Sink.faults link.new) }
-    ensures later { (L.Source.faults link.old ≤ L.Source.faults link.new) × (L.Sink.faults link.old ≤ L.Sink.faults link.new) }
-{
-    match reader.next(link) {
-        Ok(Line::Text(line)) => answer_line(
-            rt, alloc, scratch, line, serving, outgoing, link, jobs, gate,
-        ),
-        Ok(Line::Long) => give_whole(alloc, Reply::Long, false, outgoing, link),
-        Ok(Line::End) => Some(Outcome::Ended),
-        Err(LineFault::ReadFault) => Some(Outcome::ReadFault),
-        Err(LineFault::Spent) => Some(Outcome::Spent),
+    // Gives a reply, and does what follows once it is written; an ending where the session ends with it.
+    fn finish<R: Threads + Wait + Sync, K: Sink, O: Outbox, G: Gate>(
+        &mut self,
+        rt: &R,
+        alloc: Global,
+        reply: Reply,
+        job: Option<Callsign>,
+        output: &mut K,
+        jobs: &mut O,
+        gate: &G,
+    ) -> Option<Ending>
+        requires sync { IsSync R.row }
+        requires fit { IsFit reply }
+        ensures given { GivesTill reply result self.old.outgoing self.new.outgoing (K.held output.old) (K.held output.new) }
+        ensures done { IsDoneUnless result job (record { session = self.old.serving.session; jobs = O.jobs jobs.old })
+            (record { session = self.new.serving.session; jobs = O.jobs jobs.new }) }
+        ensures on { StaysOn self.old.serving self.new.serving }
+        ensures output { LeavesStream (result ≡ Some endings.WriteFault) (K.faults output.old) (K.faults output.new) (K.writes_to output.old output.new) }
+        ensures reader { self.new.reader ≡ self.old.reader }
+    {
+        let given = self.outgoing.give(alloc, &reply, job.is_some(), output);
+        if let Some(ending) = Ending::after(given, false) {
+            return Some(ending);
+        }
+        self.serving.follow(rt, job, jobs, gate);
+        None
     }
 }

@@ -33,15 +33,8 @@ fn is_starved(changed: &Result<Entered, No>) -> bool
     ensures { result ≡ is_starved changed.now }
 {
     match changed {
-        Ok(entered) => {
-            let _version = entered.version;
-            false
-        }
-        Err(No::Refused { version, .. }) => {
-            let _version = *version;
-            false
-        }
         Err(No::Memory) => true,
+        Ok(_) | Err(No::Refused { .. }) => false,
     }
 }
 

@@ -15,20 +15,13 @@ use std::sync::Wait;
 use std::thread::Threads;
 
 // The version at which entries are told.
-fn told_version(outcome: &Result<Answer, No>) -> Option<u64>
-    ensures { result ≡ told_version outcome.now }
-{
-    match outcome {
-        Ok(Answer::History { version, .. }) => Some(*version),
-        _ => None,
-    }
-}
-
-// It, and the entries are let go.
-fn only_version(outcome: Result<Answer, No>) -> Option<u64>
+fn told_version(outcome: Result<Answer, No>) -> Option<u64>
     ensures { result ≡ told_version outcome }
 {
-    told_version(&outcome)
+    match outcome {
+        Ok(Answer::History { version, .. }) => Some(version),
+        _ => None,
+    }
 }
 
 impl<B: Board> Serving<B> {
@@ -53,7 +46,7 @@ impl<B: Board> Serving<B> {
         ensures on { StaysOn self.old self.new }
         ensures fit { IsFit result }
     {
-        match only_version(self.read(rt, &Ask::History { from: 0, to: 0 })) {
+        match told_version(self.read(rt, &Ask::History { from: 0, to: 0 })) {
             Some(version) => Reply::Refused { refusal, version },
             None => Reply::Memory,
         }

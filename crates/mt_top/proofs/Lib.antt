@@ -1,7 +1,4 @@
-pub mod Closing
-pub mod Endings
 pub mod EntriesFed
-pub mod Idle
 pub mod NeverBye
 pub mod NeverMemory
 pub mod OneReply

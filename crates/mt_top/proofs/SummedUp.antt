@@ -7,9 +7,10 @@ use Rattle.mt_lines.specs.Answering.{Explains}
 use Rattle.mt_lines.proofs.Answering.{explained_as}
 use Rattle.mt_picture.specs.Story.{Story}
 use Rattle.mt_serve.specs.Summary.{HasServedWhole}
+use Rattle.mt_serve.specs.Tied.{Doorway}
 use Rattle.mt_serve.specs.declared.counts.Counts.{Counts}
 use Rattle.mt_top.specs.Opening.{BeginsPicture}
-use Rattle.mt_top.specs.Serve.{AreServed, Doorway, IsClosingLine, IsFront, IsSummaryWritten, ServeMeans}
+use Rattle.mt_top.specs.Serve.{AreServed, IsClosingLine, IsFront, IsSummaryWritten, ServeMeans}
 use Rattle.mt_top.specs.Private.Serve.{Appended, SaysClosing}
 use Rattle.mt_top.specs.declared.status.Status.{Status}
 use Rattle.mt_top.specs.declared.status.Status.TheVariants.{Done, Usage, Setup, ReadFault, WriteFault, DoorFault, Spent, Memory}
@@ -40,8 +41,7 @@ module _ {L : Type 0} (source : Source.Ghosts L) (sink : Sink.Ghosts L) (port se
       (λ input left written begins. inr (picture, begins, same)) explained
 
   module _ (picture closed : Story) (counts : Counts) (faulted : Bool)
-      (served : HasServedWhole source sink picture.setup port sessions workers old.count new.count old.still new.still old.returned new.returned
-      old.faults new.faults faulted closed counts)
+      (served : HasServedWhole source sink picture.setup port sessions workers old new faulted closed counts)
       (before after held middle held_after : Option (List ℕ))
       (explained : Explains (λ input left written. BeginsPicture input left written picture) before after held middle) where
     -- so much of what sums it up was written
@@ -60,8 +60,7 @@ module _ {L : Type 0} (source : Source.Ghosts L) (sink : Sink.Ghosts L) (port se
         begins = explained.means;
         closed = closed;
         counts = counts;
-        served = subst (λ z. HasServedWhole source sink picture.setup port sessions workers old.count new.count old.still new.still old.returned new.returned
-            old.faults new.faults z closed counts) is served;
+        served = subst (λ z. HasServedWhole source sink picture.setup port sessions workers old new z closed counts) is served;
         shown = shown;
         sums = sums;
         written_is = refl;

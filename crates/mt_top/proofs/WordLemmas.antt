@@ -10,10 +10,12 @@ use Rattle.mt_io.proofs.HasRead.{told}
 use Rattle.mt_io.proofs.Known.{consumes_none}
 use Rattle.mt_lines.specs.Answering.{Explains}
 use Rattle.mt_lines.proofs.Answering.{explained_as}
+use Rattle.mt_world.specs.World.{World}
+use Rattle.mt_write.specs.declared.reply.Reply.{Reply}
 use Rattle.mt_top.specs.declared.status.Status.{Status}
 use Rattle.mt_top.specs.declared.status.Status.TheVariants.{Done, Usage, Setup, ReadFault, WriteFault, DoorFault, Spent, Memory}
-use Rattle.mt_top.specs.Serve.{Doorway}
-use Rattle.mt_top.specs.Run.{IsNoFault, RunMeans, TaskMeans}
+use Rattle.mt_serve.specs.Tied.{Doorway}
+use Rattle.mt_top.specs.Run.{AnswersMean, IsNoFault, RunMeans, TaskMeans}
 
 module _ {L : Type 0} (source : Source.Ghosts L) (sink : Sink.Ghosts L) (old new : Doorway L) (f g : ℕ) where
   -- what holds by what the words ask for
@@ -42,6 +44,12 @@ pub refuted : (Means : Status → List ℕ → List ℕ → List ℕ → Type 0)
     → ((input left written : List ℕ) → ¬ Means other input left written) → ((left : Option (List ℕ)) → Explains (Means status) left left held held_after) → ¬ (status ≡ other)
 refuted Means status other held held_after never means is =
     let e = subst (λ (s : Status). Explains (Means s) None None held held_after) is (means None) in never e.input e.left e.written e.means
+
+-- lines that are answered end by no fault of a door
+pub no_door : (HasReply : World → List ℕ → Reply → World → Type 0) (status : Status) (before after held held_after : Option (List ℕ))
+    → Explains (AnswersMean HasReply status) before after held held_after → ¬ (status ≡ DoorFault)
+no_door HasReply status before after held held_after means is =
+    let e = subst (λ (s : Status). Explains (AnswersMean HasReply s) before after held held_after) is means in e.means
 
 -- where no fault can be the status, none is
 pub faultless : (status : Status) → ¬ (status ≡ ReadFault) → ¬ (status ≡ WriteFault) → ¬ (status ≡ DoorFault) → IsNoFault status

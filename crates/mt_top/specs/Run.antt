@@ -14,7 +14,8 @@ use Rattle.mt_top.specs.declared.status.Status.{Status}
 use Rattle.mt_top.specs.declared.status.Status.TheVariants.{Done, Usage, Setup, ReadFault, WriteFault, DoorFault, Spent, Memory}
 use Rattle.mt_top.specs.Load.{LoadMeans}
 use Rattle.mt_top.specs.Script.{NothingFollows, IsReplied}
-use Rattle.mt_top.specs.Serve.{Doorway, ServeMeans}
+use Rattle.mt_serve.specs.Tied.{Doorway}
+use Rattle.mt_top.specs.Serve.{ServeMeans}
 use Rattle.mt_top.specs.Standby.{IsStoodBy}
 use Rattle.mt_world.specs.World.{World, opening_world}
 

@@ -1,24 +1,17 @@
 -- What serving means: the lines that set a picture up, the links that were served over it, and the line that sums it up.
-use Rattle.std.specs.Prelude.{◌≡◌, ◌⊎◌, ℕ, Bool, true, false, List, ◌++◌, Option}
+use Rattle.std.specs.Prelude.{◌≡◌, ◌⊎◌, ℕ, Bool, true, false, List, ◌++◌}
 use Rattle.mt_io.specs.Causes.{Rose}
-use Rattle.mt_io.specs.Door.{Count}
 use Rattle.mt_io.specs.declared.source.Source as Source
 use Rattle.mt_io.specs.declared.sink.Sink as Sink
 use Rattle.mt_picture.specs.Story.{Story}
 use Rattle.mt_serve.specs.Closing.{IsClosing, closing_text}
 use Rattle.mt_serve.specs.Summary.{HasServedWhole}
+use Rattle.mt_serve.specs.Tied.{Doorway}
 use Rattle.mt_serve.specs.declared.closing.Closing.{Closing}
 use Rattle.mt_serve.specs.declared.counts.Counts.{Counts}
 use Rattle.mt_top.specs.Opening.{BeginsPicture, OpeningMeans}
 use Rattle.mt_top.specs.declared.status.Status.{Status}
 use Rattle.mt_top.specs.declared.status.Status.TheVariants.{Done, Usage, Setup, ReadFault, WriteFault, DoorFault, Spent, Memory}
-
--- a door's counts, links left, links back and faults
-pub record Doorway (L : Type 0) : Type 0 where
-  pub count : Count
-  pub still : Option (List L)
-  pub returned : Option (List L)
-  pub faults : ℕ
 
 -- the summary line of a closed picture and its sessions
 pub record IsClosingLine (closed : Story) (counts : Counts) (line : List ℕ) : Type 0 where
@@ -44,8 +37,7 @@ module _ {L : Type 0} (source : Source.Ghosts L) (sink : Sink.Ghosts L) (port se
     pub begins : BeginsPicture input left opened picture
     pub closed : Story
     pub counts : Counts
-    pub served : HasServedWhole source sink picture.setup port sessions workers old.count new.count old.still new.still old.returned new.returned
-        old.faults new.faults faulted closed counts
+    pub served : HasServedWhole source sink picture.setup port sessions workers old new faulted closed counts
     pub shown : List ℕ
     pub sums : Sums closed counts shown
     pub written_is : written ≡ opened ++ shown

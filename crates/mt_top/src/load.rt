@@ -1,8 +1,8 @@
 //! A large input, made and summed up.
 ghost use Rattle.std.specs.Prelude.{◌≡◌, ◌≤◌, ℕ, List, IfOk};
 ghost use Rattle.std.specs.declared.option.Option.{Option};
-ghost use Rattle.mt_io.specs.Causes.{Rose};
 ghost use Rattle.mt_lines.specs.Answering.{Explains};
+ghost use Rattle.mt_lines.specs.Streams.{LeavesStream};
 ghost use Rattle.mt_top.specs.Load.{IsSummaryLine, LoadMeans};
 ghost use Rattle.mt_top.specs.declared.status.Status.TheVariants.{WriteFault};
 
@@ -36,8 +36,7 @@ pub(crate) fn load<R: Threads + Sync, K: Sink>(
 ) -> Status
     requires { (1 ≤ flights) × (flights ≤ 1024) }
     ensures means { (left : Option (List ℕ)) → Explains (LoadMeans flights number result) left left (K.held output.old) (K.held output.new) }
-    ensures cause { result ≡ WriteFault → Rose (K.faults output.old) (K.faults output.new) }
-    ensures writes { K.writes_to output.old output.new }
+    ensures output { LeavesStream (result ≡ WriteFault) (K.faults output.old) (K.faults output.new) (K.writes_to output.old output.new) }
 {
     let Ok(line) = line(rt, alloc, flights, number) else {
         return Status::Memory;

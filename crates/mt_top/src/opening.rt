@@ -1,8 +1,8 @@
 //! The lines that set a picture up, read from the input and answered on the output, up to the one that begins it.
-ghost use Rattle.std.specs.Prelude.{◌≡◌, ◌≤◌, [], IfOk, IfErr, vec_capacity};
+ghost use Rattle.std.specs.Prelude.{◌≡◌, ◌≤◌, [], Err, IfOk, IfErr, vec_capacity};
 ghost use Rattle.std.specs.Thread.{IsSync};
-ghost use Rattle.mt_io.specs.Causes.{Rose};
 ghost use Rattle.mt_lines.specs.Answering.{Explains};
+ghost use Rattle.mt_lines.specs.Streams.{LeavesStream};
 ghost use Rattle.mt_top.specs.Opening.{BeginsPicture, OpeningMeans};
 ghost use Rattle.mt_top.specs.declared.status.Status.TheVariants.{ReadFault, WriteFault};
 
@@ -27,16 +27,13 @@ pub(crate) fn open<R: Threads + Sync, S: Source, K: Sink>(
     ensures room { IfOk result (λ r. 65536 ≤ vec_capacity r.1) }
     ensures opening { IfOk result (λ r. r.0.history ≡ []) }
     ensures over { IfErr result (λ status. Explains (OpeningMeans status) (S.left input.old) (S.left input.new) (K.held output.old) (K.held output.new)) }
-    ensures read { IfErr result (λ status. status ≡ ReadFault → Rose (S.faults input.old) (S.faults input.new)) }
-    ensures write { IfErr result (λ status. status ≡ WriteFault → Rose (K.faults output.old) (K.faults output.new)) }
-    ensures reads { S.reads_to input.old input.new }
-    ensures writes { K.writes_to output.old output.new }
-    ensures later { (S.faults input.old ≤ S.faults input.new) × (K.faults output.old ≤ K.faults output.new) }
+    ensures input { LeavesStream (result ≡ Err ReadFault) (S.faults input.old) (S.faults input.new) (S.reads_to input.old input.new) }
+    ensures output { LeavesStream (result ≡ Err WriteFault) (K.faults output.old) (K.faults output.new) (K.writes_to output.old output.new) }
 {
     let Ok(mut lines) = Lines::<Script>::make(alloc) else {
         return Err(Status::Memory);
     };
-    let status = lines.answer_all(rt, alloc, true, input, output);
+    let status = Status::of(lines.answer_all(rt, alloc, true, input, output));
     if !status.is_done() {
         return Err(status);
     }

@@ -3,6 +3,7 @@ ghost use Rattle.std.specs.Prelude.{◌≡◌, ◌≤◌, ◌+◌, ◌^◌, vec_
 ghost use Rattle.std.specs.Thread.{IsSync};
 ghost use Rattle.mt_io.specs.Causes.{Rose};
 ghost use Rattle.mt_lines.specs.Answering.{Explains};
+ghost use Rattle.mt_lines.specs.Streams.{LeavesStream};
 ghost use Rattle.mt_top.specs.Serve.{IsClosingLine, ServeMeans};
 ghost use Rattle.mt_top.specs.Private.Serve.{SaysClosing};
 ghost use Rattle.mt_top.specs.declared.status.Status.TheVariants.{DoorFault, ReadFault, WriteFault};
@@ -30,9 +31,7 @@ fn sum_up_in(room: &mut Vec<u8>, served: &Served)
 fn close<K: Sink>(room: &mut Vec<u8>, served: &Served, output: &mut K) -> Status
     requires room { 65536 ≤ vec_capacity room.old }
     ensures said { SaysClosing served.now.picture served.now.counts served.now.faulted (K.faults output.old) (K.faults output.new) result (K.held output.old) (K.held output.new) }
-    ensures write { result ≡ WriteFault → Rose (K.faults output.old) (K.faults output.new) }
-    ensures later { K.faults output.old ≤ K.faults output.new }
-    ensures writes { K.writes_to output.old output.new }
+    ensures output { LeavesStream (result ≡ WriteFault) (K.faults output.old) (K.faults output.new) (K.writes_to output.old output.new) }
 {
     sum_up_in(room, served);
     let written = put_all(output, room);
@@ -68,11 +67,9 @@ pub(crate) fn serve<R: Threads + Wait + Sync, S: Source, K: Sink, D: Door, G: Ga
         (record { count = D.count door.new; still = D.still door.new; returned = D.returned door.new; faults = D.faults door.new })
         (K.faults output.old) (K.faults output.new) result)
         (S.left input.old) (S.left input.new) (K.held output.old) (K.held output.new) }
-    ensures read { result ≡ ReadFault → Rose (S.faults input.old) (S.faults input.new) }
-    ensures write { result ≡ WriteFault → Rose (K.faults output.old) (K.faults output.new) }
+    ensures input { LeavesStream (result ≡ ReadFault) (S.faults input.old) (S.faults input.new) (S.reads_to input.old input.new) }
+    ensures output { LeavesStream (result ≡ WriteFault) (K.faults output.old) (K.faults output.new) (K.writes_to output.old output.new) }
     ensures door { result ≡ DoorFault → Rose (D.faults door.old) (D.faults door.new) }
-    ensures reads { S.reads_to input.old input.new }
-    ensures writes { K.writes_to output.old output.new }
 {
     let (picture, mut room) = match open(rt, alloc, input, output) {
         Ok(opened) => opened,

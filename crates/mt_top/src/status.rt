@@ -1,8 +1,8 @@
 ghost use Rattle.std.specs.Prelude.{◌≡◌};
 ghost use Rattle.mt_top.specs.Status.{exit_status};
-ghost use Rattle.mt_top.specs.Private.Status.{ending, is_done};
+ghost use Rattle.mt_top.specs.Private.Status.{is_done, status_of};
 
-use mt_io::WriteFault;
+use mt_lines::Ending;
 
 /// How a run ended, and so the program's exit status.
 #[derive(Clone, Copy, Debug, PartialEq, Eq)]
@@ -27,6 +27,18 @@ pub enum Status {
 }
 
 impl Status {
+    /// The status of a run whose lines ended so.
+    pub(crate) fn of(ending: Ending) -> Status
+        ensures { result ≡ status_of ending }
+    {
+        match ending {
+            Ending::End | Ending::Last => Status::Done,
+            Ending::ReadFault => Status::ReadFault,
+            Ending::WriteFault => Status::WriteFault,
+            Ending::Spent => Status::Spent,
+        }
+    }
+
     /// Whether it is `Done`.
     pub(crate) fn is_done(self) -> bool
         ensures { result ≡ is_done self }
@@ -48,18 +60,5 @@ impl Status {
             Status::Spent => 7,
             Status::Memory => 8,
         }
-    }
-}
-
-/// The status with which lines end once a reply was given, where they do: `Done` after a farewell, and where the picture has begun that they
-/// are to set up.
-pub(crate) fn ending(given: Result<bool, WriteFault>, is_set_up: bool) -> Option<Status>
-    ensures { result ≡ ending given is_set_up }
-{
-    match given {
-        Err(_) => Some(Status::WriteFault),
-        Ok(true) => Some(Status::Done),
-        Ok(false) if is_set_up => Some(Status::Done),
-        Ok(false) => None,
     }
 }

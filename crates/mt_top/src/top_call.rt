@@ -4,6 +4,7 @@ ghost use Rattle.std.specs.declared.option.Option.{Option};
 ghost use Rattle.std.specs.Thread.{IsSync};
 ghost use Rattle.mt_io.specs.Causes.{Rose};
 ghost use Rattle.mt_lines.specs.Answering.{Explains};
+ghost use Rattle.mt_lines.specs.Streams.{LeavesStream};
 ghost use Rattle.mt_top.specs.Run.{IsNoFault, RunMeans, UsageMeans};
 ghost use Rattle.mt_top.specs.declared.status.Status.TheVariants.{DoorFault, ReadFault, WriteFault};
 
@@ -80,8 +81,7 @@ pub fn run<R: Threads + Wait + Sync, S: Source, K: Sink, D: Door, G: Gate + Sync
 // Writes the usage line. No input is read, whatever it has left.
 fn usage<K: Sink>(output: &mut K) -> Status
     ensures means { (left : Option (List ℕ)) → Explains (UsageMeans result) left left (K.held output.old) (K.held output.new) }
-    ensures cause { result ≡ WriteFault → Rose (K.faults output.old) (K.faults output.new) }
-    ensures writes { K.writes_to output.old output.new }
+    ensures output { LeavesStream (result ≡ WriteFault) (K.faults output.old) (K.faults output.new) (K.writes_to output.old output.new) }
 {
     match put_all(output, USAGE) {
         Ok(()) => Status::Usage,

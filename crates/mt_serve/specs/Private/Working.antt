@@ -41,3 +41,9 @@ pub record IsStaffed (desk : Desk) (seats : List (SeatNow Entry Setup)) (many wo
   pub second : many ≤ ended
   pub no_working : workings ≡ []
   pub no_rested : resteds ≡ []
+
+-- of these seats the first went to workers that are over; so many of these had a thread
+pub record HasStaffed (desk : Desk) (hands rest : List (SeatNow Entry Setup)) (resteds : List Worked) (staff many : ℕ) : Type 0 where
+  pub hands_are : hands ≡ froms_of resteds ++ rest
+  pub ready : All (IsSeatOfDesk desk) rest
+  pub few : staff ≤ many

@@ -1,14 +1,12 @@
 -- No public contract names these: they are of private steps and of proofs.
-use Rattle.std.specs.Prelude.{◌≡◌, ◌^◌, ◌⊎◌, ◌++◌, ℕ, Bool, true, false, List, [], length, Option, Some, None}
-use Rattle.std.specs.Io.KnownBytes.{Appends}
+use Rattle.std.specs.Prelude.{◌≡◌, ◌⊎◌, ℕ, Bool, true, false, List, [], Option, Some, None}
 use Rattle.mt_io.specs.Reading.{Reading}
-use Rattle.mt_lines.specs.Answering as answering
-use Rattle.mt_lines.specs.Answering.{Explains, SoFar}
+use Rattle.mt_lines.specs.Ending as ends
 use Rattle.mt_lines.specs.Given.{is_farewell}
+use Rattle.mt_lines.specs.declared.ending.Ending.{Ending}
+use Rattle.mt_lines.specs.declared.ending.Ending.TheVariants.{End}
 use Rattle.mt_write.specs.declared.reply.Reply.{Reply}
 use Rattle.mt_write.specs.Reply.{reply_text}
-use Rattle.mt_top.specs.declared.status.Status.{Status}
-use Rattle.mt_top.specs.declared.status.Status.TheVariants.{Done, Usage, Setup, ReadFault, WriteFault, DoorFault, Spent, Memory}
 use Rattle.mt_top.specs.Script.{NothingFollows}
 use Rattle.mt_world.specs.World.{World, opening_world}
 use Rattle.mt_top.specs.Lines.{ends_opening}
@@ -18,45 +16,19 @@ abbrev pub is_last : Bool → Reply → Bool
 is_last false = is_farewell
 is_last true = ends_opening
 
+-- lines that set a picture up leave one of no entry, which hasn't begun while more of them are to be answered, nor at the input's end
+pub record IsSettingUp (until_begun : Bool) (result : Option Ending) (w : World) : Type 0 where
+  pub unbegun : until_begun ≡ true → (result ≡ None) ⊎ (result ≡ Some End) → w.begun ≡ false
+  pub empty : until_begun ≡ true → w.begun ≡ true → w.history ≡ []
+
 module _ (HasReply : World → List ℕ → Reply → World → Type 0) (until_begun : Bool) where
-  -- some lines were read so far, and these bytes answer them
+  -- `LinesEnd`, `LinesSoFar`, `LinesTurned`: what an ending says of lines from the opening world on; the lines so far; and one turn of the loop over them
+  abbrev pub LinesEnd : World → Ending → List ℕ → List ℕ → List ℕ → Type 0
+  LinesEnd w ending input left written = ends.EndsSo reply_text (is_last until_begun) HasReply NothingFollows opening_world w ending input left written
+
   abbrev pub LinesSoFar : Option (List ℕ) → Option (List ℕ) → List ℕ → Reading → World → Type 0
-  LinesSoFar before now bytes reader w =
-      SoFar reply_text (is_last until_begun) HasReply NothingFollows opening_world before now (Some []) (Some bytes) reader w
+  LinesSoFar before now bytes reader w = ends.HasRun reply_text (is_last until_begun) HasReply NothingFollows opening_world before now bytes reader w
 
-  -- what a status says of lines of which no more will be answered. They leave this world: the last one was answered, which is that at the input's end
-  -- where no reply was the last; or the input failed; or the output did, which may have cut off replies, so that some world is left after those that
-  -- were written.
-  abbrev pub LinesMean : World → Status → List ℕ → List ℕ → List ℕ → Type 0
-  LinesMean w Done input left written =
-      (answering.AnswersAll reply_text (is_last until_begun) HasReply NothingFollows opening_world input left written w × (until_begun ≡ true → w.begun ≡ false))
-      ⊎ answering.AnswersToLast reply_text (is_last until_begun) HasReply NothingFollows opening_world input left written w
-  LinesMean w ReadFault input left written = (taken : List ℕ)
-      × answering.AnswersWhole reply_text (is_last until_begun) HasReply NothingFollows opening_world input left taken written w
-  LinesMean w Spent input left written = (taken : List ℕ) × (length taken ≡ 2 ^ 32)
-      × answering.AnswersWhole reply_text (is_last until_begun) HasReply NothingFollows opening_world input left taken written w
-  LinesMean w WriteFault input left written = (end : World)
-      × answering.AnswersFront reply_text (is_last until_begun) HasReply NothingFollows opening_world input left written end
-  LinesMean w Usage input left written = ⊥
-  LinesMean w Setup input left written = ⊥
-  LinesMean w DoorFault input left written = ⊥
-  LinesMean w Memory input left written = ⊥
-
-  -- no more lines will be answered. What the status says is true of the bytes that were written, and none waits; or the last line was answered, and
-  -- of its replies some wait.
-  abbrev pub HaveEnded : Status → Option (List ℕ) → Option (List ℕ) → List ℕ → List ℕ → World → Type 0
-  HaveEnded status before now written waiting w =
-      ((waiting ≡ []) × Explains (LinesMean w status) before now (Some []) (Some written))
-      ⊎ ((status ≡ Done) × Explains (λ input left all. answering.AnswersToLast reply_text (is_last until_begun) HasReply NothingFollows opening_world input left all w)
-      before now (Some []) (Some (written ++ waiting)))
-
-  -- more lines are to be answered, or no more
-  abbrev pub GoOnOrEnd : Option Status → Option (List ℕ) → Option (List ℕ) → List ℕ → List ℕ → Reading → World → Type 0
-  GoOnOrEnd None before now written waiting reader w = LinesSoFar before now (written ++ waiting) reader w
-  GoOnOrEnd (Some status) before now written waiting reader w = HaveEnded status before now written waiting w
-
-  -- what a turn of the loop leaves, before which these bytes were sent. It wrote more, and others wait.
-  pub record Turned (result : Option Status) (before now : Option (List ℕ)) (sent : List ℕ) (held held_now : Option (List ℕ)) (waiting : List ℕ) (reader : Reading) (w : World) : Type 0 where
-    pub more : List ℕ
-    pub written : Appends held held_now more
-    pub leaves : GoOnOrEnd result before now (sent ++ more) waiting reader w
+  abbrev pub LinesTurned : Option Ending → Option (List ℕ) → Option (List ℕ) → List ℕ → Option (List ℕ) → Option (List ℕ) → List ℕ → Reading → World → Type 0
+  LinesTurned result before now sent held held_now waiting reader w =
+      ends.Turned reply_text (is_last until_begun) HasReply NothingFollows opening_world result before now sent held held_now waiting reader w

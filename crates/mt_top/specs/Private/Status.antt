@@ -1,17 +1,18 @@
 -- No public contract names these: they are of private steps and of proofs.
-use Rattle.std.specs.Prelude.{Bool, true, false, Option, Some, None, Result, Ok, Err}
-use Rattle.mt_io.specs.declared.whole_write.WriteFault.{WriteFault as Failed}
+use Rattle.std.specs.Prelude.{Bool, true, false}
+use Rattle.mt_lines.specs.declared.ending.Ending.{Ending}
+use Rattle.mt_lines.specs.declared.ending.Ending.TheVariants as endings
 use Rattle.mt_top.specs.declared.status.Status.{Status}
-use Rattle.mt_top.specs.declared.status.Status.TheVariants.{Done, WriteFault}
+use Rattle.mt_top.specs.declared.status.Status.TheVariants.{Done, ReadFault, WriteFault, Spent}
 
--- `is_done`, `ending`: a status that says done; the status with which lines end once a reply was given, where they do. The output failed; the reply
--- was a farewell; or the picture has begun that the lines are to set up.
+-- `is_done`, `status_of`: a status that says done; the status of a run whose lines ended so
 abbrev pub is_done : Status → Bool
 is_done Done = true
 is_done status = false
 
-abbrev pub ending : Result Bool Failed → Bool → Option Status
-ending (Err failed) is_set_up = Some WriteFault
-ending (Ok true) is_set_up = Some Done
-ending (Ok false) true = Some Done
-ending (Ok false) false = None
+abbrev pub status_of : Ending → Status
+status_of endings.End = Done
+status_of endings.Last = Done
+status_of endings.ReadFault = ReadFault
+status_of endings.WriteFault = WriteFault
+status_of endings.Spent = Spent

@@ -20,3 +20,10 @@ loop-preserved g c =
 pub begin-sitting-requires-clause-ready : goal.begin-sitting-requires-clause-ready
 begin-sitting-requires-clause-ready g c κs within =
     all_front (IsSeatOfDesk c.args.desk.now) c.in-Some-pop_front.seat c.pop_front.new.self.items c.loop.seats.items c.loop.invariant.0.ready c.in-Some-pop_front.ensures.items
+
+-- the door failed, or gave all links
+pub returns-in-Err-clause-links : goal.returns-in-Err-clause-links
+returns-in-Err-clause-links g c = record { begun = search rules; ready = c.loop.invariant.0.ready; returned = search rules; faults = search rules; over = search rules }
+
+pub returns-in-Ok-None-clause-links : goal.returns-in-Ok-None-clause-links
+returns-in-Ok-None-clause-links g c = record { begun = search rules; ready = c.loop.invariant.0.ready; returned = search rules; faults = search rules; over = search rules }

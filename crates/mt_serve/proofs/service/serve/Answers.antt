@@ -7,6 +7,7 @@ use Rattle.mt_serve.specs.Seating.{numbers_of}
 use Rattle.mt_base.specs.declared.command.Entry.{Entry}
 use Rattle.mt_base.specs.Tables.{Setup}
 use Rattle.mt_serve.specs.Sitting.{Met, seats_of, starts_of}
+use Rattle.mt_serve.specs.Tied.{doorway_of}
 use Rattle.mt_serve.specs.Private.Working.{froms_of}
 use Rattle.mt_serve.proofs.Whole.{few_met, not_listened, ready_of, served_all, split_as, whole}
 use Rattle.mt_serve.proofs.Seats.{length_both, length_map}
@@ -21,10 +22,11 @@ settle-requires-clause-split g c κs within =
 
 pub returns-in_default-listen-clause-served : goal.returns-in_default-listen-clause-served
 returns-in_default-listen-clause-served g c =
-    whole g.D.Link.Source g.D.Link.Sink c.in-Ok.desk.fixed c.args.picture.setup _ _ _ _ _ _ _ _ _ _ _ _ _ c.settle.result.picture c.settle.result.counts
+    let door = doorway_of g.D.Door.count g.D.Door.still g.D.Door.returned g.D.Door.faults in
+    whole g.D.Link.Source g.D.Link.Sink c.in-Ok.desk.fixed c.args.picture.setup _ _ _ _ _ _ _ c.settle.result.picture c.settle.result.counts
     c.in_ok-room.room.dones.items c.in-Ok.ensures.fixed c.settle.ensures.faulted c.settle.ensures.setup c.settle.ensures.legal
-    (not_listened g.D.Link.Source g.D.Link.Sink c.in-Ok.desk.fixed c.args.port c.args.sessions c.args.workers (g.D.Door.count c.args.door.now) (g.D.Door.count c.listen.new.self)
-    _ _ _ _ _ _ _ _ _ _ _ c.in_ok-room.room.dones.items c.in_default-listen.ensures.count c.in_default-listen.ensures.links.0
+    (not_listened g.D.Link.Source g.D.Link.Sink c.in-Ok.desk.fixed c.args.port c.args.sessions c.args.workers (door c.args.door.now) (door c.listen.new.self) (door c.settle.new.door)
+    _ c.in_ok-room.room.dones.items c.in_default-listen.ensures.count c.in_default-listen.ensures.links.0
     c.in_default-listen.ensures.links.1 c.in_default-listen.ensures.cause.failed c.in_ok-room.ensures.empty.1
     c.settle.ensures.tied c.settle.ensures.count c.settle.ensures.still c.settle.ensures.returned c.settle.ensures.faults)
     c.settle.ensures.counted
@@ -51,23 +53,24 @@ serve_beside-left-requires-clause-staffed g c κs within = record {
 pub settle-requires-2-clause-split : goal.settle-requires-2-clause-split
 settle-requires-2-clause-split g c κs within =
     split_as c.in-Ok.desk c.in-Ok.first.view c.split_all.new.first.view c.split_all-2.new.first.view c.split_all.new.seats.items c.split_all-2.new.seats.items _ _
-    (c.in-Ok.ensures.first ∙ ap (λ (s : Setup). first_view s) (sym c.in-Ok.ensures.fixed)) c.split_all.ensures.split c.split_all-2.ensures.split c.serve_beside-left.ensures.begun.seats_are c.serve_beside-left.ensures.staff
+    (c.in-Ok.ensures.first ∙ ap (λ (s : Setup). first_view s) (sym c.in-Ok.ensures.fixed)) c.split_all.ensures.split c.split_all-2.ensures.split c.serve_beside-left.ensures.links.begun.seats_are c.serve_beside-left.ensures.staff.hands_are
 
 pub settle-requires-2-clause-few : goal.settle-requires-2-clause-few
 settle-requires-2-clause-few g c κs within =
     few_met c.args.sessions c.args.workers _ _ _ _ c.split_all.new.seats.items c.serve_beside-left.result.seats.items c.serve_beside-left.result.dones.items
-    c.serve_beside-left.ensures.begun c.split_all.ensures.many.0 c.requires.few
+    c.serve_beside-left.ensures.links.begun c.split_all.ensures.many.0 c.requires.few
 
 pub returns-clause-served : goal.returns-clause-served
 returns-clause-served g c =
-    whole g.D.Link.Source g.D.Link.Sink c.in-Ok.desk.fixed c.args.picture.setup _ _ _ _ _ _ _ _ _ _ _ _ _ c.settle-2.result.picture c.settle-2.result.counts
+    let door = doorway_of g.D.Door.count g.D.Door.still g.D.Door.returned g.D.Door.faults in
+    whole g.D.Link.Source g.D.Link.Sink c.in-Ok.desk.fixed c.args.picture.setup _ _ _ _ _ _ _ c.settle-2.result.picture c.settle-2.result.counts
     c.serve_beside-left.result.dones.items c.in-Ok.ensures.fixed c.settle-2.ensures.faulted c.settle-2.ensures.setup c.settle-2.ensures.legal
-    (served_all g.D.Link.Source g.D.Link.Sink c.in-Ok.desk.fixed c.args.port c.args.sessions c.args.workers c.serve_beside-left.result.staff (g.D.Door.count c.args.door.now) (g.D.Door.count c.listen.new.self)
-    (g.D.Door.count c.serve_beside-left.new.door) _ _ _ _ _ _ _ _ _ _ _ _ _ _ _ c.serve_beside-left.result.dones.items c.split_all.new.seats.items
+    (served_all g.D.Link.Source g.D.Link.Sink c.in-Ok.desk.fixed c.args.port c.args.sessions c.args.workers c.serve_beside-left.result.staff (door c.args.door.now) (door c.listen.new.self)
+    (door c.serve_beside-left.new.door) (door c.settle-2.new.door) c.in-Ok.desk _ _ c.serve_beside-left.result.dones.items c.split_all.new.seats.items
     c.serve_beside-left.result.seats.items c.in-Ok-listen.ensures.count c.in-Ok-listen.ensures.links.0 c.in-Ok-listen.ensures.links.1 c.in-Ok-listen.ensures.cause.later
-    c.serve_beside-left.ensures.begun c.serve_beside-left.ensures.returned c.serve_beside-left.ensures.faults c.serve_beside-left.ensures.over
+    c.serve_beside-left.ensures.links
     c.settle-2.ensures.tied c.settle-2.ensures.count c.settle-2.ensures.still c.settle-2.ensures.returned c.settle-2.ensures.faults
-    (omega (arith, c.serve_beside-left.ensures.staffed, c.split_all-2.ensures.many.1)) c.serve_beside-left.ensures.channels)
+    (omega (arith, c.serve_beside-left.ensures.staff.few, c.split_all-2.ensures.many.1)) c.serve_beside-left.ensures.channels)
     c.settle-2.ensures.counted
 
 -- the seats
@@ -120,8 +123,8 @@ pub settle-requires-2-clause-given : goal.settle-requires-2-clause-given
 settle-requires-2-clause-given g c κs within =
     omega (
       arith,
-      c.serve_beside-left.ensures.begun.given,
-      c.serve_beside-left.ensures.begun.back,
+      c.serve_beside-left.ensures.links.begun.given,
+      c.serve_beside-left.ensures.links.begun.back,
       ap (λ (z : Count). z.given) c.in-Ok-listen.ensures.count,
       ap (λ (z : Count). z.back) c.in-Ok-listen.ensures.count,
       length_map (λ (m : Met g.row.D-Link.Denot). m.from) c.serve_beside-left.result.dones.items,

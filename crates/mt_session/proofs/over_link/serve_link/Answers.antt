@@ -1,5 +1,8 @@
 use Rattle.std.proofs.Common.{refl, ◌∙◌}
-use Rattle.mt_session.proofs.Turning.{begins, nothing_done}
+use Rattle.mt_lines.specs.Given.{is_farewell}
+use Rattle.mt_lines.proofs.Turning.{begins}
+use Rattle.mt_session.specs.Following.{IsFollowed, TouchesNoJob}
+use Rattle.mt_session.proofs.Turning.{explained, nothing_done, read_ends, write_ends}
 use Rattle.mt_session.proofs.over_link.serve_link.Goals as goal
 
 pub returns-in_default : goal.returns-in_default
@@ -7,17 +10,17 @@ returns-in_default g c = record { session = nothing_done _ _ _; home = refl }
 
 pub returns : goal.returns
 returns g c =
-    let turns = c.turns-outcome.ensures in
-    let on = rw (c.of-serving.ensures.new, c.of-serving.ensures.home) at turns.on in
+    let lines = c.answer_all-ending.ensures in
+    let on = rw (c.of.ensures.new, c.of.ensures.home) at lines.on in
     record {
-      session = rw c.board.ensures.seat (record {
-        end = c.turns-outcome.new.serving.session;
+      session = rw (c.board.ensures.seat, c.of-2.ensures) (record {
+        end = c.answer_all-ending.new.self.serving.session;
         seat_is = refl;
-        explained = turns.ended _ _ (rw (c.in-Ok.ensures.reader, c.of-serving.ensures.new) (begins _ _));
+        explained = explained _ _ _ _ _ _ _ (lines.ended _ _ (rw (c.in-Ok.ensures.reader, c.of.ensures.new) (begins is_farewell TouchesNoJob IsFollowed _ _)));
         same = on.same;
         begins = on.begins;
-        read_cause = turns.read;
-        write_cause = turns.write;
+        read_cause = λ is. lines.reads.cause (read_ends _ is);
+        write_cause = λ is. lines.writes.cause (write_ends _ is);
       });
       home = c.board.ensures.home ∙ on.home;
     }

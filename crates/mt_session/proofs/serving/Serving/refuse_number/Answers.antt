@@ -33,7 +33,7 @@ returns-in-Some-clause-refused g c =
     inl (record {
       seat = seat;
       version = c.in-Some.version;
-      seen = seen_by _ _ (History 0 0) c.read.result c.in-Some.version read (sym c.only_version.ensures ∙ c.in-Some.is);
+      seen = seen_by _ _ (History 0 0) c.read.result c.in-Some.version read (sym c.told_version.ensures ∙ c.in-Some.is);
       given = record { reply_is = refl; next_is = is };
     })
 

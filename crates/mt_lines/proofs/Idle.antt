@@ -1,5 +1,5 @@
--- A reader with a whole line ahead gives it.
-use Rattle.std.proofs.Common.{◌≡◌, ℕ, zero, suc, Bool, true, false, List, [], ◌∷◌, ◌++◌, refl, ◌∙◌, ap, arith, append-nil}
+-- A reader with a whole line ahead reads nothing and gives it.
+use Rattle.std.proofs.Common.{◌≡◌, ℕ, zero, suc, Bool, true, false, List, [], ◌∷◌, ◌++◌, refl, ◌∙◌, ap, arith, append-nil, rules}
 use Rattle.std.specs.Prelude.{Contains, IsTrue, ◌↔◌}
 use Rattle.std.proofs.lemmas.List.Elements.{Contains-append_left}
 use Rattle.std.specs.declared.option.Option.{Option}
@@ -7,10 +7,10 @@ use Rattle.mt_io.specs.Lines.{IsPart}
 use Rattle.mt_io.specs.Reading.{IsAllGiven, IsStopped, Reading}
 use Rattle.mt_io.specs.declared.line.LineFault.{LineFault}
 
--- nothing waits where the reader was asked and has no line
-pub idle : (has_line : Bool) (ahead waiting : List ℕ) → IsTrue has_line ↔ Contains ahead 10 → (has_line ≡ false → waiting ≡ []) → ¬ Contains ahead 10 → waiting ≡ []
-idle true ahead waiting asked empty none = absurd (none (asked.0 refl))
-idle false ahead waiting asked empty none = empty refl
+-- where no whole line is ahead, nothing waits
+pub idle_of : (has_line : Bool) (Ahead P : Type 0) → IsTrue has_line ↔ Ahead → (has_line ≡ false → P) → ¬ Ahead → P
+idle_of true Ahead P ahead idle none = absurd (none (ahead.0 (search rules)))
+idle_of false Ahead P ahead idle none = idle refl
 
 no_break : (part : List ℕ) → IsPart part → ¬ Contains part 10
 no_break [] is_part (k, within, is) = absurd (omega arith)
