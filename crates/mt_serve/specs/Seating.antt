@@ -1,5 +1,5 @@
 -- Seats that are split off the first one, and joined into it again.
-use Rattle.std.specs.Prelude.{ℕ, List, [], map}
+use Rattle.std.specs.Prelude.{ℕ, List, map}
 use Rattle.mt_base.specs.declared.command.Entry.{Entry}
 use Rattle.mt_base.specs.Tables.{Setup}
 use Rattle.mt_turn.specs.Seats.{SeatNow}

@@ -1,5 +1,5 @@
 -- Sessions, as contracts see them: what each is given, and what it gives back.
-use Rattle.std.specs.Prelude.{◌≡◌, Bool, false, List, [], map, All}
+use Rattle.std.specs.Prelude.{◌≡◌, Bool, false, List, map, All}
 use Rattle.mt_base.specs.declared.command.Entry.{Entry}
 use Rattle.mt_base.specs.Tables.{Setup}
 use Rattle.mt_session.specs.declared.outcome.Outcome.{Outcome}

@@ -1,5 +1,5 @@
 -- What a worker does.
-use Rattle.std.specs.Prelude.{◌≡◌, ℕ, List, []}
+use Rattle.std.specs.Prelude.{◌≡◌, ℕ, List}
 use Rattle.mt_base.specs.declared.command.Command.TheVariants.{Renew}
 use Rattle.mt_base.specs.declared.command.Entry.{Entry}
 

@@ -1,5 +1,5 @@
 -- No public contract names these: they are of private steps and of proofs.
-use Rattle.std.specs.Prelude.{◌+◌, ℕ, List, [], map, All}
+use Rattle.std.specs.Prelude.{◌+◌, ℕ, List, map, All}
 use Rattle.mt_base.specs.declared.command.Entry.{Entry}
 use Rattle.mt_base.specs.Tables.{Setup}
 use Rattle.mt_io.specs.Door.{Count}
