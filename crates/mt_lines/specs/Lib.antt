@@ -6,4 +6,3 @@ pub mod Private
 pub mod Streams
 pub mod Told
 pub mod Waiting
-pub mod Waits

@@ -23,7 +23,7 @@ pub struct Outgoing {
 
 impl Model for Outgoing {
     ghost use Rattle.std.specs.Prelude.{◌≤◌, ℕ, List, vec_capacity};
-    ghost use Rattle.mt_lines.specs.Waits.{waits};
+    ghost use Rattle.mt_lines.specs.Private.Waits.{waits};
 
     ghost Value = { List ℕ };
 

@@ -25,7 +25,7 @@ pub(crate) struct Waiting {
 }
 
 impl Waiting {
-    ghost use Rattle.mt_lines.specs.Waits.{waits};
+    ghost use Rattle.mt_lines.specs.Private.Waits.{waits};
 
     /// None waits. It takes all its memory here.
     pub(crate) fn make(alloc: Global) -> Result<Waiting, Memory>

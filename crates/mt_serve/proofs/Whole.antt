@@ -59,44 +59,44 @@ count_is c port sessions given back a b d e =
     ∙ ap (λ n. record { port = port; sessions = sessions; given = given; back = n }) e
 
 module _ {L : Type 0} (source : Source.Ghosts L) (sink : Sink.Ghosts L) where
-  -- the door was `d0` at first, `d1` once it listened, `d2` when it was over, and `d3` once the links were back
-  pub served_all : (setup : Setup) (port sessions workers staff : ℕ) (d0 d1 d2 d3 : Doorway L) (desk : Desk) (faulted : Bool) (h : List Entry) (mets : List (Met L)) (seats rest : List (SeatNow Entry Setup))
-      → d1.count ≡ listened port sessions → d1.still ≡ d0.still → d1.returned ≡ d0.returned → d0.faults ≤ d1.faults
-      → HasServedLinks desk d1 d2 seats rest (starts_of mets) faulted
-      → IsTied source sink setup h mets → d3.count ≡ gave_back d2.count (length mets) → d3.still ≡ d2.still → Gains d2.returned d3.returned (backs_of mets) → d2.faults ≤ d3.faults
-      → staff ≤ workers → (staff ≡ 0 → HaveNoChannel (starts_of mets)) → HasServedAll source sink setup port sessions workers d0 d3 faulted h mets
-  served_all setup port sessions workers staff d0 d1 d2 d3 desk faulted h mets seats rest listen ss bs later1 links tied back ss3 gains later3 staff_is channels =
+  -- the door was `at_first` at first, `at_listening` once it listened, `at_end` when it was over, and `at_last` once the links were back
+  pub served_all : (setup : Setup) (port sessions workers staff : ℕ) (at_first at_listening at_end at_last : Doorway L) (desk : Desk) (faulted : Bool) (h : List Entry) (mets : List (Met L)) (seats rest : List (SeatNow Entry Setup))
+      → at_listening.count ≡ listened port sessions → at_listening.still ≡ at_first.still → at_listening.returned ≡ at_first.returned → at_first.faults ≤ at_listening.faults
+      → HasServedLinks desk at_listening at_end seats rest (starts_of mets) faulted
+      → IsTied source sink setup h mets → at_last.count ≡ gave_back at_end.count (length mets) → at_last.still ≡ at_end.still → Gains at_end.returned at_last.returned (backs_of mets) → at_end.faults ≤ at_last.faults
+      → staff ≤ workers → (staff ≡ 0 → HaveNoChannel (starts_of mets)) → HasServedAll source sink setup port sessions workers at_first at_last faulted h mets
+  served_all setup port sessions workers staff at_first at_listening at_end at_last desk faulted h mets seats rest listen ss bs later1 links tied back ss3 gains later3 staff_is channels =
       let begun = links.begun in
       let many = length_map (λ (z : Met L). z.from) mets in
       let p1 = ap (λ (z : Count). z.port) listen in let n1 = ap (λ (z : Count). z.sessions) listen in let g1 = ap (λ (z : Count). z.given) listen in let k1 = ap (λ (z : Count). z.back) listen in
-      let given : d2.count.given ≡ length mets = omega (arith, begun.given, g1, many) in
-      let k3 : d3.count.back ≡ length mets = omega (arith, ap (λ (z : Count). z.back) back, begun.back, k1) in
+      let given : at_end.count.given ≡ length mets = omega (arith, begun.given, g1, many) in
+      let k3 : at_last.count.back ≡ length mets = omega (arith, ap (λ (z : Count). z.back) back, begun.back, k1) in
       record {
         tied = tied;
-        given = subst (λ s. LosesFront s d3.still (links_of (starts_of mets))) ss (subst (λ s. LosesFront d1.still s (links_of (starts_of mets))) (sym ss3) begun.links);
-        returned = subst (λ b. Gains b d3.returned (backs_of mets)) (links.returned ∙ bs) gains;
+        given = subst (λ s. LosesFront s at_last.still (links_of (starts_of mets))) ss (subst (λ s. LosesFront at_listening.still s (links_of (starts_of mets))) (sym ss3) begun.links);
+        returned = subst (λ b. Gains b at_last.returned (backs_of mets)) (links.returned ∙ bs) gains;
         count = inl (
-          count_is d3.count port sessions (length mets) (length mets) (ap (λ (z : Count). z.port) back ∙ begun.port ∙ p1) (ap (λ (z : Count). z.sessions) back ∙ begun.sessions ∙ n1) (ap (λ (z : Count). z.given) back ∙ given) k3,
-          over_all faulted d2.count d1.faults d2.faults (length mets) sessions links.over given (begun.sessions ∙ n1),
+          count_is at_last.count port sessions (length mets) (length mets) (ap (λ (z : Count). z.port) back ∙ begun.port ∙ p1) (ap (λ (z : Count). z.sessions) back ∙ begun.sessions ∙ n1) (ap (λ (z : Count). z.given) back ∙ given) k3,
+          over_all faulted at_end.count at_listening.faults at_end.faults (length mets) sessions links.over given (begun.sessions ∙ n1),
         );
-        cause = λ is. let r = over_cause faulted d2.count d1.faults d2.faults links.over is in omega (arith, r, later1, later3);
+        cause = λ is. let r = over_cause faulted at_end.count at_listening.faults at_end.faults links.over is in omega (arith, r, later1, later3);
         staff = staff;
         staff_is = staff_is;
         channels = channels;
       }
 
-  pub not_listened : (setup : Setup) (port sessions workers : ℕ) (d0 d1 d3 : Doorway L) (h : List Entry) (mets : List (Met L))
-      → d1.count ≡ d0.count → d1.still ≡ d0.still → d1.returned ≡ d0.returned → Rose d0.faults d1.faults → mets ≡ []
-      → IsTied source sink setup h mets → d3.count ≡ gave_back d1.count (length mets) → d3.still ≡ d1.still → Gains d1.returned d3.returned (backs_of mets) → d1.faults ≤ d3.faults
-      → HasServedAll source sink setup port sessions workers d0 d3 true h mets
-  not_listened setup port sessions workers d0 d1 d3 h mets listen ss bs rose none tied back ss3 gains later =
+  pub not_listened : (setup : Setup) (port sessions workers : ℕ) (at_first at_listening at_last : Doorway L) (h : List Entry) (mets : List (Met L))
+      → at_listening.count ≡ at_first.count → at_listening.still ≡ at_first.still → at_listening.returned ≡ at_first.returned → Rose at_first.faults at_listening.faults → mets ≡ []
+      → IsTied source sink setup h mets → at_last.count ≡ gave_back at_listening.count (length mets) → at_last.still ≡ at_listening.still → Gains at_listening.returned at_last.returned (backs_of mets) → at_listening.faults ≤ at_last.faults
+      → HasServedAll source sink setup port sessions workers at_first at_last true h mets
+  not_listened setup port sessions workers at_first at_listening at_last h mets listen ss bs rose none tied back ss3 gains later =
       let zero_ : length mets ≡ 0 = ap (λ (ms : List (Met L)). length ms) none in
-      let same : d1.count.back + length mets ≡ d1.count.back = omega (arith, zero_) in
+      let same : at_listening.count.back + length mets ≡ at_listening.count.back = omega (arith, zero_) in
       record {
         tied = tied;
-        given = subst (λ ms. LosesFront d0.still d3.still (links_of (starts_of ms))) (sym none) (subst (λ s. LosesFront d0.still s []) (sym (ss3 ∙ ss)) (loses_none d0.still));
-        returned = subst (λ b. Gains b d3.returned (backs_of mets)) bs gains;
-        count = inr (back ∙ ap (λ n. record { port = d1.count.port; sessions = d1.count.sessions; given = d1.count.given; back = n }) same ∙ listen, zero_, refl);
+        given = subst (λ ms. LosesFront at_first.still at_last.still (links_of (starts_of ms))) (sym none) (subst (λ s. LosesFront at_first.still s []) (sym (ss3 ∙ ss)) (loses_none at_first.still));
+        returned = subst (λ b. Gains b at_last.returned (backs_of mets)) bs gains;
+        count = inr (back ∙ ap (λ n. record { port = at_listening.count.port; sessions = at_listening.count.sessions; given = at_listening.count.given; back = n }) same ∙ listen, zero_, refl);
         cause = λ is. omega (arith, rose, later);
         staff = 0;
         staff_is = omega arith;

@@ -1,3 +1,4 @@
+-- No public contract names this.
 -- What waits to be written.
 use Rattle.std.specs.Prelude.{ℕ, List}
 use Rattle.mt_lines.specs.declared.waiting.Waiting.{Waiting}
