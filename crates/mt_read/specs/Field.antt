@@ -1,5 +1,5 @@
 -- The fields of a line: what is read of one, and what is checked of one.
-use Rattle.std.specs.Prelude.{ℕ, ℤ, pos, ◌&&◌, not, int_le, Bool, true, false, List, [], ◌∷◌, codes, Option, Some, None, is_some, option_and_then, option_map, unwrap_or, ⊤, unsigned_abs, if◌then◌else◌}
+use Rattle.std.specs.Prelude.{ℕ, ℤ, pos, ◌&&◌, not, int_le, Bool, true, false, List, [], ◌∷◌, codes, Option, Some, None, is_some, option_and_then, option_map, unwrap_or, unsigned_abs, if◌then◌else◌}
 use Rattle.std.specs.Option.{option_map_or}
 use Rattle.std.specs.Str.{bytes_eq}
 use Rattle.serde_json.specs.Data.{Data, Items, no_items, item, Members}

@@ -1,5 +1,4 @@
 -- No public contract names these: they are of private steps and of proofs.
-use Rattle.std.specs.Prelude.{if◌then◌else◌}
 use Rattle.mt_json.specs.View.{view}
 use Rattle.mt_read.specs.declared.bands.FourValues.{FourValues}
 use Rattle.mt_read.specs.Bands.{Four}

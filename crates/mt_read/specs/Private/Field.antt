@@ -1,5 +1,5 @@
 -- No public contract names these: they are of private steps and of proofs.
-use Rattle.std.specs.Prelude.{◌≡◌, ℕ, ℤ, pos, Bool, true, false, [], ◌∷◌, Option, Result, Ok, Err, ⊤, if◌then◌else◌}
+use Rattle.std.specs.Prelude.{◌≡◌, ℕ, ℤ, pos, Bool, true, false, Option, Result, Ok, Err, ⊤}
 use Rattle.serde_json.specs.Data.{Data, Members}
 use Rattle.mt_base.specs.Checks.{check, next}
 use Rattle.mt_read.specs.declared.key.Key.{Key}
