@@ -1,4 +1,5 @@
 -- What no public contract names: invariants and relations of private steps.
 pub mod InPlane
+pub mod Part
 pub mod Walk
 pub mod Wide

@@ -57,6 +57,12 @@ pub record Have (s : Sliced) (k : ℕ) : Type 0 where
   pub begun : s.from ≤ k
   pub within : k < s.to
 
+-- slices of the same trajectory, with all of its seconds of a range, and maybe more
+pub record IsPartOver (s : Sliced) (from to : ℕ) (part : Sliced) : Type 0 where
+  pub rvsm_is : part.rvsm ≡ s.rvsm
+  pub whole : (k : ℕ) → Have s k → from ≤ k → k < to → Have part k
+  pub same : (k : ℕ) → Have part k → Have s k × (slice_at part k ≡ slice_at s k)
+
 -- two extents have a coordinate in common
 pub record Touch (a b : Extent) : Type 0 where
   pub left : a.low ≤ℤ b.high

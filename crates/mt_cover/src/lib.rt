@@ -6,6 +6,7 @@ mod bounding_box;
 mod heights;
 mod laws;
 mod layer;
+mod part;
 mod sliced;
 mod stays;
 mod walk;
