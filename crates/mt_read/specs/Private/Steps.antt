@@ -7,6 +7,7 @@ use Rattle.mt_base.specs.declared.row.Row.{Row}
 use Rattle.mt_base.specs.Checks.{judged}
 use Rattle.mt_read.specs.declared.key.Fault.{Fault}
 use Rattle.mt_read.specs.declared.key.Key.TheVariants as key
+use Rattle.mt_read.specs.Line.{◌>>=◌}
 use Rattle.mt_read.specs.Private.Field.{count_within, within}
 use Rattle.mt_read.specs.Table.{ends}
 
