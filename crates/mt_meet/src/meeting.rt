@@ -105,6 +105,7 @@ fn narrowed(
 }
 
 // The first and the last second in which slices meet, of those in turn: from a start on and before a stop, and so each 256 seconds later.
+#[inline(always)]
 fn meet_in_turn(
     a: &Slices,
     b: &Slices,
@@ -160,7 +161,6 @@ fn meet_between(
     requires outside { MeetOnlyIn rules.now a.now b.now begin end }
     ensures { IsHull (MeetAt rules.now a.now b.now) result }
 {
-    a.keeps();
     let a_start = begin - (begin - a.from()) % SLICE;
     let b_start = begin - (begin - b.from()) % SLICE;
     let (start, next) = (a_start.max(b_start), a_start.min(b_start) + SLICE);
