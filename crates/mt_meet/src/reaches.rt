@@ -1,11 +1,13 @@
 //! The reaches of many items, in pages.
-ghost use Rattle.std.specs.Prelude.{◌≡◌, ◌<◌, ℕ, None, length, get_or, replicate, slice_set, option_copied};
+ghost use Rattle.std.specs.Prelude.{◌≡◌, ◌<◌, ℕ, None, length, get_or, replicate, slice_set, IfOk, option_copied};
 ghost use Rattle.std.specs.Int.{bit_at};
 ghost use Rattle.mt_meet.specs.Private.Marking.{LiesOutside};
 ghost use Rattle.mt_meet.specs.Private.Reaching.{nowhere, page_of};
 
 use crate::marks::{BANDS, band, mark};
 use crate::reach::{Reach, nowhere};
+use mt_base::Memory;
+use std::alloc::Global;
 use std::marker::Model;
 
 /// How many items have their reaches on one page.
@@ -15,7 +17,7 @@ pub(crate) const ITEMS: u32 = 64;
 /// above its start. Where none of the items has slices, a page may be absent.
 #[derive(Drop)]
 pub(crate) struct ReachPage {
-    list: [Reach; ITEMS as usize],
+    list: Vec<Reach>,
     lows: [u64; BANDS as usize],
     highs: [u64; BANDS as usize],
 }
@@ -27,16 +29,9 @@ impl Model for ReachPage {
 
     ghost Value = { List Kept };
 
-    ghost view = { λ s. s.list };
+    ghost view = { λ s. s.list.items };
 
-    ghost invariant = { λ s. AreMarkedInBands s.list s.lows s.highs };
-}
-
-// The reaches of 64 items that have no slices.
-fn no_reaches() -> [Reach; ITEMS as usize]
-    ensures { result ≡ page_of None }
-{
-    [nowhere(); ITEMS as usize]
+    ghost invariant = { λ s. AreMarkedInBands s.list.items s.lows s.highs };
 }
 
 // No mark in any band.
@@ -48,26 +43,26 @@ fn no_marks() -> [u64; BANDS as usize]
 
 impl ReachPage {
     // That of 64 items that have no slices.
-    fn empty() -> ReachPage
-        ensures { result ≡ page_of None }
+    fn empty(alloc: Global) -> Result<ReachPage, Memory>
+        ensures { IfOk result (λ page. page ≡ page_of None) }
     {
-        ReachPage {
-            list: no_reaches(),
+        Ok(ReachPage {
+            list: vec![in alloc; nowhere(); ITEMS as usize]?,
             lows: no_marks(),
             highs: no_marks(),
-        }
+        })
     }
 
     // The same once more.
-    fn copied(&self) -> ReachPage
-        ensures page { result ≡ self.now }
+    fn copied(&self, alloc: Global) -> Result<ReachPage, Memory>
+        ensures page { IfOk result (λ page. page ≡ self.now) }
         ensures full { length self.now ≡ 64 }
     {
-        ReachPage {
-            list: self.list,
+        Ok(ReachPage {
+            list: Vec::from_slice(alloc, &self.list)?,
             lows: self.lows,
             highs: self.highs,
-        }
+        })
     }
 
     /// The list of them.
@@ -99,15 +94,20 @@ impl ReachPage {
 }
 
 /// A page, which may be absent, with another reach at a place. The page itself stays.
-pub(crate) fn with_reach(page: Option<&ReachPage>, place: u32, reach: Reach) -> ReachPage
+pub(crate) fn with_reach(
+    alloc: Global,
+    page: Option<&ReachPage>,
+    place: u32,
+    reach: Reach,
+) -> Result<ReachPage, Memory>
     requires { place < 64 }
-    ensures page { result ≡ slice_set (page_of (option_copied page.entry)) place reach }
+    ensures page { IfOk result (λ after. after ≡ slice_set (page_of (option_copied page.entry)) place reach) }
     ensures full { length (page_of (option_copied page.entry)) ≡ 64 }
 {
     let mut after = match page {
-        Some(page) => page.copied(),
-        None => ReachPage::empty(),
+        Some(page) => page.copied(alloc)?,
+        None => ReachPage::empty(alloc)?,
     };
     after.put(place, reach);
-    after
+    Ok(after)
 }

@@ -210,7 +210,7 @@ fn with_reach_of(
     ensures full { length (page_of (get_or pages.now (item / 64) None)) ≡ 64 }
 {
     let (number, place) = (item / ITEMS, item % ITEMS);
-    let page = with_reach(pages.get(number), place, reach);
+    let page = with_reach(alloc, pages.get(number), place, reach)?;
     pages.set(number, Some(Arc::new(alloc, page)?))
 }
 
