@@ -21,7 +21,8 @@ module _ (P : ℕ → Type 0) where
         (λ late. (omega (arith, late, before.first_is.0), omega (arith, h.0))) (cases_lt k place);
   }
 
-  before_it : (place k : ℕ) → ¬ P place → Before P (place + 1) k → Before P place k
+  -- of the places before the next one those at which they meet lie before this one, where they don't meet here
+  pub before_it : (place k : ℕ) → ¬ P place → Before P (place + 1) k → Before P place k
   before_it place k apart h = ⊎_elim
       (λ early. (early, h.1))
       (λ late. let same : k ≡ place = omega (arith, late, h.0) in absurd (apart (subst P same h.1)))

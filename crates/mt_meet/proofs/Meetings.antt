@@ -1,5 +1,5 @@
 -- What meets is near, and what loses separation meets.
-use Rattle.std.proofs.Common.{◌≡◌, ◌<◌, ◌+◌, ◌*◌, ◌-◌, ◌/◌, ◌%◌, ◌&&◌, ℕ, zero, suc, length, ℤ, List, [], ◌∷◌, Option, Some, None, inl, inr, ⊎_elim, refl, sym, subst, ◌∙◌, get_or, ap, arith}
+use Rattle.std.proofs.Common.{◌≡◌, ◌<◌, ◌+◌, ◌*◌, ◌-◌, ◌/◌, ◌%◌, ◌&&◌, ℕ, zero, suc, length, ℤ, List, [], ◌∷◌, Option, Some, None, max, min, inl, inr, ⊎_elim, refl, sym, subst, ◌∙◌, get_or, ap, arith}
 use Rattle.std.proofs.lemmas.Bool.{cases_lt}
 use Rattle.std.proofs.lemmas.Int.{ints, clamps}
 use Rattle.std.proofs.lemmas.List.{get_or_past}
@@ -16,6 +16,7 @@ use Rattle.mt_meet.proofs.Layers.{lying_apart}
 use Rattle.mt_meet.specs.Meeting.{IsMetAt, LosingMeet, MeetAt, MeetingIsNear, MeetNone}
 use Rattle.mt_meet.specs.declared.reach.Reach.{Reach}
 use Rattle.mt_meet.specs.Private.Heights.{IsWider}
+use Rattle.mt_meet.specs.Private.Meeting.{MeetOnlyIn}
 use Rattle.mt_meet.specs.Private.Reaching.{AreClose, AreReachesOn, AreSlicesIn, AreReachesKept, IsGuard, IsReachOf, LiesBeyond, nowhere, page_of, reach_in, reach_of}
 use Rattle.mt_meet.proofs.Kept.{same}
 
@@ -67,8 +68,7 @@ inside s k kept have = omega (arith, kept.number, have.begun, have.within)
 
 pub close_by_meeting : (rules : Rules) (a b : Sliced) (k : ℕ) → AreSlices a → AreSlices b → MeetAt rules a b k → AreClose rules (reach_of a) (reach_of b)
 close_by_meeting rules a b k a_kept b_kept meet = record {
-  left = omega (arith, meet.left.begun, meet.right.within);
-  right = omega (arith, meet.right.begun, meet.left.within);
+  common = omega (arith, meet.left.begun, meet.right.begun, meet.left.within, meet.right.within);
   heights = λ apart. meet.meet.heights (lie_within rules (level_of (a.rvsm && b.rvsm)) (slice_at a k).layer (slice_at b k).layer (layer_over a.list) (layer_over b.list)
       (wider_at no_layer a.list ((k - a.from) / 256) no_slice (inside a k a_kept meet.left))
       (wider_at no_layer b.list ((k - b.from) / 256) no_slice (inside b k b_kept meet.right)) apart);
@@ -87,6 +87,26 @@ reach_kept (Some s) kept = kept.layer
 pub layer_kept : (x : Option Sliced) (r : Reach) → IsReachOf x r → IsLayerKept r.layer
 layer_kept x r of = subst (λ (it : Reach). IsLayerKept it.layer) (sym of.is) (reach_kept x of.slices)
 
+-- the seconds that two reaches have in common are those in which their slices may meet
+pub in_common : (rules : Rules) (mine theirs : Sliced) (own r : Reach) → own ≡ reach_of mine → r ≡ reach_of theirs → max own.from r.from < min own.to r.to
+    → MeetOnlyIn rules mine theirs (max own.from r.from) (min own.to r.to)
+in_common rules mine theirs own r own_is r_is some =
+    let from = ap (λ (x : Reach). x.from) own_is in
+    let to = ap (λ (x : Reach). x.to) own_is in
+    let r_from = ap (λ (x : Reach). x.from) r_is in
+    let r_to = ap (λ (x : Reach). x.to) r_is in
+    record {
+      some = some;
+      a_begun = omega (arith, from);
+      b_begun = omega (arith, r_from);
+      a_within = omega (arith, to);
+      b_within = omega (arith, r_to);
+      all = λ k meet. (
+        omega (arith, from, r_from, meet.left.begun, meet.right.begun),
+        omega (arith, to, r_to, meet.left.within, meet.right.within),
+      );
+    }
+
 -- what is not close never meets
 pub far_apart : (rules : Rules) (mine : Sliced) (table : List (Option Sliced)) (i : ℕ) (own r : Reach) → AreSlices mine → own ≡ reach_of mine
     → IsReachOf (get_or table i None) r → ¬ AreClose rules own r → IsMetAt rules mine table i None
@@ -102,7 +122,7 @@ beyond_apart rules own r guard is beyond close = close.heights (inl (⊎_elim
 
 -- nothing is close to that of no slices
 pub nothing_close : (rules : Rules) (own r : Reach) → r ≡ nowhere → ¬ AreClose rules own r
-nothing_close rules own r is close = let none : r.to ≡ 0 = ap (λ (x : Reach). x.to) is in omega (arith, close.left, none)
+nothing_close rules own r is close = let none : r.to ≡ 0 = ap (λ (x : Reach). x.to) is in omega (arith, close.common, none)
 
 pub within : (all : List (Option Sliced)) (item : ℕ) (theirs : Sliced) → get_or all item None ≡ Some theirs → item < length all
 within [] item theirs there = absurd (cc)

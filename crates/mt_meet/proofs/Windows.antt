@@ -1,5 +1,6 @@
 -- Of a window of the clock the slices that hold all others are compared first.
-use Rattle.std.proofs.Common.{◌≡◌, ◌≤◌, ◌<◌, ◌+◌, ◌-◌, ◌*◌, ◌/◌, ◌&&◌, Bool, ℕ, List, Some, None, length, max, min, arith}
+use Rattle.std.proofs.Common.{◌≡◌, ◌≤◌, ◌<◌, ◌+◌, ◌-◌, ◌*◌, ◌/◌, ◌&&◌, Bool, ℕ, List, Some, None, length, max, min, ⊎_elim, arith}
+use Rattle.std.proofs.lemmas.Bool.{cases_lt}
 use Rattle.std.proofs.lemmas.Int.{ints}
 use Rattle.std.specs.Int.{div_ceil}
 use Rattle.mt_base.specs.declared.rules.Rules.{Rules}
@@ -8,7 +9,7 @@ use Rattle.mt_cover.specs.declared.bounding_box.Extent.{Extent}
 use Rattle.mt_cover.specs.Sliced.{HoldWindows, Holds, Reaches, Sliced, Touch, slice_at}
 use Rattle.mt_pair.specs.High.{level_of}
 use Rattle.mt_meet.specs.Meeting.{IsHull, MeetAt, SlicesMeet}
-use Rattle.mt_meet.specs.Private.Meeting.{Before, MeetOnlyIn, PlaceMeets}
+use Rattle.mt_meet.specs.Private.Meeting.{Before, MeetOnlyIn, NoneEarlier, PlaceMeets}
 use Rattle.mt_meet.proofs.Meetings.{lie_within}
 
 touch_held : (a b c d : Extent) → Reaches c a → Reaches d b → Touch a b → Touch c d
@@ -46,18 +47,32 @@ module _ (minima : Rules) (a b : Sliced) (approved : Bool) (window number : ℕ)
     pub none_meet : IsHull (Before (PlaceMeets minima approved left right) number) None → (k : ℕ) → ¬ MeetAt minima a b k
     none_meet none k meet = none (k / 1024 - window) (at_place k meet)
 
-    pub narrower : (first last least past : ℕ) → IsHull (Before (PlaceMeets minima approved left right) number) (Some (first, last))
-        → least ≡ 1024 * (window + first) → past ≡ 1024 * (window + last) + 1024 → MeetOnlyIn minima a b (max begin least) (min end past)
-    narrower first last least past hull least_is past_is = record {
-      some = (let within = hull.first_is.0 in let rising = (hull.none_outside first hull.first_is).1 in
-          omega (arith, within, rising, outside.some, window_is, number_is, least_is, past_is));
+    -- before the first place they don't meet
+    pub later : (first least : ℕ) → NoneEarlier (PlaceMeets minima approved left right) number (Some first) → least ≡ 1024 * (window + first)
+        → MeetOnlyIn minima a b (max begin least) end
+    later first least none least_is = record {
+      some = (let within = none.0 in omega (arith, within, outside.some, window_is, number_is, least_is));
       a_begun = omega (arith, outside.a_begun);
       b_begun = omega (arith, outside.b_begun);
+      a_within = outside.a_within;
+      b_within = outside.b_within;
+      all = λ k meet. let in_them = outside.all k meet in ⊎_elim
+          (λ early. absurd (none.1 (k / 1024 - window) (early, (at_place k meet).1)))
+          (λ late. (omega (arith, in_them.0, late, window_is, least_is), in_them.1))
+          (cases_lt (k / 1024 - window) first);
+    }
+
+    -- after the last place they don't meet
+    pub sooner : (count past : ℕ) → 0 < count → ((place : ℕ) → count ≤ place → ¬ Before (PlaceMeets minima approved left right) number place)
+        → past ≡ 1024 * (window + count) → MeetOnlyIn minima a b begin (min end past)
+    sooner count past some none past_is = record {
+      some = omega (arith, outside.some, some, window_is, past_is);
+      a_begun = outside.a_begun;
+      b_begun = outside.b_begun;
       a_within = omega (arith, outside.a_within);
       b_within = omega (arith, outside.b_within);
-      all = λ k meet. let in_them = outside.all k meet in
-          let between = hull.none_outside (k / 1024 - window) (at_place k meet) in (
-            omega (arith, in_them.0, between.0, window_is, least_is),
-            omega (arith, in_them.0, in_them.1, between.1, window_is, past_is),
-          );
+      all = λ k meet. let in_them = outside.all k meet in ⊎_elim
+          (λ early. (in_them.0, omega (arith, in_them.0, in_them.1, early, window_is, past_is)))
+          (λ late. absurd (none (k / 1024 - window) late (at_place k meet)))
+          (cases_lt (k / 1024 - window) count);
     }

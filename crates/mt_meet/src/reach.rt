@@ -1,5 +1,5 @@
 //! What is compared first of two trajectories: their heights, and their first and last seconds.
-ghost use Rattle.std.specs.Prelude.{◌≡◌, ◌↔◌, IsTrue};
+ghost use Rattle.std.specs.Prelude.{◌≡◌, ◌↔◌, ◌&&◌, IsTrue};
 ghost use Rattle.mt_base.specs.Bounds.{AreWithinBounds};
 ghost use Rattle.mt_cover.specs.Layer.{IsLayerKept};
 ghost use Rattle.mt_cover.specs.Sliced.{AreSlices};
@@ -52,14 +52,23 @@ pub(crate) fn nowhere() -> Reach
     }
 }
 
-/// Whether slices with these reaches may meet: they have a second in common, and don't lie apart in height.
-pub(crate) fn are_close(rules: &Rules, a: &Reach, b: &Reach) -> bool
+/// Whether both aircraft are approved for RVSM.
+pub(crate) fn both_approved(a: &Reach, b: &Reach) -> bool
+    ensures { result ≡ (a.now.rvsm && b.now.rvsm) }
+{
+    a.rvsm && b.rvsm
+}
+
+/// Whether slices with these reaches may meet: they have a second in common, and don't lie apart in height. `approved`: whether both
+/// aircraft are approved for RVSM.
+pub(crate) fn are_close(rules: &Rules, approved: bool, a: &Reach, b: &Reach) -> bool
     requires rules { AreWithinBounds rules.now }
     requires a_kept { IsLayerKept a.now.layer }
     requires b_kept { IsLayerKept b.now.layer }
+    requires approved { approved ≡ (a.now.rvsm && b.now.rvsm) }
     ensures { IsTrue result ↔ AreClose rules.now a.now b.now }
 {
-    a.from < b.to && b.from < a.to && !lie_apart(rules, a.rvsm && b.rvsm, &a.layer, &b.layer)
+    a.from.max(b.from) < a.to.min(b.to) && !lie_apart(rules, approved, &a.layer, &b.layer)
 }
 
 /// The heights of a trajectory, wider by the greater vertical minimum: what has none between them lies apart from it.

@@ -6,8 +6,8 @@ ghost use Rattle.mt_meet.specs.Private.Marking.{AreCloseMarked};
 ghost use Rattle.mt_meet.specs.Private.Reaching.{AreReachesOn, AreSlicesIn, IsNextOn, IsReachOf, page_of, reach_in, reach_of};
 
 use crate::marks::{band, first_mark, marks_from, without_mark};
-use crate::meeting::meet;
-use crate::reach::{Reach, are_close, guarded, nowhere, reach_of};
+use crate::meeting::meet_within;
+use crate::reach::{Reach, are_close, both_approved, guarded, nowhere, reach_of};
 use crate::reaches::{ITEMS, ReachPage, with_reach};
 use mt_base::{Memory, Rules, Second};
 use mt_cover::Slices;
@@ -109,11 +109,13 @@ impl SliceTable {
         ensures { IsMetAt rules.now mine.now self.now item result }
     {
         mine.keeps();
-        if !are_close(rules, own, reach) {
+        let approved = both_approved(own, reach);
+        if !are_close(rules, approved, own, reach) {
             return None;
         }
         let theirs = self.slices.get(item)?;
-        let (first, last) = meet(mine, theirs, rules)?;
+        let (begin, end) = (own.from.max(reach.from), own.to.min(reach.to));
+        let (first, last) = meet_within(mine, theirs, rules, approved, begin, end)?;
         Some(Met { item, first, last })
     }
 

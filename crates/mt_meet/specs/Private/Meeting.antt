@@ -24,6 +24,11 @@ hull_join (Some a) (Some b) = Some (min a.0 b.0, max a.1 b.1)
 abbrev pub Before : (ℕ → Type 0) → ℕ → ℕ → Type 0
 Before P at k = (k < at) × P k
 
+-- of so many places none is so before the given one, or none at all where none is given
+abbrev pub NoneEarlier : (ℕ → Type 0) → ℕ → Option ℕ → Type 0
+NoneEarlier P number (Some first) = (first < number) × ((k : ℕ) → ¬ Before P first k)
+NoneEarlier P number None = (k : ℕ) → ¬ Before P number k
+
 -- the slices at one place of two lists meet
 abbrev pub PlaceMeets : Rules → Bool → List Slice → List Slice → ℕ → Type 0
 PlaceMeets rules approved a b place = SlicesMeet rules approved (get_or a place no_slice) (get_or b place no_slice)
@@ -36,11 +41,6 @@ pub record MeetOnlyIn (rules : Rules) (a b : Sliced) (begin end : ℕ) : Type 0 
   pub a_within : end ≤ a.to
   pub b_within : end ≤ b.to
   pub all : (k : ℕ) → MeetAt rules a b k → (begin ≤ k) × (k < end)
-
--- such seconds; or none, where slices never meet
-abbrev pub AreNarrowed : Rules → Sliced → Sliced → Option (ℕ × ℕ) → Type 0
-AreNarrowed rules a b (Some span) = MeetOnlyIn rules a b span.0 span.1
-AreNarrowed rules a b None = (k : ℕ) → ¬ MeetAt rules a b k
 
 -- second k is in the turn of a number. The first turn lasts from a start on and before a stop, and each later one is 256 seconds later.
 pub record InTurn (start stop k : ℕ) : Type 0 where

@@ -1,6 +1,6 @@
 -- No public contract names these: they are of private steps and of proofs.
 -- What is compared first of two trajectories.
-use Rattle.std.specs.Prelude.{◌≡◌, ◌≤◌, ◌<◌, ◌+◌, ◌*◌, ◌/◌, ◌%◌, ◌^◌, ◌&&◌, ◌+ℤ◌, ◌-ℤ◌, ◌≤ℤ◌, ◌⊎◌, false, ℕ, List, Option, Some, None, All, length, get_or, replicate, ⊤}
+use Rattle.std.specs.Prelude.{◌≡◌, ◌≤◌, ◌<◌, ◌+◌, ◌*◌, ◌/◌, ◌%◌, ◌^◌, ◌&&◌, ◌+ℤ◌, ◌-ℤ◌, ◌≤ℤ◌, ◌⊎◌, false, ℕ, max, min, List, Option, Some, None, All, length, get_or, replicate, ⊤}
 use Rattle.mt_base.specs.declared.rules.Rules.{Rules}
 use Rattle.mt_cover.specs.declared.layer.Layer.{Layer}
 use Rattle.mt_cover.specs.Sliced.{AreSlices, Sliced, layer_over, no_layer}
@@ -23,8 +23,7 @@ reach_in (Some s) = reach_of s
 
 -- two reaches have a second in common, and don't lie apart in height
 pub record AreClose (rules : Rules) (a b : Reach) : Type 0 where
-  pub left : a.from < b.to
-  pub right : b.from < a.to
+  pub common : max a.from b.from < min a.to b.to
   pub heights : ¬ LieApart rules (level_of (a.rvsm && b.rvsm)) a.layer b.layer
 
 -- `IsGuard`, `LiesBeyond`: heights wider by the greater vertical minimum, and what lies above or below them
