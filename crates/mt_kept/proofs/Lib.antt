@@ -16,3 +16,5 @@ pub mod Leaving
 pub mod Anew
 pub mod Slots
 pub mod Inner
+pub mod Marks
+pub mod Renewed

@@ -1,7 +1,7 @@
 -- The open pairs of a later moment, and the tests made for them.
-use Rattle.std.proofs.Common.{◌≡◌, ◌≢◌, ℕ, cond, get_or, ◌+◌, ◌<◌, ◌≤◌, ⊎_elim, ◌↔◌, true, List, ◌++◌, map, length, take, Contains, Option, sym, ◌∙◌, ap, subst, arith}
+use Rattle.std.proofs.Common.{◌≡◌, ◌≢◌, ℕ, cond, get_or, ◌+◌, ◌<◌, ◌≤◌, ⊎_elim, ◌↔◌, true, false, refl, List, ◌++◌, map, length, take, Contains, Option, sym, ◌∙◌, ap, subst, arith}
 use Rattle.std.specs.List.{All, AllPairs, count_by, filter}
-use Rattle.std.proofs.lemmas.Bool.{cases_lt}
+use Rattle.std.proofs.lemmas.Bool.{cases_lt, or_parts}
 use Rattle.std.proofs.lemmas.Bool.Decides.{nat_tests}
 use Rattle.std.proofs.lemmas.List.Elements.{All-contains, Contains-append_cases, Contains-append_left, Contains-append_right}
 use Rattle.std.proofs.lemmas.List.Kept.{AllPairs-filter}
@@ -18,6 +18,8 @@ use Rattle.mt_kept.specs.Losing.{IsPair}
 use Rattle.mt_kept.specs.Private.Losing.{AreKept}
 use Rattle.mt_kept.specs.Window.{IsOpen, ShowsInWindow, WasTestedOnce, edge_of, straddles}
 use Rattle.mt_kept.specs.Private.Window.{AreOpen}
+use Rattle.mt_kept.specs.declared.stale.Stale.{Stale}
+use Rattle.mt_kept.specs.Private.Stale.{is_renewed, is_stale}
 use Rattle.mt_kept.specs.Private.Made.{WereTested, has_begun, is_lasting, is_straddler}
 use Rattle.mt_kept.proofs.Windows.{straddles_begun, straddles_open}
 use Rattle.mt_base.proofs.Members.{All-from_held, Contains-filter, Contains-map, Contains-map_cases, distinct_append, distinct_map, distinct_of, distinct_take, Contains-take}
@@ -145,6 +147,14 @@ tested_more now edges i old mid new d below so_far one =
           let a = length-filter (straddles now) (take (i + 1) edges) in
           let b = length-filter (straddles now) (take i edges) in
           sym a ∙ length-filter_more (straddles now) edges i d below ∙ ap (λ (n : ℕ). n + cond (straddles now (get_or edges i d)) 1 0) b
+
+-- or none, where it straddles no edge of the window
+pub tested_past : (now : ℕ) (stale : Stale) (edges : List Edge) (i : ℕ) (old new : ℕ) → (d : Edge) → i < length edges
+    → new ≡ raised_by (count_by (straddles now) (take i edges)) old → is_renewed now stale (get_or edges i d) ≡ false
+    → new ≡ raised_by (count_by (straddles now) (take (i + 1) edges)) old
+tested_past now stale edges i old new d below so_far past =
+    let none = (or_parts (straddles now (get_or edges i d)) (is_stale stale (get_or edges i d).first) past).0 in
+    tested_more now edges i old new new d below so_far (rw none refl)
 
 -- the list of edges, as the code makes it
 pub listed : (old now : ℕ) (pairs seen_pairs : List OpenPair) (due seen_due first all : List Edge) → seen_pairs ≡ pairs → seen_due ≡ due

@@ -68,7 +68,7 @@ IsSpanOfLoss-sym rules a b from to first last h = record {
 }
 
 -- an open pair that straddles no edge of the window lies inside it
-within_window : (now : ℕ) (e : Edge) → IsOpen now e → straddles now e ≡ false → (now ≤ e.first) × (e.last < window_end now)
+pub within_window : (now : ℕ) (e : Edge) → IsOpen now e → straddles now e ≡ false → (now ≤ e.first) × (e.last < window_end now)
 within_window now e is_open none = grind (arith, nat_tests)
 
 -- so its conflict in the window is the one over all seconds

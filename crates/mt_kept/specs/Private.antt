@@ -4,4 +4,5 @@ pub mod Kept
 pub mod Losing
 pub mod Made
 pub mod Merging
+pub mod Stale
 pub mod Window

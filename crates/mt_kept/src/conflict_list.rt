@@ -1,10 +1,12 @@
 //! Conflicts in the order of publishing.
-ghost use Rattle.std.specs.Prelude.{◌≡◌, ◌+◌, ◌≤◌, ◌↔◌, ◌⊎◌, [], Contains, OnOk, length};
+ghost use Rattle.std.specs.Prelude.{◌≡◌, ◌+◌, ◌≤◌, ◌↔◌, ◌⊎◌, [], Contains, IfOk, OnOk, length, true};
 ghost use Rattle.std.specs.List.Sorted.{IsStrictlySortedBy};
 ghost use Rattle.mt_base.specs.declared.conflict.Conflict.{Conflict};
 ghost use Rattle.mt_base.specs.Picture.{conflict_cmp};
+ghost use Rattle.mt_kept.specs.Private.Stale.{begins_stale};
 
 use crate::merging::merge;
+use crate::stale::Stale;
 use mt_base::{Conflict, Memory};
 use std::alloc::Global;
 use std::marker::Model;
@@ -60,6 +62,17 @@ impl ConflictList {
         ensures sorted { IsStrictlySortedBy conflict_cmp self.now.conflicts }
     {
         &self.values
+    }
+
+    /// Those of the conflicts that begin in a stale second.
+    pub(crate) fn stale(&self, alloc: Global, stale: &Stale) -> Result<ConflictList, Memory>
+        ensures { IfOk result (λ list. (c : Conflict) → Contains list.conflicts c
+            ↔ (Contains self.now.conflicts c × (begins_stale stale.now c ≡ true))) }
+    {
+        Ok(ConflictList {
+            values: stale.beginning(alloc, &self.values)?,
+            aside: Vec::new(alloc),
+        })
     }
 
     /// Takes memory, so that there is room for at least n conflicts more. The conflicts stay.

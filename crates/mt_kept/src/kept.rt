@@ -19,6 +19,7 @@ use crate::finds::{Candidate, gather};
 use crate::lists::{add_lasting, at_place, begun, drop_slot, straddling_of};
 use crate::open_pair::OpenPair;
 use crate::showing::{add_inner, opened, shown_of};
+use crate::stale::Stale;
 use mt_base::{Conflict, Memory, Rules, Second, Steps, Tally, WINDOW};
 use mt_edges::Edges;
 use mt_track::Item;
@@ -250,7 +251,8 @@ impl Kept {
     }
 
     /// Moves the window to a later moment, or to the same. Of the pairs it tests only those that straddle an edge of the new window, each
-    /// once. It takes all its memory before it changes anything, so on an error all stays as it was.
+    /// once. Of what is published it sorts only what begins in seconds where something may have changed, and copies the rest. It takes all
+    /// its memory before it changes anything, so on an error all stays as it was.
     pub fn move_to(&mut self, alloc: Global, now: Second, tests: &mut Tally) -> Result<(), Memory>
         requires later { self.old.moment ≤ now }
         requires early { now ≤ 10000000 }
@@ -263,10 +265,21 @@ impl Kept {
         let mut edges = begun(alloc, &self.straddling, self.moment, now)?;
         let due = self.pairs.due(self.moment, now + WINDOW)?;
         add_lasting(&mut edges, &due, now)?;
-        let (straddling, listed) = opened(alloc, &self.places, &edges, &self.rules, now, tests)?;
+        let stale = Stale::of(alloc, &self.straddling, self.moment, now)?;
+        let gone = self.published.stale(alloc, &stale)?;
+        let (straddling, come) = opened(
+            alloc,
+            &self.places,
+            &edges,
+            &stale,
+            &self.rules,
+            now,
+            tests,
+        )?;
+        self.published.reserve(come.items().len())?;
         self.moment = now;
         self.straddling = straddling;
-        self.published = listed;
+        self.published.replace(&gone, &come);
         Ok(())
     }
 }

@@ -10,6 +10,7 @@ mod lists;
 mod merging;
 mod open_pair;
 mod showing;
+mod stale;
 
 pub use finds::{Candidate, Knowledge};
 pub use kept::Kept;

@@ -12,10 +12,12 @@ ghost use Rattle.mt_kept.specs.Places.{at, seen};
 ghost use Rattle.mt_base.specs.Trajectory.{horizon};
 ghost use Rattle.mt_base.specs.Tally.{raised_by};
 ghost use Rattle.mt_kept.specs.Window.{IsFoundOf, IsOpen, ShowsInWindow, straddles};
+ghost use Rattle.mt_kept.specs.Private.Stale.{is_renewed};
 ghost use Rattle.mt_kept.specs.Private.Window.{AreInnerAdded, AreOpened, Shows, ShowsWhole};
 
 use crate::conflict_list::ConflictList;
 use crate::open_pair::{OpenPair, is_open, is_straddling, push_pair};
+use crate::stale::Stale;
 use mt_base::{Conflict, Memory, Rules, Second, Tally, WINDOW};
 use mt_edges::Edge;
 use mt_pair::lose;
@@ -173,11 +175,21 @@ fn add_shown(list: &mut Vec<Conflict>, conflict: &Option<Conflict>) -> Result<()
     Ok(())
 }
 
-/// Of open pairs those that straddle an edge of the window, each with what it shows, and what all of them show.
+/// Whether a pair straddles an edge of the window, or begins in a stale second.
+fn is_renewed(edge: &Edge, stale: &Stale, now: Second) -> bool
+    requires { now ≤ 10000000 }
+    ensures { result ≡ is_renewed now stale.now edge.now }
+{
+    is_straddling(edge, now) || stale.has(edge.first)
+}
+
+/// Of open pairs those that straddle an edge of the window, each with what it shows; and what these show and those that begin in a stale
+/// second.
 pub(crate) fn opened(
     alloc: Global,
     places: &[Option<Item>],
     edges: &[Edge],
+    stale: &Stale,
     rules: &Rules,
     now: Second,
     tests: &mut Tally,
@@ -185,15 +197,17 @@ pub(crate) fn opened(
     requires rules_kept { AreWithinBounds rules.now }
     requires early { now ≤ 10000000 }
     requires pairs { All (λ e. IsPair rules.now (map seen places.now) e × IsOpen now e) edges.now }
-    ensures opened { IfOk result (λ it. AreOpened rules.now (map seen places.now) now edges.now it.0.items it.1.conflicts) }
+    ensures opened { IfOk result (λ it. AreOpened rules.now (map seen places.now) now stale.now edges.now it.0.items it.1.conflicts) }
     ensures counted { WereTested now edges.now tests.old tests.new }
 {
     let mut straddling = Vec::new(alloc);
     let mut list = Vec::new(alloc);
     for edge in edges {
-        let conflict = shown(places, edge, rules, now, tests);
-        add_straddler(&mut straddling, edge, &conflict, now)?;
-        add_shown(&mut list, &conflict)?;
+        if is_renewed(edge, stale, now) {
+            let conflict = shown(places, edge, rules, now, tests);
+            add_straddler(&mut straddling, edge, &conflict, now)?;
+            add_shown(&mut list, &conflict)?;
+        }
     }
     Ok((straddling, ConflictList::of(alloc, list)))
 }

@@ -1,5 +1,5 @@
 -- No public contract names these: they are of private steps and of proofs.
-use Rattle.std.specs.Prelude.{◌≡◌, ◌≢◌, ℕ, ◌+◌, ◌*◌, ◌⊎◌, ◌↔◌, List, ◌++◌, map, filter, All, Contains, AllPairs, Option, Some}
+use Rattle.std.specs.Prelude.{◌≡◌, ◌≢◌, ℕ, ◌+◌, ◌*◌, ◌⊎◌, ◌↔◌, List, ◌++◌, map, filter, All, Contains, AllPairs, Option, Some, true}
 use Rattle.mt_base.specs.declared.conflict.Conflict.{Conflict}
 use Rattle.mt_base.specs.declared.rules.Rules.{Rules}
 use Rattle.mt_base.specs.Picture.{NamedTrajectory}
@@ -7,6 +7,8 @@ use Rattle.mt_edges.specs.declared.edge.Edge.{Edge}
 use Rattle.mt_kept.specs.declared.open_pair.OpenPair.{OpenPair}
 use Rattle.mt_kept.specs.Finds.{AreFindsAt}
 use Rattle.mt_kept.specs.Places.{at}
+use Rattle.mt_kept.specs.declared.stale.Stale.{Stale}
+use Rattle.mt_kept.specs.Private.Stale.{is_renewed}
 use Rattle.mt_kept.specs.Private.Made.{IsInOrder, is_inner, is_straddler, opens}
 use Rattle.mt_kept.specs.Window.{IsOpen, ShowsInWindow, edge_of}
 
@@ -41,14 +43,16 @@ pub record AreInnerAdded (places : List (Option NamedTrajectory)) (now : ℕ) (e
   pub same : map edge_of added ≡ filter (is_inner now) edges
   pub shown : All (λ o. IsOpen now o.edge → ShowsWhole places o.edge o.conflict) added
 
--- these pairs were opened: those of them that straddle an edge of the look-ahead, with what they show, and what all of them show
-pub record AreOpened (rules : Rules) (places : List (Option NamedTrajectory)) (now : ℕ) (edges : List Edge) (straddling : List OpenPair)
-    (conflicts : List Conflict) : Type 0 where
+-- these pairs were opened: those of them that straddle an edge of the look-ahead, with what they show, and conflicts that they show. Among these are all
+-- of the pairs that straddle an edge or begin in a stale second.
+pub record AreOpened (rules : Rules) (places : List (Option NamedTrajectory)) (now : ℕ) (stale : Stale) (edges : List Edge)
+    (straddling : List OpenPair) (conflicts : List Conflict) : Type 0 where
   pub pairs : List OpenPair
   pub same : map edge_of pairs ≡ edges
   pub shown : All (λ o. ShowsInWindow rules places now o.edge o.conflict) pairs
   pub straddlers : straddling ≡ filter (is_straddler now) pairs
-  pub exact : (c : Conflict) → Contains conflicts c ↔ Shows pairs c
+  pub sound : (c : Conflict) → Contains conflicts c → Shows pairs c
+  pub complete : (o : OpenPair) (c : Conflict) → Contains pairs o → o.conflict ≡ Some c → is_renewed now stale o.edge ≡ true → Contains conflicts c
 
 -- exactly what the open pairs of a slot's two places show
 pub record AreShownAt (rules : Rules) (places : List (Option NamedTrajectory)) (now slot : ℕ) (conflicts : List Conflict) : Type 0 where
