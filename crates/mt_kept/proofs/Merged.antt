@@ -1,8 +1,9 @@
 -- Lists of conflicts in the order of publishing, in parts.
-use Rattle.std.proofs.Common.{◌≡◌, ℕ, ◌+◌, ◌-◌, ◌<◌, ◌≤◌, inl, inr, ⊎_elim, List, [], ◌∷◌, length, take, drop, get_or, Contains, sym, ◌∙◌, ap, subst, arith}
+use Rattle.std.proofs.Common.{◌≡◌, ℕ, ◌+◌, ◌-◌, ◌<◌, ◌≤◌, inl, inr, ⊎_elim, List, [], ◌∷◌, length, take, drop, get_or, Contains, refl, sym, ◌∙◌, ap, subst, arith}
 use Rattle.std.specs.List.{HoldsAt}
 use Rattle.std.specs.List.Sorted.{IsNonDecreasingBy, IsPartitionPoint, IsStrictlySortedBy}
 use Rattle.std.specs.Ordering.{ordering_index, ordering_reverse}
+use Rattle.std.specs.declared.cmp.Ordering.{Ordering}
 use Rattle.std.specs.declared.cmp.Ordering.TheVariants.{Less, Equal, Greater}
 use Rattle.std.proofs.Math.Seq.{take-length}
 use Rattle.std.proofs.lemmas.Bool.{cases_eq, cases_lt}
@@ -132,3 +133,31 @@ pub sorted_whole : (xs : List Conflict) → Rise xs → IsStrictlySortedBy confl
 unfolding IsStrictlySortedBy
 sorted_whole [] rise = tt
 sorted_whole (x ∷ xs) rise = sorted_of (x ∷ xs) x rise
+
+-- `head_found`, `head_absent`: what a search in the head of a list says of the whole list, where it finds a place within the head
+pub head_found : (n : ℕ) (xs : List Conflict) (x : Conflict) (i : ℕ) → i < length (take n xs) → HoldsAt (λ y. conflict_cmp y x ≡ Equal) (take n xs) i
+    → HoldsAt (λ y. conflict_cmp y x ≡ Equal) xs i
+head_found n xs x i inside at d =
+    let short = length-take n xs in
+    rw (← get_or-take n xs i d (omega arith)) (at d)
+
+is_greater : (o : Ordering) → 2 ≤ ordering_index o → o ≡ Greater
+is_greater Less late = absurd (omega arith)
+is_greater Equal late = absurd (omega arith)
+is_greater Greater late = refl
+
+pub head_absent : (n : ℕ) (xs : List Conflict) (x : Conflict) (i : ℕ) → IsStrictlySortedBy conflict_cmp xs → i < n → n ≤ length xs
+    → (IsNonDecreasingBy (λ y. ordering_index (conflict_cmp y x)) (take n xs)
+    → IsPartitionPoint (λ y. conflict_cmp y x ≡ Less) (λ y. conflict_cmp y x ≡ Greater) (take n xs) i)
+    → IsNonDecreasingBy (λ y. ordering_index (conflict_cmp y x)) xs
+    → IsPartitionPoint (λ y. conflict_cmp y x ≡ Less) (λ y. conflict_cmp y x ≡ Greater) xs i
+head_absent n xs x i sorted within short parts rises =
+    let long = length-take n xs in
+    let front = sorted_of (take n xs) x (distinct_take ComesBefore n xs (rise_of xs sorted)) in
+    let point = parts (rising (take n xs) x front) in (
+      (λ k d low below. rw (← get_or-take n xs k d (omega arith)) (point.0 k d low below)),
+      (λ k d past below.
+          let here : conflict_cmp (get_or xs i d) x ≡ Greater = rw (get_or-take n xs i d within) at (point.1 i d (omega arith) (omega arith)) in
+          let least = rises i k d past below in
+          is_greater (conflict_cmp (get_or xs k d) x) (rw here at least)),
+    )

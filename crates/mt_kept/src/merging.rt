@@ -1,18 +1,41 @@
 //! Lists of conflicts in the order of publishing: one without those that are hidden and with those that are shown.
-ghost use Rattle.std.specs.Prelude.{◌≡◌, ◌≤◌, ◌+◌, ◌++◌, ◌↔◌, ◌⊎◌, Contains, length, vec_capacity, vec_len};
-ghost use Rattle.std.specs.List.Sorted.{IsStrictlySortedBy};
+ghost use Rattle.std.specs.Prelude.{◌≡◌, ◌<◌, ◌≤◌, ◌+◌, ◌++◌, ◌↔◌, ◌⊎◌, Contains, MatchResult, length, vec_capacity, vec_len};
+ghost use Rattle.std.specs.List.Sorted.{IsBinarySearchResult, IsStrictlySortedBy};
 ghost use Rattle.mt_base.specs.declared.conflict.Conflict.{Conflict};
 ghost use Rattle.mt_base.specs.Picture.{conflict_cmp};
 ghost use Rattle.mt_kept.specs.Private.Merging.{AreOthersAdded, IsParted};
 
 use mt_base::Conflict;
 
+/// How many conflicts at the head of a list are searched first.
+const HEAD: usize = 8;
+
+/// Where a conflict stands in a list, or else where it would stand. It searches the head first, since conflicts that are merged often stand
+/// close together.
+fn place_of(list: &[Conflict], conflict: &Conflict) -> Result<usize, usize>
+    requires { IsStrictlySortedBy conflict_cmp list.now }
+    ensures bound { MatchResult result (λ place. place < length list.now) (λ place. place ≤ length list.now) }
+    ensures position { IsBinarySearchResult (λ c. conflict_cmp c conflict.now) list.now result }
+{
+    let head = list.len().min(HEAD);
+    match list[..head].binary_search(conflict) {
+        Ok(place) => Ok(place),
+        Err(place) => {
+            if place < head {
+                Err(place)
+            } else {
+                list.binary_search(conflict)
+            }
+        }
+    }
+}
+
 /// What of a list comes before a conflict, and what comes after it.
 fn parted<'a>(list: &'a [Conflict], conflict: &Conflict) -> (&'a [Conflict], &'a [Conflict])
     requires { IsStrictlySortedBy conflict_cmp list.now }
     ensures { IsParted conflict.now list.now result.0.now result.1.now }
 {
-    match list.binary_search(conflict) {
+    match place_of(list, conflict) {
         Ok(place) => (&list[..place], &list[place + 1..]),
         Err(place) => (&list[..place], &list[place..]),
     }

@@ -1,6 +1,4 @@
 use Rattle.std.proofs.Common.{◌+◌}
-use Rattle.std.specs.declared.result.Result.TheVariants.{Err, Ok}
-use Rattle.mt_kept.proofs.InOrder.{searched}
 use Rattle.mt_kept.proofs.Merged.{absent_parted, found_parted, rear}
 use Rattle.mt_kept.proofs.merging.parted.Goals as goal
 
@@ -8,12 +6,10 @@ pub returns-in-Ok : goal.returns-in-Ok
 returns-in-Ok c =
     let list = c.args.list.now in
     let x = c.args.conflict.now in
-    rw (rear list (c.in-Ok.place + 1)) (found_parted list x c.in-Ok.place c.requires c.in-Ok.ensures.bound
-    (searched list x (Ok c.in-Ok.place) c.in-Ok.ensures.position))
+    rw (rear list (c.in-Ok.place + 1)) (found_parted list x c.in-Ok.place c.requires c.in-Ok.ensures.bound c.in-Ok.ensures.position)
 
 pub returns-in-Err : goal.returns-in-Err
 returns-in-Err c =
     let list = c.args.list.now in
     let x = c.args.conflict.now in
-    rw (rear list c.in-Err.place) (absent_parted list x c.in-Err.place c.requires c.in-Err.ensures.bound
-    (searched list x (Err c.in-Err.place) c.in-Err.ensures.position))
+    rw (rear list c.in-Err.place) (absent_parted list x c.in-Err.place c.requires c.in-Err.ensures.bound c.in-Err.ensures.position)
