@@ -21,11 +21,11 @@ use Rattle.mt_kept.proofs.Marks.{fresh_within}
 use Rattle.mt_kept.proofs.Publishing.{one_shown, one_there, span_of}
 use Rattle.mt_kept.proofs.Windows.{IsSpanOfLoss-sym, within_window}
 
--- what of a pair's span lies in the later one of two look-aheads lies in the earlier one too
+-- what of a pair's span lies in one look-ahead lies in another too
 abbrev Reaches : ℕ → ℕ → Edge → Type 0
 Reaches from to e = (k : ℕ) → e.first ≤ k → k ≤ e.last → to ≤ k → k < window_end to → (from ≤ k) × (k < window_end from)
 
--- a conflict in one look-ahead is the one in another, where it lies in that and what of the pair's span does lies in the first
+-- a conflict in one look-ahead is the one in another, where it lies in that, and what of the span does lies in the first
 span_moved : (rules : Rules) (a b : Trajectory) (from to first last : ℕ) (e : Edge) → to ≤ 10000000 → IsSpanOfLoss rules a b 0 horizon e.first e.last
     → IsSpanOfLoss rules a b from (window_end from) first last → to ≤ first → last < window_end to → Reaches from to e
     → IsSpanOfLoss rules a b to (window_end to) first last
