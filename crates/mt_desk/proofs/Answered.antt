@@ -1,5 +1,5 @@
 -- What a hand answers, of what was taken in the turn and worked on outside of it.
-use Rattle.std.proofs.Common.{◌≡◌, ℕ, List, [], length, map, take, All, Option, Some, None, Result, Ok, Err, refl, sym, ap, ◌∙◌, subst, arith}
+use Rattle.std.proofs.Common.{◌≡◌, ℕ, List, [], append-nil, length, map, take, All, Option, Some, None, Result, Ok, Err, refl, sym, ap, ◌∙◌, subst, arith}
 use Rattle.std.specs.Prelude.{IfErr, IfOk, option_map, unwrap_or}
 use Rattle.std.proofs.lemmas.List.{length-map, take_all}
 use Rattle.std.proofs.lemmas.List.Elements.{All-weaker}
@@ -30,7 +30,7 @@ use Rattle.mt_board.specs.declared.no.No.TheVariants.{Memory, Refused}
 use Rattle.mt_board.specs.Asking.{IsRead}
 use Rattle.mt_board.specs.Changing.{IsChanged}
 use Rattle.mt_board.specs.Probing.{IsAdvised, IsNotAdvised, IsNotProbed, IsPast, IsProbed, acceptance}
-use Rattle.mt_board.specs.Seat.{HasSeen, Seat, state_seen}
+use Rattle.mt_board.specs.Seat.{HasLooked, HasSeen, Seat, state_seen}
 use Rattle.mt_picture.specs.Story.{IsPrepGivenFor}
 use Rattle.mt_picture.proofs.Given.{prepared_for}
 use Rattle.mt_probe.specs.Hits.{IsProbe, IsTried, IsUnprobed, Trial, told_of}
@@ -104,7 +104,7 @@ not_prepared s t shot c Memory seen for makes d = seen.looked
 probed_taken : (s t : Seat) (shot : Shot) (call : List ℕ) (clearance : Clearance) (eff : Option ℕ) (p : Trial) → HasSeen s t (length t.seen)
     → StandsFor t shot → IsProbe shot call clearance eff p → IsProbed s t call clearance eff (told_of p)
 probed_taken s t shot call clearance eff p seen for is = record {
-  seen = seen_at s t p.prep.state.version seen (ap (λ (x : State). x.version) is.prep_of.state_is ∙ counted t shot for);
+  seen = seen_at s t p.shot.version seen (ap (λ (x : Shot). x.version) is.shot_is ∙ counted t shot for);
   call_is = is.call_is;
   clearance_is = is.clearance_is;
   eff_is = is.eff_is ∙ ap (λ (x : State). unwrap_or eff x.now) for.state_is;
@@ -112,8 +112,8 @@ probed_taken s t shot call clearance eff p seen for is = record {
 }
 
 past_probed : (t : Seat) (shot : Shot) (call : List ℕ) (clearance : Clearance) (eff : Option ℕ) (p : Trial) → StandsFor t shot
-    → IsProbe shot call clearance eff p → IsPast t p.prep.setup p.prep.state (told_of p).version
-past_probed t shot call clearance eff p for is = past_taken t shot p.prep.setup p.prep.state for is.prep_of.setup_is is.prep_of.state_is
+    → IsProbe shot call clearance eff p → IsPast t p.shot.setup (state_in p.shot) (told_of p).version
+past_probed t shot call clearance eff p for is = past_taken t shot p.shot.setup (state_in p.shot) for (ap (λ (x : Shot). x.setup) is.shot_is) (ap state_in is.shot_is)
 
 unprobed_taken : (s t : Seat) (shot : Shot) (call : List ℕ) (clearance : Clearance) (eff : Option ℕ) (denied : No) → HasSeen s t (length t.seen)
     → StandsFor t shot → IsUnprobed shot call clearance eff denied → IsNotProbed s t call clearance eff denied
@@ -130,8 +130,8 @@ module _ (s t : Seat) (shot : Shot) (call : List ℕ) (clearance : Clearance) (e
   probed = IfOk-weaker result (IsProbe shot call clearance eff) (λ p. IsProbed s t call clearance eff (told_of p))
       (λ p is. probed_taken s t shot call clearance eff p seen for is)
 
-  pub probed_past : IfOk result (IsProbe shot call clearance eff) → IfOk result (λ p. IsPast t p.prep.setup p.prep.state (told_of p).version)
-  probed_past = IfOk-weaker result (IsProbe shot call clearance eff) (λ p. IsPast t p.prep.setup p.prep.state (told_of p).version)
+  pub probed_past : IfOk result (IsProbe shot call clearance eff) → IfOk result (λ p. IsPast t p.shot.setup (state_in p.shot) (told_of p).version)
+  probed_past = IfOk-weaker result (IsProbe shot call clearance eff) (λ p. IsPast t p.shot.setup (state_in p.shot) (told_of p).version)
       (λ p is. past_probed t shot call clearance eff p for is)
 
   pub unprobed : IfErr result (IsUnprobed shot call clearance eff) → IfErr result (IsNotProbed s t call clearance eff)
@@ -154,9 +154,9 @@ advised_taken s t shot call eff version probes seen for is = record {
 }
 
 pasts_advised : (t : Seat) (shot : Shot) (call : List ℕ) (eff version : ℕ) (probes : List Trial) → StandsFor t shot
-    → IsAdvisedOn shot call eff version probes → All (λ p. IsPast t p.prep.setup p.prep.state (told_of p).version) probes
+    → IsAdvisedOn shot call eff version probes → All (λ p. IsPast t p.shot.setup (state_in p.shot) (told_of p).version) probes
 pasts_advised t shot call eff version probes for is =
-    All-weaker (IsFreeFor shot call) (λ p. IsPast t p.prep.setup p.prep.state (told_of p).version)
+    All-weaker (IsFreeFor shot call) (λ p. IsPast t p.shot.setup (state_in p.shot) (told_of p).version)
     (λ p free. past_probed t shot call p.clearance None p for free.probe) probes is.each
 
 unadvised_taken : (s t : Seat) (shot : Shot) (call : List ℕ) (denied : No) → HasSeen s t (length t.seen) → StandsFor t shot
@@ -175,9 +175,9 @@ module _ {A : Type 0} (second number : A → ℕ) (tried : A → List Trial) (s 
       (λ a is. advised_taken s t shot call (second a) (number a) (tried a) seen for is)
 
   pub advised_past : IfOk result (λ a. IsAdvisedOn shot call (second a) (number a) (tried a))
-      → IfOk result (λ a. All (λ p. IsPast t p.prep.setup p.prep.state (told_of p).version) (tried a))
+      → IfOk result (λ a. All (λ p. IsPast t p.shot.setup (state_in p.shot) (told_of p).version) (tried a))
   advised_past = IfOk-weaker result (λ a. IsAdvisedOn shot call (second a) (number a) (tried a))
-      (λ a. All (λ p. IsPast t p.prep.setup p.prep.state (told_of p).version) (tried a))
+      (λ a. All (λ p. IsPast t p.shot.setup (state_in p.shot) (told_of p).version) (tried a))
       (λ a is. pasts_advised t shot call (second a) (number a) (tried a) for is)
 
   pub unadvised : IfErr result (IsNotAdvisedOn shot call) → IfErr result (IsNotAdvised s t call)
@@ -233,12 +233,33 @@ no_flight_taken s t shot call sec version seen for is named =
 
 -- ---- acceptances
 
+-- What is prepared for the acceptance of a probe of what a hand's seat has seen is a prep of that.
+pub probed_given : (h k : Hand) (p : Trial) (prep : Prepared) (c : Command) → h ≡ k → c ≡ prep.command → IsPrepOf p.shot 0 (acceptance (told_of p)) prep
+    → IsPast (seat_of k.desk.fixed k.view) p.shot.setup (state_in p.shot) (told_of p).version
+    → IsPrepGivenFor (record { setup = h.desk.fixed; history = h.view.seen }) h.view.number c (Some prep)
+probed_given h k p prep c same is of past =
+    let version : prep.state.version ≡ p.shot.version = ap (λ (s : State). s.version) of.state_is in
+    let there : IsPrepGivenFor (record { setup = k.desk.fixed; history = k.view.seen }) k.view.number (acceptance (told_of p)) (Some prep) = record {
+      makes = tt;
+      setup_is = of.setup_is ∙ past.same;
+      command_is = of.command_is;
+      who_is = tt;
+      within = omega (arith, version, past.past);
+      state_is = of.state_is ∙ past.state_is ∙ ap (λ (n : ℕ). state_of k.desk.fixed (take n k.view.seen)) (sym version);
+    } in
+    subst (λ (d : Command). IsPrepGivenFor (record { setup = h.desk.fixed; history = h.view.seen }) h.view.number d (Some prep)) (sym (is ∙ of.command_is))
+    (subst (λ (j : Hand). IsPrepGivenFor (record { setup = j.desk.fixed; history = j.view.seen }) j.view.number (acceptance (told_of p)) (Some prep)) (sym same) there)
+
+-- a seat that looked at nothing
+pub unlooked : (s : Seat) → HasLooked s s
+unlooked s = record { same = record { number = refl; fixed = refl }; begins = ([], sym (append-nil s.seen)); own = refl; mine = refl }
+
 -- A probe without hits, of what a hand's seat has seen, was free there.
 pub probed_free : (h k : Hand) (p : Trial) (c : Command) → h ≡ k → c ≡ acceptance (told_of p) → IsTried p
-    → IsPast (seat_of k.desk.fixed k.view) p.prep.setup p.prep.state (told_of p).version → p.hits ≡ [] → WasFree h.desk.fixed h.view.seen c
+    → IsPast (seat_of k.desk.fixed k.view) p.shot.setup (state_in p.shot) (told_of p).version → p.hits ≡ [] → WasFree h.desk.fixed h.view.seen c
 probed_free h k p c same is tried past none =
-    let free = subst (λ (hits : List Hit). IsWhatIf p.prep.setup p.prep.state p.call p.clearance (Some p.eff) (Ok hits)) none tried.follows in
-    let state = subst (λ (x : State). IsWhatIf p.prep.setup x p.call p.clearance (Some p.eff) (Ok [])) past.state_is free in
-    let there = subst (λ (f : Setup). IsWhatIf f (state_of k.desk.fixed (take p.prep.state.version k.view.seen)) p.call p.clearance (Some p.eff) (Ok []))
+    let free = subst (λ (hits : List Hit). IsWhatIf p.shot.setup (state_in p.shot) p.call p.clearance (Some p.eff) (Ok hits)) none tried.follows in
+    let state = subst (λ (x : State). IsWhatIf p.shot.setup x p.call p.clearance (Some p.eff) (Ok [])) past.state_is free in
+    let there = subst (λ (f : Setup). IsWhatIf f (state_of k.desk.fixed (take p.shot.version k.view.seen)) p.call p.clearance (Some p.eff) (Ok []))
     past.same state in
     subst (λ (j : Hand). WasFree j.desk.fixed j.view.seen c) (sym same) (subst (λ (d : Command). WasFree k.desk.fixed k.view.seen d) (sym is) there)

@@ -120,7 +120,9 @@ impl<'a> Board for Hand<'a> {
         gate: &G,
     ) -> Result<Entered, No> {
         gate.between(self.seat.number());
-        let (command, prep) = (probe.acceptance(), probe.prep());
-        self.desk.publish(rt, &mut self.seat, command, Some(prep))
+        let desk = self.desk;
+        let mut tests = Tally::new(rt);
+        let prep = probe.prep(desk.alloc, &mut tests)?;
+        desk.publish(rt, &mut self.seat, prep.command(), Some(&prep))
     }
 }

@@ -125,14 +125,14 @@ met_inside shot mine met is =
 
 -- the conflict in those seconds of a range is the conflict in the range
 pub part_by_hull : (rules : Rules) (a b : Trajectory) (first last from to begin end : ℕ) (r : Option (ℕ × ℕ)) → begin ≡ max from first → end ≡ min to (last + 1)
-    → ((k : ℕ) → IsLossSecond rules a b k → (first ≤ k) × (k ≤ last)) → IsConflict rules a b begin end r → IsConflict rules a b from to r
+    → ((k : ℕ) → from ≤ k → k < to → IsLossSecond rules a b k → (first ≤ k) × (k ≤ last)) → IsConflict rules a b begin end r → IsConflict rules a b from to r
 part_by_hull rules a b first last from to begin end None begin_is end_is inside none = λ k low high loss.
-    let between = inside k loss in none k (omega (arith, between.0, low, begin_is)) (omega (arith, between.1, high, end_is)) loss
+    let between = inside k low high loss in none k (omega (arith, between.0, low, begin_is)) (omega (arith, between.1, high, end_is)) loss
 part_by_hull rules a b first last from to begin end (Some span) begin_is end_is inside some = record {
   inside = (omega (arith, some.inside.0, begin_is), some.inside.1, omega (arith, some.inside.2, end_is));
   first_is = some.first_is;
   last_is = some.last_is;
-  none_outside = λ k low high loss. let between = inside k loss in
+  none_outside = λ k low high loss. let between = inside k low high loss in
       some.none_outside k (omega (arith, between.0, low, begin_is)) (omega (arith, between.1, high, end_is)) loss;
 }
 

@@ -1,6 +1,6 @@
-mod Listing
 mod NearItems
 pub mod Again
+pub mod Ahead
 pub mod Aside
 pub mod Boxes
 pub mod Candidates
@@ -8,7 +8,7 @@ pub mod Clearing
 pub mod Covered
 pub mod Filing
 pub mod Gathered
-pub mod HitsFound
+pub mod HitPlaces
 pub mod Indexing
 pub mod Left
 pub mod Looking

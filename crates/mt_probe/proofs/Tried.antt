@@ -1,28 +1,26 @@
 -- A clearance that was tried.
-use Rattle.std.proofs.Common.{◌≡◌, ◌≤◌, true, ℕ, List, Option, Some, None, Ok, length, map, refl, sym, ◌∙◌, ap, subst}
+use Rattle.std.proofs.Common.{◌≡◌, ◌≤◌, true, ℕ, List, Option, Some, None, Ok, Err, length, map, refl, sym, ◌∙◌, ap, subst}
 use Rattle.std.specs.Prelude.{IfSome, is_some, unwrap_or}
 use Rattle.mt_base.specs.declared.clearance.Clearance.{Clearance}
-use Rattle.mt_base.specs.declared.command.Command.{Command}
 use Rattle.mt_base.specs.declared.command.Command.TheVariants.{Accept}
+use Rattle.mt_base.specs.declared.command.Refusal.{Refusal}
 use Rattle.mt_base.specs.declared.conflict.Kind.TheVariants.{Actual}
 use Rattle.mt_base.specs.declared.flight.Path.{Path}
 use Rattle.mt_base.specs.declared.flight.Path.TheVariants.{Outer, Planned}
 use Rattle.mt_base.specs.declared.flight.Record.{Record}
 use Rattle.mt_base.specs.declared.hit.Hit.{Hit}
 use Rattle.mt_base.specs.Bounds.{AreWithinBounds}
-use Rattle.mt_base.specs.Checks.{judged}
-use Rattle.mt_base.specs.Decision.{call_of}
 use Rattle.mt_base.specs.Effect.{changed, cleared_path}
-use Rattle.mt_base.specs.Picture.{State, flight_of, trajectory_of}
+use Rattle.mt_base.specs.Picture.{HaveOwnCalls, State, flight_of, trajectory_of}
 use Rattle.mt_base.specs.Tables.{Setup}
 use Rattle.mt_base.specs.Trajectory.{Trajectory}
-use Rattle.mt_base.specs.WhatIf.{AreHits, AreHitsOf, HasHit, IsConflicting, IsWhatIf, course_in, course_on, trajectory_cleared, what_if_checks}
-use Rattle.mt_base.proofs.OneAdvice.{follows_none}
+use Rattle.mt_base.specs.WhatIf.{AreHitsOf, HasHit, IsConflicting, IsWhatIf, course_in, course_on, trajectory_cleared}
 use Rattle.mt_board.specs.declared.no.No.{No}
 use Rattle.mt_board.specs.declared.no.No.TheVariants as nos
-use Rattle.mt_probe.specs.Hits.{IsFreeProbe, IsProbe, IsUnprobed, Trial}
-use Rattle.mt_probe.specs.Prepared.{IsLeftByEntry, IsPrepared, IsRefusedOn, Prepared, flight_left, judged_aside, kind_made, path_made}
+use Rattle.mt_probe.specs.Hits.{IsUnprobed}
+use Rattle.mt_probe.specs.Prepared.{IsLeftByEntry, IsRefusedOn, judged_aside, path_made}
 use Rattle.mt_probe.specs.Shot.{Shot, state_in_shot}
+use Rattle.mt_probe.specs.Tests.{WasTriedFor, WasTriedNear}
 use Rattle.mt_probe.proofs.Left.{accept_is, found_call, found_changed, planned_there}
 use Rattle.mt_probe.proofs.Short.{few_hits, found_in}
 
@@ -55,36 +53,6 @@ module _ (Holds : List ℕ → Trajectory → Type 0) (setup : Setup) (s : State
     by_flight None is = tt
     by_flight (Some flight) is = with_flight flight flight.path is refl
 
--- what was prepared for an acceptance says what would follow from its clearance
-pub follows : (p : Prepared) (call : List ℕ) (clearance : Clearance) (eff probed : ℕ) (hits : List Hit) → IsPrepared p
-    → p.command ≡ Accept call clearance eff probed → AreHitsOf p.setup p.state p.card.call p.strand hits
-    → IsWhatIf p.setup p.state call clearance (Some eff) (Ok hits)
-follows p call clearance eff probed hits kept command_is are = (passed, tried) where
-  passed : judged (what_if_checks p.setup p.state.now (flight_of p.state.records call) call clearance eff) (tt {0}) ≡ Ok (tt {0})
-  passed = sym (accept_is p.setup p.state p.who call clearance eff probed kept.rules)
-      ∙ subst (λ (c : Command). judged_aside p.setup p.state p.who c ≡ Ok (tt {0})) command_is kept.passed
-
-  tried : AreHits p.setup p.state call clearance eff hits
-  tried = cleared_holds (λ c t. AreHitsOf p.setup p.state c t hits) p.setup p.state call clearance eff p.card p.strand
-      (subst (λ (c : Command). flight_left p.setup p.state p.who c ≡ Some p.card) command_is kept.card_is)
-      (subst (λ (c : Command). path_made p.setup p.card (kind_made c) ≡ Some p.strand) command_is kept.strand_is) are
-
--- and they are few
-pub few : (p : Prepared) (call : List ℕ) (clearance : Clearance) (eff probed : ℕ) (hits : List Hit) → IsPrepared p
-    → p.command ≡ Accept call clearance eff probed → AreHitsOf p.setup p.state p.card.call p.strand hits → length hits ≤ 1023
-few p call clearance eff probed hits kept command_is are = by_flight (flight_of p.state.records call) refl planned where
-  planned : is_some (course_in (flight_of p.state.records call)) ≡ true
-  planned = planned_there p.setup p.state p.who (Accept call clearance eff probed) (tt {0})
-      (subst (λ (c : Command). judged_aside p.setup p.state p.who c ≡ Ok (tt {0})) command_is kept.passed)
-
-  own : call ≡ p.card.call
-  own = let named : Some call ≡ Some p.card.call = subst (λ (c : Command). call_of c ≡ Some p.card.call) command_is kept.call_is in cc
-
-  by_flight : (at : Option Record) → flight_of p.state.records call ≡ at → is_some (course_in at) ≡ true → length hits ≤ 1023
-  by_flight None is planned = cc
-  by_flight (Some flight) is planned = few_hits p.setup p.state p.card.call p.strand kept.own_calls flight hits (found_in call p.state.records flight is)
-      (found_call call p.state.records flight is ∙ own) kept.few are
-
 -- what is refused of an acceptance is refused of its clearance
 pub unprobed : (shot : Shot) (call : List ℕ) (clearance : Clearance) (eff : Option ℕ) (no : No) → AreWithinBounds shot.setup.rules
     → IsRefusedOn shot 0 (Accept call clearance (unwrap_or eff shot.now) shot.version) no → IsUnprobed shot call clearance eff no
@@ -108,15 +76,47 @@ conflicting shot call clearance eff card t rules left made has = (
   left_holds (HasHit shot.setup (state_in_shot shot)) shot call clearance eff card t left made has,
 )
 
--- a clearance of which nothing would follow, since its trajectory has none
-pub free : (shot : Shot) (call : List ℕ) (clearance : Clearance) (eff : ℕ) (card : Record) (t : Trajectory) (p : Trial)
+-- the hits of that trajectory are what would follow from the clearance
+pub follows : (shot : Shot) (call : List ℕ) (clearance : Clearance) (eff : ℕ) (card : Record) (t : Trajectory) (hits : List Hit) → AreWithinBounds shot.setup.rules
     → IsLeftByEntry shot.setup (state_in_shot shot) 0 (Accept call clearance eff shot.version) card → path_made shot.setup card Actual ≡ Some t
-    → ¬ HasHit shot.setup (state_in_shot shot) card.call t → IsProbe shot call clearance (Some eff) p → IsFreeProbe shot call clearance (Some eff) p
-free shot call clearance eff card t p left made clear probe = record {
-  probe = probe;
-  free = follows_none shot.setup (state_in_shot shot) call clearance (Some eff) p.hits probe.hits_are
-      (left_holds (λ c u. ¬ HasHit shot.setup (state_in_shot shot) c u) shot call clearance eff card t left made clear);
-}
+    → AreHitsOf shot.setup (state_in_shot shot) card.call t hits → IsWhatIf shot.setup (state_in_shot shot) call clearance (Some eff) (Ok hits)
+follows shot call clearance eff card t hits rules left made are = (
+  sym (accept_is shot.setup (state_in_shot shot) 0 call clearance eff shot.version rules) ∙ left.passed,
+  left_holds (λ c u. AreHitsOf shot.setup (state_in_shot shot) c u hits) shot call clearance eff card t left made are,
+)
+
+-- and they are few
+pub few : (shot : Shot) (call : List ℕ) (clearance : Clearance) (eff : ℕ) (card : Record) (t : Trajectory) (hits : List Hit) → HaveOwnCalls (state_in_shot shot).records
+    → length (state_in_shot shot).records ≤ 1024 → IsLeftByEntry shot.setup (state_in_shot shot) 0 (Accept call clearance eff shot.version) card
+    → AreHitsOf shot.setup (state_in_shot shot) card.call t hits → length hits ≤ 1023
+few shot call clearance eff card t hits own_calls few_records left are = by_flight (flight_of s.records call) refl planned where
+  s : State
+  s = state_in_shot shot
+
+  planned : is_some (course_in (flight_of s.records call)) ≡ true
+  planned = planned_there shot.setup s 0 (Accept call clearance eff shot.version) (tt {0}) left.passed
+
+  own : call ≡ card.call
+  own = let named : Some call ≡ Some card.call = left.call_is in cc
+
+  by_flight : (at : Option Record) → flight_of s.records call ≡ at → is_some (course_in at) ≡ true → length hits ≤ 1023
+  by_flight None is planned = cc
+  by_flight (Some flight) is planned = few_hits shot.setup s card.call t own_calls flight hits (found_in call s.records flight is)
+      (found_call call s.records flight is ∙ own) few_records are
+
+-- the tests for the trajectory that is left
+pub tried_left : (shot : Shot) (call : List ℕ) (clearance : Clearance) (eff : Option ℕ) (card : Record) (old new : ℕ)
+    → IsLeftByEntry shot.setup (state_in_shot shot) 0 (Accept call clearance (unwrap_or eff shot.now) shot.version) card
+    → ((t : Trajectory) → path_made shot.setup card Actual ≡ Some t → WasTriedNear shot card.call t old new) → WasTriedFor shot call clearance eff old new
+tried_left shot call clearance eff card old new left tried = rw left.card_is (tried (trajectory_of shot.setup card.path) refl)
+
+-- nothing refuses the acceptance of what was tried
+pub unrefused : (shot : Shot) (call : List ℕ) (clearance : Clearance) (eff : ℕ) (hits : List Hit) (refusal : Refusal) → AreWithinBounds shot.setup.rules
+    → IsWhatIf shot.setup (state_in_shot shot) call clearance (Some eff) (Ok hits)
+    → ¬ (judged_aside shot.setup (state_in_shot shot) 0 (Accept call clearance eff shot.version) ≡ Err refusal)
+unrefused shot call clearance eff hits refusal rules tried refused =
+    let passed = accept_is shot.setup (state_in_shot shot) 0 call clearance eff shot.version rules ∙ tried.0 in
+    let both = sym passed ∙ refused in cc
 
 -- the second from which a clearance holds
 pub early_from : (eff : Option ℕ) (now : ℕ) → IfSome eff (λ second. second ≤ 10000000) → now ≤ 10000000 → unwrap_or eff now ≤ 10000000

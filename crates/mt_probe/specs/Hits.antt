@@ -1,45 +1,42 @@
 -- A probe, and its hits among what was found.
 use Rattle.std.specs.Prelude.{◌≡◌, ◌≤◌, ℕ, List, [], Option, Some, None, Ok, Err, ⊤, unwrap_or}
 use Rattle.mt_base.specs.declared.clearance.Clearance.{Clearance}
-use Rattle.mt_base.specs.declared.command.Command.TheVariants.{Accept}
 use Rattle.mt_base.specs.declared.hit.Hit.{Hit}
-use Rattle.mt_base.specs.Bounds.{IsBoundedClearance}
+use Rattle.mt_base.specs.Bounds.{AreWithinBounds, IsBoundedClearance}
 use Rattle.mt_base.specs.WhatIf.{IsConflicting, IsWhatIf}
 use Rattle.mt_board.specs.declared.no.No.{No}
 use Rattle.mt_board.specs.declared.no.No.TheVariants as nos
 use Rattle.mt_board.specs.Probing.{Probe}
 use Rattle.mt_board.specs.Short.{AreShortHits}
-use Rattle.mt_probe.specs.Prepared.{IsPrepOf, IsPrepared, Prepared}
 use Rattle.mt_probe.specs.Shot.{Shot, state_in_shot}
 
--- a tried clearance, its prepared acceptance and its hits
+-- a clearance that was tried on a snapshot, and its hits
 pub record Trial : Type 0 where
-  pub prep : Prepared
+  pub shot : Shot
   pub call : List ℕ
   pub clearance : Clearance
   pub eff : ℕ
   pub hits : List Hit
 
--- a trial's hits are exact, its numbers bounded, and its acceptance prepared. It has few enough hits for a reply.
+-- a trial's hits are exact, and its numbers bounded. It has few enough hits for a reply.
 pub record IsTried (p : Trial) : Type 0 where
   pub clearance : IsBoundedClearance p.clearance
   pub early : p.eff ≤ 10000000
-  pub kept : IsPrepared p.prep
-  pub who_is : p.prep.who ≡ 0
-  pub command_is : p.prep.command ≡ Accept p.call p.clearance p.eff p.prep.state.version
-  pub follows : IsWhatIf p.prep.setup p.prep.state p.call p.clearance (Some p.eff) (Ok p.hits)
+  pub rules : AreWithinBounds p.shot.setup.rules
+  pub moment : p.shot.now ≤ 10000000
+  pub follows : IsWhatIf p.shot.setup (state_in_shot p.shot) p.call p.clearance (Some p.eff) (Ok p.hits)
   pub short : AreShortHits p.hits
 
 -- a trial as a board's probe
 abbrev pub told_of : Trial → Probe
-told_of p = record { call = p.call; clearance = p.clearance; eff = p.eff; version = p.prep.state.version; hits = p.hits }
+told_of p = record { call = p.call; clearance = p.clearance; eff = p.eff; version = p.shot.version; hits = p.hits }
 
 -- `IsProbe`, `IsUnprobed`: a what-if on a snapshot: its probe, or its refusal. At the snapshot's version.
 pub record IsProbe (shot : Shot) (call : List ℕ) (clearance : Clearance) (eff : Option ℕ) (p : Trial) : Type 0 where
   pub call_is : p.call ≡ call
   pub clearance_is : p.clearance ≡ clearance
   pub eff_is : p.eff ≡ unwrap_or eff shot.now
-  pub prep_of : IsPrepOf shot 0 (Accept call clearance (unwrap_or eff shot.now) shot.version) p.prep
+  pub shot_is : p.shot ≡ shot
   pub hits_are : IsWhatIf shot.setup (state_in_shot shot) call clearance eff (Ok p.hits)
 
 abbrev pub IsUnprobed : Shot → List ℕ → Clearance → Option ℕ → No → Type 0

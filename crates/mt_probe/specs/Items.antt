@@ -1,6 +1,6 @@
 -- The items of a snapshot, which name the trajectories that are kept: those of the flight at a place are two items, an even one for the
 -- trajectory that it flies and the odd one after it for its tentative one.
-use Rattle.std.specs.Prelude.{◌≡◌, ◌↔◌, ◌<◌, ◌≤◌, ℕ, ◌+◌, ◌*◌, ◌/◌, ◌%◌, List, [], Option, Some, None, Contains, get_or, length, option_map, nat_eq, if◌then◌else◌}
+use Rattle.std.specs.Prelude.{◌≡◌, ◌↔◌, ◌≤◌, ℕ, ◌+◌, ◌*◌, ◌/◌, ◌%◌, List, [], Option, Some, None, Contains, get_or, length, option_map, nat_eq, if◌then◌else◌}
 use Rattle.std.specs.Arc.{arc_value}
 use Rattle.std.specs.List.{flat_map}
 use Rattle.std.specs.List.Sorted.{IsStrictlyIncreasing}

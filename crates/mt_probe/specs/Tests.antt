@@ -1,5 +1,5 @@
 -- How many tests a try and a refusal take.
-use Rattle.std.specs.Prelude.{◌≡◌, ◌≤◌, ℕ, ◌+◌, ◌*◌, List, [], Option, Some, None, Result, Ok, length, unwrap_or, ⊤}
+use Rattle.std.specs.Prelude.{◌≡◌, ◌≤◌, ℕ, ◌+◌, List, [], Option, Some, None, length, unwrap_or, ⊤}
 use Rattle.std.specs.List.{flat_map}
 use Rattle.mt_base.specs.declared.clearance.Clearance.{Clearance}
 use Rattle.mt_base.specs.declared.command.Command.TheVariants.{Accept}
@@ -11,8 +11,7 @@ use Rattle.mt_board.specs.declared.no.No.{No}
 use Rattle.mt_board.specs.declared.no.No.TheVariants as nos
 use Rattle.mt_cover.specs.Cells.{cover_of}
 use Rattle.mt_probe.specs.declared.flight.Flight.{Flight}
-use Rattle.mt_probe.specs.Hits.{Trial}
-use Rattle.mt_probe.specs.Items.{AreNearItems, kind_at, other_at, others_among}
+use Rattle.mt_probe.specs.Items.{AreNearItems, kind_at, other_at}
 use Rattle.mt_probe.specs.Prepared.{left_made}
 use Rattle.mt_probe.specs.Shot.{Shot, state_in_shot}
 
@@ -32,23 +31,17 @@ flown_at call slots item = flown_of_kind (kind_at item) (other_at call slots ite
 abbrev pub flown_among : List ℕ → List (Option Flight) → List ℕ → List NamedTrajectory
 flown_among call slots items = flat_map (flown_at call slots) items
 
--- at most one test for each trajectory that another flight flies near this one, and so many more for each near one
-abbrev pub WasTriedNear : Shot → List ℕ → Trajectory → ℕ → ℕ → ℕ → Type 0
-WasTriedNear shot call t more old new = (items : List ℕ) → AreNearItems shot (cover_of shot.setup.rules t) items
-    → new ≤ old + length (flown_among call shot.slots items) + more * length (others_among call shot.slots items)
+-- at most one test for each trajectory that another flight flies near this one
+abbrev pub WasTriedNear : Shot → List ℕ → Trajectory → ℕ → ℕ → Type 0
+WasTriedNear shot call t old new = (items : List ℕ) → AreNearItems shot (cover_of shot.setup.rules t) items
+    → new ≤ old + length (flown_among call shot.slots items)
 
 -- the tests for a trajectory where there is one, else none
-abbrev pub WereTried : Shot → Option NamedTrajectory → ℕ → ℕ → ℕ → Type 0
-WereTried shot None more old new = new ≡ old
-WereTried shot (Some mine) more old new = WasTriedNear shot mine.call mine.path more old new
+abbrev pub WereTried : Shot → Option NamedTrajectory → ℕ → ℕ → Type 0
+WereTried shot None old new = new ≡ old
+WereTried shot (Some mine) old new = WasTriedNear shot mine.call mine.path old new
 
--- how many more tests each near trajectory takes: none where something would follow, else two for what is prepared
-abbrev pub more_tests : {E : Type 0} → Result (Option Trial) E → ℕ
-more_tests (Ok None) = 0
-more_tests answer = 2
-
--- the tests of a clearance's try. At most one for each trajectory that another flight flies near the one that the clearance would leave; and, but
--- for where something would follow from it, at most two more for each trajectory of another flight that is near it.
-abbrev pub WasTriedFor : Shot → List ℕ → Clearance → Option ℕ → Result (Option Trial) No → ℕ → ℕ → Type 0
-WasTriedFor shot call clearance eff answer old new =
-    WereTried shot (left_made shot.setup (state_in_shot shot) 0 (Accept call clearance (unwrap_or eff shot.now) shot.version)) (more_tests answer) old new
+-- the tests of a clearance's try: at most one for each trajectory that another flight flies near the one that the clearance would leave
+abbrev pub WasTriedFor : Shot → List ℕ → Clearance → Option ℕ → ℕ → ℕ → Type 0
+WasTriedFor shot call clearance eff old new =
+    WereTried shot (left_made shot.setup (state_in_shot shot) 0 (Accept call clearance (unwrap_or eff shot.now) shot.version)) old new

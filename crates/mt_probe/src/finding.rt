@@ -56,7 +56,7 @@ fn in_window(
     }
 }
 
-// What is found with one trajectory, which loses separation only in the seconds from a first to a last one.
+// What is found with one trajectory, which loses separation only in the seconds in which it is met.
 fn find_one(
     rules: &Rules,
     now: Second,
@@ -64,18 +64,17 @@ fn find_one(
     kind: Kind,
     strand: &Strand,
     other: &Strand,
-    first: Second,
-    last: Second,
+    met: Met,
     tests: &mut Tally,
 ) -> Found
     requires rules { AreWithinBounds rules.now }
     requires early { now ≤ 10000000 }
-    requires ends { last < horizon }
-    requires within { (k : ℕ) → IsLossSecond rules.now strand.now other.now k → (first ≤ k) × (k ≤ last) }
+    requires ends { met.last < horizon }
+    requires within { (k : ℕ) → IsLossSecond rules.now strand.now other.now k → (met.first ≤ k) × (k ≤ met.last) }
     ensures found { IsFound rules.now now strand.now (record { call = call; kind = kind; path = other.now }) result }
     ensures counted { tests.new ≤ tests.old + 2 }
 {
-    let whole = lose(strand, other, rules, first, last + 1, tests);
+    let whole = lose(strand, other, rules, met.first, met.last + 1, tests);
     let window = in_window(rules, now, strand, other, whole, tests);
     Found {
         call,
@@ -124,9 +123,7 @@ fn find_met(
     };
     let rules = snapshot.rules();
     let now = snapshot.now();
-    let found = find_one(
-        rules, now, card.call, kind, strand, other, met.first, met.last, tests,
-    );
+    let found = find_one(rules, now, card.call, kind, strand, other, met, tests);
     match found.whole {
         Some(_) => finds.push(found),
         None => Ok(()),

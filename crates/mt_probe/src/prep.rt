@@ -57,6 +57,13 @@ impl Prep {
         self.snapshot.now()
     }
 
+    /// The command that it was made for.
+    pub fn command(&self) -> &Command
+        ensures { result.now ≡ self.now.command }
+    {
+        &self.command
+    }
+
     /// The flight as the entry leaves it.
     pub fn card(&self) -> &Record
         ensures { result.now ≡ self.now.card }

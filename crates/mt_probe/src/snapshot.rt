@@ -5,6 +5,7 @@ ghost use Rattle.mt_base.specs.Bounds.{AreWithinBounds};
 ghost use Rattle.mt_base.specs.Picture.{flight_of, opening};
 ghost use Rattle.mt_change.specs.Sound.{IsSoundState};
 ghost use Rattle.mt_cover.specs.Sliced.{slices_of};
+ghost use Rattle.mt_probe.specs.Private.Ahead.{AreAhead};
 ghost use Rattle.mt_probe.specs.Private.Body.{shot_of};
 ghost use Rattle.mt_probe.specs.Meeting.{AreMetItems};
 ghost use Rattle.mt_probe.specs.Private.Boxed.{IsSnapshotKept, IsNextMetOf};
@@ -18,7 +19,7 @@ use crate::flight::{Flight, Made};
 use crate::index::Index;
 use crate::nearness::share;
 use crate::placing::moved;
-use mt_base::{Callsign, Kind, Memory, Record, Rules, Second};
+use mt_base::{Callsign, Kind, Memory, Record, Rules, Second, WINDOW};
 use mt_cover::{Cover, Slices, cover, slices};
 use mt_meet::{Met, SliceTable};
 use mt_paged::Paged;
@@ -279,6 +280,15 @@ impl Snapshot {
         ensures { IfOk result (λ mine. mine ≡ slices_of self.now.setup.rules strand.now) }
     {
         slices(self.body.alloc, strand, self.rules())
+    }
+
+    /// The slices of a new trajectory for the look-ahead.
+    pub(crate) fn ahead(&self, strand: &Strand) -> Result<Slices, Memory>
+        ensures { IfOk result (AreAhead self.now strand.now) }
+    {
+        let all = self.sliced(strand)?;
+        let now = self.now();
+        Ok(all.over(self.body.alloc, now, now + WINDOW)?)
     }
 
     /// The first of the items, from one on, whose trajectories have slices that meet some, with the first and the last second in which they do;

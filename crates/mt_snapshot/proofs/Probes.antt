@@ -95,7 +95,7 @@ module _ (shot : Shot) (call : List ℕ) where
       (subst (λ (x : Clearance). IsFreeOrConflicting shot call x None (Some p)) (sym are.0.probe.clearance_is) are.0, each_free cs found are.1)
 
   told_free : (p : Trial) → IsFreeFor shot call p → told_of p ≡ free_probe call shot.now shot.version p.clearance
-  told_free p free = rw (free.probe.call_is, free.probe.eff_is, free.probe.prep_of.state_is, free.free) refl
+  told_free p free = rw (free.probe.call_is, free.probe.eff_is, free.probe.shot_is, free.free) refl
 
   all_told : (ps : List Trial) → AllByRecursion (IsFreeFor shot call) ps → map told_of ps ≡ map (free_probe call shot.now shot.version) (clearances_of ps)
   all_told [] free = refl

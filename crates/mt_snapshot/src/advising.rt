@@ -15,8 +15,8 @@ use std::thread::Threads;
 /// has ended.
 ///
 /// The candidates are tried on the caller's thread; on more the answer would be the same, whichever of them is done first. At most sixteen are
-/// advised. Each was tried from the moment on and has no hit, and its probe holds what was prepared for its acceptance. Nothing is asked of the
-/// caller, and `Memory` is answered where one of the tries wanted some. The definitions are `IsAdvice` and `IsProbe`.
+/// advised. Each was tried from the moment on and has no hit. Nothing is asked of the caller, and `Memory` is answered where one of the tries
+/// wanted some. The definitions are `IsAdvice` and `IsProbe`.
 pub fn advise<R: Threads + Sync>(
     rt: &R,
     alloc: Global,

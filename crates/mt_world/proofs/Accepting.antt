@@ -1,5 +1,5 @@
 -- The acceptance of a probe of an actor's book.
-use Rattle.std.proofs.Common.{◌≡◌, ◌⊎◌, inl, inr, ℕ, ◌<◌, Bool, false, List, [], ◌∷◌, length, map, get_or, Option, None, Some, Result, Ok, Err, IfOk, refl, sym, ◌∙◌, ap, subst, ◌==◌, arith}
+use Rattle.std.proofs.Common.{◌≡◌, ◌⊎◌, inl, inr, ℕ, ◌<◌, Bool, false, List, [], ◌∷◌, length, map, get_or, take, Option, None, Some, Result, Ok, Err, IfOk, refl, sym, ◌∙◌, ap, subst, ◌==◌, arith}
 use Rattle.std.specs.Option.{option_map}
 use Rattle.std.specs.Prelude.{IfErr, MatchBool, OnErr}
 use Rattle.mt_base.specs.declared.area.Area.{Area}
@@ -9,6 +9,7 @@ use Rattle.mt_base.specs.declared.command.Entered.{Entered}
 use Rattle.mt_base.specs.declared.command.Refusal.TheVariants.{NoProbe, NotFree}
 use Rattle.mt_base.specs.declared.hit.Hit.{Hit}
 use Rattle.mt_base.specs.Bounds.{AreWithinBounds, IsBoundedCommand}
+use Rattle.mt_base.specs.Effect.{state_of}
 use Rattle.mt_base.specs.History.{IsInTime, WasFree}
 use Rattle.mt_base.specs.Picture.{State}
 use Rattle.mt_base.specs.Tables.{Setup}
@@ -20,6 +21,8 @@ use Rattle.mt_machine.proofs.Books.{all_at, told_at}
 use Rattle.mt_picture.specs.Story.{IsEntered, IsPrepGivenFor, IsCommandRefused as IsDenied, Story}
 use Rattle.mt_picture.proofs.Counted.{history_counted}
 use Rattle.mt_probe.specs.Hits.{IsTried, Trial, told_of}
+use Rattle.mt_probe.specs.Prepared.{IsPrepOf, Prepared}
+use Rattle.mt_probe.specs.Shot.{state_in_shot as state_in}
 use Rattle.mt_write.specs.declared.reply.Reply.{Reply}
 use Rattle.mt_write.specs.declared.reply.Reply.TheVariants as replies
 use Rattle.mt_world.specs.declared.actor.Actor.{Actor}
@@ -37,7 +40,7 @@ full_list (x ∷ xs) some = refl
 
 -- the command that accepts what was tried
 abbrev pub accepting : Trial → Command
-accepting p = Accept p.call p.clearance p.eff p.prep.state.version
+accepting p = Accept p.call p.clearance p.eff p.shot.version
 
 module _ (areas : List Area) (story : Story) (actors : List Actor) (who : ℕ) (a : Actor) (sound : IsSoundWorld story actors) (below : who < 16) (is : a ≡ get_or actors who a)
     (number : ℕ) (p : Trial) (found : probe_at a.book number ≡ Some p) where
@@ -46,29 +49,31 @@ module _ (areas : List Area) (story : Story) (actors : List Actor) (who : ℕ) (
 
   pub accept_bounded : IsTried p → IsBoundedCommand (accepting p)
   accept_bounded tried =
-      let rules : AreWithinBounds story.setup.rules = subst (λ (s : Setup). AreWithinBounds s.rules) kept.setup_is tried.kept.rules in
+      let rules : AreWithinBounds story.setup.rules = subst (λ (s : Setup). AreWithinBounds s.rules) kept.setup_is tried.rules in
       let counted = history_counted story.setup story.history rules sound.legal.replayable in
       (tried.clearance, tried.early, omega (arith, kept.past, counted))
 
   pub accept_in_time : IsInTime (length story.history) (accepting p)
   accept_in_time = kept.past
 
-  pub accept_given : IsTried p → IsPrepGivenFor story who (accepting p) (Some p.prep)
-  accept_given tried = record {
-    makes = tt;
-    setup_is = kept.setup_is;
-    command_is = tried.command_is;
-    who_is = tt;
-    within = kept.past;
-    state_is = kept.state_is;
-  }
+  pub accept_given : (prep : Prepared) → IsPrepOf p.shot 0 (accepting p) prep → IsPrepGivenFor story who (accepting p) (Some prep)
+  accept_given prep of =
+      let version : prep.state.version ≡ p.shot.version = ap (λ (s : State). s.version) of.state_is in
+      record {
+        makes = tt;
+        setup_is = of.setup_is ∙ kept.setup_is;
+        command_is = of.command_is;
+        who_is = tt;
+        within = omega (arith, version, kept.past);
+        state_is = of.state_is ∙ kept.state_is ∙ ap (λ (n : ℕ). state_of story.setup (take n story.history)) (sym version);
+      }
 
   pub accept_free : IsTried p → p.hits ≡ [] → WasFree story.setup story.history (accepting p)
   accept_free tried none =
-      let free : IsWhatIf p.prep.setup p.prep.state p.call p.clearance (Some p.eff) (Ok []) =
-      subst (λ (hits : List Hit). IsWhatIf p.prep.setup p.prep.state p.call p.clearance (Some p.eff) (Ok hits)) none tried.follows in
+      let free : IsWhatIf p.shot.setup (state_in p.shot) p.call p.clearance (Some p.eff) (Ok []) =
+      subst (λ (hits : List Hit). IsWhatIf p.shot.setup (state_in p.shot) p.call p.clearance (Some p.eff) (Ok hits)) none tried.follows in
       subst (λ (s : State). IsWhatIf story.setup s p.call p.clearance (Some p.eff) (Ok [])) kept.state_is
-      (subst (λ (s : Setup). IsWhatIf s p.prep.state p.call p.clearance (Some p.eff) (Ok [])) kept.setup_is free)
+      (subst (λ (s : Setup). IsWhatIf s (state_in p.shot) p.call p.clearance (Some p.eff) (Ok [])) kept.setup_is free)
 
   -- the probe of the number, as it is told
   pub told_found : probe_at (actor_of (seen areas story actors) who).book number ≡ Some (told_of p)

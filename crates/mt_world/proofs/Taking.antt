@@ -65,7 +65,7 @@ module _ (areas : List Area) (story : Story) (actors : List Actor) (who : ℕ) (
 
 -- a probe of the actor's clearance
 pub probed_is : (w next : World) (who : ℕ) (call : List ℕ) (clearance : Clearance) (eff : Option ℕ) (p : Trial) (conflicts : List Hit) (at number version : ℕ)
-    → IsProbeOf w who call clearance eff p → conflicts ≡ p.hits → at ≡ p.eff → version ≡ p.prep.state.version
+    → IsProbeOf w who call clearance eff p → conflicts ≡ p.hits → at ≡ p.eff → version ≡ p.shot.version
     → number ≡ raised (actor_of w who).book.count → next ≡ with_book w who (with_probe (actor_of w who).book (told_of p))
     → IsProbeAnswered w who call clearance eff (replies.Probe conflicts at number version) next
 probed_is w next who call clearance eff p conflicts at number version of hits second counted numbered is = record {
@@ -90,7 +90,7 @@ unprobed_is w who call clearance eff nos.Memory refused = inr (record { reply_is
 
 -- the hits of a probe are few enough for its reply
 pub brief_tried : (p : Trial) → IsTried p → AreBrief p.hits
-brief_tried p tried = brief_hits p.prep.setup p.prep.state p.call p.clearance (Some p.eff) p.hits tried.follows tried.short tried.kept.early
+brief_tried p tried = brief_hits p.shot.setup (state_in p.shot) p.call p.clearance (Some p.eff) p.hits tried.follows tried.short tried.moment
 
 -- advice to the actor
 pub advised_is : (w next : World) (who : ℕ) (call : List ℕ) (eff version count : ℕ) (probes : List Trial) (items : List AdviceItem)

@@ -37,17 +37,10 @@ taken_push setup h e shot taken = record {
   state_is = taken.state_is ∙ ap (state_of setup) (sym (take-append-le shot.version h (e ∷ []) taken.past));
 }
 
-kept_push : (setup : Setup) (h : List Entry) (e : Entry) (p : Trial) → IsKeptOf setup h p → IsKeptOf setup (h ++ e ∷ []) p
-kept_push setup h e p kept = record {
-  setup_is = kept.setup_is;
-  past = omega (arith, length-append h (e ∷ []), kept.past);
-  state_is = kept.state_is ∙ ap (state_of setup) (sym (take-append-le p.prep.state.version h (e ∷ []) kept.past));
-}
-
 actor_push : (setup : Setup) (h : List Entry) (e : Entry) (a : Actor) → IsSoundActor setup h a → IsSoundActor setup (h ++ e ∷ []) a
 actor_push setup h e a sound = record {
   taken = taken_push setup h e a.taken sound.taken;
-  kept = λ k d below. kept_push setup h e (get_or a.book.last k d) (sound.kept k d below);
+  kept = λ k d below. taken_push setup h e (get_or a.book.last k d).shot (sound.kept k d below);
 }
 
 -- a world with one entry more is sound where its history is legal

@@ -104,10 +104,13 @@ impl Centre {
         if !probe.hits().is_empty() {
             return self.refused(Refusal::NotFree);
         }
-        let (command, prep) = (probe.acceptance(), probe.prep());
+        let Ok(prep) = probe.prep(self.alloc, tests) else {
+            return Reply::Memory;
+        };
+        let command = prep.command();
         changed(
             self.picture
-                .publish(self.alloc, who, command, Some(prep), tests),
+                .publish(self.alloc, who, command, Some(&prep), tests),
         )
     }
 }

@@ -30,10 +30,8 @@ pub record IsTakenOf (setup : Setup) (h : List Entry) (shot : Shot) : Type 0 whe
   pub past : shot.version ≤ length h
   pub state_is : state_in shot ≡ state_of setup (take shot.version h)
 
-pub record IsKeptOf (setup : Setup) (h : List Entry) (p : Trial) : Type 0 where
-  pub setup_is : p.prep.setup ≡ setup
-  pub past : p.prep.state.version ≤ length h
-  pub state_is : p.prep.state ≡ state_of setup (take p.prep.state.version h)
+abbrev pub IsKeptOf : Setup → List Entry → Trial → Type 0
+IsKeptOf setup h p = IsTakenOf setup h p.shot
 
 -- an actor has taken a snapshot of the history, and its book has probes of it
 pub record IsSoundActor (setup : Setup) (h : List Entry) (actor : Actor) : Type 0 where
@@ -59,7 +57,7 @@ pub record IsProbeOf (w : World) (who : ℕ) (call : List ℕ) (clearance : Clea
   pub call_is : p.call ≡ call
   pub clearance_is : p.clearance ≡ clearance
   pub eff_is : p.eff ≡ unwrap_or eff (picture_taken w who).now
-  pub version_is : p.prep.state.version ≡ (actor_of w who).taken
+  pub version_is : p.shot.version ≡ (actor_of w who).taken
   pub follows : IsWhatIf (setup_of w) (picture_taken w who) call clearance eff (Ok p.hits)
 
 abbrev pub IsUnprobedOf : World → ℕ → List ℕ → Clearance → Option ℕ → No → Type 0

@@ -3,7 +3,6 @@ use Rattle.std.proofs.lemmas.List.{get_or_default, take_all}
 use Rattle.std.proofs.lemmas.List.Elements.{Contains-get_or}
 use Rattle.mt_base.specs.Picture.{NamedTrajectory}
 use Rattle.mt_meet.specs.declared.table.Met.{Met}
-use Rattle.mt_probe.specs.Meeting.{AreMetItems}
 use Rattle.mt_probe.specs.Private.Finds.{FindsMore}
 use Rattle.mt_probe.specs.Items.{other_at}
 use Rattle.mt_probe.proofs.Gathered.{both_more, none_more}

@@ -1,11 +1,11 @@
-use Rattle.std.proofs.Common.{◌≡◌, ◌<◌, ◌∙◌, ◌⊎◌, ap, inl, option_copied, subst, sym, arith}
+use Rattle.std.proofs.Common.{◌≡◌, ◌<◌, ◌∙◌, ◌⊎◌, Some, ap, inl, option_copied, subst, sym, arith}
 use Rattle.mt_base.specs.declared.command.Command.{Command}
 use Rattle.mt_base.specs.History.{WasFree}
 use Rattle.mt_probe.specs.Hits.{Trial}
 use Rattle.mt_write.specs.declared.reply.Reply.TheVariants as replies
 use Rattle.mt_lines.specs.Told.{entered_reply}
 use Rattle.mt_world.specs.World.{IsCommandAnswered, IsRefused}
-use Rattle.mt_picture.specs.Story.{Story}
+use Rattle.mt_picture.specs.Story.{IsPrepGivenFor, Story}
 use Rattle.mt_base.proofs.Cases.{empty_list}
 use Rattle.mt_world.proofs.Accepting.{accept_bounded, accept_free, accept_given, accept_in_time, accepted, accepting, no_probe, not_free, not_some, published_is}
 use Rattle.mt_world.proofs.Entering.{sound_after}
@@ -26,16 +26,16 @@ publish-requires-clause-bounded c =
     let story : Story = c.self.inside.picture in
     let below : c.args.who < 16 = omega (arith, c.requires) in
     let found = sym c.get.ensures.value ∙ ap option_copied c.in-Some.is in
-    rw c.acceptance-command.ensures
+    rw (c.command-command.ensures, c.in-Ok.ensures.prep.command_is)
     (accept_bounded c.self.inside.areas story c.self.inside.actors.items c.args.who c.index.result.now c.self.invariant below c.index.ensures c.args.number c.in-Some.probe.now found
-    c.prep-prep.ensures.kept)
+    c.prep.ensures.kept)
 
 pub publish-requires-clause-in_time : goal.publish-requires-clause-in_time
 publish-requires-clause-in_time c =
     let story : Story = c.self.inside.picture in
     let below : c.args.who < 16 = omega (arith, c.requires) in
     let found = sym c.get.ensures.value ∙ ap option_copied c.in-Some.is in
-    rw c.acceptance-command.ensures
+    rw (c.command-command.ensures, c.in-Ok.ensures.prep.command_is)
     (accept_in_time c.self.inside.areas story c.self.inside.actors.items c.args.who c.index.result.now c.self.invariant below c.index.ensures c.args.number c.in-Some.probe.now found)
 
 pub publish-requires-clause-prepared : goal.publish-requires-clause-prepared
@@ -43,9 +43,10 @@ publish-requires-clause-prepared c =
     let story : Story = c.self.inside.picture in
     let below : c.args.who < 16 = omega (arith, c.requires) in
     let found = sym c.get.ensures.value ∙ ap option_copied c.in-Some.is in
-    rw (c.acceptance-command.ensures, c.prep-prep.ensures.prep)
+    let same : c.command-command.result.now ≡ accepting c.in-Some.probe.now = c.command-command.ensures ∙ c.in-Ok.ensures.prep.command_is in
+    subst (λ (k : Command). IsPrepGivenFor story c.args.who k (Some c.in-Ok.prep)) (sym same)
     (accept_given c.self.inside.areas story c.self.inside.actors.items c.args.who c.index.result.now c.self.invariant below c.index.ensures c.args.number c.in-Some.probe.now found
-    c.prep-prep.ensures.kept)
+    c.in-Ok.prep c.in-Ok.ensures.prep)
 
 pub invariant_of-self : goal.invariant_of-self
 invariant_of-self c =
@@ -54,10 +55,10 @@ invariant_of-self c =
     let p : Trial = c.in-Some.probe.now in
     let found = sym c.get.ensures.value ∙ ap option_copied c.in-Some.is in
     let none = empty_list p.hits (rw c.hits.ensures.told at (sym c.if-not-is_empty.ensures)) in
-    let command : Command = c.acceptance-command.result.now in
-    let same : command ≡ accepting p = c.acceptance-command.ensures in
+    let command : Command = c.command-command.result.now in
+    let same : command ≡ accepting p = c.command-command.ensures ∙ c.in-Ok.ensures.prep.command_is in
     let free = accept_free c.self.inside.areas story c.self.inside.actors.items c.args.who c.index.result.now c.self.invariant below c.index.ensures c.args.number p found
-    c.prep-prep.ensures.kept none in
+    c.prep.ensures.kept none in
     sound_after story c.publish.new.self c.self.inside.actors.items c.args.who command c.publish.result c.self.invariant
     (subst (λ (k : Command). WasFree story.setup story.history k) (sym same) free) c.publish.ensures.entered c.publish.ensures.unchanged c.publish.ensures.legal
 
@@ -68,8 +69,8 @@ returns-clause-answered c =
     let p : Trial = c.in-Some.probe.now in
     let found = sym c.get.ensures.value ∙ ap option_copied c.in-Some.is in
     let none = empty_list p.hits (rw c.hits.ensures.told at (sym c.if-not-is_empty.ensures)) in
-    let command : Command = c.acceptance-command.result.now in
-    let same : command ≡ accepting p = c.acceptance-command.ensures in
+    let command : Command = c.command-command.result.now in
+    let same : command ≡ accepting p = c.command-command.ensures ∙ c.in-Ok.ensures.prep.command_is in
     let actors = c.self.inside.actors.items in
     let after : Story = c.publish.new.self in
     let changed = published_is c.self.inside.areas story after actors c.args.who command c.publish.result c.publish.ensures.entered c.publish.ensures.refused c.publish.ensures.unchanged in
