@@ -1,5 +1,5 @@
 -- The tests of a command that makes a trajectory are within its bound.
-use Rattle.std.proofs.Common.{◌≡◌, ℕ, ⊎_elim, Bool, true, false, [], Option, Some, None, is_some, option_map, refl, sym, ◌∙◌, ap, subst, arith}
+use Rattle.std.proofs.Common.{◌≡◌, ℕ, ⊎_elim, Bool, true, false, [], Option, Some, None, is_some, option_map, refl, sym, ◌∙◌, ap, arith}
 use Rattle.mt_base.specs.declared.command.Command.{Command}
 use Rattle.mt_base.specs.declared.command.Command.TheVariants.{Accept, Clear, Commit, Drop, External, Plan, Renew, Tentative, Tick, Withdraw}
 use Rattle.mt_base.specs.declared.command.Command.TheVariants as commands

@@ -1,12 +1,10 @@
 -- The candidates that are gathered are near, right, and all that a new trajectory needs.
-use Rattle.std.proofs.Common.{◌≡◌, ◌≢◌, ℕ, ◌/◌, ◌<◌, ⊎_elim, Bool, true, false, true≢false, List, ◌++◌, map, get_or, AllPairs, Contains, Option, Some, None, is_some, option_map, refl, sym, ◌∙◌, ap, subst, arith}
+use Rattle.std.proofs.Common.{◌≡◌, ◌≢◌, ℕ, ◌/◌, ◌<◌, ⊎_elim, Bool, true, false, true≢false, List, ◌++◌, map, get_or, Contains, Option, Some, None, is_some, option_map, refl, sym, ◌∙◌, ap, subst, arith}
 use Rattle.std.specs.Prelude.{option_and_then}
-use Rattle.std.specs.Arc.{arc_value}
 use Rattle.std.proofs.lemmas.Bool.{cases_lt}
 use Rattle.std.proofs.lemmas.List.{map-append}
 use Rattle.std.proofs.lemmas.List.Elements.{Contains-append_cases, Contains-append_left, Contains-append_right}
 use Rattle.mt_base.specs.declared.command.Entry.{Entry}
-use Rattle.mt_base.specs.declared.conflict.Kind.{Kind}
 use Rattle.mt_base.specs.declared.rules.Rules.{Rules}
 use Rattle.mt_base.specs.Conflict.{IsConflict, IsLossSecond}
 use Rattle.mt_base.specs.Picture.{NamedTrajectory, trajectories}
@@ -16,9 +14,7 @@ use Rattle.mt_base.proofs.Members.{distinct_append}
 use Rattle.mt_cover.specs.Cells.{cover_of}
 use Rattle.mt_cover.specs.Sliced.{slices_of}
 use Rattle.mt_kept.specs.declared.finds.Candidate.{Candidate}
-use Rattle.mt_kept.specs.declared.finds.Knowledge.{Knowledge}
-use Rattle.mt_kept.specs.declared.finds.Knowledge.TheVariants.{Known, Within}
-use Rattle.mt_kept.specs.Finds.{IsRight, candidate_place, is_unknown}
+use Rattle.mt_kept.specs.Finds.{IsRight, candidate_place}
 use Rattle.mt_kept.specs.Places.{at}
 use Rattle.mt_base.specs.Trajectory.{horizon}
 use Rattle.mt_probe.specs.declared.flight.Flight.{Flight}
@@ -31,7 +27,7 @@ use Rattle.mt_probe.specs.Standing.{IsSoundShot}
 use Rattle.mt_probe.proofs.Gathered.{found_is}
 use Rattle.mt_probe.proofs.Nearby.{near_by_loss}
 use Rattle.mt_track.specs.Laid.{IsStrand}
-use Rattle.mt_picture.specs.Private.Candidates.{AreMetSince, AreStill, IsStillOne, is_after, is_made_since}
+use Rattle.mt_picture.specs.Private.Candidates.{AreMetSince, AreStill, IsStillOne, is_made_since}
 use Rattle.mt_picture.specs.Private.Places.{all_places, made_of_kind}
 use Rattle.mt_picture.specs.Private.Stamps.{AreStamped, HaveStood}
 use Rattle.mt_picture.specs.Private.Known.{AreNearCandidates, IsKnown, IsPreps}

@@ -1,5 +1,5 @@
 -- What was made after a version: by the entries since, by the stamps of all places, and among what meets a new trajectory.
-use Rattle.std.proofs.Common.{◌≡◌, ◌≢◌, ℕ, ◌+◌, ◌-◌, ◌*◌, ◌/◌, ◌<◌, ◌≤◌, ⊎_elim, Bool, true, false, true≢false, List, [], length, filter, map, get_or, AllPairs, Contains, Option, Some, None, option_map, nat_lt, refl, sym, ◌∙◌, ap, subst, arith}
+use Rattle.std.proofs.Common.{◌≡◌, ◌≢◌, ℕ, ◌-◌, ◌*◌, ◌/◌, ◌<◌, ◌≤◌, ⊎_elim, Bool, true, false, true≢false, List, [], length, filter, map, get_or, AllPairs, Contains, Option, Some, None, option_map, nat_lt, refl, sym, ◌∙◌, ap, subst, arith}
 use Rattle.std.specs.Prelude.{option_and_then}
 use Rattle.std.specs.Arc.{arc_value}
 use Rattle.std.proofs.lemmas.Bool.{cases_lt}
@@ -7,7 +7,6 @@ use Rattle.std.proofs.lemmas.Bool.Decides.{nat_tests}
 use Rattle.std.proofs.lemmas.List.Kept.{AllPairs-filter}
 use Rattle.mt_base.specs.declared.command.Entry.{Entry}
 use Rattle.mt_base.specs.declared.conflict.Kind.{Kind}
-use Rattle.mt_base.specs.declared.rules.Rules.{Rules}
 use Rattle.mt_base.specs.Conflict.{IsLossSecond}
 use Rattle.mt_base.specs.Picture.{NamedTrajectory}
 use Rattle.mt_base.specs.Tables.{Setup}
@@ -16,7 +15,6 @@ use Rattle.mt_base.proofs.Members.{Contains-filter, Contains-map, Contains-map_c
 use Rattle.mt_cover.specs.Cells.{cover_of}
 use Rattle.mt_cover.specs.Sliced.{Sliced, slices_of}
 use Rattle.mt_kept.specs.declared.finds.Candidate.{Candidate}
-use Rattle.mt_kept.specs.declared.finds.Knowledge.{Knowledge}
 use Rattle.mt_kept.specs.Finds.{IsRight, LoseWithin, candidate_place, is_unknown}
 use Rattle.mt_meet.specs.declared.table.Met.{Met}
 use Rattle.mt_meet.specs.Meeting.{MeetAt}
@@ -25,7 +23,7 @@ use Rattle.mt_track.specs.Laid.{IsStrand}
 use Rattle.mt_probe.specs.declared.flight.Flight.{Flight}
 use Rattle.mt_probe.specs.declared.flight.Made.{Made}
 use Rattle.mt_probe.specs.Items.{IsNearItem, kind_at}
-use Rattle.mt_probe.specs.Meeting.{IsMetOf, slices_at}
+use Rattle.mt_probe.specs.Meeting.{IsMetOf}
 use Rattle.mt_probe.specs.Shot.{Shot, kept_of, made_of}
 use Rattle.mt_probe.specs.Standing.{IsSoundShot}
 use Rattle.mt_probe.proofs.Candidates.{early, near_by_meeting}

@@ -1,6 +1,6 @@
 -- No public contract names these: they are of private steps and of proofs.
 -- Where trajectories stand, and which of them are candidates of a new one.
-use Rattle.std.specs.Prelude.{◌≡◌, ◌≢◌, ◌<◌, ◌≤◌, ◌/◌, ◌++◌, ℕ, Bool, false, List, filter, map, get_or, slice_get, AllPairs, Contains, Option, Some, None, nat_lt, option_and_then, option_map}
+use Rattle.std.specs.Prelude.{◌≡◌, ◌≢◌, ◌≤◌, ◌/◌, ◌++◌, ℕ, Bool, false, List, filter, map, get_or, slice_get, AllPairs, Contains, Option, Some, None, nat_lt, option_and_then, option_map}
 use Rattle.mt_base.specs.declared.command.Entry.{Entry}
 use Rattle.mt_base.specs.declared.conflict.Kind.{Kind}
 use Rattle.mt_cover.specs.Sliced.{Sliced}
