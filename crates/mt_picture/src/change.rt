@@ -4,6 +4,7 @@ ghost use Rattle.mt_base.specs.declared.conflict.Kind.TheVariants.{Actual, Tenta
 ghost use Rattle.mt_base.specs.Picture.{NamedTrajectory};
 ghost use Rattle.mt_kept.specs.Places.{at, seen};
 ghost use Rattle.mt_probe.specs.declared.flight.Flight.{Flight};
+ghost use Rattle.mt_probe.specs.Prepared.{kind_made};
 ghost use Rattle.mt_probe.specs.Shot.{flight_at};
 ghost use Rattle.mt_picture.specs.Private.Asking.{WasAsked, WasAskedOf};
 ghost use Rattle.mt_picture.specs.Private.Brought.{BringsNew, IsChangeFor};
@@ -13,10 +14,11 @@ ghost use Rattle.mt_picture.specs.Private.Stamps.{HaveStood};
 ghost use Rattle.mt_picture.specs.Private.Known.{IsPreps};
 
 use crate::candidates::candidates;
+use crate::entering::Entering;
 use crate::held::Held;
 use mt_base::{Kind, Memory, Tally};
 use mt_kept::OpenPair;
-use mt_probe::{Flight, Prep};
+use mt_probe::{Flight, kind_made};
 use mt_track::Item;
 use std::alloc::Global;
 use std::sync::Arc;
@@ -83,15 +85,15 @@ fn new_finds(
     held: &Held,
     place: u32,
     item: &Option<Item>,
-    prep: &Prep,
-    known: bool,
+    entering: &Entering,
     tests: &mut Tally,
 ) -> Result<Vec<OpenPair>, Memory>
-    requires setup { prep.now.setup ≡ held.now.snapshot.setup }
-    requires call { (m : NamedTrajectory) → seen item.now ≡ Some m → m.call ≡ prep.now.card.call }
-    requires known { (m : NamedTrajectory) → seen item.now ≡ Some m → IsPreps prep.now known m.path }
-    requires stood { HaveStood held.now.snapshot prep.now }
-    ensures counted { (m : NamedTrajectory) → seen item.now ≡ Some m → WasAsked held.now.snapshot prep.now known place m tests.old tests.new }
+    requires setup { entering.now.prep.now.setup ≡ held.now.snapshot.setup }
+    requires call { (m : NamedTrajectory) → seen item.now ≡ Some m → m.call ≡ entering.now.prep.now.card.call }
+    requires known { (m : NamedTrajectory) → seen item.now ≡ Some m → IsPreps entering.now.prep.now entering.now.known m.path }
+    requires stood { HaveStood held.now.snapshot entering.now.prep.now }
+    ensures counted { (m : NamedTrajectory) → seen item.now ≡ Some m
+        → WasAsked held.now.snapshot entering.entry.now.prep.now entering.entry.now.known place m tests.old tests.new }
     ensures finds { IfOk result (λ finds.
         AreFindsFor held.now.kept.rules held.now.kept.places held.now.kept.moment place (seen item.now) finds.items) }
 {
@@ -100,6 +102,7 @@ fn new_finds(
         return Ok(Vec::new(alloc));
     };
     let snapshot = held.snapshot();
+    let Entering { prep, known, .. } = *entering;
     let candidates = candidates(alloc, snapshot, held.history(), &item.strand, prep, known)?;
     held.kept().gather(alloc, place, item, &candidates, tests)
 }
@@ -121,18 +124,18 @@ fn change_actual(
     held: &Held,
     slot: u32,
     flight: &Flight,
-    prep: &Prep,
-    known: bool,
+    entering: &Entering,
     tests: &mut Tally,
 ) -> Result<Change, Memory>
-    requires { BringsNew held.now.snapshot slot flight.now Actual prep.now known }
+    requires { BringsNew held.now.snapshot slot flight.now Actual entering.now.prep.now entering.now.known }
     ensures change { IfOk result (IsChangeFor held.now.kept slot flight.now) }
-    ensures counted { WasAsked held.now.snapshot prep.now known (2 * slot) (made_of_kind flight.now Actual flight.now.actual) tests.old tests.new }
+    ensures counted { WasAsked held.now.snapshot entering.entry.now.prep.now entering.entry.now.known (2 * slot)
+        (made_of_kind flight.now Actual flight.now.actual) tests.old tests.new }
 {
     held.keeps();
     let first = first_item(flight)?;
     let second = second_item(flight)?;
-    let mut finds = new_finds(alloc, held, 2 * slot, &first, prep, known, tests)?;
+    let mut finds = new_finds(alloc, held, 2 * slot, &first, entering, tests)?;
     let others = kept_finds(alloc, held, 2 * slot + 1, &second)?;
     add_pairs(&mut finds, &others)?;
     Ok(Change {
@@ -148,20 +151,19 @@ fn change_mark(
     held: &Held,
     slot: u32,
     flight: &Flight,
-    prep: &Prep,
-    known: bool,
+    entering: &Entering,
     tests: &mut Tally,
 ) -> Result<Change, Memory>
-    requires { BringsNew held.now.snapshot slot flight.now Tentative prep.now known }
+    requires { BringsNew held.now.snapshot slot flight.now Tentative entering.now.prep.now entering.now.known }
     ensures change { IfOk result (IsChangeFor held.now.kept slot flight.now) }
     ensures counted { (m : NamedTrajectory) → second_of (Some flight.now) ≡ Some m
-        → WasAsked held.now.snapshot prep.now known (2 * slot + 1) m tests.old tests.new }
+        → WasAsked held.now.snapshot entering.entry.now.prep.now entering.entry.now.known (2 * slot + 1) m tests.old tests.new }
 {
     held.keeps();
     let first = first_item(flight)?;
     let second = second_item(flight)?;
     let mut finds = kept_finds(alloc, held, 2 * slot, &first)?;
-    let others = new_finds(alloc, held, 2 * slot + 1, &second, prep, known, tests)?;
+    let others = new_finds(alloc, held, 2 * slot + 1, &second, entering, tests)?;
     add_pairs(&mut finds, &others)?;
     Ok(Change {
         first,
@@ -171,25 +173,23 @@ fn change_mark(
 }
 
 /// The change of the kept conflicts for a flight that is put into a slot, an empty one or the one that it has already, with a new trajectory
-/// of that kind; of the other kind it has what it had, or nothing. What the prep found is used where it is known to be of use.
+/// of the kind that a command makes; of the other kind it has what it had, or nothing. What the prep found is used where it is known to be of use.
 pub(crate) fn change_for(
     alloc: Global,
     held: &Held,
     slot: u32,
     flight: &Flight,
-    kind: Kind,
-    prep: &Prep,
-    known: bool,
+    entering: &Entering,
     tests: &mut Tally,
 ) -> Result<Change, Memory>
-    requires { BringsNew held.now.snapshot slot flight.now kind prep.now known }
+    requires { BringsNew held.now.snapshot slot flight.now (kind_made entering.now.command.now) entering.now.prep.now entering.now.known }
     ensures change { IfOk result (IsChangeFor held.now.kept slot flight.now) }
-    ensures counted { (m : NamedTrajectory) → place_kind kind (Some flight.now) ≡ Some m
-        → WasAskedOf held.now.snapshot prep.now known m tests.old tests.new }
+    ensures counted { (m : NamedTrajectory) → place_kind (kind_made entering.entry.now.command.now) (Some flight.now) ≡ Some m
+        → WasAskedOf held.now.snapshot entering.entry.now.prep.now entering.entry.now.known m tests.old tests.new }
 {
-    match kind {
-        Kind::Actual => change_actual(alloc, held, slot, flight, prep, known, tests),
-        Kind::Tentative => change_mark(alloc, held, slot, flight, prep, known, tests),
+    match kind_made(entering.command) {
+        Kind::Actual => change_actual(alloc, held, slot, flight, entering, tests),
+        Kind::Tentative => change_mark(alloc, held, slot, flight, entering, tests),
     }
 }
 

@@ -7,12 +7,12 @@ ghost use Rattle.mt_probe.specs.Shot.{flight_at};
 ghost use Rattle.mt_probe.specs.Shot.{state_in_shot as state_in};
 ghost use Rattle.mt_picture.specs.Asked.{IsWithinBound, IsWithinPreps};
 ghost use Rattle.mt_picture.specs.Private.Asking.{WasAskedFor};
-ghost use Rattle.mt_picture.specs.Private.Brought.{IsPreparedNow};
+ghost use Rattle.mt_picture.specs.Private.Brought.{IsEnterable};
 ghost use Rattle.mt_picture.specs.Private.Entries.{IsFiling, IsReport, IsWithdrawal};
 ghost use Rattle.mt_picture.specs.Private.Holding.{AddsEntry, EntersOrStops, IsPassed, entry_now, held_story};
 ghost use Rattle.mt_picture.specs.Story.{IsPrepGivenFor, IsPrepFor};
 
-use crate::entering::{file, remake, report, withdraw};
+use crate::entering::{Entering, file, remake, report, withdraw};
 use crate::held::Held;
 use crate::usable::is_usable;
 use mt_base::{Command, Hit, Memory, Record, Tally};
@@ -34,25 +34,21 @@ fn is_filing(command: &Command) -> bool
 fn enter_filing(
     held: &mut Held,
     alloc: Global,
-    who: u32,
-    command: &Command,
+    entering: &Entering,
     card: Record,
-    prep: &Prep,
-    known: bool,
     tests: &mut Tally,
 ) -> Result<Option<Hit>, Memory>
-    requires passed { IsPassed held.old.snapshot who command.now }
-    requires filing { IsFiling command.now }
-    requires bounded { IsBoundedCommand command.now }
-    requires prepared { IsPreparedNow held.old.snapshot who command.now card prep.now known }
-    ensures entered { EntersOrStops held.old held.new who command.now result }
-    ensures counted { WasAskedFor held.old.snapshot prep.now known who command.now tests.old tests.new }
+    requires passed { IsPassed held.old.snapshot entering.now.who entering.now.command.now }
+    requires filing { IsFiling entering.now.command.now }
+    requires enterable { IsEnterable held.old.snapshot entering.now card }
+    ensures entered { EntersOrStops held.old held.new entering.entry.now.who entering.entry.now.command.now result }
+    ensures counted { WasAskedFor held.old.snapshot entering.entry.now tests.old tests.new }
 {
     held.keeps();
     let Some(slot) = held.snapshot().free() else {
         unreachable!()
     };
-    file(held, alloc, slot, who, command, card, prep, known, tests)
+    file(held, alloc, slot, entering, card, tests)
 }
 
 // The slot of the flight that a command alters.
@@ -111,11 +107,17 @@ fn enter_strand(
     prep.keeps();
     let card = card_left(held, alloc, who, command, prep)?;
     let known = is_usable(held, who, command, prep);
+    let entering = Entering {
+        who,
+        command,
+        prep,
+        known,
+    };
     if is_filing(command) {
-        return enter_filing(held, alloc, who, command, card, prep, known, tests);
+        return enter_filing(held, alloc, &entering, card, tests);
     }
     let slot = slot_of(held, who, command, &card);
-    remake(held, alloc, slot, who, command, card, prep, known, tests)
+    remake(held, alloc, slot, &entering, card, tests)
 }
 
 // Enters a command that alters a flight and makes no trajectory.

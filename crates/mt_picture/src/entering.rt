@@ -1,14 +1,14 @@
 //! Entering a command that names a flight: what it leaves in the flight's slot.
-ghost use Rattle.std.specs.Prelude.{◌≡◌, ◌<◌, ◌+◌, ◌^◌, None, Some, IfOk, is_some, length, option_and_then, option_map, false, true};
+ghost use Rattle.std.specs.Prelude.{◌≡◌, ◌<◌, ◌+◌, ◌^◌, None, Some, IfOk, length, option_and_then, option_map, false, true};
 ghost use Rattle.std.specs.Arc.{arc_value};
-ghost use Rattle.mt_base.specs.Bounds.{IsBoundedCommand, IsSoundFlight};
+ghost use Rattle.mt_base.specs.Bounds.{IsBoundedCommand};
 ghost use Rattle.mt_base.specs.Complete.{IsComplete};
 ghost use Rattle.mt_base.specs.Picture.{NamedTrajectory};
 ghost use Rattle.mt_probe.specs.Prepared.{IsLeftByEntry, kind_made, path_made};
 ghost use Rattle.mt_probe.specs.Shot.{flight_at, made_of};
 ghost use Rattle.mt_probe.specs.Shot.{state_in_shot as state_in};
 ghost use Rattle.mt_picture.specs.Private.Asking.{WasAskedFor, WasAskedOf};
-ghost use Rattle.mt_picture.specs.Private.Brought.{BringsNew, IsPreparedNow};
+ghost use Rattle.mt_picture.specs.Private.Brought.{BringsNew, IsEnterable, IsPreparedNow};
 ghost use Rattle.mt_picture.specs.Private.Entries.{IsFiling, IsRemaking, IsReport, IsWithdrawal, is_probed};
 ghost use Rattle.mt_picture.specs.Private.Holding.{AddsEntry, AddsOrStops, EntersOrStops, entry_now};
 ghost use Rattle.mt_picture.specs.Private.Places.{place_kind};
@@ -23,6 +23,19 @@ use mt_track::Strand;
 use std::alloc::Global;
 use std::sync::Arc;
 
+/// A command that makes a trajectory, as it is entered.
+#[derive(Clone, Copy)]
+pub(crate) struct Entering<'a> {
+    /// The actor.
+    pub(crate) who: u32,
+    /// The command.
+    pub(crate) command: &'a Command,
+    /// Its prep.
+    pub(crate) prep: &'a Prep,
+    /// Whether what the prep found is known to be of use.
+    pub(crate) known: bool,
+}
+
 // The callsign of a flight.
 fn callsign(flight: &Flight) -> Callsign
     ensures { result ≡ flight.now.card.call }
@@ -30,35 +43,43 @@ fn callsign(flight: &Flight) -> Callsign
     flight.card.call
 }
 
-// Enters a command that leaves this flight in a slot with a new trajectory of that kind; or gives the first hit, where that was probed and has
-// one, and leaves all as it was. What the prep found is used where it is known to be of use.
+// Whether a command accepts what was probed.
+fn is_probed(command: &Command) -> bool
+    ensures { result ≡ is_probed command.now }
+{
+    match command {
+        Command::Accept { .. } => true,
+        _ => false,
+    }
+}
+
+// Enters a command that leaves this flight in a slot with a new trajectory of the kind that it makes; or gives the first hit, where it was probed
+// and has one, and leaves all as it was. What the prep found is used where it is known to be of use.
 fn put_made(
     held: &mut Held,
     alloc: Global,
     slot: u32,
     flight: Flight,
-    kind: Kind,
     entry: Entry,
-    prep: &Prep,
-    known: bool,
-    probed: bool,
+    entering: &Entering,
     tests: &mut Tally,
 ) -> Result<Option<Hit>, Memory>
     requires counted { held.old.snapshot.version < 2 ^ 40 }
     requires put { IsFlightPut held.old.snapshot slot flight entry }
     requires complete { IsComplete entry }
-    requires new { BringsNew held.old.snapshot slot flight kind prep.now known }
+    requires new { BringsNew held.old.snapshot slot flight (kind_made entering.now.command.now) entering.now.prep.now entering.now.known }
     ensures entered { AddsOrStops held.old held.new entry result }
-    ensures hits { IfOk result (λ first. probed ≡ true → IsFirstOf held.old.snapshot.setup (state_in held.old.snapshot) flight.card.call
-        (arc_value flight.actual.strand) first) }
-    ensures free { IfOk result (λ first. probed ≡ false → first ≡ None) }
-    ensures counted { (m : NamedTrajectory) → place_kind kind (Some flight) ≡ Some m
-        → WasAskedOf held.old.snapshot prep.now known m tests.old tests.new }
+    ensures hits { IfOk result (λ first. is_probed entering.entry.now.command.now ≡ true
+        → IsFirstOf held.old.snapshot.setup (state_in held.old.snapshot) flight.card.call (arc_value flight.actual.strand) first) }
+    ensures free { IfOk result (λ first. is_probed entering.entry.now.command.now ≡ false → first ≡ None) }
+    ensures counted { (m : NamedTrajectory) → place_kind (kind_made entering.entry.now.command.now) (Some flight) ≡ Some m
+        → WasAskedOf held.old.snapshot entering.entry.now.prep.now entering.entry.now.known m tests.old tests.new }
 {
     held.keeps();
     let now = held.snapshot().now();
     let call = callsign(&flight);
-    let change = change_for(alloc, held, slot, &flight, kind, prep, known, tests)?;
+    let change = change_for(alloc, held, slot, &flight, entering, tests)?;
+    let probed = is_probed(entering.command);
     let first = first_hit(alloc, &change.finds, call, now, probed)?;
     if first.is_some() {
         return Ok(first);
@@ -67,28 +88,29 @@ fn put_made(
     Ok(None)
 }
 
-// The trajectory of a kind of a flight: the prep's, where that is known to be of use, or a new one.
+// The trajectory that a command makes of a flight: the prep's, where that is known to be of use, or a new one.
 fn strand_for(
     alloc: Global,
     held: &Held,
+    entering: &Entering,
     card: &Record,
-    kind: Kind,
-    prep: &Prep,
-    known: bool,
 ) -> Result<Arc<Strand>, Memory>
-    requires sound { IsSoundFlight held.now.snapshot.setup card.now }
-    requires makes { is_some (path_made held.now.snapshot.setup card.now kind) ≡ true }
-    requires setup { prep.now.setup ≡ held.now.snapshot.setup }
-    requires kind { kind ≡ kind_made prep.now.command }
-    requires known { known ≡ true → card.now ≡ prep.now.card }
-    ensures made { IfOk result (λ strand. path_made held.now.snapshot.setup card.now kind ≡ Some (arc_value strand)) }
-    ensures known { IfOk result (λ strand. known ≡ true → arc_value strand ≡ prep.now.strand) }
+    requires prepared { IsPreparedNow held.now.snapshot entering.now card.now }
+    ensures made { IfOk result (λ strand. path_made held.now.snapshot.setup card.now (kind_made entering.entry.now.command.now)
+        ≡ Some (arc_value strand)) }
+    ensures known { IfOk result (λ strand. entering.entry.now.known ≡ true → arc_value strand ≡ entering.entry.now.prep.now.strand) }
 {
+    let Entering {
+        command,
+        prep,
+        known,
+        ..
+    } = *entering;
     prep.keeps();
     if known {
         Ok(Arc::try_clone(prep.strand())?)
     } else {
-        strand_of(alloc, held.snapshot(), card, kind)
+        strand_of(alloc, held.snapshot(), card, kind_made(command))
     }
 }
 
@@ -127,26 +149,21 @@ pub(crate) fn file(
     held: &mut Held,
     alloc: Global,
     slot: u32,
-    who: u32,
-    command: &Command,
+    entering: &Entering,
     card: Record,
-    prep: &Prep,
-    known: bool,
     tests: &mut Tally,
 ) -> Result<Option<Hit>, Memory>
-    requires counted { held.old.snapshot.version < 2 ^ 40 }
     requires slot { slot < length held.old.snapshot.slots }
     requires free { flight_at held.old.snapshot slot ≡ None }
-    requires filing { IsFiling command.now }
-    requires bounded { IsBoundedCommand command.now }
-    requires prepared { IsPreparedNow held.old.snapshot who command.now card prep.now known }
-    ensures entered { EntersOrStops held.old held.new who command.now result }
-    ensures counted { WasAskedFor held.old.snapshot prep.now known who command.now tests.old tests.new }
+    requires filing { IsFiling entering.now.command.now }
+    requires enterable { IsEnterable held.old.snapshot entering.now card }
+    ensures entered { EntersOrStops held.old held.new entering.entry.now.who entering.entry.now.command.now result }
+    ensures counted { WasAskedFor held.old.snapshot entering.entry.now tests.old tests.new }
 {
     held.keeps();
     let version = held.snapshot().version();
-    let strand = strand_for(alloc, held, &card, Kind::Actual, prep, known)?;
-    let entry = entry_of(alloc, held, who, command)?;
+    let strand = strand_for(alloc, held, entering, &card)?;
+    let entry = entry_of(alloc, held, entering.who, entering.command)?;
     let flight = Flight {
         card,
         filed: version + 1,
@@ -156,18 +173,7 @@ pub(crate) fn file(
         },
         mark: None,
     };
-    put_made(
-        held,
-        alloc,
-        slot,
-        flight,
-        Kind::Actual,
-        entry,
-        prep,
-        known,
-        false,
-        tests,
-    )
+    put_made(held, alloc, slot, flight, entry, entering, tests)
 }
 
 // The flight in a slot with another record, and with all else that it has.
@@ -223,46 +229,27 @@ fn remade(
     }
 }
 
-// Whether a command accepts what was probed.
-fn is_probed(command: &Command) -> bool
-    ensures { result ≡ is_probed command.now }
-{
-    match command {
-        Command::Accept { .. } => true,
-        _ => false,
-    }
-}
-
 /// Renews, clears or marks the flight in a slot, or commits its tentative clearance; or gives the first hit, where the command was probed and
 /// has one, and leaves all as it was.
 pub(crate) fn remake(
     held: &mut Held,
     alloc: Global,
     slot: u32,
-    who: u32,
-    command: &Command,
+    entering: &Entering,
     card: Record,
-    prep: &Prep,
-    known: bool,
     tests: &mut Tally,
 ) -> Result<Option<Hit>, Memory>
-    requires counted { held.old.snapshot.version < 2 ^ 40 }
     requires there { option_map (λ f. f.card.call) (flight_at held.old.snapshot slot) ≡ Some card.call }
-    requires remaking { IsRemaking command.now }
-    requires bounded { IsBoundedCommand command.now }
-    requires prepared { IsPreparedNow held.old.snapshot who command.now card prep.now known }
-    ensures entered { EntersOrStops held.old held.new who command.now result }
-    ensures counted { WasAskedFor held.old.snapshot prep.now known who command.now tests.old tests.new }
+    requires remaking { IsRemaking entering.now.command.now }
+    requires enterable { IsEnterable held.old.snapshot entering.now card }
+    ensures entered { EntersOrStops held.old held.new entering.entry.now.who entering.entry.now.command.now result }
+    ensures counted { WasAskedFor held.old.snapshot entering.entry.now tests.old tests.new }
 {
     held.keeps();
-    let kind = kind_made(command);
-    let strand = strand_for(alloc, held, &card, kind, prep, known)?;
-    let entry = entry_of(alloc, held, who, command)?;
-    let flight = remade(held, slot, command, card, strand)?;
-    let probed = is_probed(command);
-    put_made(
-        held, alloc, slot, flight, kind, entry, prep, known, probed, tests,
-    )
+    let strand = strand_for(alloc, held, entering, &card)?;
+    let entry = entry_of(alloc, held, entering.who, entering.command)?;
+    let flight = remade(held, slot, entering.command, card, strand)?;
+    put_made(held, alloc, slot, flight, entry, entering, tests)
 }
 
 /// Enters the report of a flight in a slot.

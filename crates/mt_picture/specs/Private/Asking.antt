@@ -6,9 +6,9 @@ use Rattle.mt_base.specs.Picture.{NamedTrajectory}
 use Rattle.mt_kept.specs.declared.finds.Candidate.{Candidate}
 use Rattle.mt_kept.specs.Finds.{cost}
 use Rattle.mt_base.specs.Tally.{RoseUpTo}
-use Rattle.mt_base.specs.declared.command.Command.{Command}
 use Rattle.mt_probe.specs.Prepared.{Prepared, left_made}
 use Rattle.mt_probe.specs.Shot.{Shot, state_in_shot}
+use Rattle.mt_picture.specs.declared.entering.Entering.{Entering}
 use Rattle.mt_picture.specs.Private.Places.{all_places}
 use Rattle.mt_picture.specs.Private.Known.{AreNearCandidates}
 
@@ -28,6 +28,7 @@ pub record WasAskedOf (shot : Shot) (p : Prepared) (known : Bool) (mine : NamedT
   pub was : WasAsked shot p known place mine old new
 
 -- the candidates of what a command makes of a flight were asked for
-abbrev pub WasAskedFor : Shot → Prepared → Bool → ℕ → Command → ℕ → ℕ → Type 0
-WasAskedFor shot p known who command old new =
-    (mine : NamedTrajectory) → left_made shot.setup (state_in_shot shot) who command ≡ Some mine → WasAskedOf shot p known mine old new
+abbrev pub WasAskedFor : Shot → Entering → ℕ → ℕ → Type 0
+WasAskedFor shot e old new =
+    (mine : NamedTrajectory) → left_made shot.setup (state_in_shot shot) e.who e.command.now ≡ Some mine
+    → WasAskedOf shot e.prep.now e.known mine old new

@@ -1,7 +1,7 @@
 -- No public contract names these: they are of private steps and of proofs.
 -- What a command brings into a slot, and its preparation.
-use Rattle.std.specs.Prelude.{◌≡◌, ◌<◌, ℕ, Bool, true, Some, length}
-use Rattle.mt_base.specs.declared.command.Command.{Command}
+use Rattle.std.specs.Prelude.{◌≡◌, ◌<◌, ◌^◌, ℕ, Bool, true, Some, length}
+use Rattle.mt_base.specs.Bounds.{IsBoundedCommand}
 use Rattle.mt_base.specs.declared.conflict.Kind.{Kind}
 use Rattle.mt_base.specs.declared.flight.Record.{Record}
 use Rattle.mt_base.specs.Picture.{NamedTrajectory}
@@ -13,6 +13,7 @@ use Rattle.mt_probe.specs.Prepared.{IsLeftByEntry, Prepared}
 use Rattle.mt_probe.specs.Shot.{Shot, flight_at}
 use Rattle.mt_probe.specs.Shot.{state_in_shot as state_in}
 use Rattle.mt_picture.specs.declared.change.Change.{Change}
+use Rattle.mt_picture.specs.declared.entering.Entering.{Entering}
 use Rattle.mt_picture.specs.Private.Places.{first_of, place_kind, place_other, second_of}
 use Rattle.mt_picture.specs.Private.Stamps.{HaveStood}
 use Rattle.mt_picture.specs.Private.Known.{IsPreps}
@@ -36,10 +37,16 @@ pub record IsChangeFor (kept : Watched) (slot : ℕ) (f : Flight) (change : Chan
   pub finds_are : AreFindsOfSlot kept.rules (with_slot kept.places slot (first_of (Some f)) (second_of (Some f))) kept.moment slot change.finds.items
 
 -- a command leaves a flight with this record, and the preparation is of it. The record is the preparation's, where that is known to be of use.
-pub record IsPreparedNow (shot : Shot) (who : ℕ) (command : Command) (card : Record) (p : Prepared) (known : Bool) : Type 0 where
-  pub left : IsLeftByEntry shot.setup (state_in shot) who command card
-  pub setup_is : p.setup ≡ shot.setup
-  pub call_is : p.card.call ≡ card.call
-  pub command_is : p.command ≡ command
-  pub card_is : known ≡ true → card ≡ p.card
-  pub stood : HaveStood shot p
+pub record IsPreparedNow (shot : Shot) (e : Entering) (card : Record) : Type 0 where
+  pub left : IsLeftByEntry shot.setup (state_in shot) e.who e.command.now card
+  pub setup_is : e.prep.now.setup ≡ shot.setup
+  pub call_is : e.prep.now.card.call ≡ card.call
+  pub command_is : e.prep.now.command ≡ e.command.now
+  pub card_is : e.known ≡ true → card ≡ e.prep.now.card
+  pub stood : HaveStood shot e.prep.now
+
+-- it can be entered: the history has room for it, its values are within their bounds, and it is prepared
+pub record IsEnterable (shot : Shot) (e : Entering) (card : Record) : Type 0 where
+  pub counted : shot.version < 2 ^ 40
+  pub bounded : IsBoundedCommand e.command.now
+  pub prepared : IsPreparedNow shot e card

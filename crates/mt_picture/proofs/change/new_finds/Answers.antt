@@ -22,7 +22,7 @@ gather-requires c =
     let is = ap seen c.in-Some.is in
     let near = rw (c.deref.ensures, c.snapshot-snapshot.ensures.value) at c.in_ok-candidates.ensures in
     rw (c.kept.ensures, c.keeps.ensures.picture.rules_are, c.keeps.ensures.picture.places_are, c.deref-2.ensures.value)
-    (candidates_right s c.args.place mine c.args.prep.now c.args.known c.in_ok-candidates.candidates.items
+    (candidates_right s c.args.place mine c.args.entering.now.prep.now c.args.entering.now.known c.in_ok-candidates.candidates.items
     (ap (λ (u : Setup). u.rules) c.requires.setup) (c.requires.call mine is) near)
 
 pub returns-clause-finds : goal.returns-clause-finds
@@ -44,5 +44,5 @@ returns-clause-counted c = λ m is.
     let own = same_Some (named c.in-Some.item) m (sym (ap seen c.in-Some.is) ∙ is) in
     let near = rw (c.deref.ensures, c.snapshot-snapshot.ensures.value) at c.in_ok-candidates.ensures in
     let rose = rw (c.kept.ensures, c.keeps.ensures.picture.places_are, c.keeps.ensures.picture.moment_is, c.deref-2.ensures.value) at c.gather.ensures.counted in
-    subst (λ (u : NamedTrajectory). WasAsked s c.args.prep.now c.args.known c.args.place u c.args.tests.now c.gather.new.tests) own
+    subst (λ (u : NamedTrajectory). WasAsked s c.args.entering.now.prep.now c.args.entering.now.known c.args.place u c.args.tests.now c.gather.new.tests) own
     (inr (record { xs = c.in_ok-candidates.candidates.items; near = near; rose = rose }))

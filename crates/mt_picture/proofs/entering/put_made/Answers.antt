@@ -1,4 +1,4 @@
-use Rattle.std.proofs.Common.{◌≡◌, Some, None, refl}
+use Rattle.std.proofs.Common.{◌≡◌, ◌∙◌, Some, None, refl}
 use Rattle.std.proofs.lemmas.Result.{IfOk-from_err, MatchResult-from_err}
 use Rattle.mt_picture.proofs.FirstHit.{first_here, none_is}
 use Rattle.mt_picture.proofs.Slotted.{places_set}
@@ -14,7 +14,7 @@ returns-then-is_some-clause-hits c = λ probed.
       ← places_set shot.slots c.args.slot (Some c.args.flight) c.requires.put.inside,
     ) at c.in_ok-change.ensures.change.finds_are in
     first_here shot c.args.slot c.args.flight c.in_ok-change.change.finds.items c.in_ok-first.first c.keeps.ensures.sound c.requires.put.inside finds
-    c.requires.put.was (rw (c.deref.ensures.value, c.now-now.ensures.now, c.snapshot.ensures.value, c.callsign-call.ensures) at (c.in_ok-first.ensures.probed probed))
+    c.requires.put.was (rw (c.deref.ensures.value, c.now-now.ensures.now, c.snapshot.ensures.value, c.callsign-call.ensures) at (c.in_ok-first.ensures.probed (c.is_probed-probed.ensures ∙ probed)))
 
 pub returns-clause-hits : goal.returns-clause-hits
 returns-clause-hits c = λ probed.
@@ -27,10 +27,10 @@ returns-clause-hits c = λ probed.
       ← places_set shot.slots c.args.slot (Some c.args.flight) c.requires.put.inside,
     ) at c.in_ok-change.ensures.change.finds_are in
     first_here shot c.args.slot c.args.flight c.in_ok-change.change.finds.items None c.keeps.ensures.sound c.requires.put.inside finds c.requires.put.was
-    (rw (c.deref.ensures.value, c.now-now.ensures.now, c.snapshot.ensures.value, none, c.callsign-call.ensures) at (c.in_ok-first.ensures.probed probed))
+    (rw (c.deref.ensures.value, c.now-now.ensures.now, c.snapshot.ensures.value, none, c.callsign-call.ensures) at (c.in_ok-first.ensures.probed (c.is_probed-probed.ensures ∙ probed)))
 
 pub returns-then-is_some-clause-free : goal.returns-then-is_some-clause-free
-returns-then-is_some-clause-free c = c.in_ok-first.ensures.free
+returns-then-is_some-clause-free c = λ unprobed. c.in_ok-first.ensures.free (c.is_probed-probed.ensures ∙ unprobed)
 
 pub change_for-requires : goal.change_for-requires
 change_for-requires c = c.requires.new
