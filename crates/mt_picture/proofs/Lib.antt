@@ -5,6 +5,7 @@ pub mod Candidacy
 pub mod Choosing
 pub mod Completed
 pub mod Counted
+pub mod Either
 pub mod Entered
 pub mod Exits
 pub mod FirstHit

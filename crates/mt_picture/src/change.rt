@@ -1,5 +1,5 @@
 //! What the kept conflicts change by where a flight is put into a slot.
-ghost use Rattle.std.specs.Prelude.{◌≡◌, ◌<◌, ◌+◌, ◌*◌, ◌++◌, None, Some, IfOk, OnOk, length};
+ghost use Rattle.std.specs.Prelude.{◌≡◌, ◌<◌, ◌+◌, ◌*◌, ◌++◌, None, Some, IfOk, OnOk, length, false, true};
 ghost use Rattle.mt_base.specs.declared.conflict.Kind.TheVariants.{Actual, Tentative};
 ghost use Rattle.mt_base.specs.Picture.{NamedTrajectory};
 ghost use Rattle.mt_kept.specs.Places.{at, seen};
@@ -9,14 +9,14 @@ ghost use Rattle.mt_probe.specs.Shot.{flight_at};
 ghost use Rattle.mt_picture.specs.Private.Asking.{WasAsked, WasAskedOf};
 ghost use Rattle.mt_picture.specs.Private.Brought.{BringsNew, IsChangeFor};
 ghost use Rattle.mt_picture.specs.Private.Finding.{AreFindsFor};
-ghost use Rattle.mt_picture.specs.Private.Places.{first_of, made_of_kind, place_kind, second_of};
+ghost use Rattle.mt_picture.specs.Private.Places.{first_of, place_kind, second_of};
 ghost use Rattle.mt_picture.specs.Private.Stamps.{HaveStood};
 ghost use Rattle.mt_picture.specs.Private.Known.{IsPreps};
 
 use crate::candidates::candidates;
 use crate::entering::Entering;
 use crate::held::Held;
-use mt_base::{Kind, Memory, Tally};
+use mt_base::{Command, Kind, Memory, Tally};
 use mt_kept::OpenPair;
 use mt_probe::{Flight, kind_made};
 use mt_track::Item;
@@ -107,6 +107,47 @@ fn new_finds(
     held.kept().gather(alloc, place, item, &candidates, tests)
 }
 
+// The pairs of an item in a place: of one that is new there, or of one that the place keeps.
+fn finds_in(
+    alloc: Global,
+    held: &Held,
+    place: u32,
+    item: &Option<Item>,
+    is_new: bool,
+    entering: &Entering,
+    tests: &mut Tally,
+) -> Result<Vec<OpenPair>, Memory>
+    requires place { place < length held.now.kept.places }
+    requires setup { entering.now.prep.now.setup ≡ held.now.snapshot.setup }
+    requires call { (m : NamedTrajectory) → seen item.now ≡ Some m → m.call ≡ entering.now.prep.now.card.call }
+    requires known { is_new ≡ true → (m : NamedTrajectory) → seen item.now ≡ Some m
+        → IsPreps entering.now.prep.now entering.now.known m.path }
+    requires stays { is_new ≡ false → (m : NamedTrajectory) → seen item.now ≡ Some m → at held.now.kept.places place ≡ Some m }
+    requires stood { HaveStood held.now.snapshot entering.now.prep.now }
+    ensures counted { is_new ≡ true → (m : NamedTrajectory) → seen item.now ≡ Some m
+        → WasAsked held.now.snapshot entering.entry.now.prep.now entering.entry.now.known place m tests.old tests.new }
+    ensures free { is_new ≡ false → tests.new ≡ tests.old }
+    ensures finds { IfOk result (λ finds.
+        AreFindsFor held.now.kept.rules held.now.kept.places held.now.kept.moment place (seen item.now) finds.items) }
+{
+    if is_new {
+        new_finds(alloc, held, place, item, entering, tests)
+    } else {
+        kept_finds(alloc, held, place, item)
+    }
+}
+
+// Whether a command makes a trajectory that its flight flies, and no tentative one.
+fn makes_actual(command: &Command) -> bool
+    ensures actual { result ≡ true → kind_made command.now ≡ Actual }
+    ensures tentative { result ≡ false → kind_made command.now ≡ Tentative }
+{
+    match kind_made(command) {
+        Kind::Actual => true,
+        Kind::Tentative => false,
+    }
+}
+
 /// What the kept conflicts change by where a flight is put into a slot.
 #[derive(Drop)]
 pub(crate) struct Change {
@@ -116,60 +157,6 @@ pub(crate) struct Change {
     pub(crate) second: Option<Item>,
     /// The pairs of both.
     pub(crate) finds: Vec<OpenPair>,
-}
-
-// The change for a flight with a new trajectory that it flies; of its tentative one it has what it had, or nothing.
-fn change_actual(
-    alloc: Global,
-    held: &Held,
-    slot: u32,
-    flight: &Flight,
-    entering: &Entering,
-    tests: &mut Tally,
-) -> Result<Change, Memory>
-    requires { BringsNew held.now.snapshot slot flight.now Actual entering.now.prep.now entering.now.known }
-    ensures change { IfOk result (IsChangeFor held.now.kept slot flight.now) }
-    ensures counted { WasAsked held.now.snapshot entering.entry.now.prep.now entering.entry.now.known (2 * slot)
-        (made_of_kind flight.now Actual flight.now.actual) tests.old tests.new }
-{
-    held.keeps();
-    let first = first_item(flight)?;
-    let second = second_item(flight)?;
-    let mut finds = new_finds(alloc, held, 2 * slot, &first, entering, tests)?;
-    let others = kept_finds(alloc, held, 2 * slot + 1, &second)?;
-    add_pairs(&mut finds, &others)?;
-    Ok(Change {
-        first,
-        second,
-        finds,
-    })
-}
-
-// The change for a flight with a new tentative trajectory; it flies the one that it flew.
-fn change_mark(
-    alloc: Global,
-    held: &Held,
-    slot: u32,
-    flight: &Flight,
-    entering: &Entering,
-    tests: &mut Tally,
-) -> Result<Change, Memory>
-    requires { BringsNew held.now.snapshot slot flight.now Tentative entering.now.prep.now entering.now.known }
-    ensures change { IfOk result (IsChangeFor held.now.kept slot flight.now) }
-    ensures counted { (m : NamedTrajectory) → second_of (Some flight.now) ≡ Some m
-        → WasAsked held.now.snapshot entering.entry.now.prep.now entering.entry.now.known (2 * slot + 1) m tests.old tests.new }
-{
-    held.keeps();
-    let first = first_item(flight)?;
-    let second = second_item(flight)?;
-    let mut finds = kept_finds(alloc, held, 2 * slot, &first)?;
-    let others = new_finds(alloc, held, 2 * slot + 1, &second, entering, tests)?;
-    add_pairs(&mut finds, &others)?;
-    Ok(Change {
-        first,
-        second,
-        finds,
-    })
 }
 
 /// The change of the kept conflicts for a flight that is put into a slot, an empty one or the one that it has already, with a new trajectory
@@ -187,10 +174,18 @@ pub(crate) fn change_for(
     ensures counted { (m : NamedTrajectory) → place_kind (kind_made entering.entry.now.command.now) (Some flight.now) ≡ Some m
         → WasAskedOf held.now.snapshot entering.entry.now.prep.now entering.entry.now.known m tests.old tests.new }
 {
-    match kind_made(entering.command) {
-        Kind::Actual => change_actual(alloc, held, slot, flight, entering, tests),
-        Kind::Tentative => change_mark(alloc, held, slot, flight, entering, tests),
-    }
+    held.keeps();
+    let flown = makes_actual(entering.command);
+    let first = first_item(flight)?;
+    let second = second_item(flight)?;
+    let mut finds = finds_in(alloc, held, 2 * slot, &first, flown, entering, tests)?;
+    let others = finds_in(alloc, held, 2 * slot + 1, &second, !flown, entering, tests)?;
+    add_pairs(&mut finds, &others)?;
+    Ok(Change {
+        first,
+        second,
+        finds,
+    })
 }
 
 /// The change of the kept conflicts for a flight whose tentative trajectory is taken away. It makes no test.
