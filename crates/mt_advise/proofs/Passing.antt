@@ -19,7 +19,7 @@ use Rattle.mt_base.specs.declared.flight.Record.{Record}
 use Rattle.mt_base.specs.declared.flight.Straight.{Straight}
 use Rattle.mt_base.specs.declared.route.RouteNo.{RouteNo}
 use Rattle.mt_base.specs.Bounds.{AreBoundedBands, AreBoundedTables, IsBoundedBand, IsBoundedClearance, IsSoundCourse}
-use Rattle.mt_base.specs.Checks.{check, judged}
+use Rattle.mt_base.specs.Checks.{check_answer, judged}
 use Rattle.mt_base.specs.Cleared.{place_further_on}
 use Rattle.mt_base.specs.Decision.{refusal_of, route_checks}
 use Rattle.mt_base.specs.Picture.{State, flight_of}
@@ -152,22 +152,22 @@ one_bounded tables course base kept (Direct fix) candidate = tt
 -- what is told of a flight that isn't there, of an external one, of one that has ended, and of one that is advised
 pub none_there : (setup : Setup) (now : ℕ) (at : Option Record) (call : List ℕ) → at ≡ None
     → judged (advice_checks setup now at call) (tt {0}) ≡ Err (UnknownCall call)
-unfolding check
+unfolding check_answer
 none_there setup now at call none = rw none refl
 
 pub one_outer : (setup : Setup) (now : ℕ) (at : Option Record) (flight : Record) (stretch : Straight) (call : List ℕ) → at ≡ Some flight
     → flight.path ≡ Outer stretch → judged (advice_checks setup now at call) (tt {0}) ≡ Err Fixed
-unfolding check
+unfolding check_answer
 one_outer setup now at flight stretch call is outer = rw (is, outer) refl
 
 pub one_ended : (setup : Setup) (now : ℕ) (at : Option Record) (flight : Record) (course : Course) (call : List ℕ) → at ≡ Some flight
     → flight.path ≡ Planned course → base_now setup now course ≡ None → judged (advice_checks setup now at call) (tt {0}) ≡ Err Ended
-unfolding check
+unfolding check_answer
 one_ended setup now at flight course call is planned none = rw (is, planned, none) refl
 
 pub one_advised : (setup : Setup) (now : ℕ) (at : Option Record) (flight : Record) (course : Course) (base : Base) (call : List ℕ) → at ≡ Some flight
     → flight.path ≡ Planned course → base_now setup now course ≡ Some base → judged (advice_checks setup now at call) (tt {0}) ≡ Ok (tt {0})
-unfolding check
+unfolding check_answer
 one_advised setup now at flight course base call is planned from = rw (is, planned, from) refl
 
 -- the candidates in a state are those of its flight

@@ -45,18 +45,18 @@ abbrev pub once : Bool → ℕ → ℕ → List ℕ → Option ℕ
 once true low high value = None
 once false low high value = number_in low high value
 
--- `Serving`, `Loading`: what is set for `serve`, and for `load`
-pub record Serving : Type 0 where
+-- `ServeOptions`, `LoadOptions`: what is set for `serve`, and for `load`
+pub record ServeOptions : Type 0 where
   pub port : Option ℕ
   pub sessions : Option ℕ
   pub workers : Option ℕ
 
-pub record Loading : Type 0 where
+pub record LoadOptions : Type 0 where
   pub flights : Option ℕ
   pub number : Option ℕ
 
 -- the options of `serve`: port 1 to 65,535, sessions 1 to 64, workers 0 to 8. There is no other.
-abbrev pub serving_with : Serving → CommandOption → Option Serving
+abbrev pub serving_with : ServeOptions → CommandOption → Option ServeOptions
 serving_with set s =
     if bytes_eq s.name (codes "--port")
     then option_map (λ port. record set { port = Some port }) (once (is_some set.port) 1 65535 s.value)
@@ -67,7 +67,7 @@ serving_with set s =
     else None))
 
 -- the options of `load`: flights 1 to 1,024, a number of 32 bits. Its input is made from the number. There is no other option.
-abbrev pub loading_with : Loading → CommandOption → Option Loading
+abbrev pub loading_with : LoadOptions → CommandOption → Option LoadOptions
 loading_with set s =
     if bytes_eq s.name (codes "--flights")
     then option_map (λ flights. record set { flights = Some flights }) (once (is_some set.flights) 1 1024 s.value)
@@ -90,17 +90,17 @@ module _ {S : Type 0} (with : S → CommandOption → Option S) where
   set_by set words = and_then (options_of words) (all_set set)
 
 -- `serve_task`, `load_task`: defaults: port 7700, 16 sessions, 2 workers; 40 flights, number 1
-abbrev pub serve_task : Serving → Task
+abbrev pub serve_task : ServeOptions → Task
 serve_task set = Serve (unwrap_or set.port 7700) (unwrap_or set.sessions 16) (unwrap_or set.workers 2)
 
-abbrev pub load_task : Loading → Task
+abbrev pub load_task : LoadOptions → Task
 load_task set = Load (unwrap_or set.flights 40) (unwrap_or set.number 1)
 
 -- `no_serving`, `no_loading`: nothing is set at first
-abbrev pub no_serving : Serving
+abbrev pub no_serving : ServeOptions
 no_serving = record { port = None; sessions = None; workers = None }
 
-abbrev pub no_loading : Loading
+abbrev pub no_loading : LoadOptions
 no_loading = record { flights = None; number = None }
 
 -- a word that stands alone

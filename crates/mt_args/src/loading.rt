@@ -17,9 +17,9 @@ struct Loading {
 
 impl Model for Loading {
     ghost use Rattle.std.specs.Prelude.{IfSome};
-    ghost use Rattle.mt_args.specs.Task.{IsFlights, Loading};
+    ghost use Rattle.mt_args.specs.Task.{IsFlights, LoadOptions};
 
-    ghost Value = { Loading };
+    ghost Value = { LoadOptions };
 
     ghost view = { λ s. record { flights = s.flights; number = s.number } };
 

@@ -18,9 +18,9 @@ struct Serving {
 
 impl Model for Serving {
     ghost use Rattle.std.specs.Prelude.{IfSome};
-    ghost use Rattle.mt_args.specs.Task.{AreFewSessions, AreFewWorkers, Serving};
+    ghost use Rattle.mt_args.specs.Task.{AreFewSessions, AreFewWorkers, ServeOptions};
 
-    ghost Value = { Serving };
+    ghost Value = { ServeOptions };
 
     ghost view = { λ s. record { port = s.port; sessions = s.sessions; workers = s.workers } };
 

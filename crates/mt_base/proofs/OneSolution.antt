@@ -11,7 +11,7 @@ use Rattle.mt_base.specs.declared.flight.Course.{Course}
 use Rattle.mt_base.specs.declared.hit.Hit.{Hit}
 use Rattle.mt_base.specs.Checks.{judged}
 use Rattle.mt_base.specs.Advice.{IsAdvice}
-use Rattle.mt_base.specs.Decision.{HasHits, IsDecided, IsStale, checks, filled, judge, look_at}
+use Rattle.mt_base.specs.Decision.{HasHits, IsDecided, IsStale, checks, decision_of, filled, look_at}
 use Rattle.mt_base.specs.Effect.{state_of}
 use Rattle.mt_base.specs.Picture.{State, flight_of}
 use Rattle.mt_base.specs.Settled.{AreRenewed, IsPassedOver, IsRenewed}
@@ -40,14 +40,14 @@ planned_if setup s call clearance eff passed =
     (all_passed (what_if_checks setup s.now (flight_of s.records call) call clearance eff) (tt {0}) (rw passed refl)).1.0
 
 planned_of : (setup : Setup) (s : State) (who : ℕ) (call : List ℕ) (clearance : Clearance) (eff probed : ℕ) (e : Entry)
-    → judge setup s who (Accept call clearance eff probed) ≡ Ok e → is_some (course_in (flight_of s.records call)) ≡ true
+    → decision_of setup s who (Accept call clearance eff probed) ≡ Ok e → is_some (course_in (flight_of s.records call)) ≡ true
 planned_of setup s who call clearance eff probed e passed =
     let command : Command = Accept call clearance eff probed in
     let filed : Entry = record { who = who; command = filled s.now command } in
     (all_passed (checks setup (look_at s command) who command) filed (rw passed refl)).1.0
 
 -- the hits of a command that nothing else refuses are one list
-one_has : (setup : Setup) (s : State) (who : ℕ) (command : Command) (e : Entry) (hits others : List Hit) → judge setup s who command ≡ Ok e
+one_has : (setup : Setup) (s : State) (who : ℕ) (command : Command) (e : Entry) (hits others : List Hit) → decision_of setup s who command ≡ Ok e
     → HasHits setup s command hits → HasHits setup s command others → hits ≡ others
 one_has setup s who (Accept call clearance eff probed) e hits others passed has also =
     one_list setup s call clearance eff hits others (planned_of setup s who call clearance eff probed e passed) has also

@@ -132,8 +132,8 @@ filled now (Tentative call clearance eff) = Tentative call clearance (Some (unwr
 filled now command = command
 
 -- a command's first refusal, staleness aside, or its entry
-abbrev pub judge : Setup → State → ℕ → Command → Result Entry Refusal
-judge setup s who command = judged (checks setup (look_at s command) who command) (record { who = who; command = filled s.now command })
+abbrev pub decision_of : Setup → State → ℕ → Command → Result Entry Refusal
+decision_of setup s who command = judged (checks setup (look_at s command) who command) (record { who = who; command = filled s.now command })
 
 -- the hits of an accepted probe in the state, none for any other command
 abbrev pub HasHits : Setup → State → Command → List Hit → Type 0
@@ -143,7 +143,7 @@ HasHits setup s command hits = hits ≡ []
 -- a probed clearance, otherwise allowed, has hits by now. The refusal carries the first of them.
 pub record IsStale (setup : Setup) (s : State) (who : ℕ) (command : Command) (refusal : Refusal) : Type 0 where
   pub entry : Entry
-  pub passed : judge setup s who command ≡ Ok entry
+  pub passed : decision_of setup s who command ≡ Ok entry
   pub first : Hit
   pub others : List Hit
   pub hits : HasHits setup s command (first ∷ others)
@@ -151,5 +151,5 @@ pub record IsStale (setup : Setup) (s : State) (who : ℕ) (command : Command) (
 
 -- what is decided of a command: its first refusal, staleness last, or its entry. It is stale where it was probed and is no longer free.
 abbrev pub IsDecided : Setup → State → ℕ → Command → Result Entry Refusal → Type 0
-IsDecided setup s who command (Ok entry) = (judge setup s who command ≡ Ok entry) × HasHits setup s command []
-IsDecided setup s who command (Err refusal) = (judge setup s who command ≡ Err refusal) ⊎ IsStale setup s who command refusal
+IsDecided setup s who command (Ok entry) = (decision_of setup s who command ≡ Ok entry) × HasHits setup s command []
+IsDecided setup s who command (Err refusal) = (decision_of setup s who command ≡ Err refusal) ⊎ IsStale setup s who command refusal

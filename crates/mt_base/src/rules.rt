@@ -1,5 +1,5 @@
 ghost use Rattle.std.specs.Prelude.{◌≡◌, ◌↔◌, pos, IsOk};
-ghost use Rattle.mt_base.specs.Checks.{check};
+ghost use Rattle.mt_base.specs.Checks.{check_answer};
 ghost use Rattle.mt_base.specs.Rules.{is_within};
 
 use crate::checks::must;
@@ -45,21 +45,21 @@ fn is_within(low: i64, high: i64, rule: i64) -> bool
 
 // Whether a rule is within constant bounds.
 fn within(name: RuleName, rule: &i64, low: i64, high: i64) -> Result<(), RuleName>
-    ensures { result ≡ check (name, is_within low high rule.now) }
+    ensures { result ≡ check_answer (name, is_within low high rule.now) }
 {
     must(is_within(low, high, *rule), name)
 }
 
 // Whether a rule is at least 0 and at most another.
 fn up_to(name: RuleName, rule: &i64, most: &i64) -> Result<(), RuleName>
-    ensures { result ≡ check (name, is_within (pos 0) most.now rule.now) }
+    ensures { result ≡ check_answer (name, is_within (pos 0) most.now rule.now) }
 {
     must(is_within(0, *most, *rule), name)
 }
 
 // Whether a rule is at least another and at most a constant.
 fn from_rule(name: RuleName, rule: &i64, least: &i64, most: i64) -> Result<(), RuleName>
-    ensures { result ≡ check (name, is_within least.now most rule.now) }
+    ensures { result ≡ check_answer (name, is_within least.now most rule.now) }
 {
     must(is_within(*least, most, *rule), name)
 }

@@ -14,7 +14,7 @@ use Rattle.mt_board.specs.declared.ask.Ask.{Ask}
 use Rattle.mt_board.specs.declared.ask.Ask.TheVariants as asks
 use Rattle.mt_board.specs.declared.no.No.{No}
 use Rattle.mt_board.specs.Changing.{IsDenied}
-use Rattle.mt_board.specs.Seat.{HasSeen, Seat}
+use Rattle.mt_board.specs.BoardSeat.{BoardSeat, HasSeen}
 use Rattle.mt_board.specs.Short.{AreFewCalls}
 
 -- the version that an answer names
@@ -41,7 +41,7 @@ IsNotTold fixed h (asks.Flight call sec) refusal = (flight_of (state_of fixed h)
 IsNotTold fixed h asked refusal = ⊥
 
 -- a read is answered by the history then seen
-abbrev pub IsRead : Seat → Ask → Result Answer No → Seat → Type 0
+abbrev pub IsRead : BoardSeat → Ask → Result Answer No → BoardSeat → Type 0
 IsRead s asked (Ok answer) t = HasSeen s t (version_of answer) × IsTold t.fixed t.seen asked answer
 IsRead s asked (Err denied) t = IsDenied s (IsNotTold t.fixed t.seen asked) denied t
 

@@ -1,6 +1,6 @@
 pub mod Asking
+pub mod BoardSeat
 pub mod Changing
 pub mod Probing
-pub mod Seat
 pub mod Settling
 pub mod Short

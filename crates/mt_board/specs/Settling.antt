@@ -8,12 +8,12 @@ use Rattle.mt_board.specs.declared.no.No.{No}
 use Rattle.mt_board.specs.declared.no.No.TheVariants.{Memory}
 use Rattle.mt_board.specs.Asking.{IsRead}
 use Rattle.mt_board.specs.Changing.{IsChanged}
-use Rattle.mt_board.specs.Seat.{HasLooked, Seat}
+use Rattle.mt_board.specs.BoardSeat.{BoardSeat, HasLooked}
 
 -- a seat asked to renew some flights in turn, with these answers
-abbrev pub AreRenewalsAsked : Seat → List (List ℕ) → List (Result Entered No) → Seat → Type 0
+abbrev pub AreRenewalsAsked : BoardSeat → List (List ℕ) → List (Result Entered No) → BoardSeat → Type 0
 AreRenewalsAsked s [] [] t = t ≡ s
-AreRenewalsAsked s (call ∷ calls) (result ∷ results) t = (next : Seat) × IsChanged s (Renew call) result next × AreRenewalsAsked next calls results t
+AreRenewalsAsked s (call ∷ calls) (result ∷ results) t = (next : BoardSeat) × IsChanged s (Renew call) result next × AreRenewalsAsked next calls results t
 AreRenewalsAsked s calls results t = ⊥
 
 -- no renewal ran out of memory. Each flight was renewed, or refused and passed over.
@@ -21,30 +21,30 @@ abbrev pub AreMade : List (Result Entered No) → Type 0
 AreMade results = All (λ result. result ≢ Err Memory) results
 
 -- exactly the flights due were renewed, in filing order. Those that are due afterwards, at that version, are answered.
-pub record HasSettled (s t : Seat) (left : List (List ℕ)) (version : ℕ) : Type 0 where
+pub record HasSettled (s t : BoardSeat) (left : List (List ℕ)) (version : ℕ) : Type 0 where
   pub calls : List (List ℕ)
   pub was : ℕ
-  pub first : Seat
+  pub first : BoardSeat
   pub read : IsRead s asks.Due (Ok (answers.Due calls was)) first
   pub results : List (Result Entered No)
-  pub last : Seat
+  pub last : BoardSeat
   pub renewed : AreRenewalsAsked first calls results last
   pub made : AreMade results
   pub told : IsRead last asks.Due (Ok (answers.Due left version)) t
 
 -- the first of them were renewed before memory ran out
-pub record HasSettledInPart (s t : Seat) : Type 0 where
+pub record HasSettledInPart (s t : BoardSeat) : Type 0 where
   pub calls : List (List ℕ)
   pub rest : List (List ℕ)
   pub was : ℕ
-  pub first : Seat
+  pub first : BoardSeat
   pub read : IsRead s asks.Due (Ok (answers.Due (calls ++ rest) was)) first
   pub results : List (Result Entered No)
-  pub last : Seat
+  pub last : BoardSeat
   pub renewed : AreRenewalsAsked first calls results last
   pub made : AreMade results
   pub looked : HasLooked last t
 
 -- memory ran out: the settling did nothing, or a part. The seat may have seen more.
-abbrev pub IsNotSettled : Seat → Seat → Type 0
+abbrev pub IsNotSettled : BoardSeat → BoardSeat → Type 0
 IsNotSettled s t = HasLooked s t ⊎ HasSettledInPart s t

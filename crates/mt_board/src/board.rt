@@ -5,7 +5,7 @@ ghost use Rattle.mt_base.specs.Bounds.{IsAskedFor, IsBoundedClearance, IsBounded
 ghost use Rattle.mt_board.specs.Asking.{IsRead, IsShortAnswer};
 ghost use Rattle.mt_board.specs.Changing.{IsChanged};
 ghost use Rattle.mt_board.specs.Probing.{IsAdvised, IsNotAdvised, IsNotProbed, IsPast, IsProbed, acceptance};
-ghost use Rattle.mt_board.specs.Seat.{Seat};
+ghost use Rattle.mt_board.specs.BoardSeat.{BoardSeat};
 
 use crate::advised::Advised;
 use crate::ask::{Answer, Ask};
@@ -28,7 +28,7 @@ pub trait Board {
     type Home;
 
     /// What the seat knows.
-    ghost seat: { Self → Seat };
+    ghost seat: { Self → BoardSeat };
 
     /// The turn that it is of. No call changes it.
     ghost home: { Self → Self.Home };

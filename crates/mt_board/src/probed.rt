@@ -3,16 +3,16 @@ ghost use Rattle.std.specs.Prelude.{◌≡◌, Some, Ok};
 ghost use Rattle.mt_base.specs.Picture.{State};
 ghost use Rattle.mt_base.specs.Tables.{Setup};
 ghost use Rattle.mt_base.specs.WhatIf.{IsWhatIf};
-ghost use Rattle.mt_board.specs.Probing.{Probe};
+ghost use Rattle.mt_board.specs.Probing.{ToldProbe};
 ghost use Rattle.mt_board.specs.Short.{AreShortHits};
 
 use mt_base::{Callsign, Clearance, Hit, Second};
 
-/// A probe: what would have followed from a clearance. What it tells is a `Probe` of the definitions; its hits are those on the state that
+/// A probe: what would have followed from a clearance. What it tells is a `ToldProbe` of the definitions; its hits are those on the state that
 /// it was tried on.
 pub trait Probed: Drop {
     /// What it tells.
-    ghost told: { Self → Probe };
+    ghost told: { Self → ToldProbe };
 
     /// The rules and tables where it was tried.
     ghost fixed: { Self → Setup };

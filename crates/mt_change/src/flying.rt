@@ -13,7 +13,7 @@ use std::alloc::Global;
 /// The trajectory that a path flies: the one that is predicted of its course, or its straight stretch.
 ///
 /// It asks that the rules are within their bounds, and that the path is sound for them and the tables.
-pub fn strand_of(
+pub fn strand_of_path(
     alloc: Global,
     tables: &Tables,
     rules: &Rules,

@@ -6,6 +6,6 @@ mod flying;
 mod planning;
 
 pub use altering::{Alteration, alteration_by};
-pub use flying::strand_of;
+pub use flying::strand_of_path;
 pub use mt_memory::Memory;
 pub use planning::planned_course;

@@ -37,7 +37,7 @@ fn with_part(bounds: BoundingBox, segment: &Segment, from: Second, to: Second) -
 
 /// What was gathered of a slice: its box, and the number of the segment that holds the second after it.
 #[derive(Clone, Copy)]
-pub(crate) struct Gathered {
+pub(crate) struct GatheredSlice {
     bounds: BoundingBox,
     index: usize,
 }
@@ -51,7 +51,7 @@ fn gather(
     index: usize,
     from: Second,
     to: Second,
-) -> Gathered
+) -> GatheredSlice
     requires laid { IsLaid start end segments.now }
     requires stands { StandsAtSecond start segments.now index from }
     requires begun { start ≤ from }
@@ -75,7 +75,7 @@ fn gather(
             index += 1;
         }
     }
-    Gathered { bounds, index }
+    GatheredSlice { bounds, index }
 }
 
 /// The cover of a strand. Its seconds are cut from its start into slices of 256. In each slice the strand counts to the cells that the box of

@@ -30,7 +30,7 @@ use Rattle.mt_board.specs.declared.no.No.TheVariants.{Memory, Refused}
 use Rattle.mt_board.specs.Asking.{IsRead}
 use Rattle.mt_board.specs.Changing.{IsChanged}
 use Rattle.mt_board.specs.Probing.{IsAdvised, IsNotAdvised, IsNotProbed, IsPast, IsProbed, acceptance}
-use Rattle.mt_board.specs.Seat.{HasLooked, HasSeen, Seat, state_seen}
+use Rattle.mt_board.specs.BoardSeat.{BoardSeat, HasLooked, HasSeen, state_seen}
 use Rattle.mt_picture.specs.Story.{IsPrepGivenFor}
 use Rattle.mt_picture.proofs.Given.{prepared_for}
 use Rattle.mt_probe.specs.Hits.{IsProbe, IsTried, IsUnprobed, Trial, told_of}
@@ -45,24 +45,24 @@ use Rattle.mt_desk.specs.Private.Taken.{StandsFor}
 -- ---- a snapshot that stands for what a seat has seen
 
 -- what a hand's seat has seen then, as the hand tells it
-pub hand_seen : (h k : Hand) (t : Seat) → h ≡ k → HasSeen (seat_of h.desk.fixed h.view) t (length t.seen)
+pub hand_seen : (h k : Hand) (t : BoardSeat) → h ≡ k → HasSeen (seat_of h.desk.fixed h.view) t (length t.seen)
     → HasSeen (seat_of k.desk.fixed k.view) t (length t.seen)
 hand_seen h k t same seen = subst (λ (j : Hand). HasSeen (seat_of j.desk.fixed j.view) t (length t.seen)) same seen
 
 -- its version is that of the seat
-counted : (t : Seat) (shot : Shot) → StandsFor t shot → shot.version ≡ length t.seen
+counted : (t : BoardSeat) (shot : Shot) → StandsFor t shot → shot.version ≡ length t.seen
 counted t shot for = ap (λ (s : State). s.version) for.state_is ∙ version_is t.fixed t.seen
 
 -- what holds of its state holds of that which the seat has seen
-there : (P : Setup → State → Type 0) (t : Seat) (shot : Shot) → StandsFor t shot → P shot.setup (state_in shot) → P t.fixed (state_seen t)
+there : (P : Setup → State → Type 0) (t : BoardSeat) (shot : Shot) → StandsFor t shot → P shot.setup (state_in shot) → P t.fixed (state_seen t)
 there P t shot for x = subst (λ (f : Setup). P f (state_seen t)) for.setup_is (subst (λ (s : State). P shot.setup s) for.state_is x)
 
 -- the seat has seen the history of that version
-pub seen_at : (s t : Seat) (version : ℕ) → HasSeen s t (length t.seen) → version ≡ length t.seen → HasSeen s t version
+pub seen_at : (s t : BoardSeat) (version : ℕ) → HasSeen s t (length t.seen) → version ≡ length t.seen → HasSeen s t version
 seen_at s t version seen is = record { looked = seen.looked; version_is = is; sound = seen.sound }
 
 -- Its state is that of the first entries that the seat has seen, as many as its version says: of all.
-past_taken : (t : Seat) (shot : Shot) (fixed : Setup) (state : State) → StandsFor t shot → fixed ≡ shot.setup → state ≡ state_in shot
+past_taken : (t : BoardSeat) (shot : Shot) (fixed : Setup) (state : State) → StandsFor t shot → fixed ≡ shot.setup → state ≡ state_in shot
     → IsPast t fixed state state.version
 past_taken t shot fixed state for same is =
     let all : state ≡ state_seen t = is ∙ for.state_is in
@@ -76,7 +76,7 @@ past_taken t shot fixed state for same is =
 -- ---- commands
 
 -- what is prepared on it is a prep of what the seat has seen
-pub given_taken : (t : Seat) (shot : Shot) (who : ℕ) (c : Command) (p : Prepared) → StandsFor t shot → MakesStrand c → IsPrepOf shot who c p
+pub given_taken : (t : BoardSeat) (shot : Shot) (who : ℕ) (c : Command) (p : Prepared) → StandsFor t shot → MakesStrand c → IsPrepOf shot who c p
     → IsPrepGivenFor (record { setup = t.fixed; history = t.seen }) who c (Some p)
 given_taken t shot who c p for makes prep =
     let past = past_taken t shot p.setup p.state for prep.setup_is prep.state_is in
@@ -90,7 +90,7 @@ given_taken t shot who c p for makes prep =
     }
 
 -- what is refused where it is prepared is refused
-pub not_prepared : (s t : Seat) (shot : Shot) (c : Command) (denied : No) → HasSeen s t (length t.seen) → StandsFor t shot → MakesStrand c
+pub not_prepared : (s t : BoardSeat) (shot : Shot) (c : Command) (denied : No) → HasSeen s t (length t.seen) → StandsFor t shot → MakesStrand c
     → IsRefusedOn shot t.number c denied → IsChanged s c (Err denied) t
 not_prepared s t shot c (Refused refusal version) seen for makes d = (
   seen_at s t version seen (d.1 ∙ counted t shot for),
@@ -101,7 +101,7 @@ not_prepared s t shot c Memory seen for makes d = seen.looked
 
 -- ---- probes
 
-probed_taken : (s t : Seat) (shot : Shot) (call : List ℕ) (clearance : Clearance) (eff : Option ℕ) (p : Trial) → HasSeen s t (length t.seen)
+probed_taken : (s t : BoardSeat) (shot : Shot) (call : List ℕ) (clearance : Clearance) (eff : Option ℕ) (p : Trial) → HasSeen s t (length t.seen)
     → StandsFor t shot → IsProbe shot call clearance eff p → IsProbed s t call clearance eff (told_of p)
 probed_taken s t shot call clearance eff p seen for is = record {
   seen = seen_at s t p.shot.version seen (ap (λ (x : Shot). x.version) is.shot_is ∙ counted t shot for);
@@ -111,11 +111,11 @@ probed_taken s t shot call clearance eff p seen for is = record {
   follows = there (λ (f : Setup) (x : State). IsWhatIf f x call clearance eff (Ok p.hits)) t shot for is.hits_are;
 }
 
-past_probed : (t : Seat) (shot : Shot) (call : List ℕ) (clearance : Clearance) (eff : Option ℕ) (p : Trial) → StandsFor t shot
+past_probed : (t : BoardSeat) (shot : Shot) (call : List ℕ) (clearance : Clearance) (eff : Option ℕ) (p : Trial) → StandsFor t shot
     → IsProbe shot call clearance eff p → IsPast t p.shot.setup (state_in p.shot) (told_of p).version
 past_probed t shot call clearance eff p for is = past_taken t shot p.shot.setup (state_in p.shot) for (ap (λ (x : Shot). x.setup) is.shot_is) (ap state_in is.shot_is)
 
-unprobed_taken : (s t : Seat) (shot : Shot) (call : List ℕ) (clearance : Clearance) (eff : Option ℕ) (denied : No) → HasSeen s t (length t.seen)
+unprobed_taken : (s t : BoardSeat) (shot : Shot) (call : List ℕ) (clearance : Clearance) (eff : Option ℕ) (denied : No) → HasSeen s t (length t.seen)
     → StandsFor t shot → IsUnprobed shot call clearance eff denied → IsNotProbed s t call clearance eff denied
 unprobed_taken s t shot call clearance eff (Refused refusal version) seen for d = (
   seen_at s t version seen (d.1 ∙ counted t shot for),
@@ -124,7 +124,7 @@ unprobed_taken s t shot call clearance eff (Refused refusal version) seen for d 
 unprobed_taken s t shot call clearance eff Memory seen for d = seen.looked
 
 -- what is answered of a clearance that is tried on it
-module _ (s t : Seat) (shot : Shot) (call : List ℕ) (clearance : Clearance) (eff : Option ℕ) (result : Result Trial No) (seen : HasSeen s t (length t.seen))
+module _ (s t : BoardSeat) (shot : Shot) (call : List ℕ) (clearance : Clearance) (eff : Option ℕ) (result : Result Trial No) (seen : HasSeen s t (length t.seen))
     (for : StandsFor t shot) where
   pub probed : IfOk result (IsProbe shot call clearance eff) → IfOk result (λ p. IsProbed s t call clearance eff (told_of p))
   probed = IfOk-weaker result (IsProbe shot call clearance eff) (λ p. IsProbed s t call clearance eff (told_of p))
@@ -142,7 +142,7 @@ module _ (s t : Seat) (shot : Shot) (call : List ℕ) (clearance : Clearance) (e
 
 -- ---- advice
 
-advised_taken : (s t : Seat) (shot : Shot) (call : List ℕ) (eff version : ℕ) (probes : List Trial) → HasSeen s t (length t.seen) → StandsFor t shot
+advised_taken : (s t : BoardSeat) (shot : Shot) (call : List ℕ) (eff version : ℕ) (probes : List Trial) → HasSeen s t (length t.seen) → StandsFor t shot
     → IsAdvisedOn shot call eff version probes → IsAdvised s t call eff version (map told_of probes)
 advised_taken s t shot call eff version probes seen for is = record {
   seen = seen_at s t version seen (is.version_is ∙ counted t shot for);
@@ -153,20 +153,20 @@ advised_taken s t shot call eff version probes seen for is = record {
   few = rw (length-map probes told_of) is.few;
 }
 
-pasts_advised : (t : Seat) (shot : Shot) (call : List ℕ) (eff version : ℕ) (probes : List Trial) → StandsFor t shot
+pasts_advised : (t : BoardSeat) (shot : Shot) (call : List ℕ) (eff version : ℕ) (probes : List Trial) → StandsFor t shot
     → IsAdvisedOn shot call eff version probes → All (λ p. IsPast t p.shot.setup (state_in p.shot) (told_of p).version) probes
 pasts_advised t shot call eff version probes for is =
     All-weaker (IsFreeFor shot call) (λ p. IsPast t p.shot.setup (state_in p.shot) (told_of p).version)
     (λ p free. past_probed t shot call p.clearance None p for free.probe) probes is.each
 
-unadvised_taken : (s t : Seat) (shot : Shot) (call : List ℕ) (denied : No) → HasSeen s t (length t.seen) → StandsFor t shot
+unadvised_taken : (s t : BoardSeat) (shot : Shot) (call : List ℕ) (denied : No) → HasSeen s t (length t.seen) → StandsFor t shot
     → IsNotAdvisedOn shot call denied → IsNotAdvised s t call denied
 unadvised_taken s t shot call (Refused refusal version) seen for d =
     (seen_at s t version seen (d.1 ∙ counted t shot for), there (λ (f : Setup) (x : State). IsAdvice f x call (Err refusal)) t shot for d.0)
 unadvised_taken s t shot call Memory seen for d = seen.looked
 
 -- what is answered where advice is asked for on it, of whatever holds the second, the version and the probes
-module _ {A : Type 0} (second number : A → ℕ) (tried : A → List Trial) (s t : Seat) (shot : Shot) (call : List ℕ) (result : Result A No)
+module _ {A : Type 0} (second number : A → ℕ) (tried : A → List Trial) (s t : BoardSeat) (shot : Shot) (call : List ℕ) (result : Result A No)
     (seen : HasSeen s t (length t.seen)) (for : StandsFor t shot) where
   pub advised : IfOk result (λ a. IsAdvisedOn shot call (second a) (number a) (tried a))
       → IfOk result (λ a. IsAdvised s t call (second a) (number a) (map told_of (tried a)))
@@ -188,12 +188,12 @@ module _ {A : Type 0} (second number : A → ℕ) (tried : A → List Trial) (s 
 
 -- ---- reads
 
-pub check_taken : (s t : Seat) (shot : Shot) (conflicts : List Conflict) (version : ℕ) → HasSeen s t (length t.seen) → StandsFor t shot
+pub check_taken : (s t : BoardSeat) (shot : Shot) (conflicts : List Conflict) (version : ℕ) → HasSeen s t (length t.seen) → StandsFor t shot
     → IsPublished shot.setup (state_in shot) conflicts → version ≡ shot.version → IsRead s asks.Check (Ok (answers.Check conflicts version)) t
 check_taken s t shot conflicts version seen for is named =
     (seen_at s t version seen (named ∙ counted t shot for), there (λ (f : Setup) (x : State). IsPublished f x conflicts) t shot for is)
 
-pub due_taken : (s t : Seat) (shot : Shot) (calls : List (List ℕ)) (version : ℕ) → HasSeen s t (length t.seen) → StandsFor t shot
+pub due_taken : (s t : BoardSeat) (shot : Shot) (calls : List (List ℕ)) (version : ℕ) → HasSeen s t (length t.seen) → StandsFor t shot
     → calls ≡ due_calls (state_in shot).records → version ≡ shot.version → IsRead s asks.Due (Ok (answers.Due calls version)) t
 due_taken s t shot calls version seen for is named =
     (seen_at s t version seen (named ∙ counted t shot for), is ∙ ap (λ (x : State). due_calls x.records) for.state_is)
@@ -211,7 +211,7 @@ told_version f x sec (Some flight) view is =
 told_version f x sec None view is = cc
 
 -- A flight, where there is one.
-pub flight_taken : (s t : Seat) (shot : Shot) (call : List ℕ) (sec : Option ℕ) (view : FlightView) → HasSeen s t (length t.seen) → StandsFor t shot
+pub flight_taken : (s t : BoardSeat) (shot : Shot) (call : List ℕ) (sec : Option ℕ) (view : FlightView) → HasSeen s t (length t.seen) → StandsFor t shot
     → option_map (view_of shot.setup (state_in shot) sec) (flight_of (state_in shot).records call) ≡ Some view
     → IsRead s (asks.Flight call sec) (Ok (answers.Flight view)) t
 flight_taken s t shot call sec view seen for is = (
@@ -224,7 +224,7 @@ none_found f x sec (Some flight) is = cc
 none_found f x sec None is = refl
 
 -- or none
-pub no_flight_taken : (s t : Seat) (shot : Shot) (call : List ℕ) (sec : Option ℕ) (version : ℕ) → HasSeen s t (length t.seen) → StandsFor t shot
+pub no_flight_taken : (s t : BoardSeat) (shot : Shot) (call : List ℕ) (sec : Option ℕ) (version : ℕ) → HasSeen s t (length t.seen) → StandsFor t shot
     → option_map (view_of shot.setup (state_in shot) sec) (flight_of (state_in shot).records call) ≡ None → version ≡ shot.version
     → IsRead s (asks.Flight call sec) (Err (Refused (UnknownCall call) version)) t
 no_flight_taken s t shot call sec version seen for is named =
@@ -251,7 +251,7 @@ probed_given h k p prep c same is of past =
     (subst (λ (j : Hand). IsPrepGivenFor (record { setup = j.desk.fixed; history = j.view.seen }) j.view.number (acceptance (told_of p)) (Some prep)) (sym same) there)
 
 -- a seat that looked at nothing
-pub unlooked : (s : Seat) → HasLooked s s
+pub unlooked : (s : BoardSeat) → HasLooked s s
 unlooked s = record { same = record { number = refl; fixed = refl }; begins = ([], sym (append-nil s.seen)); own = refl; mine = refl }
 
 -- A probe without hits, of what a hand's seat has seen, was free there.

@@ -12,7 +12,7 @@ use Rattle.mt_base.specs.History.{IsInTime, IsLegal, WasFree}
 use Rattle.mt_base.specs.Tables.{Setup}
 use Rattle.mt_base.specs.WhatIf.{IsWhatIf}
 use Rattle.mt_board.specs.declared.no.No.{No}
-use Rattle.mt_board.specs.Seat.{GoesOn}
+use Rattle.mt_board.specs.BoardSeat.{GoesOn}
 use Rattle.mt_change.specs.Altered.{IsBoundedBesides}
 use Rattle.mt_picture.specs.Story.{IsEntered, Story}
 use Rattle.mt_picture.proofs.Counted.{history_counted}

@@ -11,7 +11,7 @@ use Rattle.mt_board.specs.declared.no.No.{No}
 use Rattle.mt_board.specs.declared.no.No.TheVariants.{Memory, Refused}
 use Rattle.mt_board.specs.Changing.{HasEntered, IsChanged}
 use Rattle.mt_board.proofs.SeatLemmas.{decided_who}
-use Rattle.mt_board.specs.Seat.{GoesOn, HasLooked, HasSeen, entries_by}
+use Rattle.mt_board.specs.BoardSeat.{GoesOn, HasLooked, HasSeen, entries_by}
 use Rattle.mt_picture.specs.Story.{IsEntered, IsCommandRefused, Story}
 use Rattle.mt_turn.specs.declared.view.Phase.{Phase}
 use Rattle.mt_turn.specs.declared.view.Phase.TheVariants.{Holds}

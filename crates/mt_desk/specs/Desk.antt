@@ -3,7 +3,7 @@ use Rattle.std.specs.Prelude.{◌≡◌, Some}
 use Rattle.atomic_table.specs.Seated.{TableId}
 use Rattle.mt_base.specs.declared.command.Entry.{Entry}
 use Rattle.mt_base.specs.Tables.{Setup}
-use Rattle.mt_board.specs.Seat.{Seat}
+use Rattle.mt_board.specs.BoardSeat.{BoardSeat}
 use Rattle.mt_turn.specs.declared.view.Phase.TheVariants.{Idle}
 use Rattle.mt_turn.specs.declared.view.View.{View}
 use Rattle.mt_turn.specs.Seats.{SeatNow}
@@ -20,7 +20,7 @@ pub record IsSeatOfDesk (d : Desk) (p : SeatNow Entry Setup) : Type 0 where
   pub fixed_is : p.view.fixed ≡ Some d.fixed
 
 -- a seat as a board has it
-abbrev pub seat_of : Setup → View Entry Setup → Seat
+abbrev pub seat_of : Setup → View Entry Setup → BoardSeat
 seat_of fixed v = record { number = v.number; seen = v.seen; mine = v.mine; fixed = fixed }
 
 -- a desk, and what its seat knows

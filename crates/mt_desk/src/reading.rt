@@ -8,7 +8,7 @@ ghost use Rattle.mt_desk.specs.Desk.{IsSeatOfDesk, seat_of};
 use crate::desk::{Desk, Seat};
 use mt_base::{Callsign, Refusal, Second, Tally};
 use mt_board::{Answer, No};
-use mt_snapshot::{check, due, view};
+use mt_snapshot::{check, due, view_of_call};
 use std::sync::Wait;
 use std::thread::Threads;
 
@@ -63,7 +63,7 @@ impl Desk {
         ensures short { IfOk result IsShortAnswer }
     {
         let snapshot = self.take(rt, seat)?;
-        match view(&snapshot, call, sec) {
+        match view_of_call(&snapshot, call, sec) {
             Some(view) => Ok(Answer::Flight(view)),
             None => Err(No::Refused {
                 refusal: Refusal::UnknownCall(call),

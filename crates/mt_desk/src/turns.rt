@@ -4,7 +4,7 @@ ghost use Rattle.mt_base.specs.History.{IsInTime, WasFree};
 ghost use Rattle.mt_board.specs.declared.ask.Ask.TheVariants as asks;
 ghost use Rattle.mt_board.specs.Asking.{IsRead, IsShortAnswer};
 ghost use Rattle.mt_board.specs.Changing.{IsChanged};
-ghost use Rattle.mt_board.specs.Seat.{HasSeen};
+ghost use Rattle.mt_board.specs.BoardSeat.{HasSeen};
 ghost use Rattle.mt_change.specs.Altered.{IsBoundedBesides};
 ghost use Rattle.mt_picture.specs.Story.{IsPrepGivenFor};
 ghost use Rattle.mt_turn.specs.Lending.{AreViewsOfOneSeat};

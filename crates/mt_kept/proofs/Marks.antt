@@ -7,7 +7,7 @@ use Rattle.mt_base.specs.Picture.{window_end}
 use Rattle.mt_base.proofs.Members.{Contains-none, take_push}
 use Rattle.mt_kept.specs.declared.open_pair.OpenPair.{OpenPair}
 use Rattle.mt_kept.specs.declared.stale.Stale.{Stale}
-use Rattle.mt_kept.specs.Private.Stale.{AreStale, IsMarked, is_stale}
+use Rattle.mt_kept.specs.Private.Stale.{AreStale, IsBeginMarked, is_stale}
 
 -- a second without a mark
 within : (marks : List Bool) (i : ℕ) → get_or marks i true ≡ false → i < length marks
@@ -33,7 +33,7 @@ stale_none moment now stale from short =
 
 -- one pair more
 pub stale_more : (moment now : ℕ) (pairs : List OpenPair) (i : ℕ) (o : OpenPair) (old new : Stale) → i < length pairs → o ≡ get_or pairs i o
-    → AreStale moment now (take i pairs) old → IsMarked o.conflict old new → AreStale moment now (take (i + 1) pairs) new
+    → AreStale moment now (take i pairs) old → IsBeginMarked o.conflict old new → AreStale moment now (take (i + 1) pairs) new
 stale_more moment now pairs i o old new below is so_far more = record {
   from_is = more.from_stays ∙ so_far.from_is;
   short = let short = so_far.short in let same = more.length_stays in omega arith;

@@ -1,6 +1,6 @@
 //! Which of the published conflicts have to be made anew when the window moves.
 ghost use Rattle.std.specs.Prelude.{◌≡◌, ◌≤◌, IfOk, filter};
-ghost use Rattle.mt_kept.specs.Private.Stale.{AreStale, IsMarked, IsSecondMarked, begins_stale, is_stale};
+ghost use Rattle.mt_kept.specs.Private.Stale.{AreStale, IsBeginMarked, IsSecondMarked, begins_stale, is_stale};
 
 use crate::open_pair::OpenPair;
 use mt_base::{Conflict, Memory, Second, WINDOW};
@@ -42,7 +42,7 @@ impl Stale {
 
     /// Marks the second in which a conflict begins.
     fn mark_begin(&mut self, conflict: &Option<Conflict>)
-        ensures { IsMarked conflict.now self.old self.new }
+        ensures { IsBeginMarked conflict.now self.old self.new }
     {
         if let Some(conflict) = conflict {
             self.mark(conflict.first);

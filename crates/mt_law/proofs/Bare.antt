@@ -15,7 +15,7 @@ use Rattle.mt_base.specs.declared.flight.Path.TheVariants.{Planned, Outer}
 use Rattle.mt_base.specs.declared.flight.Record.{Record}
 use Rattle.mt_base.specs.declared.flight.Report.{Report}
 use Rattle.mt_base.specs.Checks.{judged}
-use Rattle.mt_base.specs.Decision.{Look, call_of, checks, filled, judge}
+use Rattle.mt_base.specs.Decision.{Look, call_of, checks, decision_of, filled}
 use Rattle.mt_base.specs.Effect.{bare_path, changed, cleared_path, committed_path, course_of, effect, marked_path, records_after, renewed_path, reported_path}
 use Rattle.mt_base.specs.Picture.{State, flight_of}
 use Rattle.mt_base.specs.StrikeOut.{handled_by, without}
@@ -78,13 +78,13 @@ abbrev judge_by : Setup → ℕ → Command → ℕ → Look → Result Entry Re
 judge_by setup who c now look = judged (checks setup look who c) (record { who = who; command = filled now c })
 
 judge_free : (setup : Setup) (call : List ℕ) (s : State) (who : ℕ) (c : Command) → handled_by c ≡ None
-    → judge setup (without call s) who c ≡ judge setup s who c
+    → decision_of setup (without call s) who c ≡ decision_of setup s who c
 judge_free setup call s who c none = ap (judge_by setup who c s.now) (look_bare call s (call_of c))
     ∙ ap (λ (cs : List (Refusal × Bool)). judged cs (record { who = who; command = filled s.now c }))
     (checks_bare setup call who s.now (length s.records) s.version (option_and_then (flight_of s.records) (call_of c)) c none)
 
 pub judge_bare : (setup : Setup) (call : List ℕ) (s : State) (who : ℕ) (c : Command) → handled_by c ≢ Some call
-    → judge setup (without call s) who c ≡ judge setup s who c
+    → decision_of setup (without call s) who c ≡ decision_of setup s who c
 judge_bare setup call s who (Tentative own clearance eff) apart =
     ap (judge_by setup who (Tentative own clearance eff) s.now) (look_other call own s (λ e. apart (ap Some e)))
 judge_bare setup call s who (Withdraw own force) apart =

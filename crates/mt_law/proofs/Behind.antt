@@ -13,7 +13,7 @@ use Rattle.mt_base.specs.declared.flight.Path.TheVariants.{Planned}
 use Rattle.mt_base.specs.declared.flight.Record.{Record}
 use Rattle.mt_base.specs.Checks.{judged}
 use Rattle.mt_base.specs.Cleared.{aim_checks, is_below_ceiling}
-use Rattle.mt_base.specs.Decision.{HasHits, IsDecided, Look, call_of, checks, filled, has_history, has_room, judge, owner_of, route_checks}
+use Rattle.mt_base.specs.Decision.{HasHits, IsDecided, Look, call_of, checks, decision_of, filled, has_history, has_room, owner_of, route_checks}
 use Rattle.mt_base.specs.Effect.{effect, now_after, records_after}
 use Rattle.mt_base.specs.Picture.{State, flight_of, trajectory_of}
 use Rattle.mt_base.specs.StrikeOut.{AreSameButVersions, entry_renumbered, renumbered}
@@ -92,7 +92,7 @@ now_named lower (Accept call clearance eff probed) now = refl
 now_named lower c now = refl
 
 judge_named : (setup : Setup) (s : State) (m : ℕ) (lower : ℕ → ℕ) (who : ℕ) (c : Command) (e : Entry) → m ≤ s.version
-    → judge setup s who c ≡ Ok e → judge setup (record s { version = m }) who (renumbered lower c) ≡ Ok (entry_renumbered lower e)
+    → decision_of setup s who c ≡ Ok e → decision_of setup (record s { version = m }) who (renumbered lower c) ≡ Ok (entry_renumbered lower e)
 judge_named setup s m lower who c e fewer is =
     ap (λ (o : Option (List ℕ)). judged (checks setup (look_of s.now (length s.records) m (option_and_then (flight_of s.records) o)) who (renumbered lower c)) entry)
     (call_named lower c)

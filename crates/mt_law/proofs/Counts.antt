@@ -11,7 +11,7 @@ use Rattle.mt_base.specs.declared.command.Entry.{Entry}
 use Rattle.mt_base.specs.declared.flight.Path.{Path}
 use Rattle.mt_base.specs.declared.flight.Path.TheVariants.{Planned, Outer}
 use Rattle.mt_base.specs.declared.flight.Record.{Record}
-use Rattle.mt_base.specs.Decision.{judge}
+use Rattle.mt_base.specs.Decision.{decision_of}
 use Rattle.mt_base.specs.Effect.{bare_path, changed, cleared_path, committed_path, course_of, marked_path, records_after, renewed_path, reported_path, state_of}
 use Rattle.mt_base.specs.History.{IsReplayable}
 use Rattle.mt_base.specs.Picture.{State, flight_of}
@@ -92,7 +92,7 @@ changed_back call f g (r ∷ rs) most back = step (bytes_eq r.call call) refl mo
   step false e most back rest = let same = rest (omega arith) back in rw (e, same) refl
 
 -- each entry leaves at most one flight of a callsign
-pub count_after : (setup : Setup) (call : List ℕ) (s : State) (who : ℕ) (c : Command) (e : Entry) → judge setup s who c ≡ Ok e
+pub count_after : (setup : Setup) (call : List ℕ) (s : State) (who : ℕ) (c : Command) (e : Entry) → decision_of setup s who c ≡ Ok e
     → count_of call s.records ≤ 1 → count_of call (records_after setup who c s.records) ≤ 1
 count_after setup call s who (Plan own kind route at from level rvsm) e is most =
     count_filed call s.records (record { call = own; path = Planned (course_of setup kind route at from level rvsm) }) most

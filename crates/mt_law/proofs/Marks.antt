@@ -15,7 +15,7 @@ use Rattle.mt_base.specs.declared.flight.Path.TheVariants.{Planned, Outer}
 use Rattle.mt_base.specs.declared.flight.Record.{Record}
 use Rattle.mt_base.specs.declared.flight.Report.{Report}
 use Rattle.mt_base.specs.Cleared.{aim_checks}
-use Rattle.mt_base.specs.Decision.{has_history, judge, look_at, owner_of}
+use Rattle.mt_base.specs.Decision.{decision_of, has_history, look_at, owner_of}
 use Rattle.mt_base.specs.Effect.{bare_path, changed, cleared_path, committed_path, course_of, marked_path, records_after, renewed_path, reported_path}
 use Rattle.mt_base.specs.Picture.{State, flight_of, trajectory_of}
 use Rattle.mt_base.specs.StrikeOut.{ended_by, handled_by}
@@ -27,7 +27,7 @@ use Rattle.mt_law.proofs.Passing.{none_is, pass_behind, passed_by}
 
 -- a flight that is marked as tentative had no tentative clearance
 had_none : (setup : Setup) (s : State) (who : ℕ) (own : List ℕ) (clearance : Clearance) (eff : Option ℕ) (e : Entry)
-    → judge setup s who (Tentative own clearance eff) ≡ Ok e → not (is_some (mark_in (flight_of s.records own))) ≡ true
+    → decision_of setup s who (Tentative own clearance eff) ≡ Ok e → not (is_some (mark_in (flight_of s.records own))) ≡ true
 had_none setup s who own clearance eff e is = (pass_behind
     (option_map_or (λ course. aim_checks setup.tables course (trajectory_of setup (Planned course)) clearance (unwrap_or eff s.now))
     (course_in (flight_of s.records own)) [])
@@ -38,7 +38,7 @@ had_none setup s who own clearance eff e is = (pass_behind
 
 -- an entry that doesn't end a tentative clearance doesn't handle it either
 pub not_handled : (setup : Setup) (s : State) (call : List ℕ) (who : ℕ) (c : Command) (e : Entry) → HasMark call s.records
-    → judge setup s who c ≡ Ok e → ended_by c ≢ Some call → handled_by c ≢ Some call
+    → decision_of setup s who c ≡ Ok e → ended_by c ≢ Some call → handled_by c ≢ Some call
 not_handled setup s call who (Tentative own clearance eff) e marked is going_on = λ same.
     let own_is : own ≡ call = cc in
     let none = had_none setup s who own clearance eff e is in
@@ -96,7 +96,7 @@ bare_back setup who clearance eff (Planned course) none = ap (λ (mark : Option 
   is_none (Some mark) none = cc
 
 pub marked_back : (setup : Setup) (s : State) (who : ℕ) (call : List ℕ) (clearance : Clearance) (eff : Option ℕ) (e : Entry)
-    → judge setup s who (Tentative call clearance eff) ≡ Ok e → count_of call s.records ≤ 1
+    → decision_of setup s who (Tentative call clearance eff) ≡ Ok e → count_of call s.records ≤ 1
     → map (changed call bare_path) (records_after setup who (Tentative call clearance eff) s.records) ≡ s.records
 marked_back setup s who call clearance eff e is most =
     changed_back call (marked_path setup who clearance (unwrap_or eff 0)) bare_path s.records most
@@ -105,7 +105,7 @@ marked_back setup s who call clearance eff e is most =
 
 -- and it is marked
 pub is_marked : (setup : Setup) (s : State) (who : ℕ) (call : List ℕ) (clearance : Clearance) (eff : Option ℕ) (e : Entry)
-    → judge setup s who (Tentative call clearance eff) ≡ Ok e
+    → decision_of setup s who (Tentative call clearance eff) ≡ Ok e
     → HasMark call (records_after setup who (Tentative call clearance eff) s.records)
 is_marked setup s who call clearance eff e is =
     ap (λ (flight : Option Record). is_some (mark_in flight)) (found_changed call call (marked_path setup who clearance (unwrap_or eff 0)) s.records)

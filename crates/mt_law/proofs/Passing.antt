@@ -6,7 +6,7 @@ use Rattle.std.specs.Prelude.{Result, int_lt, pos, ℤ}
 use Rattle.mt_base.specs.declared.command.Command.{Command}
 use Rattle.mt_base.specs.declared.command.Entry.{Entry}
 use Rattle.mt_base.specs.Checks.{judged}
-use Rattle.mt_base.specs.Decision.{checks, filled, judge, look_at}
+use Rattle.mt_base.specs.Decision.{checks, decision_of, filled, look_at}
 use Rattle.mt_base.specs.Picture.{State}
 use Rattle.mt_base.specs.Tables.{Setup}
 use Rattle.mt_base.proofs.CheckLemmas.{all_pass, all_passed, answer_is}
@@ -25,7 +25,7 @@ all_ok {A = A} {F = F} cs x pass = answered (judged cs x) refl (all_pass cs x pa
   answered (Err f) e ok = cc
 
 -- what an entry passed
-pub passed_by : (setup : Setup) (s : State) (who : ℕ) (c : Command) (e : Entry) → judge setup s who c ≡ Ok e → Pass (checks setup (look_at s c) who c)
+pub passed_by : (setup : Setup) (s : State) (who : ℕ) (c : Command) (e : Entry) → decision_of setup s who c ≡ Ok e → Pass (checks setup (look_at s c) who c)
 passed_by setup s who c e is = passed (checks setup (look_at s c) who c) (record { who = who; command = filled s.now c }) e is
 
 pub none_is : (b : Bool) → not b ≡ true → b ≡ false

@@ -15,4 +15,4 @@ mod waiting;
 pub use ending::Ending;
 pub use numbers::put_number;
 pub use outgoing::Outgoing;
-pub use telling::{changed, refused, told, unread};
+pub use telling::{refused, reply_to_change, told, unread};

@@ -34,7 +34,7 @@ pub fn refused(no: No) -> Reply
 }
 
 /// What a command is answered, as a reply.
-pub fn changed(outcome: Result<Entered, No>) -> Reply
+pub fn reply_to_change(outcome: Result<Entered, No>) -> Reply
     ensures reply { result ≡ entered_reply outcome }
     ensures fit { IsFit result }
 {

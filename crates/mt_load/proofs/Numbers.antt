@@ -15,7 +15,7 @@ use Rattle.mt_base.specs.Tables.{Setup, Tables}
 use Rattle.mt_base.specs.Tally.{raised}
 use Rattle.mt_base.proofs.Cases.{on_either}
 use Rattle.mt_base.proofs.FewAdvised.{few_filtered, few_in}
-use Rattle.mt_board.specs.Probing.{Probe, free_probe}
+use Rattle.mt_board.specs.Probing.{ToldProbe, free_probe}
 use Rattle.mt_machine.specs.Book.{Book, probe_at, with_all, with_probe}
 use Rattle.mt_make.specs.Input.{callsign, inputs}
 use Rattle.mt_make.proofs.Inputs.{all_inputs}
@@ -80,7 +80,7 @@ told : (w next : World) (j : ℕ) (call : List ℕ) (sec : Option ℕ) (found : 
 told w next j call sec (Some flight) reply g = same_made w next w j g.next_is refl
 told w next j call sec None reply r = same_made w next w j r.same refl
 
-accepted : (w next : World) (who j : ℕ) (found : Option Probe) (reply : Reply) → IsAcceptedOf w who found reply next → probes_of next j ≤ probes_of w j
+accepted : (w next : World) (who j : ℕ) (found : Option ToldProbe) (reply : Reply) → IsAcceptedOf w who found reply next → probes_of next j ≤ probes_of w j
 accepted w next who j None reply r = same_made w next w j r.same refl
 accepted w next who j (Some probe) reply a =
     on_either (is_empty probe.hits) _ _ _ (λ changed. outcome w next j changed.decision reply changed.outcome) (λ r. same_made w next w j r.same refl) a
@@ -130,7 +130,7 @@ module _ (w next : World) (who j : ℕ) (reply : Reply) where
 
 -- ---- advice makes at most sixteen
 
-with_all_within : (book : Book Probe) (probes : List Probe) → (with_all book probes).count ≤ book.count + length probes
+with_all_within : (book : Book ToldProbe) (probes : List ToldProbe) → (with_all book probes).count ≤ book.count + length probes
 with_all_within book [] = omega arith
 with_all_within book (p ∷ probes) = let rest = with_all_within (with_probe book p) probes in omega (arith, rest)
 

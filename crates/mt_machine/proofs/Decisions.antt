@@ -7,7 +7,7 @@ use Rattle.mt_base.specs.declared.command.Refusal.{Refusal}
 use Rattle.mt_base.specs.declared.command.Refusal.TheVariants.{Stale}
 use Rattle.mt_base.specs.declared.hit.Hit.{Hit}
 use Rattle.mt_base.specs.Checks.{judged, next}
-use Rattle.mt_base.specs.Decision.{HasHits, IsDecided, checks, filled, judge, look_at}
+use Rattle.mt_base.specs.Decision.{HasHits, IsDecided, checks, decision_of, filled, look_at}
 use Rattle.mt_base.specs.Picture.{State}
 use Rattle.mt_base.specs.Tables.{Setup}
 use Rattle.mt_base.proofs.CheckLemmas.{judged-answer}
@@ -23,7 +23,7 @@ module _ (setup : Setup) (s : State) (who : ℕ) (command : Command) where
   abbrev pub entry_of : Entry
   entry_of = record { who = who; command = filled s.now command }
 
-  judge_is : (r : Result ⊤ Refusal) → judged (checks setup (look_at s command) who command) (tt {0}) ≡ r → judge setup s who command ≡ next r (Ok entry_of)
+  judge_is : (r : Result ⊤ Refusal) → judged (checks setup (look_at s command) who command) (tt {0}) ≡ r → decision_of setup s who command ≡ next r (Ok entry_of)
   judge_is r is = judged-answer (checks setup (look_at s command) who command) entry_of ∙ ap (λ (q : Result ⊤ Refusal). next q (Ok entry_of)) is
 
   -- a check fails

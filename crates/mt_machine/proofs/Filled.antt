@@ -5,7 +5,7 @@ use Rattle.mt_base.specs.declared.command.Command.TheVariants.{Clear, Tentative}
 use Rattle.mt_base.specs.declared.command.Entry.{Entry}
 use Rattle.mt_base.specs.declared.hit.Hit.{Hit}
 use Rattle.mt_base.specs.Bounds.{IsBoundedCommand}
-use Rattle.mt_base.specs.Decision.{HasHits, IsDecided, checks, filled, judge, look_at}
+use Rattle.mt_base.specs.Decision.{HasHits, IsDecided, checks, decision_of, filled, look_at}
 use Rattle.mt_base.specs.History.{IsInTime, WasFree}
 use Rattle.mt_base.specs.Picture.{State}
 use Rattle.mt_base.specs.Tables.{Setup}
@@ -25,7 +25,7 @@ filled_hits setup s (Tentative call clearance eff) hits has = has
 filled_hits setup s c hits has = has
 
 -- an entry that was decided is the actor's command, with its second filled
-entry_is : (setup : Setup) (s : State) (who : ℕ) (c : Command) (e : Entry) → judge setup s who c ≡ Ok e → record { who = who; command = filled s.now c } ≡ e
+entry_is : (setup : Setup) (s : State) (who : ℕ) (c : Command) (e : Entry) → decision_of setup s who c ≡ Ok e → record { who = who; command = filled s.now c } ≡ e
 entry_is setup s who c e judged_ok = answer_is (checks setup (look_at s c) who c) (record { who = who; command = filled s.now c }) e judged_ok
 
 -- an entry that was decided of an actor's command is what is decided of its own
@@ -36,7 +36,7 @@ decided_is setup s who c e decided =
       filled_entry : Entry
       filled_entry = record { who = who; command = filled s.now c }
 
-      again : judge setup s who (filled s.now c) ≡ Ok filled_entry
+      again : decision_of setup s who (filled s.now c) ≡ Ok filled_entry
       again = rw (filled_checks setup s who c, filled_twice s.now c) (decided.0 ∙ ap Ok (sym (entry_is setup s who c e decided.0)))
 
 pub filled_bounded : (now : ℕ) (c : Command) → now ≤ 10000000 → IsBoundedCommand c → IsBoundedCommand (filled now c)

@@ -93,7 +93,7 @@ fn free_among<R: Threads + Sync>(
 ///
 /// Each candidate is tried anew, one after the other. At most sixteen are advised, and each has an empty what-if from the moment on. It asks
 /// that the rules are within their bounds and the state is sound for them and the tables. The definition is `IsAdvice`.
-pub fn advise<R: Threads + Sync>(
+pub fn plain_advice<R: Threads + Sync>(
     rt: &R,
     alloc: Global,
     tables: &Tables,

@@ -12,7 +12,7 @@ ghost use Rattle.mt_base.specs.Tables.{setup_with};
 
 use crate::plain::Plain;
 use mt_base::{Callsign, Hit, Hits, Memory, Record, Rules, Second, Tally, WINDOW};
-use mt_change::strand_of;
+use mt_change::strand_of_path;
 use mt_pair::lose;
 use mt_tables::Tables;
 use mt_track::Strand;
@@ -36,7 +36,7 @@ fn hit_with(
     ensures named { is_name 1 7 other.now.call ≡ true }
 {
     other.call.keeps();
-    let flown = strand_of(alloc, tables, rules, &other.path)?;
+    let flown = strand_of_path(alloc, tables, rules, &other.path)?;
     let Some((first, last)) = lose(strand, &flown, rules, now, now + WINDOW, tests) else {
         return Ok(None);
     };

@@ -15,7 +15,7 @@ mod strands;
 mod view;
 mod what_if;
 
-pub use advising::advise;
+pub use advising::plain_advice;
 pub use book::Book;
 pub use decision::decide;
 pub use laws::{one_advice_law, one_hits_law};

@@ -9,7 +9,7 @@ ghost use Rattle.mt_base.specs.Tables.{setup_with};
 
 use crate::plain::Plain;
 use mt_base::{Kind, Memory, Path, Record, Rules};
-use mt_change::strand_of;
+use mt_change::strand_of_path;
 use mt_predict::predict;
 use mt_tables::Tables;
 use mt_track::Roster;
@@ -29,7 +29,7 @@ fn add_flight(
     requires free { AreOfOthers flight.now.call roster.old }
     ensures { OnOk result (roster.new ≡ roster.old ++ trajectories_of (setup_with rules.now tables.now) flight.now) }
 {
-    let strand = Arc::new(alloc, strand_of(alloc, tables, rules, &flight.path)?)?;
+    let strand = Arc::new(alloc, strand_of_path(alloc, tables, rules, &flight.path)?)?;
     roster.add(flight.call, Kind::Actual, &strand)?;
     if let Path::Planned(course) = &flight.path
         && course.mark.is_some()

@@ -8,9 +8,9 @@ ghost use Rattle.mt_base.specs.Tables.{setup_with};
 
 use crate::plain::Plain;
 use mt_base::{Callsign, FlightView, Memory, Rules, Second};
-use mt_change::strand_of;
+use mt_change::strand_of_path;
 use mt_tables::Tables;
-use mt_track::view_of;
+use mt_track::view_of_path;
 use std::alloc::Global;
 
 impl Plain {
@@ -33,8 +33,8 @@ impl Plain {
         let Some(flight) = self.flight(call) else {
             return Ok(None);
         };
-        let strand = strand_of(alloc, tables, rules, &flight.path)?;
+        let strand = strand_of_path(alloc, tables, rules, &flight.path)?;
         let k = sec.unwrap_or(self.moment);
-        Ok(Some(view_of(flight, &strand, k, self.version)))
+        Ok(Some(view_of_path(flight, &strand, k, self.version)))
     }
 }

@@ -15,9 +15,9 @@ use Rattle.mt_base.specs.declared.command.Refusal.TheVariants.{Stale}
 use Rattle.mt_base.specs.declared.flight.Course.{Course}
 use Rattle.mt_base.specs.declared.flight.Path.TheVariants.{Planned}
 use Rattle.mt_base.specs.declared.hit.Hit.{Hit}
-use Rattle.mt_base.specs.Checks.{check, judged, next}
+use Rattle.mt_base.specs.Checks.{check_answer, judged, next}
 use Rattle.mt_base.specs.Cleared.{aim_checks, clearance_checks}
-use Rattle.mt_base.specs.Decision.{IsStale, Look, checks, judge, look_at}
+use Rattle.mt_base.specs.Decision.{IsStale, Look, checks, decision_of, look_at}
 use Rattle.mt_base.specs.Effect.{state_of}
 use Rattle.mt_base.specs.History.{WasFree}
 use Rattle.mt_base.specs.Picture.{State, flight_of, trajectory_of}
@@ -44,7 +44,7 @@ none_stale : {A : Type 0} (cs : List (Refusal × Bool)) (x : A) (refusal : Refus
     → is_stale refusal ≡ false
 none_stale [] x refusal all is = absurd (cc)
 none_stale (c ∷ cs) x refusal all is = by_check c.1 is (none_stale cs x refusal all.1) where
-  by_check : (b : Bool) → next (check (c.0, b)) (judged cs x) ≡ Err refusal → (judged cs x ≡ Err refusal → is_stale refusal ≡ false) → is_stale refusal ≡ false
+  by_check : (b : Bool) → next (check_answer (c.0, b)) (judged cs x) ≡ Err refusal → (judged cs x ≡ Err refusal → is_stale refusal ≡ false) → is_stale refusal ≡ false
   by_check true e rest = (let h = rw (check-true c.0) at e in rest h)
   by_check false e rest =
       let both = rw (check-false c.0) at e in
@@ -69,7 +69,7 @@ accept_other setup look who call clearance eff probed =
     (refl, (refl, clearance_other setup (course_in look.flight) clearance eff look.now)) (refl, tt)
 
 not_judged : (setup : Setup) (s : State) (who : ℕ) (call : List ℕ) (clearance : Clearance) (eff probed : ℕ) (hit : Hit)
-    → judge setup s who (Accept call clearance eff probed) ≡ Err (Stale hit) → ⊥
+    → decision_of setup s who (Accept call clearance eff probed) ≡ Err (Stale hit) → ⊥
 not_judged setup s who call clearance eff probed hit is =
     let command : Command = Accept call clearance eff probed in
     let entry : Entry = record { who = who; command = command } in
@@ -121,5 +121,5 @@ since_probe story who call clearance eff probed version hit refused within free 
       (cases_lt probed (length story.history))
 
   later : probed < version
-  later = ⊎_elim (λ (judged_so : judge setup here who (Accept call clearance eff probed) ≡ Err (Stale hit)). absurd (not_judged setup here who call clearance eff probed hit judged_so))
+  later = ⊎_elim (λ (judged_so : decision_of setup here who (Accept call clearance eff probed) ≡ Err (Stale hit)). absurd (not_judged setup here who call clearance eff probed hit judged_so))
       stale_since refused.0

@@ -15,7 +15,7 @@ ghost use Rattle.mt_picture.specs.Private.Known.{IsPreps};
 
 use crate::candidates::candidates;
 use crate::entering::Entering;
-use crate::held::Held;
+use crate::held::Parts;
 use mt_base::{Command, Kind, Memory, Tally};
 use mt_kept::OpenPair;
 use mt_probe::{Flight, kind_made};
@@ -65,7 +65,7 @@ fn add_pairs(pairs: &mut Vec<OpenPair>, others: &[OpenPair]) -> Result<(), Memor
 // The pairs of a place that keeps its item.
 fn kept_finds(
     alloc: Global,
-    held: &Held,
+    held: &Parts,
     place: u32,
     item: &Option<Item>,
 ) -> Result<Vec<OpenPair>, Memory>
@@ -82,7 +82,7 @@ fn kept_finds(
 // The pairs of an item that is new in a place. What the prep found is used where it is known to be of use.
 fn new_finds(
     alloc: Global,
-    held: &Held,
+    held: &Parts,
     place: u32,
     item: &Option<Item>,
     entering: &Entering,
@@ -110,7 +110,7 @@ fn new_finds(
 // The pairs of an item in a place: of one that is new there, or of one that the place keeps.
 fn finds_in(
     alloc: Global,
-    held: &Held,
+    held: &Parts,
     place: u32,
     item: &Option<Item>,
     is_new: bool,
@@ -150,7 +150,7 @@ fn makes_actual(command: &Command) -> bool
 
 /// What the kept conflicts change by where a flight is put into a slot.
 #[derive(Drop)]
-pub(crate) struct Change {
+pub(crate) struct SlotChange {
     /// The item of its first place.
     pub(crate) first: Option<Item>,
     /// That of its second place.
@@ -163,12 +163,12 @@ pub(crate) struct Change {
 /// of the kind that a command makes; of the other kind it has what it had, or nothing. What the prep found is used where it is known to be of use.
 pub(crate) fn change_for(
     alloc: Global,
-    held: &Held,
+    held: &Parts,
     slot: u32,
     flight: &Flight,
     entering: &Entering,
     tests: &mut Tally,
-) -> Result<Change, Memory>
+) -> Result<SlotChange, Memory>
     requires { BringsNew held.now.snapshot slot flight.now (kind_made entering.now.command.now) entering.now.prep.now entering.now.known }
     ensures change { IfOk result (IsChangeFor held.now.kept slot flight.now) }
     ensures counted { (m : NamedTrajectory) → place_kind (kind_made entering.entry.now.command.now) (Some flight.now) ≡ Some m
@@ -181,7 +181,7 @@ pub(crate) fn change_for(
     let mut finds = finds_in(alloc, held, 2 * slot, &first, flown, entering, tests)?;
     let others = finds_in(alloc, held, 2 * slot + 1, &second, !flown, entering, tests)?;
     add_pairs(&mut finds, &others)?;
-    Ok(Change {
+    Ok(SlotChange {
         first,
         second,
         finds,
@@ -191,10 +191,10 @@ pub(crate) fn change_for(
 /// The change of the kept conflicts for a flight whose tentative trajectory is taken away. It makes no test.
 pub(crate) fn change_bare(
     alloc: Global,
-    held: &Held,
+    held: &Parts,
     slot: u32,
     flight: &Flight,
-) -> Result<Change, Memory>
+) -> Result<SlotChange, Memory>
     requires slot { slot < length held.now.snapshot.slots }
     requires first { first_of (Some flight.now) ≡ first_of (flight_at held.now.snapshot slot) }
     requires bare { second_of (Some flight.now) ≡ None }
@@ -204,7 +204,7 @@ pub(crate) fn change_bare(
     held.keeps();
     let first = first_item(flight)?;
     let finds = kept_finds(alloc, held, 2 * slot, &first)?;
-    Ok(Change {
+    Ok(SlotChange {
         first,
         second: None,
         finds,

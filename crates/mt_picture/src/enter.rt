@@ -13,7 +13,7 @@ ghost use Rattle.mt_picture.specs.Private.Holding.{AddsEntry, EntersOrStops, IsP
 ghost use Rattle.mt_picture.specs.Story.{IsPrepGivenFor, IsPrepFor};
 
 use crate::entering::{Entering, file, remake, report, withdraw};
-use crate::held::Held;
+use crate::held::Parts;
 use crate::usable::is_usable;
 use mt_base::{Command, Hit, Memory, Record, Tally};
 use mt_probe::{Prep, altered_flight, left_of};
@@ -32,7 +32,7 @@ fn is_filing(command: &Command) -> bool
 
 // Enters a command that files a flight.
 fn enter_filing(
-    held: &mut Held,
+    held: &mut Parts,
     alloc: Global,
     entering: &Entering,
     card: Record,
@@ -52,7 +52,7 @@ fn enter_filing(
 }
 
 // The slot of the flight that a command alters.
-fn slot_of(held: &Held, who: u32, command: &Command, card: &Record) -> u32
+fn slot_of(held: &Parts, who: u32, command: &Command, card: &Record) -> u32
     requires alters { Alters command.now }
     requires left { IsLeftByEntry held.now.snapshot.setup (state_in held.now.snapshot) who command.now card.now }
     ensures { option_map (λ f. f.card.call) (flight_at held.now.snapshot result) ≡ Some card.now.call }
@@ -65,7 +65,7 @@ fn slot_of(held: &Held, who: u32, command: &Command, card: &Record) -> u32
 
 // The flight as the entry of a command leaves it. A prep of this version has it.
 fn card_left(
-    held: &Held,
+    held: &Parts,
     alloc: Global,
     who: u32,
     command: &Command,
@@ -90,7 +90,7 @@ fn card_left(
 
 // Enters a command that makes a trajectory.
 fn enter_strand(
-    held: &mut Held,
+    held: &mut Parts,
     alloc: Global,
     who: u32,
     command: &Command,
@@ -121,7 +121,7 @@ fn enter_strand(
 }
 
 // Enters a command that alters a flight and makes no trajectory.
-fn enter_card(held: &mut Held, alloc: Global, who: u32, command: &Command) -> Result<(), Memory>
+fn enter_card(held: &mut Parts, alloc: Global, who: u32, command: &Command) -> Result<(), Memory>
     requires passed { IsPassed held.old.snapshot who command.now }
     requires bounded { IsBoundedCommand command.now }
     requires alters { IsReport command.now ⊎ IsWithdrawal command.now }
@@ -149,7 +149,7 @@ fn is_report(command: &Command) -> bool
 
 // Enters a command that makes no trajectory.
 fn enter_plain(
-    held: &mut Held,
+    held: &mut Parts,
     alloc: Global,
     who: u32,
     command: &Command,
@@ -176,7 +176,7 @@ fn enter_plain(
 
 /// Enters a command that passes its checks; or gives the first hit, where it was probed and has one, and leaves all as it was.
 pub(crate) fn enter(
-    held: &mut Held,
+    held: &mut Parts,
     alloc: Global,
     who: u32,
     command: &Command,

@@ -15,7 +15,7 @@ ghost use Rattle.mt_picture.specs.Private.Places.{place_kind};
 ghost use Rattle.mt_picture.specs.Private.Putting.{IsFirstOf, IsKeptFlight, IsFlightPut, IsRemade};
 
 use crate::change::{change_bare, change_for};
-use crate::held::Held;
+use crate::held::Parts;
 use crate::hits::first_hit;
 use mt_base::{Callsign, Command, Entry, Hit, Kind, Memory, Record, Tally};
 use mt_probe::{Flight, Made, Prep, kind_made, strand_of};
@@ -56,7 +56,7 @@ fn is_probed(command: &Command) -> bool
 // Enters a command that leaves this flight in a slot with a new trajectory of the kind that it makes; or gives the first hit, where it was probed
 // and has one, and leaves all as it was. What the prep found is used where it is known to be of use.
 fn put_made(
-    held: &mut Held,
+    held: &mut Parts,
     alloc: Global,
     slot: u32,
     flight: Flight,
@@ -91,7 +91,7 @@ fn put_made(
 // The trajectory that a command makes of a flight: the prep's, where that is known to be of use, or a new one.
 fn strand_for(
     alloc: Global,
-    held: &Held,
+    held: &Parts,
     entering: &Entering,
     card: &Record,
 ) -> Result<Arc<Strand>, Memory>
@@ -115,7 +115,7 @@ fn strand_for(
 }
 
 // The trajectory of a kind of the flight in a slot once more, with its stamp.
-fn made_again(held: &Held, slot: u32, kind: Kind) -> Result<Option<Made>, Memory>
+fn made_again(held: &Parts, slot: u32, kind: Kind) -> Result<Option<Made>, Memory>
     ensures strand { IfOk result (λ again. option_map (λ m. arc_value m.strand) again
         ≡ option_map (λ m. arc_value m.strand) (option_and_then (λ f. made_of f kind) (flight_at held.now.snapshot slot))) }
     ensures stamp { IfOk result (λ again. option_map (λ m. m.stamp) again
@@ -133,7 +133,7 @@ fn made_again(held: &Held, slot: u32, kind: Kind) -> Result<Option<Made>, Memory
 }
 
 // The entry of a command.
-fn entry_of(alloc: Global, held: &Held, who: u32, command: &Command) -> Result<Entry, Memory>
+fn entry_of(alloc: Global, held: &Parts, who: u32, command: &Command) -> Result<Entry, Memory>
     requires { IsBoundedCommand command.now }
     ensures entry { IfOk result (λ entry. entry ≡ entry_now held.now.snapshot who command.now) }
     ensures complete { IfOk result IsComplete }
@@ -146,7 +146,7 @@ fn entry_of(alloc: Global, held: &Held, who: u32, command: &Command) -> Result<E
 
 /// Files a flight in an empty slot.
 pub(crate) fn file(
-    held: &mut Held,
+    held: &mut Parts,
     alloc: Global,
     slot: u32,
     entering: &Entering,
@@ -177,7 +177,7 @@ pub(crate) fn file(
 }
 
 // The flight in a slot with another record, and with all else that it has.
-fn kept_flight(held: &Held, slot: u32, card: Record) -> Result<Flight, Memory>
+fn kept_flight(held: &Parts, slot: u32, card: Record) -> Result<Flight, Memory>
     requires { option_map (λ f. f.card.call) (flight_at held.now.snapshot slot) ≡ Some card.call }
     ensures { IfOk result (IsKeptFlight (flight_at held.now.snapshot slot) card) }
 {
@@ -199,7 +199,7 @@ fn kept_flight(held: &Held, slot: u32, card: Record) -> Result<Flight, Memory>
 
 // The flight in a slot with a new trajectory, as a command leaves it.
 fn remade(
-    held: &Held,
+    held: &Parts,
     slot: u32,
     command: &Command,
     card: Record,
@@ -232,7 +232,7 @@ fn remade(
 /// Renews, clears or marks the flight in a slot, or commits its tentative clearance; or gives the first hit, where the command was probed and
 /// has one, and leaves all as it was.
 pub(crate) fn remake(
-    held: &mut Held,
+    held: &mut Parts,
     alloc: Global,
     slot: u32,
     entering: &Entering,
@@ -254,7 +254,7 @@ pub(crate) fn remake(
 
 /// Enters the report of a flight in a slot.
 pub(crate) fn report(
-    held: &mut Held,
+    held: &mut Parts,
     alloc: Global,
     slot: u32,
     who: u32,
@@ -276,7 +276,7 @@ pub(crate) fn report(
 
 /// Withdraws the tentative clearance of the flight in a slot.
 pub(crate) fn withdraw(
-    held: &mut Held,
+    held: &mut Parts,
     alloc: Global,
     slot: u32,
     who: u32,

@@ -16,7 +16,7 @@ ghost use Rattle.mt_picture.specs.Private.Places.{all_places, first_of, second_o
 ghost use Rattle.mt_picture.specs.Private.Putting.{IsFlightPut};
 ghost use Rattle.mt_picture.specs.Private.Stamps.{IsPicture};
 
-use crate::change::Change;
+use crate::change::SlotChange;
 use mt_base::{Callsign, Command, Conflict, Entry, Memory, Rules, Second, Steps, Tally};
 use mt_kept::Kept;
 use mt_probe::{Flight, Snapshot};
@@ -27,7 +27,7 @@ use std::sync::Arc;
 
 /// What a picture holds: the snapshot now, the history, and the conflicts that are kept. They are of one state (`IsPicture`).
 #[derive(Drop)]
-pub(crate) struct Held {
+pub(crate) struct Parts {
     /// The snapshot.
     pub(crate) snapshot: Snapshot,
     /// The history.
@@ -36,7 +36,7 @@ pub(crate) struct Held {
     pub(crate) kept: Kept,
 }
 
-impl Model for Held {
+impl Model for Parts {
     ghost use Rattle.mt_picture.specs.Private.Holding.{Holding};
     ghost use Rattle.mt_picture.specs.Private.Stamps.{IsPicture};
 
@@ -47,15 +47,15 @@ impl Model for Held {
     ghost invariant = { λ held. IsPicture held.snapshot held.history.items held.kept };
 }
 
-impl Held {
+impl Parts {
     /// What an opening picture holds.
-    pub(crate) fn opening(alloc: Global, rules: Rules, tables: Arc<Tables>) -> Result<Held, Memory>
+    pub(crate) fn opening(alloc: Global, rules: Rules, tables: Arc<Tables>) -> Result<Parts, Memory>
         requires { AreWithinBounds rules }
         ensures { IfOk result (λ held. held_story held ≡ record { setup = record { rules = rules; tables = arc_value tables }; history = [] }) }
     {
         let snapshot = Snapshot::opening(alloc, rules, tables)?;
         let kept = Kept::make(alloc, &rules, snapshot.slots())?;
-        Ok(Held {
+        Ok(Parts {
             snapshot,
             history: Vec::new(alloc),
             kept,
@@ -106,7 +106,7 @@ impl Held {
         slot: u32,
         flight: Flight,
         entry: Entry,
-        change: Change,
+        change: SlotChange,
     ) -> Result<(), Memory>
         requires counted { self.old.snapshot.version < 2 ^ 40 }
         requires put { IsFlightPut self.old.snapshot slot flight entry }
@@ -115,7 +115,7 @@ impl Held {
         ensures { AddsEntry self.old self.new entry result }
     {
         self.snapshot.keeps();
-        let Change {
+        let SlotChange {
             first,
             second,
             finds,

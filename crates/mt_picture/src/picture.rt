@@ -12,7 +12,7 @@ ghost use Rattle.mt_picture.specs.Story.{IsEntered, IsPrepGivenFor, IsCommandRef
 
 use crate::deciding::{decide, verdict_on};
 use crate::enter::enter;
-use crate::held::Held;
+use crate::held::Parts;
 use mt_base::{Command, Conflict, Entered, Entry, Memory, Refusal, Rules, Second, Tally};
 use mt_board::No;
 use mt_probe::{Prep, Snapshot};
@@ -24,7 +24,7 @@ use std::sync::Arc;
 /// The kept picture: its history, the snapshot now, and the conflicts that are published of it.
 #[derive(Drop)]
 pub struct Picture {
-    held: Held,
+    held: Parts,
 }
 
 impl Model for Picture {
@@ -43,7 +43,7 @@ impl Picture {
         ensures { IfOk result (λ picture. picture ≡ record { setup = record { rules = rules; tables = arc_value tables }; history = [] }) }
     {
         Ok(Picture {
-            held: Held::opening(alloc, rules, tables)?,
+            held: Parts::opening(alloc, rules, tables)?,
         })
     }
 

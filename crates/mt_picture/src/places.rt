@@ -8,7 +8,7 @@ use mt_probe::Snapshot;
 
 /// A place where a trajectory stands, and the version at which that was made.
 #[derive(Clone, Copy)]
-pub(crate) struct Standing {
+pub(crate) struct FoundPlace {
     /// The place.
     pub(crate) place: u32,
     /// The version.
@@ -49,7 +49,7 @@ pub(crate) fn is_made_since(snapshot: &Snapshot, place: u32, version: u64) -> bo
 }
 
 /// Where the trajectory of a kind of the flight of that callsign stands; `None` exactly where it stands nowhere.
-pub(crate) fn find_trajectory(snapshot: &Snapshot, call: Callsign, kind: Kind) -> Option<Standing>
+pub(crate) fn find_trajectory(snapshot: &Snapshot, call: Callsign, kind: Kind) -> Option<FoundPlace>
     ensures there { IfSome result (λ it. StandsInPlace snapshot.now.slots it.place call kind it.stamp) }
     ensures only { (place stamp : ℕ) → StandsInPlace snapshot.now.slots place call kind stamp
         → result ≡ Some (record { place = place; stamp = stamp }) }
@@ -58,5 +58,5 @@ pub(crate) fn find_trajectory(snapshot: &Snapshot, call: Callsign, kind: Kind) -
     let slot = snapshot.find(call)?;
     let stamp = snapshot.stamp(slot, kind)?;
     let place = place_of(slot, kind);
-    Some(Standing { place, stamp })
+    Some(FoundPlace { place, stamp })
 }

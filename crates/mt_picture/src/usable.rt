@@ -4,7 +4,7 @@ ghost use Rattle.mt_base.specs.Decision.{call_of, filled};
 ghost use Rattle.mt_picture.specs.Private.Holding.{held_story};
 ghost use Rattle.mt_picture.specs.Story.{IsNamedAfter, IsPrepFor, IsUsable};
 
-use crate::held::Held;
+use crate::held::Parts;
 use mt_base::{Callsign, Command, Entry};
 use mt_probe::{Prep, Snapshot};
 
@@ -44,7 +44,7 @@ fn is_same_moment(snapshot: &Snapshot, command: &Command, prep: &Prep) -> bool
 }
 
 /// Whether a prep is usable.
-pub(crate) fn is_usable(held: &Held, who: u32, command: &Command, prep: &Prep) -> bool
+pub(crate) fn is_usable(held: &Parts, who: u32, command: &Command, prep: &Prep) -> bool
     requires { IsPrepFor (held_story held.now) who command.now prep.now }
     ensures usable { result ≡ true → IsUsable (held_story held.now) command.now prep.now }
     ensures unusable { result ≡ false → ¬ IsUsable (held_story held.now) command.now prep.now }

@@ -8,16 +8,16 @@ use Rattle.mt_base.specs.declared.command.Refusal.TheVariants.{Fixed, Future}
 use Rattle.mt_base.specs.declared.flight.Course.{Course}
 use Rattle.mt_base.specs.declared.flight.Mark.{Mark}
 use Rattle.mt_base.specs.declared.flight.Record.{Record}
-use Rattle.mt_base.specs.Checks.{check, judged, next}
+use Rattle.mt_base.specs.Checks.{check_answer, judged, next}
 use Rattle.mt_base.specs.WhatIf.{course_in, mark_in}
 use Rattle.mt_base.proofs.CheckLemmas.{judged-answer, judged-append, next-ok}
 
-pub check-true : {F : Type 0} (refusal : F) → check (refusal, true) ≡ Ok (tt {0})
-unfolding check
+pub check-true : {F : Type 0} (refusal : F) → check_answer (refusal, true) ≡ Ok (tt {0})
+unfolding check_answer
 check-true refusal = refl
 
-pub check-false : {F : Type 0} (refusal : F) → check (refusal, false) ≡ Err refusal
-unfolding check
+pub check-false : {F : Type 0} (refusal : F) → check_answer (refusal, false) ≡ Err refusal
+unfolding check_answer
 check-false refusal = refl
 
 refusal_of_next : {A F : Type 0} (r : Result ⊤ F) (x : A) (e : F) → Err e ≡ next r (Ok x) → Err e ≡ r
@@ -65,10 +65,10 @@ by_parts (Ok _) (Ok _) t rest = refl
 pub moment_last : (there : Refusal × Bool) (course : Option Course) (f : Course → List (Refusal × Bool)) (moment : Refusal × Bool) (rest : List (Refusal × Bool))
     → judged ((there ∷ (Fixed, is_some course) ∷ option_map_or (λ course. f course ++ moment ∷ []) course []) ++ rest) (tt {0})
     ≡ next (judged (there ∷ (Fixed, is_some course) ∷ option_map_or f course []) (tt {0})) (judged (moment ∷ rest) (tt {0}))
-moment_last there None f moment rest = rw (check-false Fixed) (refused_second (check there)) where
+moment_last there None f moment rest = rw (check-false Fixed) (refused_second (check_answer there)) where
   refused_second : (r : Result ⊤ Refusal) → next r (Err Fixed) ≡ next (next r (Err Fixed)) (judged (moment ∷ rest) (tt {0}))
   refused_second (Err e) = refl
   refused_second (Ok _) = refl
 moment_last there (Some course) f moment rest =
     rw (append_assoc (f course) (moment ∷ []) rest, judged-append (f course) (moment ∷ rest) (tt {0}))
-    (by_parts (check there) (check (Fixed, true)) (judged (f course) (tt {0})) (judged (moment ∷ rest) (tt {0})))
+    (by_parts (check_answer there) (check_answer (Fixed, true)) (judged (f course) (tt {0})) (judged (moment ∷ rest) (tt {0})))

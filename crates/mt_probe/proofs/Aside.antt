@@ -9,7 +9,7 @@ use Rattle.mt_base.specs.declared.command.Refusal.{Refusal}
 use Rattle.mt_base.specs.declared.command.Refusal.TheVariants.{Full, HistoryFull}
 use Rattle.mt_base.specs.declared.flight.Path.TheVariants.{Planned}
 use Rattle.mt_base.specs.Bounds.{AreWithinBounds}
-use Rattle.mt_base.specs.Checks.{check, judged, next}
+use Rattle.mt_base.specs.Checks.{check_answer, judged, next}
 use Rattle.mt_base.specs.Cleared.{aim_checks}
 use Rattle.mt_base.specs.Decision.{IsDecided, checks, filled, look_at, route_checks}
 use Rattle.mt_base.specs.Picture.{State, flight_of, trajectory_of}
@@ -28,7 +28,7 @@ record Carries {A : Type 0} (y : A) (r : Refusal) (cs ds : Checks) : Type 0 wher
 
 module _ {A : Type 0} (y : A) (r : Refusal) where
   one : (c : Refusal × Bool) (cs ds : Checks) → Carries y r cs ds → Carries y r (c ∷ cs) (c ∷ ds)
-  one c cs ds rest = record { carries = by_check (check c) } where
+  one c cs ds rest = record { carries = by_check (check_answer c) } where
     by_check : (k : Result ⊤ Refusal) → next k (judged cs (tt {0})) ≡ Err r → next k (judged ds y) ≡ Err r
     by_check (Ok _) e = rest.carries e
     by_check (Err x) e = let same : x ≡ r = cc in ap Err same

@@ -6,7 +6,7 @@ use Rattle.mt_base.specs.Bounds.{AreWithinBounds, IsBoundedClearance}
 use Rattle.mt_base.specs.WhatIf.{IsConflicting, IsWhatIf}
 use Rattle.mt_board.specs.declared.no.No.{No}
 use Rattle.mt_board.specs.declared.no.No.TheVariants as nos
-use Rattle.mt_board.specs.Probing.{Probe}
+use Rattle.mt_board.specs.Probing.{ToldProbe}
 use Rattle.mt_board.specs.Short.{AreShortHits}
 use Rattle.mt_probe.specs.Shot.{Shot, state_in_shot}
 
@@ -28,7 +28,7 @@ pub record IsTried (p : Trial) : Type 0 where
   pub short : AreShortHits p.hits
 
 -- a trial as a board's probe
-abbrev pub told_of : Trial → Probe
+abbrev pub told_of : Trial → ToldProbe
 told_of p = record { call = p.call; clearance = p.clearance; eff = p.eff; version = p.shot.version; hits = p.hits }
 
 -- `IsProbe`, `IsUnprobed`: a what-if on a snapshot: its probe, or its refusal. At the snapshot's version.

@@ -5,7 +5,7 @@ use Rattle.std.proofs.lemmas.Result.{err_from_is_err_and}
 use Rattle.std.specs.Bool.{⊤}
 use Rattle.std.specs.Prelude.{IsErrAnd}
 use Rattle.serde_json.specs.Data.{Members}
-use Rattle.mt_base.specs.Checks.{check, judged, next}
+use Rattle.mt_base.specs.Checks.{check_answer, judged, next}
 use Rattle.mt_read.specs.declared.key.Fault.{Fault}
 use Rattle.mt_read.specs.declared.key.Key.{Key}
 use Rattle.mt_read.specs.declared.origin.Origin.{Origin}
@@ -19,12 +19,12 @@ use Rattle.mt_read.specs.Table.{Layout}
 -- each check passes
 abbrev pub Pass : List (Fault × Bool) → Type 0
 Pass [] = ⊤
-Pass (c ∷ cs) = (check c ≡ Ok (tt {0})) × Pass cs
+Pass (c ∷ cs) = (check_answer c ≡ Ok (tt {0})) × Pass cs
 
 -- the first check that doesn't pass is refused so
 abbrev pub Fail : Fault → List (Fault × Bool) → Type 0
 Fail f [] = ⊥
-Fail f (c ∷ cs) = (check c ≡ Err f) ⊎ ((check c ≡ Ok (tt {0})) × Fail f cs)
+Fail f (c ∷ cs) = (check_answer c ≡ Err f) ⊎ ((check_answer c ≡ Ok (tt {0})) × Fail f cs)
 
 -- this check passes, and of the others that is so
 abbrev pub also : {A B : Type 0} → A → B → A × B
@@ -43,12 +43,12 @@ next_fails (Err g) s f e = cc
 
 pub passes : {A : Type 0} (cs : List (Fault × Bool)) (x : A) → Pass cs → judged cs x ≡ Ok x
 passes [] x p = refl
-passes (c ∷ cs) x p = next_passes (check c) (judged cs x) (Ok x) p.0 (passes cs x p.1)
+passes (c ∷ cs) x p = next_passes (check_answer c) (judged cs x) (Ok x) p.0 (passes cs x p.1)
 
 pub fails : {A : Type 0} (cs : List (Fault × Bool)) (x : A) (f : Fault) → Fail f cs → judged cs x ≡ Err f
 fails [] x f p = absurd p
-fails (c ∷ cs) x f (inl e) = next_fails (check c) (judged cs x) f e
-fails (c ∷ cs) x f (inr p) = next_passes (check c) (judged cs x) (Err f) p.0 (fails cs x f p.1)
+fails (c ∷ cs) x f (inl e) = next_fails (check_answer c) (judged cs x) f e
+fails (c ∷ cs) x f (inr p) = next_passes (check_answer c) (judged cs x) (Err f) p.0 (fails cs x f p.1)
 
 -- ---- a line, checked to some step
 
@@ -139,12 +139,12 @@ bound_fails (Ok u) z f e = cc
 bound_fails (Err g) z f e = cc
 
 pub within_passes : (key : Key) (low high : ℤ) (ms : Members) (n : ℤ) → Ok n ≡ within key low high ms
-    → (check (bound key low high (number key ms)) ≡ Ok (tt {0})) × (n ≡ number key ms)
+    → (check_answer (bound key low high (number key ms)) ≡ Ok (tt {0})) × (n ≡ number key ms)
 unfolding within
 within_passes key low high ms n e = bound_passes _ _ n e
 
 pub within_fails : (key : Key) (low high : ℤ) (ms : Members) (f : Fault) → Err f ≡ within key low high ms
-    → check (bound key low high (number key ms)) ≡ Err f
+    → check_answer (bound key low high (number key ms)) ≡ Err f
 unfolding within
 within_fails key low high ms f e = bound_fails _ _ f e
 
@@ -162,7 +162,7 @@ stops (Err stop.Memory) f t h e = tt {0}
 
 -- that line isn't read, for a fault or for want of memory
 pub stays : {A B : Type 0} (r : Result B Stop) (s : Stop) (c : Fault × Bool) (x : A) (t : Result B Fault)
-    → IsErrAnd r (λ e. e ≡ s) → ReadsUnlessMemory {A = A} (Err s) (check c) x → ((f : Fault) → check c ≡ Err f → t ≡ Err f) → IsUnlessMemory r t
+    → IsErrAnd r (λ e. e ≡ s) → ReadsUnlessMemory {A = A} (Err s) (check_answer c) x → ((f : Fault) → check_answer c ≡ Err f → t ≡ Err f) → IsUnlessMemory r t
 stays (Ok y) s c x t h k e = absurd h
 stays (Err g) (stop.Fault f) c x t h k e = stops (Err g) f t h (e f k)
 stays (Err (stop.Fault g)) stop.Memory c x t h k e = cc
@@ -186,8 +186,8 @@ height_kept n h = grind (arith, to_z-of_z)
 -- each check but the last passes, and the last answers so
 abbrev pub Last : Result ⊤ Fault → List (Fault × Bool) → Type 0
 Last q [] = ⊥
-Last q (c ∷ []) = q ≡ check c
-Last q (c ∷ (d ∷ cs)) = (check c ≡ Ok (tt {0})) × Last q (d ∷ cs)
+Last q (c ∷ []) = q ≡ check_answer c
+Last q (c ∷ (d ∷ cs)) = (check_answer c ≡ Ok (tt {0})) × Last q (d ∷ cs)
 
 last_next : (r q : Result ⊤ Fault) → q ≡ r → q ≡ next r (Ok (tt {0}))
 last_next (Ok u) q e = e
@@ -195,8 +195,8 @@ last_next (Err f) q e = e
 
 pub lasts : (q : Result ⊤ Fault) (cs : List (Fault × Bool)) → Last q cs → q ≡ judged cs (tt {0})
 lasts q [] p = absurd p
-lasts q (c ∷ []) p = last_next (check c) q p
-lasts q (c ∷ (d ∷ cs)) p = sym (next_passes (check c) (judged (d ∷ cs) (tt {0})) q p.0 (sym (lasts q (d ∷ cs) p.1)))
+lasts q (c ∷ []) p = last_next (check_answer c) q p
+lasts q (c ∷ (d ∷ cs)) p = sym (next_passes (check_answer c) (judged (d ∷ cs) (tt {0})) q p.0 (sym (lasts q (d ∷ cs) p.1)))
 
 -- ---- checks whose answers are known together
 
@@ -210,11 +210,11 @@ next_failed (Err g) s f Rest e more = inl e
 
 pub passed : (cs : List (Fault × Bool)) → judged cs (tt {0}) ≡ Ok (tt {0}) → Pass cs
 passed [] e = tt {0}
-passed (c ∷ cs) e = let p = next_passed (check c) (judged cs (tt {0})) e in (p.0, passed cs p.1)
+passed (c ∷ cs) e = let p = next_passed (check_answer c) (judged cs (tt {0})) e in (p.0, passed cs p.1)
 
 pub failed : (cs : List (Fault × Bool)) (f : Fault) → judged cs (tt {0}) ≡ Err f → Fail f cs
 failed [] f e = cc
-failed (c ∷ cs) f e = next_failed (check c) (judged cs (tt {0})) f (Fail f cs) e (failed cs f)
+failed (c ∷ cs) f e = next_failed (check_answer c) (judged cs (tt {0})) f (Fail f cs) e (failed cs f)
 
 pub fail_more : (cs ds : List (Fault × Bool)) (f : Fault) → Fail f cs → Fail f (cs ++ ds)
 fail_more [] ds f p = absurd p

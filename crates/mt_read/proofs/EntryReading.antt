@@ -9,7 +9,7 @@ use Rattle.serde_json.specs.Find.{get_member, of_integer}
 use Rattle.mt_base.specs.declared.command.Command.{Command}
 use Rattle.mt_base.specs.declared.command.Command.TheVariants as command
 use Rattle.mt_base.specs.Bounds.{IsWithin}
-use Rattle.mt_base.specs.Checks.{check, judged, next}
+use Rattle.mt_base.specs.Checks.{check_answer, judged, next}
 use Rattle.mt_read.specs.declared.key.Fault.{Fault}
 use Rattle.mt_read.specs.declared.origin.Origin.TheVariants as origins
 use Rattle.mt_read.specs.declared.request.LineNo.{LineNo}
@@ -29,8 +29,8 @@ tested low high z w = grind (arith, ints, w.least, w.most)
 pub counted : (low high n : ℕ) → low ≤ n → n ≤ high → (int_le (pos low) (pos n) && int_le (pos n) (pos high)) ≡ true
 counted low high n l h = tested (pos low) (pos high) (pos n) (record { least = grind (arith, ints); most = grind (arith, ints) })
 
-one_passes : {A : Type 0} (f : Fault) (b : Bool) (r : Result A Fault) → b ≡ true → next (check (f, b)) r ≡ r
-unfolding check
+one_passes : {A : Type 0} (f : Fault) (b : Bool) (r : Result A Fault) → b ≡ true → next (check_answer (f, b)) r ≡ r
+unfolding check_answer
 one_passes f true r h = refl
 one_passes f false r h = cc
 

@@ -7,8 +7,8 @@ use Rattle.serde_json.specs.Data.{Data, Members}
 use Rattle.serde_json.specs.Find.{as_object}
 use Rattle.mt_base.specs.declared.command.Entry.{Entry}
 use Rattle.mt_read.specs.declared.following.FeedLine.TheVariants.{Followed}
-use Rattle.mt_read.specs.declared.following.Reading.{Reading}
-use Rattle.mt_read.specs.declared.following.Reading.TheVariants as reading
+use Rattle.mt_read.specs.declared.following.FeedWord.{FeedWord}
+use Rattle.mt_read.specs.declared.following.FeedWord.TheVariants as reading
 use Rattle.mt_read.specs.declared.word.EntryWord.{EntryWord}
 use Rattle.mt_read.specs.Entry.{as_entry, entry, held_in, of_entry_word}
 use Rattle.mt_read.specs.Following.{as_followed, feed, feed_members, of_reading, reading_layout, reading_word_of, readings}
@@ -25,7 +25,7 @@ named_is {A} text_of (v ∷ ws) text w e = by_test (bytes_eq text (text_of v)) r
   by_test false is others e = others e
 
 -- the word of a line that is no entry is the word of none
-no_entry_word : (r : Reading) → entry_word_of (reading_layout r).text ≡ None
+no_entry_word : (r : FeedWord) → entry_word_of (reading_layout r).text ≡ None
 unfolding entry_word_of change_word_of
 no_entry_word reading.List = refl
 no_entry_word reading.Check = refl
@@ -33,11 +33,11 @@ no_entry_word reading.Flight = refl
 no_entry_word reading.Due = refl
 no_entry_word reading.Bye = refl
 
-reading_word_is : (text : List ℕ) (r : Reading) → reading_word_of text ≡ Some r → text ≡ (reading_layout r).text
+reading_word_is : (text : List ℕ) (r : FeedWord) → reading_word_of text ≡ Some r → text ≡ (reading_layout r).text
 unfolding reading_word_of
 reading_word_is text r e = named_is (λ w. (reading_layout w).text) readings text r e
 
-not_both : (text : List ℕ) (w : EntryWord) (o : Option Reading) → reading_word_of text ≡ o → entry_word_of text ≡ Some w → o ≡ None
+not_both : (text : List ℕ) (w : EntryWord) (o : Option FeedWord) → reading_word_of text ≡ o → entry_word_of text ≡ Some w → o ≡ None
 not_both text w None is also = refl
 not_both text w (Some r) is also =
     let none : entry_word_of text ≡ None = ap entry_word_of (reading_word_is text r is) ∙ no_entry_word r in

@@ -5,8 +5,8 @@ use Rattle.serde_json.specs.Data.{Members}
 use Rattle.mt_base.specs.declared.command.Command.{Command}
 use Rattle.mt_read.specs.declared.following.FeedLine.{FeedLine}
 use Rattle.mt_read.specs.declared.following.FeedLine.TheVariants.{Followed}
-use Rattle.mt_read.specs.declared.following.Reading.{Reading}
-use Rattle.mt_read.specs.declared.following.Reading.TheVariants as reading
+use Rattle.mt_read.specs.declared.following.FeedWord.{FeedWord}
+use Rattle.mt_read.specs.declared.following.FeedWord.TheVariants as reading
 use Rattle.mt_read.specs.declared.origin.Origin.TheVariants.{Line}
 use Rattle.mt_read.specs.declared.request.LineNo.{LineNo}
 use Rattle.mt_read.specs.declared.request.Sender.TheVariants.{Plain}
@@ -19,7 +19,7 @@ use Rattle.mt_read.proofs.BoundedLines.{checked_steps, entry_word_bounded, layou
 use Rattle.mt_read.proofs.TimedEntries.{word_full}
 
 -- what the row of a line that is no entry asks for
-row_ready : (w : Reading) (ms : Members) → IsReadyLine (as_line ((reading_layout w).asks ms))
+row_ready : (w : FeedWord) (ms : Members) → IsReadyLine (as_line ((reading_layout w).asks ms))
 row_ready reading.List ms = tt
 row_ready reading.Check ms = tt
 row_ready reading.Flight ms = tt
@@ -29,7 +29,7 @@ row_ready reading.Bye ms = tt
 abbrev IsReadyAsked : ℕ × Request → Type 0
 IsReadyAsked a = IsReadyLine (as_line a.1)
 
-checked_ready : (w : Reading) (ms : Members) (a : ℕ × Request) → checked (Line Plain) [] (reading_layout w) ms ≡ Ok a → IsReadyAsked a
+checked_ready : (w : FeedWord) (ms : Members) (a : ℕ × Request) → checked (Line Plain) [] (reading_layout w) ms ≡ Ok a → IsReadyAsked a
 checked_ready w ms a e =
     let was = checked_steps (Line Plain) [] (reading_layout w) ms a e in
     subst (λ (q : Request). IsReadyLine (as_line q)) was.asked_is (row_ready w ms)
@@ -45,7 +45,7 @@ held_ready ms (Ok a) line is e =
     subst IsReadyLine same (entry_word_bounded ms word a is, word_full ms word a is)
 held_ready ms (Err refusal) line is e = cc
 
-word_ready : (ms : Members) (o : Option Reading) (line : FeedLine) → of_reading ms o ≡ Ok line → IsReadyLine line
+word_ready : (ms : Members) (o : Option FeedWord) (line : FeedLine) → of_reading ms o ≡ Ok line → IsReadyLine line
 word_ready ms (Some w) line e =
     asked_ready (read_layout (Line Plain) [] (reading_layout w) ms) line
     (λ a is. layout_holds IsReadyAsked (Line Plain) [] (reading_layout w) ms a (checked_ready w ms) is) e

@@ -7,7 +7,7 @@ use Rattle.mt_base.specs.declared.flight.Straight.{Straight}
 use Rattle.mt_base.specs.declared.rules.RuleName.{RuleName}
 use Rattle.mt_base.specs.declared.rules.Rules.{Rules}
 use Rattle.mt_base.specs.Rules.{rule_checks}
-use Rattle.mt_base.specs.Checks.{check, judged, next}
+use Rattle.mt_base.specs.Checks.{check_answer, judged, next}
 use Rattle.mt_read.specs.declared.key.Fault.{Fault}
 use Rattle.mt_read.specs.declared.key.Fault.TheVariants.{Range}
 use Rattle.mt_read.specs.declared.key.Key.TheVariants as key
@@ -41,7 +41,7 @@ after (Err f) s t r x reads e = refused f r x e
 pub reads_judged : {A : Type 0} (cs : List (Fault × Bool)) (r : Result A Fault) (x : A) → r ≡ judged cs x → ReadsChecked r (judged cs (tt {0})) x
 reads_judged [] (Ok y) x e = (refl, (cc))
 reads_judged [] (Err f) x e = cc
-reads_judged (c ∷ cs) r x e = after (check c) (judged cs x) (judged cs (tt {0})) r x (λ q. reads_judged cs q x) e
+reads_judged (c ∷ cs) r x e = after (check_answer c) (judged cs x) (judged cs (tt {0})) r x (λ q. reads_judged cs q x) e
 
 pub reads_external : (rvsm : Bool) (ms : Members) (r : Result Straight Fault) → r ≡ external_steps rvsm ms
     → ReadsChecked r (judged (external_bounds ms) (tt {0})) (straight_of rvsm ms)
@@ -53,8 +53,8 @@ ruled (Ok u) = Ok u
 ruled (Err name) = Err (Range (key.Rule name))
 
 ruled_next : (name : RuleName) (test : Bool) (r : Result ⊤ RuleName) (s : Result ⊤ Fault) → s ≡ ruled r
-    → next (check (Range (key.Rule name), test)) s ≡ ruled (next (check (name, test)) r)
-unfolding check
+    → next (check_answer (Range (key.Rule name), test)) s ≡ ruled (next (check_answer (name, test)) r)
+unfolding check_answer
 ruled_next name true r s e = e
 ruled_next name false r s e = refl
 

@@ -56,15 +56,15 @@ pub record Field : Type 0 where
   pub may_stand : Members → Bool
   pub kind : Data → Bool
 
--- `is_present`, `is_of`, `must`: a key that is present; a value of a kind; a field that must stand
+-- `is_present`, `is_of`, `must_have`: a key that is present; a value of a kind; a field that must stand
 abbrev pub is_present : Key → Members → Bool
 is_present key ms = is_some (get_member (key_text key) ms)
 
 abbrev pub is_of : {A : Type 0} → (Data → Option A) → Data → Bool
 is_of kind d = is_some (kind d)
 
-abbrev pub must : {A : Type 0} → Key → (Data → Option A) → Field
-must key kind = record { key = key; may_lack = λ origin ms. false; may_stand = λ ms. true; kind = is_of kind }
+abbrev pub must_have : {A : Type 0} → Key → (Data → Option A) → Field
+must_have key kind = record { key = key; may_lack = λ origin ms. false; may_stand = λ ms. true; kind = is_of kind }
 
 -- a field that a line may leave out. It has a default; an entry has all its fields.
 abbrev pub may : {A : Type 0} → Key → (Data → Option A) → Field

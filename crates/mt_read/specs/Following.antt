@@ -6,8 +6,8 @@ use Rattle.mt_base.specs.Bounds.{IsBoundedCommand}
 use Rattle.mt_base.specs.Decision.{filled}
 use Rattle.mt_read.specs.declared.following.FeedLine.{FeedLine}
 use Rattle.mt_read.specs.declared.following.FeedLine.TheVariants.{Followed, Asked, Ended}
-use Rattle.mt_read.specs.declared.following.Reading.{Reading}
-use Rattle.mt_read.specs.declared.following.Reading.TheVariants as reading
+use Rattle.mt_read.specs.declared.following.FeedWord.{FeedWord}
+use Rattle.mt_read.specs.declared.following.FeedWord.TheVariants as reading
 use Rattle.mt_read.specs.declared.origin.Origin.TheVariants.{Line}
 use Rattle.mt_read.specs.declared.request.LineNo.{LineNo}
 use Rattle.mt_read.specs.declared.request.Sender.TheVariants.{Plain}
@@ -20,17 +20,17 @@ use Rattle.mt_read.specs.Table.{Layout, layout_of}
 use Rattle.mt_read.specs.Words.{named_by}
 
 -- `reading_layout`, `readings`, `reading_word_of`: the rows of lines that are no entry
-abbrev pub reading_layout : Reading → Layout Request
+abbrev pub reading_layout : FeedWord → Layout Request
 reading_layout reading.List = layout_of word.List
 reading_layout reading.Check = layout_of word.Check
 reading_layout reading.Flight = layout_of word.Flight
 reading_layout reading.Due = layout_of word.Due
 reading_layout reading.Bye = layout_of word.Bye
 
-abbrev pub readings : List Reading
+abbrev pub readings : List FeedWord
 readings = reading.List ∷ reading.Check ∷ reading.Flight ∷ reading.Due ∷ reading.Bye ∷ []
 
-unfoldable pub reading_word_of : List ℕ → Option Reading
+unfoldable pub reading_word_of : List ℕ → Option FeedWord
 reading_word_of = named_by (λ w. (reading_layout w).text) readings
 
 -- `as_line`, `as_asked`, `as_followed`, `of_reading`: what a feed's line asks for, or the entry it holds
@@ -46,7 +46,7 @@ abbrev pub as_followed : Result Entry LineNo → Result FeedLine LineNo
 as_followed (Ok e) = Ok (Followed e)
 as_followed (Err refusal) = Err refusal
 
-abbrev pub of_reading : Members → Option Reading → Result FeedLine LineNo
+abbrev pub of_reading : Members → Option FeedWord → Result FeedLine LineNo
 of_reading ms (Some word) = as_asked (read_layout (Line Plain) [] (reading_layout word) ms)
 of_reading ms None = as_followed (as_entry (held_in ms))
 

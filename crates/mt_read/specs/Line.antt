@@ -20,7 +20,7 @@ use Rattle.mt_read.specs.declared.request.Sender.TheVariants as sender
 use Rattle.mt_read.specs.declared.request.Request.{Request}
 use Rattle.mt_read.specs.declared.word.Word.{Word}
 use Rattle.mt_read.specs.declared.word.Word.TheVariants as word
-use Rattle.mt_read.specs.Field.{Field, bound, count, kind_check, may, must, number}
+use Rattle.mt_read.specs.Field.{Field, bound, count, kind_check, may, must_have, number}
 use Rattle.mt_read.specs.Key.{key_text}
 use Rattle.mt_read.specs.Rules.{rule_bounds, rules_with, set_in}
 use Rattle.mt_read.specs.Table.{Layout, layout_of}
@@ -37,7 +37,7 @@ Err e >>= f = Err e
 -- none.
 abbrev pub who_fields : Origin → List Field
 who_fields (Line sender.Replay) = may key.Who as_whole ∷ []
-who_fields Entry = must key.Who as_whole ∷ []
+who_fields Entry = must_have key.Who as_whole ∷ []
 who_fields origin = []
 
 abbrev pub who_bounds : Origin → Members → List (Fault × Bool)

@@ -29,7 +29,7 @@ use Rattle.mt_read.specs.declared.word.Word.TheVariants as word
 use Rattle.mt_read.specs.Bands.{as_bands, as_numbers}
 use Rattle.mt_read.specs.Corners.{as_corners}
 use Rattle.mt_read.specs.Corners.{as_numbers as as_pair_of_numbers}
-use Rattle.mt_read.specs.Field.{Field, as_call, as_fix, as_list_of, as_role, as_type, bound, count, count_if_there, first_of_two, free, may, must, number, read_at, second_of_two}
+use Rattle.mt_read.specs.Field.{Field, as_call, as_fix, as_list_of, as_role, as_type, bound, count, count_if_there, first_of_two, free, may, must_have, number, read_at, second_of_two}
 use Rattle.mt_read.specs.Rules.{rule_bound, rule_names, set_in}
 
 -- `Layout`, `layout`: a command's row: word, group, fields, bounds, request
@@ -77,12 +77,12 @@ rvsm_in ms = unwrap_or (read_at key.Rvsm as_bool ms) true
 -- `plan_fields`, `plan_bounds`, `kind_in`, `route_in`: the fields and bounds of a plan, its type and route
 abbrev pub plan_fields : List Field
 plan_fields =
-    must key.Call as_call ∷
-    must key.Kind as_type ∷
-    must key.Route (as_list_of as_fix) ∷
-    must key.At as_whole ∷
+    must_have key.Call as_call ∷
+    must_have key.Kind as_type ∷
+    must_have key.Route (as_list_of as_fix) ∷
+    must_have key.At as_whole ∷
     may key.From as_whole ∷
-    must key.Level as_whole ∷
+    must_have key.Level as_whole ∷
     rvsm_field ∷ []
 
 abbrev pub plan_bounds : Members → List (Fault × Bool)
@@ -103,12 +103,12 @@ plan_in ms = command.Plan (call_in ms) (kind_in ms) (route_in ms) (count key.At 
 -- the fields of an external flight
 abbrev pub external_fields : List Field
 external_fields =
-    must key.Call as_call ∷
-    must key.From as_whole ∷
-    must key.To as_whole ∷
-    must key.X as_whole ∷
-    must key.Y as_whole ∷
-    must key.Z as_whole ∷
+    must_have key.Call as_call ∷
+    must_have key.From as_whole ∷
+    must_have key.To as_whole ∷
+    must_have key.X as_whole ∷
+    must_have key.Y as_whole ∷
+    must_have key.Z as_whole ∷
     may key.Vx as_whole ∷
     may key.Vy as_whole ∷
     may key.Vz as_whole ∷
@@ -169,7 +169,7 @@ external_bounds ms =
 
 -- `report_fields`, `report_bounds`, `report_in`: the fields and bounds of a report, and the report
 abbrev pub report_fields : List Field
-report_fields = must key.Call as_call ∷ must key.At as_whole ∷ must key.X as_whole ∷ must key.Y as_whole ∷ must key.Z as_whole ∷ []
+report_fields = must_have key.Call as_call ∷ must_have key.At as_whole ∷ must_have key.X as_whole ∷ must_have key.Y as_whole ∷ must_have key.Z as_whole ∷ []
 
 abbrev pub report_bounds : Members → List (Fault × Bool)
 report_bounds ms = second_bound key.At ms ∷ plane_bound key.X ms ∷ plane_bound key.Y ms ∷ height_bound key.Z ms ∷ []
@@ -182,7 +182,7 @@ report_in ms = record { at = count key.At ms; x = number key.X ms; y = number ke
 -- a flight, a level or a fix, and the effective second
 abbrev pub clearance_fields : List Field
 clearance_fields =
-    must key.Call as_call ∷
+    must_have key.Call as_call ∷
     first_of_two key.Level as_whole key.Direct ∷
     second_of_two key.Direct as_fix key.Level ∷
     may key.Eff as_whole ∷ []
@@ -201,7 +201,7 @@ clearance_in ms = clearance_to (read_at key.Direct as_fix ms) (count key.Level m
 
 -- `accepted_fields`, `accepted_bounds`: an entered acceptance also names its probe's version
 abbrev pub accepted_fields : List Field
-accepted_fields = clearance_fields ++ must key.Probed as_whole ∷ []
+accepted_fields = clearance_fields ++ must_have key.Probed as_whole ∷ []
 
 abbrev pub accepted_bounds : Members → List (Fault × Bool)
 accepted_bounds ms = clearance_bounds ms ++ bound key.Probed (pos 0) (pos 4194304) (number key.Probed ms) ∷ []
@@ -211,10 +211,10 @@ accepted_bounds ms = clearance_bounds ms ++ bound key.Probed (pos 0) (pos 419430
 -- `area_fields`, `area_bounds`, `area_in`: the fields and bounds of an area, and the area
 abbrev pub area_fields : List Field
 area_fields =
-    must key.Name as_fix ∷
-    must key.Corners (as_list_of as_pair_of_numbers) ∷
-    must key.Bottom as_whole ∷
-    must key.Top as_whole ∷
+    must_have key.Name as_fix ∷
+    must_have key.Corners (as_list_of as_pair_of_numbers) ∷
+    must_have key.Bottom as_whole ∷
+    must_have key.Top as_whole ∷
     may key.From as_whole ∷
     may key.To as_whole ∷ []
 
@@ -243,7 +243,7 @@ abbrev pub bare_layout : List ℕ → Group → Request → Layout Request
 bare_layout text group asked = layout text group [] (λ ms. []) (λ ms. asked)
 
 abbrev pub call_layout : {A : Type 0} → List ℕ → Group → (List ℕ → A) → Layout A
-call_layout text group asks = layout text group (must key.Call as_call ∷ []) (λ ms. []) (λ ms. asks (call_in ms))
+call_layout text group asks = layout text group (must_have key.Call as_call ∷ []) (λ ms. []) (λ ms. asks (call_in ms))
 
 abbrev pub clearance_layout : {A : Type 0} → List ℕ → Group → (List ℕ → Clearance → Option ℕ → A) → Layout A
 clearance_layout text group asks =
@@ -259,12 +259,12 @@ change_layout change.External =
 change_layout change.Drop = call_layout (codes "drop") group.Feed command.Drop
 change_layout change.Report = layout (codes "report") group.Feed report_fields report_bounds (λ ms. command.Report (call_in ms) (report_in ms))
 change_layout change.Tick =
-    layout (codes "tick") group.Feed (must key.Now as_whole ∷ []) (λ ms. second_bound key.Now ms ∷ []) (λ ms. command.Tick (count key.Now ms))
+    layout (codes "tick") group.Feed (must_have key.Now as_whole ∷ []) (λ ms. second_bound key.Now ms ∷ []) (λ ms. command.Tick (count key.Now ms))
 change_layout change.Renew = call_layout (codes "renew") group.Feed command.Renew
 change_layout change.Clear = clearance_layout (codes "clear") group.Position command.Clear
 change_layout change.Tentative = clearance_layout (codes "tentative") group.Position command.Tentative
 change_layout change.Withdraw =
-    layout (codes "withdraw") group.Position (must key.Call as_call ∷ may key.Force as_bool ∷ []) (λ ms. [])
+    layout (codes "withdraw") group.Position (must_have key.Call as_call ∷ may key.Force as_bool ∷ []) (λ ms. [])
     (λ ms. command.Withdraw (call_in ms) (unwrap_or (read_at key.Force as_bool ms) false))
 change_layout change.Commit = call_layout (codes "commit") group.Position command.Commit
 
@@ -274,11 +274,11 @@ as_request row = layout row.text row.group row.fields row.bounds (λ ms. request
 -- the row of each word that a line may use
 abbrev pub layout_of : Word → Layout Request
 layout_of word.Fix =
-    layout (codes "fix") group.Script (must key.Name as_fix ∷ must key.X as_whole ∷ must key.Y as_whole ∷ [])
+    layout (codes "fix") group.Script (must_have key.Name as_fix ∷ must_have key.X as_whole ∷ must_have key.Y as_whole ∷ [])
     (λ ms. plane_bound key.X ms ∷ plane_bound key.Y ms ∷ [])
     (λ ms. request.Fix (unwrap_or (read_at key.Name as_fix ms) []) (number key.X ms) (number key.Y ms))
 layout_of word.TypeLine =
-    layout (codes "type") group.Script (must key.Name as_type ∷ must key.Bands (as_list_of as_numbers) ∷ [])
+    layout (codes "type") group.Script (must_have key.Name as_type ∷ must_have key.Bands (as_list_of as_numbers) ∷ [])
     (λ ms. (Range key.Bands, is_some (read_at key.Bands as_bands ms)) ∷ [])
     (λ ms. request.TypeLine (unwrap_or (read_at key.Name as_type ms) []) (unwrap_or (read_at key.Bands as_bands ms) []))
 layout_of word.Area = layout (codes "area") group.Script area_fields area_bounds (λ ms. request.Area (area_in ms))
@@ -291,19 +291,19 @@ layout_of word.Areas = bare_layout (codes "areas") group.Script request.Areas
 layout_of (word.Change c) = as_request (change_layout c)
 layout_of word.Probe = clearance_layout (codes "probe") group.Position request.Probe
 layout_of word.Accept =
-    layout (codes "accept") group.Position (must key.Probe as_whole ∷ [])
+    layout (codes "accept") group.Position (must_have key.Probe as_whole ∷ [])
     (λ ms. bound key.Probe (pos 1) (pos (2 ^ 63 - 1)) (number key.Probe ms) ∷ []) (λ ms. request.Accept (count key.Probe ms))
 layout_of word.Advise = call_layout (codes "advise") group.Position request.Advise
 layout_of word.Hello =
-    layout (codes "hello") group.Any (must key.Role as_role ∷ []) (λ ms. []) (λ ms. request.Hello (unwrap_or (read_at key.Role as_role ms) role.Feed))
+    layout (codes "hello") group.Any (must_have key.Role as_role ∷ []) (λ ms. []) (λ ms. request.Hello (unwrap_or (read_at key.Role as_role ms) role.Feed))
 layout_of word.List = bare_layout (codes "list") group.Any request.List
 layout_of word.Check = bare_layout (codes "check") group.Any request.Check
 layout_of word.Due = bare_layout (codes "due") group.Any request.Due
 layout_of word.Flight =
-    layout (codes "flight") group.Any (must key.Call as_call ∷ may key.Sec as_whole ∷ [])
+    layout (codes "flight") group.Any (must_have key.Call as_call ∷ may key.Sec as_whole ∷ [])
     (λ ms. bound key.Sec (pos 0) (pos 10014400) (number key.Sec ms) ∷ []) (λ ms. request.Flight (call_in ms) (count_if_there key.Sec ms))
 layout_of word.History =
-    layout (codes "history") group.Any (must key.From as_whole ∷ must key.To as_whole ∷ [])
+    layout (codes "history") group.Any (must_have key.From as_whole ∷ must_have key.To as_whole ∷ [])
     (λ ms. bound key.From (pos 0) (pos 4194304) (number key.From ms) ∷
     bound key.To (pos (count key.From ms)) (pos (count key.From ms + 64)) (number key.To ms) ∷ [])
     (λ ms. request.History (count key.From ms) (count key.To ms))

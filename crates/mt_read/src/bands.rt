@@ -1,6 +1,6 @@
 //! The bands of a type: a list of lists of four numbers.
 ghost use Rattle.std.specs.Prelude.{◌≡◌, [], is_some, option_map, unwrap_or, IfOk};
-ghost use Rattle.mt_base.specs.Checks.{check};
+ghost use Rattle.mt_base.specs.Checks.{check_answer};
 ghost use Rattle.mt_json.specs.Field.{as_whole};
 ghost use Rattle.mt_json.specs.Shown.{members};
 ghost use Rattle.mt_json.specs.View.{items_view, view};
@@ -103,9 +103,9 @@ fn are_numbers(values: &[Value]) -> bool
 }
 
 /// A list of lists of exactly four whole numbers must be there.
-#[tactic(auto, unfolding(mt_base::specs::Checks::check))]
+#[tactic(auto, unfolding(mt_base::specs::Checks::check_answer))]
 pub(crate) fn bands_kind(fields: &Fields, key: Key) -> Result<(), Fault>
-    ensures { result ≡ check (there key (as_list_of as_numbers) (members fields.now)) }
+    ensures { result ≡ check_answer (there key (as_list_of as_numbers) (members fields.now)) }
 {
     match fields.list(key_text(key)) {
         Ok(values) if are_numbers(values) => Ok(()),
@@ -143,9 +143,9 @@ fn are_few(bands: &Bands) -> bool
 }
 
 /// The bands at a key, 1 to 8, each of four numbers within their bounds.
-#[tactic(auto, unfolding(mt_base::specs::Checks::check))]
+#[tactic(auto, unfolding(mt_base::specs::Checks::check_answer))]
 pub(crate) fn bands(alloc: Global, fields: &Fields, key: Key) -> Result<Bands, Stop>
-    ensures { ReadsUnlessMemory result (check (Range key, is_some (read_at key as_bands (members fields.now))))
+    ensures { ReadsUnlessMemory result (check_answer (Range key, is_some (read_at key as_bands (members fields.now))))
         (unwrap_or (read_at key as_bands (members fields.now)) []) }
 {
     let Ok(values) = fields.list(key_text(key)) else {

@@ -1,6 +1,6 @@
 //! Clearances that are tried, entered, marked as tentative or accepted: `probe`, `clear`, `tentative` and `accept`.
 ghost use Rattle.std.specs.Prelude.{◌≡◌, ◌-◌, ◌^◌, pos, [], true, not};
-ghost use Rattle.mt_base.specs.Checks.{check, judged};
+ghost use Rattle.mt_base.specs.Checks.{check_answer, judged};
 ghost use Rattle.mt_json.specs.Field.{as_whole};
 ghost use Rattle.mt_json.specs.Shown.{members};
 ghost use Rattle.mt_read.specs.Field.{as_fix, bound, count, count_if_there, form_check, is_of, number, read_at, is_present};
@@ -31,9 +31,9 @@ fn stands(fields: &Fields, key: Key) -> bool
 }
 
 // The level is a whole number, and absent only where a fix is given.
-#[tactic(auto, unfolding(mt_base::specs::Checks::check))]
+#[tactic(auto, unfolding(mt_base::specs::Checks::check_answer))]
 fn level_kind(fields: &Fields) -> Result<(), Fault>
-    ensures { result ≡ check (form_check key.Level (is_present key.Direct (members fields.now)) true (is_of as_whole) (members fields.now)) }
+    ensures { result ≡ check_answer (form_check key.Level (is_present key.Direct (members fields.now)) true (is_of as_whole) (members fields.now)) }
 {
     match fields.whole(key_text(Key::Level), i64::MIN, i64::MAX) {
         Ok(_) | Err(Bad::Range) => Ok(()),
@@ -43,9 +43,9 @@ fn level_kind(fields: &Fields) -> Result<(), Fault>
 }
 
 // The fix to fly direct to, where one is given and no level.
-#[tactic(auto, unfolding(mt_base::specs::Checks::check))]
+#[tactic(auto, unfolding(mt_base::specs::Checks::check_answer))]
 fn direct_kind(fields: &Fields) -> Result<Option<FixName>, Fault>
-    ensures { ReadsChecked result (check (form_check key.Direct true (not (is_present key.Level (members fields.now))) (is_of as_fix) (members fields.now)))
+    ensures { ReadsChecked result (check_answer (form_check key.Direct true (not (is_present key.Level (members fields.now))) (is_of as_fix) (members fields.now)))
         (read_at key.Direct as_fix (members fields.now)) }
 {
     match fields.word(key_text(Key::Direct)) {
@@ -166,7 +166,7 @@ pub(crate) fn tentative_line(fields: &Fields, origin: Origin) -> Result<(u32, Co
 // The number of a probe, which is at least 1.
 #[tactic(auto, unfolding(crate::specs::Private::Field::within))]
 fn probe_number(fields: &Fields) -> Result<u64, Fault>
-    ensures { ReadsChecked result (check (bound key.Probe (pos 1) (pos (2 ^ 63 - 1)) (number key.Probe (members fields.now)))) (count key.Probe (members fields.now)) }
+    ensures { ReadsChecked result (check_answer (bound key.Probe (pos 1) (pos (2 ^ 63 - 1)) (number key.Probe (members fields.now)))) (count key.Probe (members fields.now)) }
 {
     let probe = within(fields, Key::Probe, 1, i64::MAX)?;
     Ok(probe.unsigned_abs())

@@ -1,6 +1,6 @@
 //! The corners of an area: a list of lists of two numbers.
 ghost use Rattle.std.specs.Prelude.{◌≡◌, [], is_some, option_map, unwrap_or, IfOk};
-ghost use Rattle.mt_base.specs.Checks.{check};
+ghost use Rattle.mt_base.specs.Checks.{check_answer};
 ghost use Rattle.mt_json.specs.Shown.{members};
 ghost use Rattle.mt_json.specs.View.{items_view, view};
 ghost use Rattle.mt_read.specs.Corners.{are_enough, are_whole, as_corner, as_corners, as_numbers, as_pair, corner_of, pair_of};
@@ -69,9 +69,9 @@ fn are_numbers(values: &[Value]) -> bool
 }
 
 /// A list of lists of exactly two whole numbers must be there.
-#[tactic(auto, unfolding(mt_base::specs::Checks::check))]
+#[tactic(auto, unfolding(mt_base::specs::Checks::check_answer))]
 pub(crate) fn corners_kind(fields: &Fields, key: Key) -> Result<(), Fault>
-    ensures { result ≡ check (there key (as_list_of as_numbers) (members fields.now)) }
+    ensures { result ≡ check_answer (there key (as_list_of as_numbers) (members fields.now)) }
 {
     match fields.list(key_text(key)) {
         Ok(values) if are_numbers(values) => Ok(()),
@@ -109,9 +109,9 @@ fn are_enough(corners: &Corners) -> bool
 }
 
 /// The corners at a key, 3 to 16, each in the plane.
-#[tactic(auto, unfolding(mt_base::specs::Checks::check))]
+#[tactic(auto, unfolding(mt_base::specs::Checks::check_answer))]
 pub(crate) fn corners(alloc: Global, fields: &Fields, key: Key) -> Result<Corners, Stop>
-    ensures { ReadsUnlessMemory result (check (Range key, is_some (read_at key as_corners (members fields.now))))
+    ensures { ReadsUnlessMemory result (check_answer (Range key, is_some (read_at key as_corners (members fields.now))))
         (unwrap_or (read_at key as_corners (members fields.now)) []) }
 {
     let Ok(values) = fields.list(key_text(key)) else {

@@ -1,6 +1,6 @@
 //! The fields of a line, each read by its kind or tested against its bounds.
 ghost use Rattle.std.specs.Prelude.{◌≡◌, ◌≤◌, ◌≤ℤ◌, ◌+ℤ◌, ◌*ℤ◌, pos, [], false, true, unwrap_or, IfOk};
-ghost use Rattle.mt_base.specs.Checks.{check};
+ghost use Rattle.mt_base.specs.Checks.{check_answer};
 ghost use Rattle.mt_json.specs.Field.{as_whole};
 ghost use Rattle.mt_json.specs.Shown.{members};
 ghost use Rattle.serde_json.specs.Find.{as_bool};
@@ -16,9 +16,9 @@ use mt_base::{Callsign, FixName, Role, TypeName};
 use mt_json::{Bad, Fields};
 
 /// A whole number must be there.
-#[tactic(auto, unfolding(mt_base::specs::Checks::check))]
+#[tactic(auto, unfolding(mt_base::specs::Checks::check_answer))]
 pub(crate) fn whole(fields: &Fields, key: Key) -> Result<(), Fault>
-    ensures { result ≡ check (there key as_whole (members fields.now)) }
+    ensures { result ≡ check_answer (there key as_whole (members fields.now)) }
 {
     match fields.whole(key_text(key), i64::MIN, i64::MAX) {
         Ok(_) | Err(Bad::Range) => Ok(()),
@@ -27,9 +27,9 @@ pub(crate) fn whole(fields: &Fields, key: Key) -> Result<(), Fault>
 }
 
 /// A whole number may be there, and nothing else; in an entry it must.
-#[tactic(auto, unfolding(mt_base::specs::Checks::check))]
+#[tactic(auto, unfolding(mt_base::specs::Checks::check_answer))]
 pub(crate) fn whole_or_none(fields: &Fields, origin: Origin, key: Key) -> Result<(), Fault>
-    ensures { result ≡ check (form_check key (is_line origin) true (is_of as_whole) (members fields.now)) }
+    ensures { result ≡ check_answer (form_check key (is_line origin) true (is_of as_whole) (members fields.now)) }
 {
     match fields.whole(key_text(key), i64::MIN, i64::MAX) {
         Ok(_) | Err(Bad::Range) => Ok(()),
@@ -39,9 +39,9 @@ pub(crate) fn whole_or_none(fields: &Fields, origin: Origin, key: Key) -> Result
 }
 
 /// A truth value must be there, or may be absent where `may_lack` says so; it is `absent` then.
-#[tactic(auto, unfolding(mt_base::specs::Checks::check))]
+#[tactic(auto, unfolding(mt_base::specs::Checks::check_answer))]
 fn flag(fields: &Fields, key: Key, may_lack: bool, absent: bool) -> Result<bool, Fault>
-    ensures { ReadsChecked result (check (form_check key may_lack true (is_of as_bool) (members fields.now)))
+    ensures { ReadsChecked result (check_answer (form_check key may_lack true (is_of as_bool) (members fields.now)))
         (unwrap_or (read_at key as_bool (members fields.now)) absent) }
 {
     match fields.flag(key_text(key)) {
@@ -53,7 +53,7 @@ fn flag(fields: &Fields, key: Key, may_lack: bool, absent: bool) -> Result<bool,
 
 /// Whether another than its owner may withdraw a clearance, by default not; in an entry that must be there.
 pub(crate) fn force(fields: &Fields, origin: Origin) -> Result<bool, Fault>
-    ensures { ReadsChecked result (check (form_check key.Force (is_line origin) true (is_of as_bool) (members fields.now)))
+    ensures { ReadsChecked result (check_answer (form_check key.Force (is_line origin) true (is_of as_bool) (members fields.now)))
         (unwrap_or (read_at key.Force as_bool (members fields.now)) false) }
 {
     flag(fields, Key::Force, is_line(origin), false)
@@ -61,15 +61,15 @@ pub(crate) fn force(fields: &Fields, origin: Origin) -> Result<bool, Fault>
 
 /// Whether an aircraft is approved for RVSM, which it is where that is absent, in an entry too.
 pub(crate) fn approval(fields: &Fields) -> Result<bool, Fault>
-    ensures { ReadsChecked result (check (form_check key.Rvsm true true (is_of as_bool) (members fields.now))) (rvsm_in (members fields.now)) }
+    ensures { ReadsChecked result (check_answer (form_check key.Rvsm true true (is_of as_bool) (members fields.now))) (rvsm_in (members fields.now)) }
 {
     flag(fields, Key::Rvsm, true, true)
 }
 
 /// A callsign must be there.
-#[tactic(auto, unfolding(mt_base::specs::Checks::check))]
+#[tactic(auto, unfolding(mt_base::specs::Checks::check_answer))]
 pub(crate) fn callsign(fields: &Fields, key: Key) -> Result<Callsign, Fault>
-    ensures { ReadsChecked result (check (there key as_call (members fields.now)))
+    ensures { ReadsChecked result (check_answer (there key as_call (members fields.now)))
         (unwrap_or (read_at key as_call (members fields.now)) []) }
 {
     let Ok(text) = fields.word(key_text(key)) else {
@@ -82,9 +82,9 @@ pub(crate) fn callsign(fields: &Fields, key: Key) -> Result<Callsign, Fault>
 }
 
 /// The name of a fix must be there.
-#[tactic(auto, unfolding(mt_base::specs::Checks::check))]
+#[tactic(auto, unfolding(mt_base::specs::Checks::check_answer))]
 pub(crate) fn fix_name(fields: &Fields, key: Key) -> Result<FixName, Fault>
-    ensures { ReadsChecked result (check (there key as_fix (members fields.now)))
+    ensures { ReadsChecked result (check_answer (there key as_fix (members fields.now)))
         (unwrap_or (read_at key as_fix (members fields.now)) []) }
 {
     let Ok(text) = fields.word(key_text(key)) else {
@@ -97,9 +97,9 @@ pub(crate) fn fix_name(fields: &Fields, key: Key) -> Result<FixName, Fault>
 }
 
 /// The name of a type must be there.
-#[tactic(auto, unfolding(mt_base::specs::Checks::check))]
+#[tactic(auto, unfolding(mt_base::specs::Checks::check_answer))]
 pub(crate) fn type_name(fields: &Fields, key: Key) -> Result<TypeName, Fault>
-    ensures { ReadsChecked result (check (there key as_type (members fields.now)))
+    ensures { ReadsChecked result (check_answer (there key as_type (members fields.now)))
         (unwrap_or (read_at key as_type (members fields.now)) []) }
 {
     let Ok(text) = fields.word(key_text(key)) else {
@@ -125,9 +125,9 @@ fn role_of(text: &str) -> Option<Role>
 }
 
 /// A role must be there.
-#[tactic(auto, unfolding(mt_base::specs::Checks::check))]
+#[tactic(auto, unfolding(mt_base::specs::Checks::check_answer))]
 pub(crate) fn role(fields: &Fields, key: Key) -> Result<Role, Fault>
-    ensures { ReadsChecked result (check (there key as_role (members fields.now)))
+    ensures { ReadsChecked result (check_answer (there key as_role (members fields.now)))
         (unwrap_or (read_at key as_role (members fields.now)) Feed) }
 {
     let Ok(text) = fields.word(key_text(key)) else {
@@ -140,7 +140,7 @@ pub(crate) fn role(fields: &Fields, key: Key) -> Result<Role, Fault>
 }
 
 /// The number at a key, by default 0, from `low` to `high`.
-#[tactic(auto, unfolding(mt_base::specs::Checks::check, crate::specs::Private::Field::within))]
+#[tactic(auto, unfolding(mt_base::specs::Checks::check_answer, crate::specs::Private::Field::within))]
 pub(crate) fn within(fields: &Fields, key: Key, low: i64, high: i64) -> Result<i64, Fault>
     ensures exact { result ≡ within key low high (members fields.now) }
     ensures bounded { IfOk result (λ n. (low ≤ℤ n) × (n ≤ℤ high)) }
@@ -157,7 +157,7 @@ pub(crate) fn within(fields: &Fields, key: Key, low: i64, high: i64) -> Result<i
 #[tactic(auto, unfolding(crate::specs::Private::Field::within, crate::specs::Private::Field::count_within))]
 pub(crate) fn count_within(fields: &Fields, key: Key, low: u32, high: u32) -> Result<u32, Fault>
     ensures exact { result ≡ count_within key low high (members fields.now) }
-    ensures reads { ReadsChecked result (check (bound key (pos low) (pos high) (number key (members fields.now)))) (count key (members fields.now)) }
+    ensures reads { ReadsChecked result (check_answer (bound key (pos low) (pos high) (number key (members fields.now)))) (count key (members fields.now)) }
     ensures bounded { IfOk result (λ n. (low ≤ n) × (n ≤ high)) }
 {
     let number = within(fields, key, i64::from(low), i64::from(high))?;
@@ -165,9 +165,9 @@ pub(crate) fn count_within(fields: &Fields, key: Key, low: u32, high: u32) -> Re
 }
 
 /// The number at a key, where one is there, from 0 to `high`.
-#[tactic(auto, unfolding(mt_base::specs::Checks::check))]
+#[tactic(auto, unfolding(mt_base::specs::Checks::check_answer))]
 pub(crate) fn count_or_none(fields: &Fields, key: Key, high: u32) -> Result<Option<u32>, Fault>
-    ensures { ReadsChecked result (check (bound key (pos 0) (pos high) (number key (members fields.now)))) (count_if_there key (members fields.now)) }
+    ensures { ReadsChecked result (check_answer (bound key (pos 0) (pos high) (number key (members fields.now)))) (count_if_there key (members fields.now)) }
 {
     match fields.whole(key_text(key), 0, i64::from(high)) {
         Ok(number) => Ok(Some(number.unsigned_abs() as u32)),
@@ -184,9 +184,9 @@ fn value_after(value: &i64, gain: &i64, seconds: u32) -> i128
 }
 
 // Whether a number is within bounds.
-#[tactic(auto, unfolding(mt_base::specs::Checks::check))]
+#[tactic(auto, unfolding(mt_base::specs::Checks::check_answer))]
 fn is_bounded(key: Key, number: &i128, low: i64, high: i64) -> Result<(), Fault>
-    ensures { result ≡ check (bound key low high number.now) }
+    ensures { result ≡ check_answer (bound key low high number.now) }
 {
     if i128::from(low) <= *number && *number <= i128::from(high) {
         return Ok(());
@@ -203,7 +203,7 @@ pub(crate) fn within_at_end(
     low: i64,
     high: i64,
 ) -> Result<(), Fault>
-    ensures { result ≡ check (bound key low high (value.now +ℤ gain.now *ℤ pos seconds)) }
+    ensures { result ≡ check_answer (bound key low high (value.now +ℤ gain.now *ℤ pos seconds)) }
 {
     is_bounded(key, &value_after(value, gain, seconds), low, high)
 }

@@ -30,7 +30,7 @@ pub enum FeedLine {
 
 /// The word of a line that is no entry.
 #[derive(Clone, Copy)]
-pub(crate) enum Reading {
+pub(crate) enum FeedWord {
     List,
     Check,
     Flight,
@@ -40,21 +40,21 @@ pub(crate) enum Reading {
 
 // The command, no entry, that a text is the word of.
 #[tactic(auto, unfolding(crate::specs::Following::reading_word_of))]
-fn reading_word_of(text: &str) -> Option<Reading>
+fn reading_word_of(text: &str) -> Option<FeedWord>
     ensures { result ≡ reading_word_of text.now }
 {
     match text {
-        "list" => Some(Reading::List),
-        "check" => Some(Reading::Check),
-        "flight" => Some(Reading::Flight),
-        "due" => Some(Reading::Due),
-        "bye" => Some(Reading::Bye),
+        "list" => Some(FeedWord::List),
+        "check" => Some(FeedWord::Check),
+        "flight" => Some(FeedWord::Flight),
+        "due" => Some(FeedWord::Due),
+        "bye" => Some(FeedWord::Bye),
         _ => None,
     }
 }
 
 // The command, no entry, that the line names.
-fn word_in(fields: &Fields) -> Option<Reading>
+fn word_in(fields: &Fields) -> Option<FeedWord>
     ensures { result ≡ option_and_then reading_word_of (word_text (members fields.now)) }
 {
     let text = fields.word("do").ok()?;
@@ -62,31 +62,31 @@ fn word_in(fields: &Fields) -> Option<Reading>
 }
 
 // The keys of such a line, with a space after each.
-fn keys_of(word: Reading) -> &'static str
+fn keys_of(word: FeedWord) -> &'static str
     ensures { result.now ≡ keys_of (origin.Line Plain) (reading_layout word).fields }
 {
     match word {
-        Reading::List | Reading::Check | Reading::Due | Reading::Bye => "do ",
-        Reading::Flight => "do call sec ",
+        FeedWord::List | FeedWord::Check | FeedWord::Due | FeedWord::Bye => "do ",
+        FeedWord::Flight => "do call sec ",
     }
 }
 
 // What the fields of such a line ask for.
-fn checked(fields: &Fields, word: Reading) -> Result<(u32, Request), Fault>
+fn checked(fields: &Fields, word: FeedWord) -> Result<(u32, Request), Fault>
     ensures { result ≡ checked (origin.Line Plain) [] (reading_layout word) (members fields.now) }
 {
     let origin = Origin::Line(Sender::Plain);
     match word {
-        Reading::List => bare_line(fields, origin, Request::List),
-        Reading::Check => bare_line(fields, origin, Request::Check),
-        Reading::Flight => flight_line(fields, origin),
-        Reading::Due => bare_line(fields, origin, Request::Due),
-        Reading::Bye => bare_line(fields, origin, Request::Bye),
+        FeedWord::List => bare_line(fields, origin, Request::List),
+        FeedWord::Check => bare_line(fields, origin, Request::Check),
+        FeedWord::Flight => flight_line(fields, origin),
+        FeedWord::Due => bare_line(fields, origin, Request::Due),
+        FeedWord::Bye => bare_line(fields, origin, Request::Bye),
     }
 }
 
 // What such a line asks for, if it has no other key.
-fn asked(alloc: Global, fields: &Fields, word: Reading) -> Result<(u32, Request), LineNo>
+fn asked(alloc: Global, fields: &Fields, word: FeedWord) -> Result<(u32, Request), LineNo>
     ensures { GivesReading result (read_layout (origin.Line Plain) [] (reading_layout word) (members fields.now)) }
 {
     no_other(alloc, fields, keys_of(word))?;
@@ -107,7 +107,7 @@ fn line_of(request: Request) -> FeedLine
 }
 
 // A line for a standby that is no entry.
-fn read_asked(alloc: Global, fields: &Fields, word: Reading) -> Result<FeedLine, LineNo>
+fn read_asked(alloc: Global, fields: &Fields, word: FeedWord) -> Result<FeedLine, LineNo>
     ensures { GivesReading result (as_asked (read_layout (origin.Line Plain) [] (reading_layout word) (members fields.now))) }
 {
     let (_, request) = asked(alloc, fields, word)?;

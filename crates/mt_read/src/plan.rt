@@ -1,6 +1,6 @@
 //! A planned flight: `plan`.
 ghost use Rattle.std.specs.Prelude.{◌≡◌, [], unwrap_or, IfOk};
-ghost use Rattle.mt_base.specs.Checks.{check};
+ghost use Rattle.mt_base.specs.Checks.{check_answer};
 ghost use Rattle.mt_json.specs.Shown.{members};
 ghost use Rattle.mt_json.specs.View.{items_view, view};
 ghost use Rattle.mt_read.specs.Field.{as_fix, as_list_of, each_of, read_at};
@@ -43,9 +43,9 @@ fn route_of(alloc: Global, values: &[Value]) -> Result<Option<Route>, Memory>
 }
 
 // A list of the names of fixes must be there.
-#[tactic(auto, unfolding(mt_base::specs::Checks::check))]
+#[tactic(auto, unfolding(mt_base::specs::Checks::check_answer))]
 fn route(alloc: Global, fields: &Fields, key: Key) -> Result<Route, Stop>
-    ensures { ReadsUnlessMemory result (check (there key (as_list_of as_fix) (members fields.now)))
+    ensures { ReadsUnlessMemory result (check_answer (there key (as_list_of as_fix) (members fields.now)))
         (unwrap_or (read_at key (as_list_of as_fix) (members fields.now)) []) }
 {
     let Ok(values) = fields.list(key_text(key)) else {

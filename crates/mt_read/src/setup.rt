@@ -1,6 +1,6 @@
 //! The line `rule`, of the commands before the picture begins.
 ghost use Rattle.std.specs.Prelude.{◌≡◌, [], map};
-ghost use Rattle.mt_base.specs.Checks.{check, judged};
+ghost use Rattle.mt_base.specs.Checks.{check_answer, judged};
 ghost use Rattle.mt_json.specs.Field.{as_whole};
 ghost use Rattle.mt_json.specs.Shown.{members};
 ghost use Rattle.mt_read.specs.Field.{read_at};
@@ -40,9 +40,9 @@ fn rule_kinds(fields: &Fields, origin: Origin) -> Result<(), Fault>
 }
 
 // What a line sets a rule to.
-#[tactic(auto, unfolding(mt_base::specs::Checks::check))]
+#[tactic(auto, unfolding(mt_base::specs::Checks::check_answer))]
 fn rule_at(fields: &Fields, name: RuleName) -> Result<Option<i64>, Fault>
-    ensures { ReadsChecked result (check (rule_bound (members fields.now) name)) (read_at (key.Rule name) as_whole (members fields.now)) }
+    ensures { ReadsChecked result (check_answer (rule_bound (members fields.now) name)) (read_at (key.Rule name) as_whole (members fields.now)) }
 {
     match fields.whole(key_text(Key::Rule(name)), i64::MIN, i64::MAX) {
         Ok(rule) => Ok(Some(rule)),

@@ -9,7 +9,7 @@ use Rattle.mt_desk.specs.Desk.{Desk, IsSeatOfDesk}
 use Rattle.mt_turn.specs.Seats.{SeatNow}
 use Rattle.mt_base.specs.declared.command.Entry.{Entry}
 use Rattle.mt_io.specs.Door.{Count, LosesFront, Gains, gave_one}
-use Rattle.mt_serve.specs.Sitting.{HaveNoChannel, Start, seats_of}
+use Rattle.mt_serve.specs.Sitting.{HaveNoChannel, SessionStart, seats_of}
 use Rattle.mt_serve.specs.Private.Sitting.{HasServedLinks}
 use Rattle.mt_serve.specs.Tied.{Doorway, doorway_of}
 use Rattle.mt_serve.specs.Private.Accepting.{Accepting}
@@ -62,11 +62,11 @@ all_moved P x xs ys all is = all_rest P x xs (subst (All P) is all)
 pub all_front : {A : Type 0} (P : A → Type 0) (x : A) (xs ys : List A) → All P ys → ys ≡ x ∷ xs → P x
 all_front P x xs ys all is = all_first P x xs (subst (All P) is all)
 
-pub accepting_more : {L : Type 0} (desk : Desk) (c d e : Count) (still left now : Option (List L)) (seats rest after : List (SeatNow Entry Setup)) (starts : List (Start L)) (link : L) (seat : SeatNow Entry Setup)
+pub accepting_more : {L : Type 0} (desk : Desk) (c d e : Count) (still left now : Option (List L)) (seats rest after : List (SeatNow Entry Setup)) (starts : List (SessionStart L)) (link : L) (seat : SeatNow Entry Setup)
     (has_channel : Bool) → Accepting desk c d still left seats rest starts → (d.given < d.sessions) × (e ≡ gave_one d) × LosesFront left now (link ∷ []) → rest ≡ seat ∷ after
     → Accepting desk c e still now seats after (starts ++ record { link = link; seat = seat; has_channel = has_channel } ∷ [])
 accepting_more {L} desk c d e still left now seats rest after starts link seat has_channel so gave is =
-    let s : Start L = record { link = link; seat = seat; has_channel = has_channel } in
+    let s : SessionStart L = record { link = link; seat = seat; has_channel = has_channel } in
     let same = gave.1 in
     record {
       begun = record {
@@ -74,8 +74,8 @@ accepting_more {L} desk c d e still left now seats rest after starts link seat h
         sessions = ap (λ (z : Count). z.sessions) same ∙ so.begun.sessions;
         given = omega (arith, ap (λ (z : Count). z.given) same, so.begun.given, length_push starts s);
         back = ap (λ (z : Count). z.back) same ∙ so.begun.back;
-        links = subst (λ ls. LosesFront still now ls) (sym (map_push (λ (z : Start L). z.link) starts s)) (loses_on _ _ _ _ _ so.begun.links gave.2);
-        seats_are = so.begun.seats_are ∙ ap (λ zs. seats_of starts ++ zs) is ∙ sym (append_assoc (seats_of starts) (seat ∷ []) after) ∙ ap (λ zs. zs ++ after) (sym (map_push (λ (z : Start L). z.seat) starts s));
+        links = subst (λ ls. LosesFront still now ls) (sym (map_push (λ (z : SessionStart L). z.link) starts s)) (loses_on _ _ _ _ _ so.begun.links gave.2);
+        seats_are = so.begun.seats_are ∙ ap (λ zs. seats_of starts ++ zs) is ∙ sym (append_assoc (seats_of starts) (seat ∷ []) after) ∙ ap (λ zs. zs ++ after) (sym (map_push (λ (z : SessionStart L). z.seat) starts s));
       };
       ready = all_rest (IsSeatOfDesk desk) seat after (subst (λ zs. All (IsSeatOfDesk desk) zs) is so.ready);
       seated = omega (arith, ap (λ (z : Count). z.given) same, ap (λ (z : Count). z.sessions) same, so.seated, ap (λ (zs : List (SeatNow Entry Setup)). length zs) is);
@@ -87,18 +87,18 @@ none_taken None before after is none = (refl, sym is ∙ none)
 none_taken (Some x) before after is none = cc
 
 -- so the session that begins then has no channel, as those before it had none
-pub channels_more : {L S : Type 0} (all before after : List S) (job : Option S) (starts more : List (Start L)) (s : Start L)
+pub channels_more : {L S : Type 0} (all before after : List S) (job : Option S) (starts more : List (SessionStart L)) (s : SessionStart L)
     → (all ≡ [] → (before ≡ []) × HaveNoChannel starts) → before ≡ option_to_list job ++ after → more ≡ starts ++ s ∷ [] → s.has_channel ≡ is_some job
     → all ≡ [] → (after ≡ []) × HaveNoChannel more
 channels_more {L} {S} all before after job starts more s so taken is own none =
     let was = so none in
     let left = none_taken job before after taken was.0 in
     let quiet : s.has_channel ≡ false = own ∙ ap (λ (o : Option S). is_some o) left.0 in
-    (left.1, subst (λ (xs : List (Start L)). HaveNoChannel xs) (sym is) (All-push (λ (x : Start L). x.has_channel ≡ false) starts s was.1 quiet))
+    (left.1, subst (λ (xs : List (SessionStart L)). HaveNoChannel xs) (sym is) (All-push (λ (x : SessionStart L). x.has_channel ≡ false) starts s was.1 quiet))
 
 -- what holds of the door that the scope gives back holds of the door afterwards
 pub links_at : {L D : Type 0} (count : D → Count) (still returned : D → Option (List L)) (faults : D → ℕ) (desk : Desk) (old : Doorway L) (seats rest : List (SeatNow Entry Setup))
-    (starts : List (Start L)) (faulted : Bool) (d e : D) → HasServedLinks desk old (doorway_of count still returned faults e) seats rest starts faulted → d ≡ e
+    (starts : List (SessionStart L)) (faulted : Bool) (d e : D) → HasServedLinks desk old (doorway_of count still returned faults e) seats rest starts faulted → d ≡ e
     → HasServedLinks desk old (doorway_of count still returned faults d) seats rest starts faulted
 links_at count still returned faults desk old seats rest starts faulted d e links is =
     subst (λ z. HasServedLinks desk old (doorway_of count still returned faults z) seats rest starts faulted) (sym is) links

@@ -12,7 +12,7 @@ use Rattle.mt_turn.specs.Views.{taker}
 use Rattle.mt_base.specs.declared.command.Entry.{Entry}
 use Rattle.mt_io.specs.Door.{Count, Gains, took_one}
 use Rattle.mt_session.specs.declared.outcome.Outcome.{Outcome}
-use Rattle.mt_serve.specs.Sitting.{Met}
+use Rattle.mt_serve.specs.Sitting.{SessionRun}
 use Rattle.mt_serve.specs.Private.Working.{Worked, HasWorkedInSeat, IsRested, rests_of}
 use Rattle.mt_serve.specs.Serving.{HasServed}
 use Rattle.mt_serve.specs.Private.Seating.{HasJoined, views_of}
@@ -49,8 +49,8 @@ workers_more desk v w w' all rest rest' x y so front same takes worked = record 
 }
 
 module _ {L : Type 0} (source : Source.Ghosts L) (sink : Sink.Ghosts L) where
-  pub sessions_none : (desk : Desk) (v : View Entry Setup) (all : List (Met L)) (c : Count) (back : Option (List L)) (counts : Counts) → v.phase ≡ Idle
-      → All (λ (x : Met L). IsSeatOfDesk desk x.from.seat) all → counts ≡ no_counts → JoinsSessions source sink desk v v all all c c back back counts
+  pub sessions_none : (desk : Desk) (v : View Entry Setup) (all : List (SessionRun L)) (c : Count) (back : Option (List L)) (counts : Counts) → v.phase ≡ Idle
+      → All (λ (x : SessionRun L). IsSeatOfDesk desk x.from.seat) all → counts ≡ no_counts → JoinsSessions source sink desk v v all all c c back back counts
   sessions_none desk v all c back counts idle ready none = record {
     past = [];
     parts = refl;
@@ -62,7 +62,7 @@ module _ {L : Type 0} (source : Source.Ghosts L) (sink : Sink.Ghosts L) where
     counts_are = none;
   }
 
-  pub sessions_more : (desk : Desk) (v w w' : View Entry Setup) (all rest rest' : List (Met L)) (c d e : Count) (back now then : Option (List L)) (counts counts' : Counts) (x y : Met L)
+  pub sessions_more : (desk : Desk) (v w w' : View Entry Setup) (all rest rest' : List (SessionRun L)) (c d e : Count) (back now then : Option (List L)) (counts counts' : Counts) (x y : SessionRun L)
       → JoinsSessions source sink desk v w all rest c d back now counts → rest ≡ y ∷ rest' → x ≡ y → w' ≡ taker w x.seat.view
       → HasServed source sink x.from.link x.from.seat x.from.has_channel x.link x.seat x.outcome → e ≡ took_one d → Gains now then (x.link ∷ []) → counts' ≡ with_outcome x.outcome counts
       → JoinsSessions source sink desk v w' all rest' c e back then counts'
@@ -71,32 +71,32 @@ module _ {L : Type 0} (source : Source.Ghosts L) (sink : Sink.Ghosts L) where
     parts = moved_on all so.past rest (so.past ++ x ∷ []) rest' y x so.parts front refl same;
     joined =
         subst (HasJoined v w')
-        (sym (ap views_of (map_push (λ (z : Met L). z.seat) so.past x) ∙ map_push (λ (s : SeatNow Entry Setup). s.view) (ends_of so.past) x.seat))
+        (sym (ap views_of (map_push (λ (z : SessionRun L). z.seat) so.past x) ∙ map_push (λ (s : SeatNow Entry Setup). s.view) (ends_of so.past) x.seat))
         (joined_more v w w' (views_of (ends_of so.past)) x.seat.view so.joined takes);
-    ready = all_moved (λ (z : Met L). IsSeatOfDesk desk z.from.seat) y rest' rest so.ready front;
-    served = All-push (λ (m : Met L). HasServed source sink m.from.link m.from.seat m.from.has_channel m.link m.seat m.outcome) so.past x so.served served;
+    ready = all_moved (λ (z : SessionRun L). IsSeatOfDesk desk z.from.seat) y rest' rest so.ready front;
+    served = All-push (λ (m : SessionRun L). HasServed source sink m.from.link m.from.seat m.from.has_channel m.link m.seat m.outcome) so.past x so.served served;
     count =
         let more : c.back + length so.past + 1 ≡ c.back + length (so.past ++ x ∷ []) = omega (arith, length_push so.past x) in
         took ∙ ap took_one so.count ∙ ap (λ n. record { port = c.port; sessions = c.sessions; given = c.given; back = n }) more;
-    returned = subst (Gains back then) (sym (map_push (λ (z : Met L). z.link) so.past x)) (gains_on back now then (backs_of so.past) (x.link ∷ []) so.returned gains);
+    returned = subst (Gains back then) (sym (map_push (λ (z : SessionRun L). z.link) so.past x)) (gains_on back now then (backs_of so.past) (x.link ∷ []) so.returned gains);
     counts_are = more_counts ∙ ap (with_outcome x.outcome) so.counts_are ∙ sym (counted_more so.past x);
   }
 
-  pub sessions_over : (desk : Desk) (v w : View Entry Setup) (all rest : List (Met L)) (c d : Count) (back now : Option (List L)) (counts : Counts)
+  pub sessions_over : (desk : Desk) (v w : View Entry Setup) (all rest : List (SessionRun L)) (c d : Count) (back now : Option (List L)) (counts : Counts)
       → JoinsSessions source sink desk v w all rest c d back now counts → rest ≡ [] → AreOver source sink all
   sessions_over desk v w all rest c d back now counts so none =
       subst (AreOver source sink) (sym (so.parts ∙ ap (λ zs. so.past ++ zs) none ∙ append-nil so.past)) so.served
 
-  pub counts_over : (desk : Desk) (v w : View Entry Setup) (all rest : List (Met L)) (c d : Count) (back now : Option (List L)) (counts : Counts)
+  pub counts_over : (desk : Desk) (v w : View Entry Setup) (all rest : List (SessionRun L)) (c d : Count) (back now : Option (List L)) (counts : Counts)
       → JoinsSessions source sink desk v w all rest c d back now counts → rest ≡ [] → counts ≡ counted all
   counts_over desk v w all rest c d back now counts so none = so.counts_are ∙ ap counted (sym (so.parts ∙ ap (λ zs. so.past ++ zs) none ∙ append-nil so.past))
 
   -- there is room for one more in the counts
-  pub counts_room : (desk : Desk) (v w : View Entry Setup) (all rest rest' : List (Met L)) (c d : Count) (back now : Option (List L)) (counts : Counts) (y : Met L)
+  pub counts_room : (desk : Desk) (v w : View Entry Setup) (all rest rest' : List (SessionRun L)) (c d : Count) (back now : Option (List L)) (counts : Counts) (y : SessionRun L)
       → JoinsSessions source sink desk v w all rest c d back now counts → rest ≡ y ∷ rest' → length all ≤ 2 ^ 31 → counts.sessions < 2 ^ 32
   counts_room desk v w all rest rest' c d back now counts y so front few =
       let count : counts.sessions ≡ length so.past = ap (λ (k : Counts). k.sessions) so.counts_are in
-      let parts : length all ≡ length so.past + length rest = ap (λ (xs : List (Met L)). length xs) so.parts ∙ length-append so.past rest in
+      let parts : length all ≡ length so.past + length rest = ap (λ (xs : List (SessionRun L)). length xs) so.parts ∙ length-append so.past rest in
       omega (arith, count, parts, few)
 
   -- a session that is over leaves a seat of the desk that it got one of

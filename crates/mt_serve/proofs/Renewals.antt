@@ -12,7 +12,7 @@ use Rattle.mt_board.specs.declared.no.No.{No}
 use Rattle.mt_board.specs.declared.no.No.TheVariants.{Memory, Refused}
 use Rattle.mt_board.specs.Changing.{IsChanged}
 use Rattle.mt_base.specs.Tables.{Setup}
-use Rattle.mt_board.specs.Seat.{GoesOn, IsSameSeat as IsSameBoardSeat, Seat}
+use Rattle.mt_board.specs.BoardSeat.{BoardSeat, GoesOn, IsSameSeat as IsSameBoardSeat}
 use Rattle.mt_board.specs.Settling.{AreRenewalsAsked}
 use Rattle.mt_desk.specs.Desk.{Desk, Hand, IsSeatOfDesk, seat_of_hand, seat_of}
 use Rattle.mt_desk.specs.declared.home.Home.{Home}
@@ -26,13 +26,13 @@ abbrev home_of : Hand → Home
 home_of h = record { turn = h.desk.home; gave = h.view.gave; joined = h.view.joined }
 
 -- the entries that are new among a seat's own, which are renewals
-abbrev Renews : Seat → Seat → Type 0
+abbrev Renews : BoardSeat → BoardSeat → Type 0
 Renews s t = (added : List Entry) × (t.mine ≡ s.mine ++ added) × All IsRenewal added
 
-no_more : (s t : Seat) → t.mine ≡ s.mine → Renews s t
+no_more : (s t : BoardSeat) → t.mine ≡ s.mine → Renews s t
 no_more s t same = ([], same ∙ sym (append-nil s.mine), λ k d below. absurd (omega arith))
 
-once : (s t : Seat) (call : List ℕ) (result : Result Entered No) → IsChanged s (Renew call) result t → Renews s t
+once : (s t : BoardSeat) (call : List ℕ) (result : Result Entered No) → IsChanged s (Renew call) result t → Renews s t
 once s t call (Ok entered) is =
     let now = state_of s.fixed is.front in
     let same = answer_is (checks s.fixed (look_at now (Renew call)) s.number (Renew call)) (record { who = s.number; command = filled now.now (Renew call) }) is.entry is.decided.0 in
@@ -40,8 +40,8 @@ once s t call (Ok entered) is =
 once s t call (Err (Refused refusal version)) is = no_more s t is.0.looked.mine
 once s t call (Err Memory) is = no_more s t is.mine
 
-pub renews : (s t : Seat) (calls : List (List ℕ)) (results : List (Result Entered No)) → AreRenewalsAsked s calls results t → Renews s t
-renews s t [] [] is = no_more s t (ap (λ (u : Seat). u.mine) is)
+pub renews : (s t : BoardSeat) (calls : List (List ℕ)) (results : List (Result Entered No)) → AreRenewalsAsked s calls results t → Renews s t
+renews s t [] [] is = no_more s t (ap (λ (u : BoardSeat). u.mine) is)
 renews s t (call ∷ calls) (result ∷ results) is =
     let first = once s is.0 call result is.1 in
     let rest = renews is.0 t calls results is.2 in (

@@ -16,7 +16,7 @@ use Rattle.mt_turn.specs.Seats.{SeatNow}
 use Rattle.mt_turn.specs.Views.{first_view}
 use Rattle.mt_base.specs.declared.command.Entry.{Entry}
 use Rattle.mt_io.specs.Door.{Count, LosesFront, Gains, listened}
-use Rattle.mt_serve.specs.Sitting.{HaveNoChannel, Met, Start, starts_of, seats_of, links_of}
+use Rattle.mt_serve.specs.Sitting.{HaveNoChannel, SessionRun, SessionStart, starts_of, seats_of, links_of}
 use Rattle.mt_serve.specs.Private.Sitting.{HasSeatedLinks, HasServedLinks, IsDoorOver}
 use Rattle.mt_serve.specs.Private.Seating.{IsNewSeat, AllSplit, HasSplit}
 use Rattle.mt_serve.specs.Tied.{Doorway, IsTied, HasServedAll, backs_of}
@@ -35,12 +35,12 @@ pub ready_of : (desk : Desk) (v : View Entry Setup) (seats : List (SeatNow Entry
 ready_of desk v seats fresh k d below = (fresh k d below).ready
 
 -- there are no more sessions than seats for them
-pub few_met : {L : Type 0} (sessions workers : ℕ) (old new : Count) (still left : Option (List L)) (seats rest : List (SeatNow Entry Setup)) (mets : List (Met L))
-    → HasSeatedLinks old new still left seats rest (starts_of mets) → length seats ≡ sessions → sessions + workers ≤ 2 ^ 31 → length mets ≤ 2 ^ 31
-few_met {L} sessions workers old new still left seats rest mets begun many few =
-    let parts : length seats ≡ length (seats_of (starts_of mets)) + length rest =
-    ap (λ (xs : List (SeatNow Entry Setup)). length xs) begun.seats_are ∙ length-append (seats_of (starts_of mets)) rest in
-    omega (arith, parts, length_map (λ (s : Start L). s.seat) (starts_of mets), length_map (λ (m : Met L). m.from) mets, many, few)
+pub few_runs : {L : Type 0} (sessions workers : ℕ) (old new : Count) (still left : Option (List L)) (seats rest : List (SeatNow Entry Setup)) (runs : List (SessionRun L))
+    → HasSeatedLinks old new still left seats rest (starts_of runs) → length seats ≡ sessions → sessions + workers ≤ 2 ^ 31 → length runs ≤ 2 ^ 31
+few_runs {L} sessions workers old new still left seats rest runs begun many few =
+    let parts : length seats ≡ length (seats_of (starts_of runs)) + length rest =
+    ap (λ (xs : List (SeatNow Entry Setup)). length xs) begun.seats_are ∙ length-append (seats_of (starts_of runs)) rest in
+    omega (arith, parts, length_map (λ (s : SessionStart L). s.seat) (starts_of runs), length_map (λ (m : SessionRun L). m.from) runs, many, few)
 
 over_cause : (b : Bool) (c : Count) (f f' : ℕ) → IsDoorOver b c f f' → b ≡ true → Rose f f'
 over_cause true c f f' over is = over.0
@@ -60,24 +60,24 @@ count_is c port sessions given back a b d e =
 
 module _ {L : Type 0} (source : Source.Ghosts L) (sink : Sink.Ghosts L) where
   -- the door was `at_first` at first, `at_listening` once it listened, `at_end` when it was over, and `at_last` once the links were back
-  pub served_all : (setup : Setup) (port sessions workers staff : ℕ) (at_first at_listening at_end at_last : Doorway L) (desk : Desk) (faulted : Bool) (h : List Entry) (mets : List (Met L)) (seats rest : List (SeatNow Entry Setup))
+  pub served_all : (setup : Setup) (port sessions workers staff : ℕ) (at_first at_listening at_end at_last : Doorway L) (desk : Desk) (faulted : Bool) (h : List Entry) (runs : List (SessionRun L)) (seats rest : List (SeatNow Entry Setup))
       → at_listening.count ≡ listened port sessions → at_listening.still ≡ at_first.still → at_listening.returned ≡ at_first.returned → at_first.faults ≤ at_listening.faults
-      → HasServedLinks desk at_listening at_end seats rest (starts_of mets) faulted
-      → IsTied source sink setup h mets → at_last.count ≡ gave_back at_end.count (length mets) → at_last.still ≡ at_end.still → Gains at_end.returned at_last.returned (backs_of mets) → at_end.faults ≤ at_last.faults
-      → staff ≤ workers → (staff ≡ 0 → HaveNoChannel (starts_of mets)) → HasServedAll source sink setup port sessions workers at_first at_last faulted h mets
-  served_all setup port sessions workers staff at_first at_listening at_end at_last desk faulted h mets seats rest listen ss bs later1 links tied back ss3 gains later3 staff_is channels =
+      → HasServedLinks desk at_listening at_end seats rest (starts_of runs) faulted
+      → IsTied source sink setup h runs → at_last.count ≡ gave_back at_end.count (length runs) → at_last.still ≡ at_end.still → Gains at_end.returned at_last.returned (backs_of runs) → at_end.faults ≤ at_last.faults
+      → staff ≤ workers → (staff ≡ 0 → HaveNoChannel (starts_of runs)) → HasServedAll source sink setup port sessions workers at_first at_last faulted h runs
+  served_all setup port sessions workers staff at_first at_listening at_end at_last desk faulted h runs seats rest listen ss bs later1 links tied back ss3 gains later3 staff_is channels =
       let begun = links.begun in
-      let many = length_map (λ (z : Met L). z.from) mets in
+      let many = length_map (λ (z : SessionRun L). z.from) runs in
       let p1 = ap (λ (z : Count). z.port) listen in let n1 = ap (λ (z : Count). z.sessions) listen in let g1 = ap (λ (z : Count). z.given) listen in let k1 = ap (λ (z : Count). z.back) listen in
-      let given : at_end.count.given ≡ length mets = omega (arith, begun.given, g1, many) in
-      let k3 : at_last.count.back ≡ length mets = omega (arith, ap (λ (z : Count). z.back) back, begun.back, k1) in
+      let given : at_end.count.given ≡ length runs = omega (arith, begun.given, g1, many) in
+      let k3 : at_last.count.back ≡ length runs = omega (arith, ap (λ (z : Count). z.back) back, begun.back, k1) in
       record {
         tied = tied;
-        given = subst (λ s. LosesFront s at_last.still (links_of (starts_of mets))) ss (subst (λ s. LosesFront at_listening.still s (links_of (starts_of mets))) (sym ss3) begun.links);
-        returned = subst (λ b. Gains b at_last.returned (backs_of mets)) (links.returned ∙ bs) gains;
+        given = subst (λ s. LosesFront s at_last.still (links_of (starts_of runs))) ss (subst (λ s. LosesFront at_listening.still s (links_of (starts_of runs))) (sym ss3) begun.links);
+        returned = subst (λ b. Gains b at_last.returned (backs_of runs)) (links.returned ∙ bs) gains;
         count = inl (
-          count_is at_last.count port sessions (length mets) (length mets) (ap (λ (z : Count). z.port) back ∙ begun.port ∙ p1) (ap (λ (z : Count). z.sessions) back ∙ begun.sessions ∙ n1) (ap (λ (z : Count). z.given) back ∙ given) k3,
-          over_all faulted at_end.count at_listening.faults at_end.faults (length mets) sessions links.over given (begun.sessions ∙ n1),
+          count_is at_last.count port sessions (length runs) (length runs) (ap (λ (z : Count). z.port) back ∙ begun.port ∙ p1) (ap (λ (z : Count). z.sessions) back ∙ begun.sessions ∙ n1) (ap (λ (z : Count). z.given) back ∙ given) k3,
+          over_all faulted at_end.count at_listening.faults at_end.faults (length runs) sessions links.over given (begun.sessions ∙ n1),
         );
         cause = λ is. let r = over_cause faulted at_end.count at_listening.faults at_end.faults links.over is in omega (arith, r, later1, later3);
         staff = staff;
@@ -85,30 +85,30 @@ module _ {L : Type 0} (source : Source.Ghosts L) (sink : Sink.Ghosts L) where
         channels = channels;
       }
 
-  pub not_listened : (setup : Setup) (port sessions workers : ℕ) (at_first at_listening at_last : Doorway L) (h : List Entry) (mets : List (Met L))
-      → at_listening.count ≡ at_first.count → at_listening.still ≡ at_first.still → at_listening.returned ≡ at_first.returned → Rose at_first.faults at_listening.faults → mets ≡ []
-      → IsTied source sink setup h mets → at_last.count ≡ gave_back at_listening.count (length mets) → at_last.still ≡ at_listening.still → Gains at_listening.returned at_last.returned (backs_of mets) → at_listening.faults ≤ at_last.faults
-      → HasServedAll source sink setup port sessions workers at_first at_last true h mets
-  not_listened setup port sessions workers at_first at_listening at_last h mets listen ss bs rose none tied back ss3 gains later =
-      let zero_ : length mets ≡ 0 = ap (λ (ms : List (Met L)). length ms) none in
-      let same : at_listening.count.back + length mets ≡ at_listening.count.back = omega (arith, zero_) in
+  pub not_listened : (setup : Setup) (port sessions workers : ℕ) (at_first at_listening at_last : Doorway L) (h : List Entry) (runs : List (SessionRun L))
+      → at_listening.count ≡ at_first.count → at_listening.still ≡ at_first.still → at_listening.returned ≡ at_first.returned → Rose at_first.faults at_listening.faults → runs ≡ []
+      → IsTied source sink setup h runs → at_last.count ≡ gave_back at_listening.count (length runs) → at_last.still ≡ at_listening.still → Gains at_listening.returned at_last.returned (backs_of runs) → at_listening.faults ≤ at_last.faults
+      → HasServedAll source sink setup port sessions workers at_first at_last true h runs
+  not_listened setup port sessions workers at_first at_listening at_last h runs listen ss bs rose none tied back ss3 gains later =
+      let zero_ : length runs ≡ 0 = ap (λ (ms : List (SessionRun L)). length ms) none in
+      let same : at_listening.count.back + length runs ≡ at_listening.count.back = omega (arith, zero_) in
       record {
         tied = tied;
         given = subst (λ ms. LosesFront at_first.still at_last.still (links_of (starts_of ms))) (sym none) (subst (λ s. LosesFront at_first.still s []) (sym (ss3 ∙ ss)) (loses_none at_first.still));
-        returned = subst (λ b. Gains b at_last.returned (backs_of mets)) bs gains;
+        returned = subst (λ b. Gains b at_last.returned (backs_of runs)) bs gains;
         count = inr (back ∙ ap (λ n. record { port = at_listening.count.port; sessions = at_listening.count.sessions; given = at_listening.count.given; back = n }) same ∙ listen, zero_, refl);
         cause = λ is. omega (arith, rose, later);
         staff = 0;
         staff_is = omega arith;
-        channels = λ _. subst (λ (ms : List (Met L)). HaveNoChannel (starts_of ms)) (sym none) (λ k d below. absurd (omega arith));
+        channels = λ _. subst (λ (ms : List (SessionRun L)). HaveNoChannel (starts_of ms)) (sym none) (λ k d below. absurd (omega arith));
       }
 
   -- the whole, by the closed picture
   pub whole : (setup fixed : Setup) (port sessions workers : ℕ) (old new : Doorway L) (failed faulted : Bool)
-      (picture : Story) (counts : Counts) (mets : List (Met L)) → setup ≡ fixed → faulted ≡ failed → picture.setup ≡ setup → IsLegal setup picture.history
-      → HasServedAll source sink setup port sessions workers old new failed picture.history mets → counts ≡ counted mets
+      (picture : Story) (counts : Counts) (runs : List (SessionRun L)) → setup ≡ fixed → faulted ≡ failed → picture.setup ≡ setup → IsLegal setup picture.history
+      → HasServedAll source sink setup port sessions workers old new failed picture.history runs → counts ≡ counted runs
       → HasServedWhole source sink fixed port sessions workers old new faulted picture counts
-  whole setup fixed port sessions workers old new failed faulted picture counts mets same told own legal all are =
+  whole setup fixed port sessions workers old new failed faulted picture counts runs same told own legal all are =
       subst (λ (s : Setup). HasServedWhole source sink s port sessions workers old new faulted picture counts) same
       (subst (λ (b : Bool). HasServedWhole source sink setup port sessions workers old new b picture counts) (sym told)
-      (record { mets = mets; setup_is = own; legal = legal; all = all; counts_are = are }))
+      (record { runs = runs; setup_is = own; legal = legal; all = all; counts_are = are }))

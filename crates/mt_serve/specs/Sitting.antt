@@ -6,27 +6,27 @@ use Rattle.mt_session.specs.declared.outcome.Outcome.{Outcome}
 use Rattle.mt_turn.specs.Seats.{SeatNow}
 
 -- a session's link, seat, and whether it has a channel
-pub record Start (L : Type 0) : Type 0 where
+pub record SessionStart (L : Type 0) : Type 0 where
   pub link : L
   pub seat : SeatNow Entry Setup
   pub has_channel : Bool
 
--- `Met`, `links_of`, `seats_of`, `starts_of`: what a session was given and gave back
-pub record Met (L : Type 0) : Type 0 where
-  pub from : Start L
+-- `SessionRun`, `links_of`, `seats_of`, `starts_of`: what a session was given and gave back
+pub record SessionRun (L : Type 0) : Type 0 where
+  pub from : SessionStart L
   pub link : L
   pub seat : SeatNow Entry Setup
   pub outcome : Outcome
 
-abbrev pub links_of : {L : Type 0} → List (Start L) → List L
-links_of {L} starts = map (λ (s : Start L). s.link) starts
+abbrev pub links_of : {L : Type 0} → List (SessionStart L) → List L
+links_of {L} starts = map (λ (s : SessionStart L). s.link) starts
 
-abbrev pub seats_of : {L : Type 0} → List (Start L) → List (SeatNow Entry Setup)
-seats_of {L} starts = map (λ (s : Start L). s.seat) starts
+abbrev pub seats_of : {L : Type 0} → List (SessionStart L) → List (SeatNow Entry Setup)
+seats_of {L} starts = map (λ (s : SessionStart L). s.seat) starts
 
-abbrev pub starts_of : {L : Type 0} → List (Met L) → List (Start L)
-starts_of {L} mets = map (λ (m : Met L). m.from) mets
+abbrev pub starts_of : {L : Type 0} → List (SessionRun L) → List (SessionStart L)
+starts_of {L} runs = map (λ (m : SessionRun L). m.from) runs
 
 -- no session has a channel
-abbrev pub HaveNoChannel : {L : Type 0} → List (Start L) → Type 0
-HaveNoChannel {L} starts = All (λ (s : Start L). s.has_channel ≡ false) starts
+abbrev pub HaveNoChannel : {L : Type 0} → List (SessionStart L) → Type 0
+HaveNoChannel {L} starts = All (λ (s : SessionStart L). s.has_channel ≡ false) starts

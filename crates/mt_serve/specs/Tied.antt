@@ -10,15 +10,15 @@ use Rattle.mt_io.specs.declared.sink.Sink as Sink
 use Rattle.mt_turn.specs.Views.{Extends, entries_of}
 use Rattle.mt_serve.specs.Seating.{numbers_of}
 use Rattle.mt_serve.specs.Serving.{HasServed}
-use Rattle.mt_serve.specs.Sitting.{HaveNoChannel, Met, links_of, seats_of, starts_of}
+use Rattle.mt_serve.specs.Sitting.{HaveNoChannel, SessionRun, links_of, seats_of, starts_of}
 use Rattle.mt_serve.specs.Working.{IsRenewal}
 
 -- `number_of`, `backs_of`: the number of an entry's actor, and links given back
 abbrev pub number_of : Entry → ℕ
 number_of e = e.who
 
-abbrev pub backs_of : {L : Type 0} → List (Met L) → List L
-backs_of {L} mets = map (λ (m : Met L). m.link) mets
+abbrev pub backs_of : {L : Type 0} → List (SessionRun L) → List L
+backs_of {L} runs = map (λ (m : SessionRun L). m.link) runs
 
 -- `Doorway`, `doorway_of`: a door's counts, links left, links back and faults
 pub record Doorway (L : Type 0) : Type 0 where
@@ -31,12 +31,12 @@ abbrev pub doorway_of : {D L : Type 0} → (D → Count) → (D → Option (List
 doorway_of count still returned faults door = record { count = count door; still = still door; returned = returned door; faults = faults door }
 
 -- one of the sessions has this number
-abbrev pub IsSessions : {L : Type 0} → List (Met L) → ℕ → Type 0
-IsSessions {L} mets n = (m : Met L) × Contains mets m × (m.seat.view.number ≡ n)
+abbrev pub IsSessions : {L : Type 0} → List (SessionRun L) → ℕ → Type 0
+IsSessions {L} runs n = (m : SessionRun L) × Contains runs m × (m.seat.view.number ≡ n)
 
 module _ {L : Type 0} (source : Source.Ghosts L) (sink : Sink.Ghosts L) where
   -- a session saw a front of the history; the entries of its number are its own. It began with nothing seen and nothing of its own.
-  pub record IsInHistory (setup : Setup) (h : List Entry) (m : Met L) : Type 0 where
+  pub record IsInHistory (setup : Setup) (h : List Entry) (m : SessionRun L) : Type 0 where
     pub number : m.seat.view.number ≡ m.from.seat.view.number
     pub fixed : m.from.seat.view.fixed ≡ Some setup
     pub began : (m.from.seat.view.seen ≡ []) × (m.from.seat.view.mine ≡ [])
@@ -45,21 +45,21 @@ module _ {L : Type 0} (source : Source.Ghosts L) (sink : Sink.Ghosts L) where
     pub mine : entries_of number_of m.seat.view.number h ≡ m.seat.view.mine
 
   -- one history holds all sessions, numbered from 1; other entries are renewals
-  pub record IsTied (setup : Setup) (h : List Entry) (mets : List (Met L)) : Type 0 where
-    pub numbers : numbers_of (seats_of (starts_of mets)) ≡ range_with_len 1 (length mets)
-    pub each : All (IsInHistory setup h) mets
-    pub others : (e : Entry) → Contains h e → IsSessions mets e.who ⊎ IsRenewal e
+  pub record IsTied (setup : Setup) (h : List Entry) (runs : List (SessionRun L)) : Type 0 where
+    pub numbers : numbers_of (seats_of (starts_of runs)) ≡ range_with_len 1 (length runs)
+    pub each : All (IsInHistory setup h) runs
+    pub others : (e : Entry) → Contains h e → IsSessions runs e.who ⊎ IsRenewal e
 
   -- each link that the door gave was served and is back, tied by one history. The door was asked for a port and so many sessions, and gave that many
   -- links, or failed while some were to come. They are back in order. Where the door doesn't listen, no link was given. Of so many workers some were
   -- started; where none was, no session had a channel.
-  pub record HasServedAll (setup : Setup) (port sessions workers : ℕ) (old new : Doorway L) (faulted : Bool) (h : List Entry) (mets : List (Met L)) : Type 0 where
-    pub tied : IsTied setup h mets
-    pub given : LosesFront old.still new.still (links_of (starts_of mets))
-    pub returned : Gains old.returned new.returned (backs_of mets)
-    pub count : ((new.count ≡ record { port = port; sessions = sessions; given = length mets; back = length mets }) × MatchBool faulted (length mets < sessions) (length mets ≡ sessions))
-        ⊎ ((new.count ≡ old.count) × (length mets ≡ 0) × (faulted ≡ true))
+  pub record HasServedAll (setup : Setup) (port sessions workers : ℕ) (old new : Doorway L) (faulted : Bool) (h : List Entry) (runs : List (SessionRun L)) : Type 0 where
+    pub tied : IsTied setup h runs
+    pub given : LosesFront old.still new.still (links_of (starts_of runs))
+    pub returned : Gains old.returned new.returned (backs_of runs)
+    pub count : ((new.count ≡ record { port = port; sessions = sessions; given = length runs; back = length runs }) × MatchBool faulted (length runs < sessions) (length runs ≡ sessions))
+        ⊎ ((new.count ≡ old.count) × (length runs ≡ 0) × (faulted ≡ true))
     pub cause : faulted ≡ true → Rose old.faults new.faults
     pub staff : ℕ
     pub staff_is : staff ≤ workers
-    pub channels : staff ≡ 0 → HaveNoChannel (starts_of mets)
+    pub channels : staff ≡ 0 → HaveNoChannel (starts_of runs)

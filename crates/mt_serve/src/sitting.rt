@@ -40,9 +40,9 @@ pub struct Done<L: Duplex> {
 
 impl<L: Duplex> Model for Done<L> {
     ghost use Rattle.mt_serve.specs.Serving.{HasServed};
-    ghost use Rattle.mt_serve.specs.Sitting.{Met};
+    ghost use Rattle.mt_serve.specs.Sitting.{SessionRun};
 
-    ghost Value = { Met L };
+    ghost Value = { SessionRun L };
 
     ghost view = { λ d. record {
       from = record { link = d.given.link.value; seat = d.given.seat.value; has_channel = d.given.has_channel };
@@ -64,9 +64,9 @@ pub struct Sitting<L: Duplex> {
 impl<L: Duplex> Model for Sitting<L> {
     ghost use Rattle.std.specs.Prelude.{◌≡◌, MatchResult};
     ghost use Rattle.mt_serve.specs.Serving.{HasServed};
-    ghost use Rattle.mt_serve.specs.Sitting.{Start};
+    ghost use Rattle.mt_serve.specs.Sitting.{SessionStart};
 
-    ghost Value = { Start L };
+    ghost Value = { SessionStart L };
 
     ghost view = { λ s. record { link = s.given.link.value; seat = s.given.seat.value; has_channel = s.given.has_channel } };
 

@@ -11,24 +11,24 @@ use Rattle.mt_board.specs.declared.no.No.{No}
 use Rattle.mt_board.specs.declared.no.No.TheVariants as no
 use Rattle.mt_board.specs.Asking.{IsRead}
 use Rattle.mt_board.specs.Changing.{IsChanged}
-use Rattle.mt_board.specs.Seat.{Seat}
+use Rattle.mt_board.specs.BoardSeat.{BoardSeat}
 use Rattle.mt_board.specs.Settling.{AreMade, AreRenewalsAsked}
 use Rattle.mt_board.proofs.SeatLemmas.{renewals_add}
 use Rattle.mt_session.specs.Private.Settles.{Settles, is_starved, told_due}
 
 -- these flights have been renewed, or that was refused
-pub record HasRenewed (s : Seat) (calls : List (List ℕ)) (t : Seat) : Type 0 where
+pub record HasRenewed (s : BoardSeat) (calls : List (List ℕ)) (t : BoardSeat) : Type 0 where
   pub results : List (Result Entered No)
   pub renewed : AreRenewalsAsked s calls results t
   pub made : AreMade results
 
-pub none_renewed : (s : Seat) → HasRenewed s [] s
+pub none_renewed : (s : BoardSeat) → HasRenewed s [] s
 none_renewed s = record { results = []; renewed = refl; made = All-from_recursion (λ (result : Result Entered No). result ≢ Err no.Memory) [] tt }
 
 is_made : (r : Result Entered No) → is_starved r ≡ false → r ≢ Err no.Memory
 is_made r made = λ is. absurd (true≢false (sym (ap is_starved is) ∙ made))
 
-renewed_more : (s : Seat) (calls : List (List ℕ)) (middle : Seat) (call : List ℕ) (r : Result Entered No) (t : Seat)
+renewed_more : (s : BoardSeat) (calls : List (List ℕ)) (middle : BoardSeat) (call : List ℕ) (r : Result Entered No) (t : BoardSeat)
     → HasRenewed s calls middle → IsChanged middle (Renew call) r t → is_starved r ≡ false → HasRenewed s (calls ++ call ∷ []) t
 renewed_more s calls middle call r t so_far changed one = record {
   results = so_far.results ++ r ∷ [];
@@ -37,13 +37,13 @@ renewed_more s calls middle call r t so_far changed one = record {
 }
 
 -- the step at place k
-pub renewed_at : (s : Seat) (calls : List (List ℕ)) (k : ℕ) (middle : Seat) (d : List ℕ) (r : Result Entered No) (t : Seat) → k < length calls
+pub renewed_at : (s : BoardSeat) (calls : List (List ℕ)) (k : ℕ) (middle : BoardSeat) (d : List ℕ) (r : Result Entered No) (t : BoardSeat) → k < length calls
     → HasRenewed s (take k calls) middle → IsChanged middle (Renew (get_or calls k d)) r t → is_starved r ≡ false → HasRenewed s (take (k + 1) calls) t
 renewed_at s calls k middle d r t below so_far changed one =
     rw (take_more calls k d below) (renewed_more s (take k calls) middle (get_or calls k d) r t so_far changed one)
 
 -- the first read found no memory
-pub unread : (old new : Seat) (told : Result Answer No) → IsRead old asks.Due told new → told_due told ≡ None → Settles old None new
+pub unread : (old new : BoardSeat) (told : Result Answer No) → IsRead old asks.Due told new → told_due told ≡ None → Settles old None new
 unread old new (Ok (answers.Due calls version)) read none = cc
 unread old new (Ok (answers.List conflicts version)) read none = absurd read.1
 unread old new (Ok (answers.Check conflicts version)) read none = absurd read.1
@@ -52,7 +52,7 @@ unread old new (Ok (answers.History entries version)) read none = absurd read.1
 unread old new (Err (no.Refused refusal version)) read none = absurd read.1
 unread old new (Err no.Memory) read none = inl read
 
-module _ (old first last new : Seat) (calls : List (List ℕ)) (was : ℕ) (read : IsRead old asks.Due (Ok (answers.Due calls was)) first) where
+module _ (old first last new : BoardSeat) (calls : List (List ℕ)) (was : ℕ) (read : IsRead old asks.Due (Ok (answers.Due calls was)) first) where
   -- a renewal found no memory
   pub broken : (k : ℕ) (call : List ℕ) → HasRenewed first (take k calls) last → IsChanged last (Renew call) (Err no.Memory) new → Settles old None new
   broken k call so_far changed = inr (record {
@@ -114,6 +114,6 @@ starved_is (Err (no.Refused refusal version)) is = cc
 starved_is (Err no.Memory) is = refl
 
 -- the loop has come to its end
-pub all_renewed : (s : Seat) (calls items : List (List ℕ)) (k : ℕ) (t : Seat) → items ≡ calls → length items ≤ k → HasRenewed s (take k items) t
+pub all_renewed : (s : BoardSeat) (calls items : List (List ℕ)) (k : ℕ) (t : BoardSeat) → items ≡ calls → length items ≤ k → HasRenewed s (take k items) t
     → HasRenewed s calls t
 all_renewed s calls items k t same over so_far = rw (← same, ← take_all k items over) so_far

@@ -13,8 +13,8 @@ use Rattle.mt_board.specs.declared.no.No.{No}
 use Rattle.mt_board.specs.declared.no.No.TheVariants as no
 use Rattle.mt_board.specs.Asking.{IsRead}
 use Rattle.mt_board.specs.Changing.{IsChanged, IsDenied}
-use Rattle.mt_board.specs.Probing.{Probe}
-use Rattle.mt_board.specs.Seat.{HasLooked, Seat}
+use Rattle.mt_board.specs.Probing.{ToldProbe}
+use Rattle.mt_board.specs.BoardSeat.{BoardSeat, HasLooked}
 use Rattle.mt_board.proofs.SeatLemmas.{looked_itself}
 use Rattle.mt_lines.specs.Given.{IsGivenFor, is_brief}
 use Rattle.mt_lines.proofs.Brief.{not_given}
@@ -37,23 +37,23 @@ use Rattle.mt_session.specs.Session.{Session, asked_in_role, role_sender, with_s
 
 -- nothing but what was seen has changed
 abbrev pub IsIdle : Session → Session → Type 0
-IsIdle s next = (seat : Seat) × HasLooked s.seat seat × (next ≡ with_seat s seat)
+IsIdle s next = (seat : BoardSeat) × HasLooked s.seat seat × (next ≡ with_seat s seat)
 
 given_idle : (s : Session) (given reply : Reply) (next : Session) → IsReplyGiven given s reply next → IsIdle s next
 given_idle s given reply next g = (s.seat, looked_itself s.seat, g.next_is)
 
-denied_looked : (s t : Seat) (why : Refusal → Type 0) (denied : No) → IsDenied s why denied t → HasLooked s t
+denied_looked : (s t : BoardSeat) (why : Refusal → Type 0) (denied : No) → IsDenied s why denied t → HasLooked s t
 denied_looked s t why (no.Refused refusal version) d = d.0.looked
 denied_looked s t why no.Memory d = d
 
-read_looked : (s t : Seat) (ask : Ask) (result : Result Answer No) → IsRead s ask result t → HasLooked s t
+read_looked : (s t : BoardSeat) (ask : Ask) (result : Result Answer No) → IsRead s ask result t → HasLooked s t
 read_looked s t ask (Ok answer) r = r.0.looked
 read_looked s t ask (Err denied) d = denied_looked s t _ denied d
 
 told_idle : (s : Session) (ask : Ask) (reply : Reply) (next : Session) → IsReadAnswered s ask reply next → IsIdle s next
 told_idle s ask reply next t = (t.seat, read_looked s.seat t.seat ask t.result t.read, t.given.next_is)
 
-changed_looked : (s t : Seat) (command : Command) (result : Result Entered No) (reply : Reply) → is_brief reply ≡ false → reply ≡ entered_reply result
+changed_looked : (s t : BoardSeat) (command : Command) (result : Result Entered No) (reply : Reply) → is_brief reply ≡ false → reply ≡ entered_reply result
     → IsChanged s command result t → HasLooked s t
 changed_looked s t command (Ok entered) reply b is changed = not_given _ reply _ is refl b
 changed_looked s t command (Err denied) reply b is changed = denied_looked s t _ denied changed
@@ -61,12 +61,12 @@ changed_looked s t command (Err denied) reply b is changed = denied_looked s t _
 command_idle : (s : Session) (command : Command) (reply : Reply) (next : Session) → is_brief reply ≡ false → IsCommanded s command reply next → IsIdle s next
 command_idle s command reply next b c = (c.seat, changed_looked s.seat c.seat command c.result reply b c.given.reply_is c.changed, c.given.next_is)
 
-tried_idle : (s : Session) (call : List ℕ) (clearance : Clearance) (eff : Option ℕ) (seat : Seat) (result : Result Probe No) (reply : Reply) (next : Session)
+tried_idle : (s : Session) (call : List ℕ) (clearance : Clearance) (eff : Option ℕ) (seat : BoardSeat) (result : Result ToldProbe No) (reply : Reply) (next : Session)
     → is_brief reply ≡ false → IsTrialInSession s call clearance eff seat result reply next → IsIdle s next
 tried_idle s call clearance eff seat (Ok probe) reply next b tried = not_given _ reply _ tried.1.reply_is refl b
 tried_idle s call clearance eff seat (Err denied) reply next b tried = (seat, denied_looked s.seat seat _ denied tried.0, tried.1.next_is)
 
-accepted_idle : (s : Session) (found : Option Probe) (reply : Reply) (next : Session) → is_brief reply ≡ false → IsAcceptanceAnswered s found reply next → IsIdle s next
+accepted_idle : (s : Session) (found : Option ToldProbe) (reply : Reply) (next : Session) → is_brief reply ≡ false → IsAcceptanceAnswered s found reply next → IsIdle s next
 accepted_idle s None reply next b r = (r.seat, r.seen.looked, r.given.next_is)
 accepted_idle s (Some probe) reply next b a =
     on_either (is_none_listed probe.hits) _ _ _ (command_idle s _ reply next b) (λ r. (r.seat, r.seen.looked, r.given.next_is)) a
@@ -103,7 +103,7 @@ starved_memory : (s : Session) (a : Result (ℕ × Request) Reply) (reply : Repl
 starved_memory s (Ok a) reply next starved = starved.given.reply_is
 starved_memory s (Err refusal) reply next starved = starved.given.reply_is
 
-left_looked : (request : Request) (s t : Seat) → HasLooked s t → IsSessionLeft request s t
+left_looked : (request : Request) (s t : BoardSeat) → HasLooked s t → IsSessionLeft request s t
 left_looked requests.Settle s t looked = inl looked
 left_looked request s t looked = looked
 

@@ -5,15 +5,15 @@ use Rattle.mt_base.specs.declared.clearance.Clearance.{Clearance}
 use Rattle.mt_board.specs.declared.no.No.{No}
 use Rattle.mt_base.specs.Picture.{State}
 use Rattle.mt_base.specs.Tables.{Setup}
-use Rattle.mt_board.specs.Probing.{IsAdvised, IsNotAdvised, IsNotProbed, IsProbed, Probe}
-use Rattle.mt_board.specs.Seat.{GoesOn, HasLooked, IsSameSeat, Seat}
+use Rattle.mt_board.specs.Probing.{IsAdvised, IsNotAdvised, IsNotProbed, IsProbed, ToldProbe}
+use Rattle.mt_board.specs.BoardSeat.{BoardSeat, GoesOn, HasLooked, IsSameSeat}
 use Rattle.mt_board.proofs.SeatLemmas.{denied_goes_on, goes_on, goes_on_itself, past_on, same_itself, same_on}
-use Rattle.mt_session.specs.Private.Keeping.{ArePast, Held, StaysOn}
+use Rattle.mt_session.specs.Private.Keeping.{ArePast, ServingNow, StaysOn}
 
-pub stays_itself : {H : Type 0} (a : Held H) → StaysOn a a
+pub stays_itself : {H : Type 0} (a : ServingNow H) → StaysOn a a
 stays_itself a = record { same = same_itself a.session.seat; begins = goes_on_itself a.session.seat.seen; home = refl }
 
-pub stays_on : {H : Type 0} (a b c : Held H) → StaysOn a b → StaysOn b c → StaysOn a c
+pub stays_on : {H : Type 0} (a b c : ServingNow H) → StaysOn a b → StaysOn b c → StaysOn a c
 stays_on a b c ab bc = record {
   same = same_on a.session.seat b.session.seat c.session.seat ab.same bc.same;
   begins = goes_on a.session.seat.seen b.session.seat.seen c.session.seat.seen ab.begins bc.begins;
@@ -21,14 +21,14 @@ stays_on a b c ab bc = record {
 }
 
 -- what was past stays past
-pub are_past_on : {P : Type 0} (told : P → Probe) (fixed : P → Setup) (state : P → State) (s t : Seat) (probes : List P) → IsSameSeat s t × GoesOn s.seen t.seen
+pub are_past_on : {P : Type 0} (told : P → ToldProbe) (fixed : P → Setup) (state : P → State) (s t : BoardSeat) (probes : List P) → IsSameSeat s t × GoesOn s.seen t.seen
     → ArePast told fixed state s probes → ArePast told fixed state t probes
 are_past_on told fixed state s t probes on are = λ k d below. past_on s t _ _ _ (are k d below) on.0 on.1
 
-pub looked_on : (s t : Seat) → HasLooked s t → IsSameSeat s t × GoesOn s.seen t.seen
+pub looked_on : (s t : BoardSeat) → HasLooked s t → IsSameSeat s t × GoesOn s.seen t.seen
 looked_on s t looked = (looked.same, looked.begins)
 
-module _ {P : Type 0} (told : P → Probe) (s t : Seat) (call : List ℕ) where
+module _ {P : Type 0} (told : P → ToldProbe) (s t : BoardSeat) (call : List ℕ) where
   -- at what is answered to a probe
   pub probed_on : (clearance : Clearance) (eff : Option ℕ) (r : Result P No) → IfOk r (λ p. IsProbed s t call clearance eff (told p))
       → IfErr r (IsNotProbed s t call clearance eff) → IsSameSeat s t × GoesOn s.seen t.seen
@@ -36,7 +36,7 @@ module _ {P : Type 0} (told : P → Probe) (s t : Seat) (call : List ℕ) where
   probed_on clearance eff (Err d) probed denied = denied_goes_on s t _ d denied
 
 -- and to a question for advice
-pub advised_on : {A : Type 0} (eff version : A → ℕ) (probes : A → List Probe) (s t : Seat) (call : List ℕ) (r : Result A No)
+pub advised_on : {A : Type 0} (eff version : A → ℕ) (probes : A → List ToldProbe) (s t : BoardSeat) (call : List ℕ) (r : Result A No)
     → IfOk r (λ a. IsAdvised s t call (eff a) (version a) (probes a)) → IfErr r (IsNotAdvised s t call) → IsSameSeat s t × GoesOn s.seen t.seen
 advised_on eff version probes s t call (Ok a) advised denied = looked_on s t advised.seen.looked
 advised_on eff version probes s t call (Err d) advised denied = denied_goes_on s t _ d denied

@@ -9,7 +9,7 @@ use Rattle.mt_lines.specs.declared.ending.Ending.{Ending}
 use Rattle.mt_lines.specs.declared.ending.Ending.TheVariants as endings
 use Rattle.mt_lines.proofs.Answering.{explained_as, nothing}
 use Rattle.mt_workers.specs.Jobs.{Jobs}
-use Rattle.mt_board.specs.Seat.{Seat}
+use Rattle.mt_board.specs.BoardSeat.{BoardSeat}
 use Rattle.mt_board.proofs.SeatLemmas.{goes_on_itself, same_itself}
 use Rattle.mt_session.specs.declared.outcome.Outcome.TheVariants as outcomes
 use Rattle.mt_session.specs.Run.{IsSession, Link, SessionMeans}
@@ -80,7 +80,7 @@ module _ (w : Standing) (line : List ℕ) where
   long_followed long ending next done = followed_so ending replies.Long w next (rw (long_job w.session line long) done)
 
 -- memory was wanted before the first line
-pub nothing_done : (seat : Seat) (link : Link) (jobs : Option Jobs) → IsSession seat seat link link (Some jobs) (Some jobs) outcomes.Memory
+pub nothing_done : (seat : BoardSeat) (link : Link) (jobs : Option Jobs) → IsSession seat seat link link (Some jobs) (Some jobs) outcomes.Memory
 nothing_done seat link jobs = record {
   end = new_session seat;
   seat_is = refl;

@@ -7,7 +7,7 @@ use Rattle.mt_base.specs.declared.command.Entered.{Entered}
 use Rattle.mt_base.specs.declared.verdict.Verdict.{Verdict}
 use Rattle.mt_board.specs.declared.no.No.{No}
 use Rattle.mt_board.specs.Changing.{IsChanged}
-use Rattle.mt_board.specs.Seat.{Seat}
+use Rattle.mt_board.specs.BoardSeat.{BoardSeat}
 use Rattle.mt_read.specs.declared.request.Request.{Request}
 use Rattle.mt_read.specs.declared.request.Request.TheVariants as requests
 use Rattle.mt_workers.specs.Jobs.{GivesBack, Jobs, TakesJob}
@@ -51,7 +51,7 @@ TouchesNoJob w line reply next = IsRepliedTo w.session line reply next.session �
 -- the session asked to renew a flight. Whatever it was answered.
 pub record HasAskedToRenew (s : Session) (call : List ℕ) (next : Session) : Type 0 where
   pub result : Result Entered No
-  pub seat : Seat
+  pub seat : BoardSeat
   pub changed : IsChanged s.seat (Renew call) result seat
   pub next_is : next ≡ with_seat s seat
 

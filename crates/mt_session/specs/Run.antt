@@ -1,6 +1,6 @@
 -- What a whole session means.
 use Rattle.std.specs.Prelude.{◌≡◌, ◌⊎◌, ℕ, List, [], Option, Some, None}
-use Rattle.mt_board.specs.Seat.{GoesOn, IsSameSeat, Seat}
+use Rattle.mt_board.specs.BoardSeat.{BoardSeat, GoesOn, IsSameSeat}
 use Rattle.mt_io.specs.Causes.{Rose}
 use Rattle.mt_lines.specs.Answering.{Explains}
 use Rattle.mt_lines.specs.Ending.{EndsSo}
@@ -37,7 +37,7 @@ jobs_in (Some jobs) = jobs
 
 -- a session ran over a link: its bytes mean the outcome, and faults were counted. Of the seat, the link and the outbox, if there is one, before and
 -- after it. A fault of the link is the outcome only where its count rose, or stands at its last value.
-pub record IsSession (seat seat_after : Seat) (link link_after : Link) (outbox outbox_after : Option (Option Jobs)) (outcome : Outcome) : Type 0 where
+pub record IsSession (seat seat_after : BoardSeat) (link link_after : Link) (outbox outbox_after : Option (Option Jobs)) (outcome : Outcome) : Type 0 where
   pub end : Session
   pub seat_is : end.seat ≡ seat_after
   pub explained : Explains

@@ -12,8 +12,8 @@ use Rattle.mt_board.specs.declared.ask.Ask.TheVariants as asks
 use Rattle.mt_board.specs.declared.no.No.{No}
 use Rattle.mt_board.specs.Asking.{IsRead}
 use Rattle.mt_board.specs.Changing.{IsChanged}
-use Rattle.mt_board.specs.Probing.{IsAdvised, IsNotAdvised, IsNotProbed, IsProbed, Probe, acceptance}
-use Rattle.mt_board.specs.Seat.{HasLooked, HasSeen, Seat}
+use Rattle.mt_board.specs.Probing.{IsAdvised, IsNotAdvised, IsNotProbed, IsProbed, ToldProbe, acceptance}
+use Rattle.mt_board.specs.BoardSeat.{BoardSeat, HasLooked, HasSeen}
 use Rattle.mt_board.specs.Settling.{IsNotSettled, HasSettled}
 use Rattle.mt_lines.specs.Told.{answer_reply, entered_reply, no_reply}
 use Rattle.mt_machine.specs.Book.{probe_at, with_all, with_probe}
@@ -33,19 +33,19 @@ pub record IsReplyGiven (given : Reply) (after : Session) (reply : Reply) (next 
 -- the reply to a read
 pub record IsReadAnswered (s : Session) (ask : Ask) (reply : Reply) (next : Session) : Type 0 where
   pub result : Result Answer No
-  pub seat : Seat
+  pub seat : BoardSeat
   pub read : IsRead s.seat ask result seat
   pub given : IsReplyGiven (answer_reply result) (with_seat s seat) reply next
 
 -- the reply to a command
 pub record IsCommanded (s : Session) (command : Command) (reply : Reply) (next : Session) : Type 0 where
   pub result : Result Entered No
-  pub seat : Seat
+  pub seat : BoardSeat
   pub changed : IsChanged s.seat command result seat
   pub given : IsReplyGiven (entered_reply result) (with_seat s seat) reply next
 
 -- `IsTrialInSession`, `IsTriedBy`: the reply to a probe, which is kept under the number that the reply names. Where it is refused, the book stays.
-abbrev pub IsTrialInSession : Session → List ℕ → Clearance → Option ℕ → Seat → Result Probe No → Reply → Session → Type 0
+abbrev pub IsTrialInSession : Session → List ℕ → Clearance → Option ℕ → BoardSeat → Result ToldProbe No → Reply → Session → Type 0
 IsTrialInSession s call clearance eff seat (Ok probe) reply next = IsProbed s.seat seat call clearance eff probe
     × IsReplyGiven (replies.Probe probe.hits probe.eff (raised s.book.count) probe.version)
     (record s { book = with_probe s.book probe; seat = seat }) reply next
@@ -53,35 +53,35 @@ IsTrialInSession s call clearance eff seat (Err denied) reply next = IsNotProbed
     × IsReplyGiven (no_reply denied) (with_seat s seat) reply next
 
 pub record IsTriedBy (s : Session) (call : List ℕ) (clearance : Clearance) (eff : Option ℕ) (reply : Reply) (next : Session) : Type 0 where
-  pub seat : Seat
-  pub result : Result Probe No
+  pub seat : BoardSeat
+  pub result : Result ToldProbe No
   pub tried : IsTrialInSession s call clearance eff seat result reply next
 
 -- probes' clearances with their numbers. They begin after so many.
-abbrev pub probe_items_from : ℕ → List Probe → List AdviceItem
+abbrev pub probe_items_from : ℕ → List ToldProbe → List AdviceItem
 probe_items_from count [] = []
 probe_items_from count (p ∷ ps) = record { clearance = p.clearance; probe = raised count } ∷ probe_items_from (raised count) ps
 
 -- the reply with advice, its probes kept under their numbers
 pub record IsAdvisedTo (s : Session) (call : List ℕ) (reply : Reply) (next : Session) : Type 0 where
-  pub seat : Seat
+  pub seat : BoardSeat
   pub eff : ℕ
   pub version : ℕ
-  pub probes : List Probe
+  pub probes : List ToldProbe
   pub advised : IsAdvised s.seat seat call eff version probes
   pub given : IsReplyGiven (replies.Advice (probe_items_from s.book.count probes) call eff version)
       (record s { book = with_all s.book probes; seat = seat }) reply next
 
 -- the refusal of advice
 pub record IsAdviceDenied (s : Session) (call : List ℕ) (reply : Reply) (next : Session) : Type 0 where
-  pub seat : Seat
+  pub seat : BoardSeat
   pub denied : No
   pub not_advised : IsNotAdvised s.seat seat call denied
   pub given : IsReplyGiven (no_reply denied) (with_seat s seat) reply next
 
 -- a probe's number is refused, at a version then seen
 pub record IsNumberRefused (s : Session) (refusal : Refusal) (reply : Reply) (next : Session) : Type 0 where
-  pub seat : Seat
+  pub seat : BoardSeat
   pub version : ℕ
   pub seen : HasSeen s.seat seat version
   pub given : IsReplyGiven (replies.Refused refusal version) (with_seat s seat) reply next
@@ -92,14 +92,14 @@ is_none_listed [] = true
 is_none_listed (x ∷ xs) = false
 
 -- the reply to an acceptance: unknown, not free, or decided. The book has no probe of that number; the probe had hits; or what came of it now.
-abbrev pub IsAcceptanceAnswered : Session → Option Probe → Reply → Session → Type 0
+abbrev pub IsAcceptanceAnswered : Session → Option ToldProbe → Reply → Session → Type 0
 IsAcceptanceAnswered s None reply next = IsNumberRefused s NoProbe reply next
 IsAcceptanceAnswered s (Some probe) reply next = MatchBool (is_none_listed probe.hits)
     (IsCommanded s (acceptance probe) reply next) (IsNumberRefused s NotFree reply next)
 
 -- the reply to a settling, with the flights still due
 pub record IsSettledBy (s : Session) (reply : Reply) (next : Session) : Type 0 where
-  pub seat : Seat
+  pub seat : BoardSeat
   pub left : List (List ℕ)
   pub version : ℕ
   pub settled : HasSettled s.seat seat left version
@@ -137,13 +137,13 @@ IsAskAnswered s (Err refusal) reply next = IsReplyGiven refusal s reply next
 IsAskAnswered s (Ok asked_in_role) reply next = IsServedInSession s asked_in_role.1 reply next
 
 -- what a request without memory leaves of a seat. More may have been seen, and settling may have renewed some flights.
-abbrev pub IsSessionLeft : Request → Seat → Seat → Type 0
+abbrev pub IsSessionLeft : Request → BoardSeat → BoardSeat → Type 0
 IsSessionLeft requests.Settle = IsNotSettled
 IsSessionLeft request = HasLooked
 
 -- `IsStarvedBy`, `IsLooked`, `IsStarvedInSession`, `IsStarvedOf`: `memory` is the reply, and only the seat may have changed
-pub record IsStarvedBy (Left : Seat → Seat → Type 0) (s : Session) (reply : Reply) (next : Session) : Type 0 where
-  pub seat : Seat
+pub record IsStarvedBy (Left : BoardSeat → BoardSeat → Type 0) (s : Session) (reply : Reply) (next : Session) : Type 0 where
+  pub seat : BoardSeat
   pub left : Left s.seat seat
   pub given : IsReplyGiven replies.Memory (with_seat s seat) reply next
 

@@ -3,8 +3,8 @@ use Rattle.std.specs.Prelude.{ℕ, List, length, nat_lt, Option, Some, None, Res
 use Rattle.mt_base.specs.Rules.{usual_rules}
 use Rattle.mt_base.specs.declared.role.Role.{Role}
 use Rattle.mt_base.specs.declared.role.Role.TheVariants.{Feed, Position}
-use Rattle.mt_board.specs.Probing.{Probe}
-use Rattle.mt_board.specs.Seat.{Seat}
+use Rattle.mt_board.specs.Probing.{ToldProbe}
+use Rattle.mt_board.specs.BoardSeat.{BoardSeat}
 use Rattle.mt_machine.specs.Book.{Book, empty_book}
 use Rattle.mt_read.specs.Line.{line as read_as}
 use Rattle.mt_read.specs.declared.request.Sender.{Sender}
@@ -17,15 +17,15 @@ use Rattle.mt_wire.specs.Refused.{or_reply}
 -- a session's role, book of probes and seat
 pub record Session : Type 0 where
   pub role : Option Role
-  pub book : Book Probe
-  pub seat : Seat
+  pub book : Book ToldProbe
+  pub seat : BoardSeat
 
 -- a session as it begins
-abbrev pub new_session : Seat → Session
+abbrev pub new_session : BoardSeat → Session
 new_session seat = record { role = None; book = empty_book; seat = seat }
 
 -- a session with another seat
-abbrev pub with_seat : Session → Seat → Session
+abbrev pub with_seat : Session → BoardSeat → Session
 with_seat s seat = record s { seat = seat }
 
 -- the sender that a role stands for

@@ -10,7 +10,7 @@ use crate::serving::Serving;
 use mt_base::Refusal;
 use mt_board::{Board, Probed};
 use mt_io::Gate;
-use mt_lines::changed;
+use mt_lines::reply_to_change;
 use mt_wire::Reply;
 use std::sync::Wait;
 use std::thread::Threads;
@@ -35,6 +35,6 @@ impl<B: Board> Serving<B> {
         if !probe.hits().is_empty() {
             return self.refuse_number(rt, Refusal::NotFree);
         }
-        changed(self.board.accept(rt, probe, gate))
+        reply_to_change(self.board.accept(rt, probe, gate))
     }
 }

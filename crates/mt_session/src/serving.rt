@@ -6,7 +6,7 @@ ghost use Rattle.mt_base.specs.Tally.{raised};
 ghost use Rattle.mt_board.specs.Asking.{IsRead, IsShortAnswer};
 ghost use Rattle.mt_board.specs.Changing.{IsChanged};
 ghost use Rattle.mt_board.specs.Probing.{IsPast};
-ghost use Rattle.mt_board.specs.Seat.{Seat};
+ghost use Rattle.mt_board.specs.BoardSeat.{BoardSeat};
 ghost use Rattle.mt_machine.specs.Book.{empty_book, with_probe};
 ghost use Rattle.mt_session.specs.Private.Keeping.{StaysOn};
 ghost use Rattle.mt_session.specs.Session.{new_session, with_seat};
@@ -29,9 +29,9 @@ pub struct Serving<B: Board> {
 
 impl<B: Board> Model for Serving<B> {
     ghost use Rattle.mt_machine.specs.Book.{told_book};
-    ghost use Rattle.mt_session.specs.Private.Keeping.{ArePast, Held};
+    ghost use Rattle.mt_session.specs.Private.Keeping.{ArePast, ServingNow};
 
-    ghost Value = { Held B.Home };
+    ghost Value = { ServingNow B.Home };
 
     ghost view = { λ s. record { session = record { role = s.role; book = told_book B.Probe.told s.book; seat = B.seat s.board }; home = B.home s.board } };
 
@@ -68,7 +68,7 @@ impl<B: Board> Serving<B> {
     // Reads.
     pub(crate) fn read<R: Threads + Wait + Sync>(&mut self, rt: &R, ask: &Ask) -> Result<Answer, No>
         requires sync { IsSync R.row }
-        ensures read { (seat : Seat) × IsRead self.old.session.seat ask.now result seat × (self.new.session ≡ with_seat self.old.session seat) }
+        ensures read { (seat : BoardSeat) × IsRead self.old.session.seat ask.now result seat × (self.new.session ≡ with_seat self.old.session seat) }
         ensures short { IfOk result IsShortAnswer }
         ensures on { StaysOn self.old self.new }
     {
@@ -85,7 +85,7 @@ impl<B: Board> Serving<B> {
         requires sync { IsSync R.row }
         requires bounded { IsBoundedCommand command }
         requires asked_for { IsAskedFor command }
-        ensures changed { (seat : Seat) × IsChanged self.old.session.seat command result seat × (self.new.session ≡ with_seat self.old.session seat) }
+        ensures changed { (seat : BoardSeat) × IsChanged self.old.session.seat command result seat × (self.new.session ≡ with_seat self.old.session seat) }
         ensures on { StaysOn self.old self.new }
     {
         self.board.change(rt, command, gate)

@@ -1,7 +1,7 @@
 //! Settling: one line, several steps.
 ghost use Rattle.std.specs.Prelude.{◌≡◌, ◌⊎◌, IfSome, Result};
 ghost use Rattle.std.specs.Thread.{IsSync};
-ghost use Rattle.mt_board.specs.Seat.{Seat};
+ghost use Rattle.mt_board.specs.BoardSeat.{BoardSeat};
 ghost use Rattle.mt_board.specs.Short.{AreFewCalls};
 ghost use Rattle.mt_lines.specs.Fit.{IsFit};
 ghost use Rattle.mt_session.specs.Private.Keeping.{StaysOn};
@@ -59,7 +59,7 @@ impl<B: Board> Serving<B> {
         gate: &G,
     ) -> Option<(Calls, u64)>
         requires sync { IsSync R.row }
-        ensures settled { (seat : Seat) × Settles self.old.session.seat result seat × (self.new.session ≡ with_seat self.old.session seat) }
+        ensures settled { (seat : BoardSeat) × Settles self.old.session.seat result seat × (self.new.session ≡ with_seat self.old.session seat) }
         ensures short { IfSome result (λ told. AreFewCalls told.0) }
         ensures on { StaysOn self.old self.new }
     {

@@ -13,6 +13,6 @@ mod trying;
 
 pub use advising::advise;
 pub use checking::{check, roster_of};
-pub use laws::one_answer_law;
+pub use laws::same_advice_law;
 pub use renewals::due;
-pub use telling::view;
+pub use telling::view_of_call;

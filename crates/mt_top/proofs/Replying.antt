@@ -19,7 +19,7 @@ use Rattle.mt_base.proofs.Cases.{on_either}
 use Rattle.mt_lines.proofs.Brief.{not_given}
 use Rattle.mt_top.specs.Script.{IsAnswered, IsLeftBy, IsReplied, asked}
 use Rattle.mt_machine.specs.Book.{probe_at}
-use Rattle.mt_board.specs.Probing.{Probe}
+use Rattle.mt_board.specs.Probing.{ToldProbe}
 use Rattle.mt_world.proofs.Areas.{added_either}
 use Rattle.mt_world.specs.World.{IsAcceptedOf, IsAdded, IsAdvisedAs, IsWorldLeft, IsOutcome, IsServed, IsFlightTold, IsTrialAnswered, World, actor_of, is_empty, picture_of}
 
@@ -45,7 +45,7 @@ told_free : (w next : World) (who : ℕ) (call : List ℕ) (eff : ℕ) (advice :
 told_free w next who call eff (Ok advised) reply b g = not_given _ reply _ g.reply_is refl b
 told_free w next who call eff (Err refusal) reply b r = r.same
 
-accepted : (w next : World) (who : ℕ) (found : Option Probe) (reply : Reply) → is_brief reply ≡ false → IsAcceptedOf w who found reply next → next ≡ w
+accepted : (w next : World) (who : ℕ) (found : Option ToldProbe) (reply : Reply) → is_brief reply ≡ false → IsAcceptedOf w who found reply next → next ≡ w
 accepted w next who None reply b r = r.same
 accepted w next who (Some probe) reply b a =
     on_either (is_empty probe.hits) _ _ _ (λ changed. outcome w next changed.decision reply b changed.outcome) (λ r. r.same) a

@@ -16,7 +16,7 @@ fn tent_of(mark: &Mark) -> Tent
 }
 
 /// What is told of a flight with this strand at second `k`, as of a version: what `view_of_path` says.
-pub fn view_of(flight: &Record, strand: &Strand, k: Second, version: u64) -> FlightView
+pub fn view_of_path(flight: &Record, strand: &Strand, k: Second, version: u64) -> FlightView
     ensures { result ≡ view_of_path flight.now.call flight.now.path strand.now k version }
 {
     let told = FlightView {

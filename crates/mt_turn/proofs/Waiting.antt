@@ -10,7 +10,7 @@ use Rattle.mt_turn.specs.declared.view.Phase.TheVariants.{Idle, Waits, Holds}
 use Rattle.mt_turn.specs.declared.view.View.{View}
 use Rattle.mt_turn.specs.Views.{entries_of, with_phase}
 use Rattle.mt_turn.specs.Private.Turning.{IsUnspent, HasTicket, HasSlot, tickets, numbers_drawn, Knows, AtHome, IsOut, Turning}
-use Rattle.mt_turn.specs.Private.Steps.{Seated, Draws, Looks}
+use Rattle.mt_turn.specs.Private.Steps.{Seated, DrawsTicket, Looks}
 use Rattle.mt_turn.proofs.Facts.{goes_self, none_later}
 use Rattle.mt_turn.proofs.Lists.{inside, same_at, out_set, out_le}
 use Rattle.mt_turn.proofs.Phases.{ticket_unspent, served_unspent, ticket_within, served_ticket, after_draw}
@@ -20,7 +20,7 @@ module _ {E F S : Type 0} (history : S → List E) (number : E → ℕ) (fixed :
   abbrev Rule : State (Option S) (View E F) → Type 0
   Rule = Turning history number fixed plain
 
-  pub draws : (slots id : ℕ) (m : Seated E F S) → m.0.phase ≡ Idle → Allows Rule slots id m 0 (λ n. (n + 1) % 2 ^ 64) (Draws m)
+  pub draws : (slots id : ℕ) (m : Seated E F S) → m.0.phase ≡ Idle → Allows Rule slots id m 0 (λ n. (n + 1) % 2 ^ 64) (DrawsTicket m)
   draws slots id m idle s r _ at _ =
       let v = m.0 in
       let un : IsUnspent m.0.phase = subst IsUnspent (sym idle) tt in

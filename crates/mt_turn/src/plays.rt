@@ -1,5 +1,5 @@
 //! The kinds of step: one type each, which says what the step tells or how it changes views.
-ghost use Rattle.mt_turn.specs.Private.Steps.{Draws, Looks, SeesHistory, HandsOn, Numbers};
+ghost use Rattle.mt_turn.specs.Private.Steps.{DrawsTicket, Looks, SeesHistory, HandsOn, Numbers};
 ghost use Rattle.mt_turn.specs.Views.{giver, newcomer, taker};
 ghost use Rattle.mt_turn.specs.Private.Views.{spent};
 
@@ -12,24 +12,24 @@ use std::marker::PhantomData;
 pub(crate) struct Draw;
 
 impl<T, E, F> Play<Option<T>, View<E, F>> for Draw {
-    ghost then = { λ _. Draws };
+    ghost then = { λ _. DrawsTicket };
 }
 
 /// Look at the ticket being served.
-pub(crate) struct Look<T> {
+pub(crate) struct Peek<T> {
     value: PhantomData<T>,
 }
 
-impl<T: Recorded> Play<Option<T>, View<T::Entry, T::Fixed>> for Look<T> {
+impl<T: Recorded> Play<Option<T>, View<T::Entry, T::Fixed>> for Peek<T> {
     ghost then = { λ _. Looks T.history T.number T.fixed };
 }
 
 /// Count the entries that were added.
-pub(crate) struct Count<T> {
+pub(crate) struct Add<T> {
     value: PhantomData<T>,
 }
 
-impl<T: Recorded> Play<Option<T>, View<T::Entry, T::Fixed>> for Count<T> {
+impl<T: Recorded> Play<Option<T>, View<T::Entry, T::Fixed>> for Add<T> {
     ghost then = { λ _. SeesHistory T.history T.number };
 }
 

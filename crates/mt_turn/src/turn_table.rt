@@ -5,7 +5,7 @@ ghost use Rattle.mt_turn.specs.declared.view.Phase.TheVariants.{Idle, Waits, Hol
 ghost use Rattle.mt_turn.specs.Views.{first_view, with_phase, giver, newcomer, taker, up_to};
 ghost use Rattle.mt_turn.specs.Lending.{HasTurn, Lent, Grows, Left, AllJoined, ClosesHistory};
 
-use crate::plays::{Count, Cut, Draw, Glue, Look, Number, Pass};
+use crate::plays::{Add, Cut, Draw, Glue, Number, Pass, Peek};
 use crate::recorded::Recorded;
 use crate::rule::Rule;
 use crate::view::View;
@@ -155,7 +155,7 @@ impl<T: Recorded> TurnTable<T> {
             if !self.watch(ticket) {
                 bed.store(mark, Ordering::SeqCst);
             }
-            let served = self.table.shared.load::<Look<T>>(token, SERVING);
+            let served = self.table.shared.load::<Peek<T>>(token, SERVING);
             if served == ticket {
                 return self.take(token);
             }
@@ -204,7 +204,7 @@ impl<T: Recorded> TurnTable<T> {
         let _ = lent;
         let added = value.count() - count;
         self.put(token, value);
-        self.table.shared.fetch_add::<Count<T>>(token, COUNT, added);
+        self.table.shared.fetch_add::<Add<T>>(token, COUNT, added);
         self.table.shared.fetch_add::<Pass>(token, SERVING, 1);
         self.wake_next();
     }

@@ -5,7 +5,7 @@ use Rattle.mt_base.specs.declared.command.Command.TheVariants.{Renew}
 use Rattle.mt_base.specs.declared.command.Entered.{Entered}
 use Rattle.mt_board.specs.declared.no.No.{No}
 use Rattle.mt_board.specs.Changing.{IsChanged}
-use Rattle.mt_board.specs.Seat.{Seat}
+use Rattle.mt_board.specs.BoardSeat.{BoardSeat}
 use Rattle.mt_board.proofs.SeatLemmas.{renewals_add}
 use Rattle.mt_workers.specs.Jobs.{AreTaken, AreJobsOver}
 use Rattle.mt_workers.specs.Work.{HasWorkedAll}
@@ -22,11 +22,11 @@ taken_on (Some js) (Some bs) None xs ys ab bc = absurd bc
 taken_on (Some js) (Some bs) (Some cs) xs ys ab bc = ab ∙ ap (λ s. xs ++ s) bc ∙ sym (append_assoc xs ys cs)
 
 -- before the first job
-pub idle : (left : Option (List (List ℕ))) (s : Seat) → HasWorked left left s s
+pub idle : (left : Option (List (List ℕ))) (s : BoardSeat) → HasWorked left left s s
 idle left s = record { calls = []; taken = none_taken left; results = []; renewed = refl }
 
 -- one job more
-pub works_on : (left now next : Option (List (List ℕ))) (s middle t : Seat) (call : List ℕ) (r : Result Entered No)
+pub works_on : (left now next : Option (List (List ℕ))) (s middle t : BoardSeat) (call : List ℕ) (r : Result Entered No)
     → HasWorked left now s middle → AreTaken now next (call ∷ []) → IsChanged middle (Renew call) r t → HasWorked left next s t
 works_on left now next s middle t call r so_far taken changed = record {
   calls = so_far.calls ++ call ∷ [];
@@ -42,7 +42,7 @@ all_of (Some xs) (Some ys) None calls taken last over = absurd last
 all_of (Some xs) (Some ys) (Some zs) calls taken last over = taken ∙ rw (last, over) (append-nil calls)
 
 -- no job is left
-pub works_all : (left now end : Option (List (List ℕ))) (s t : Seat) → HasWorked left now s t → AreTaken now end [] → AreJobsOver end → HasWorkedAll left s t
+pub works_all : (left now end : Option (List (List ℕ))) (s t : BoardSeat) → HasWorked left now s t → AreTaken now end [] → AreJobsOver end → HasWorkedAll left s t
 works_all left now end s t so_far last over = record {
   calls = so_far.calls;
   all = all_of left now end so_far.calls so_far.taken last over;

@@ -1,7 +1,7 @@
 //! A worker.
 ghost use Rattle.std.specs.Prelude.{◌≡◌};
 ghost use Rattle.std.specs.Thread.{IsSync};
-ghost use Rattle.mt_board.specs.Seat.{GoesOn, IsSameSeat};
+ghost use Rattle.mt_board.specs.BoardSeat.{GoesOn, IsSameSeat};
 ghost use Rattle.mt_workers.specs.Work.{HasWorkedAll};
 
 use crate::inbox::Inbox;

@@ -15,7 +15,7 @@ use Rattle.mt_base.specs.Picture.{State}
 use Rattle.mt_base.specs.Tables.{Setup}
 use Rattle.mt_base.specs.WhatIf.{IsWhatIf}
 use Rattle.mt_board.specs.declared.no.No.{No}
-use Rattle.mt_board.specs.Probing.{Probe, acceptance}
+use Rattle.mt_board.specs.Probing.{ToldProbe, acceptance}
 use Rattle.mt_machine.specs.Book.{probe_at}
 use Rattle.mt_machine.proofs.Books.{all_at, told_at}
 use Rattle.mt_picture.specs.Story.{IsEntered, IsPrepGivenFor, IsCommandRefused as IsDenied, Story}
@@ -83,7 +83,7 @@ module _ (areas : List Area) (story : Story) (actors : List Actor) (who : ℕ) (
 
   pub not_free : (reply : Reply) → (length p.hits == 0) ≡ false → reply ≡ replies.Refused NotFree (length story.history)
       → IsAccepted (seen areas story actors) who number reply (seen areas story actors)
-  not_free reply some refused = subst (λ (o : Option Probe). IsAcceptedOf (seen areas story actors) who o reply (seen areas story actors)) (sym told_found)
+  not_free reply some refused = subst (λ (o : Option ToldProbe). IsAcceptedOf (seen areas story actors) who o reply (seen areas story actors)) (sym told_found)
       (subst (λ (b : Bool). MatchBool b (IsCommandAnswered (seen areas story actors) who (acceptance (told_of p)) reply (seen areas story actors))
       (IsRefused (seen areas story actors) (replies.Refused NotFree (length story.history)) reply (seen areas story actors))) (sym (full_list p.hits some))
       (record { reply_is = refused; same = refl }))
@@ -91,7 +91,7 @@ module _ (areas : List Area) (story : Story) (actors : List Actor) (who : ℕ) (
   pub accepted : (next : World) (reply : Reply) → p.hits ≡ []
       → IsCommandAnswered (seen areas story actors) who (accepting p) reply next ⊎ IsRefused (seen areas story actors) replies.Memory reply next
       → IsAccepted (seen areas story actors) who number reply next ⊎ IsRefused (seen areas story actors) replies.Memory reply next
-  accepted next reply none (inl changed) = inl (subst (λ (o : Option Probe). IsAcceptedOf (seen areas story actors) who o reply next) (sym told_found)
+  accepted next reply none (inl changed) = inl (subst (λ (o : Option ToldProbe). IsAcceptedOf (seen areas story actors) who o reply next) (sym told_found)
       (subst (λ (hits : List Hit). MatchBool (is_empty hits) (IsCommandAnswered (seen areas story actors) who (acceptance (told_of p)) reply next)
       (IsRefused (seen areas story actors) (replies.Refused NotFree (length story.history)) reply next)) (sym none) changed))
   accepted next reply none (inr memory) = inr memory
@@ -124,4 +124,4 @@ no_probe areas story actors who a sound below is number none reply refused =
     let within : who < length actors = rw sound.sixteen below in
     let told : probe_at (actor_of (seen areas story actors) who).book number ≡ None =
     ap (λ (b : world.Actor). probe_at b.book number) (actor_is actors who a within is) ∙ told_at told_of a.book number ∙ ap (option_map told_of) none in
-    subst (λ (o : Option Probe). IsAcceptedOf (seen areas story actors) who o reply (seen areas story actors)) (sym told) (record { reply_is = refused; same = refl })
+    subst (λ (o : Option ToldProbe). IsAcceptedOf (seen areas story actors) who o reply (seen areas story actors)) (sym told) (record { reply_is = refused; same = refl })

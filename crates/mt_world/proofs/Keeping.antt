@@ -7,7 +7,7 @@ use Rattle.mt_base.specs.declared.clearance.Clearance.{Clearance}
 use Rattle.mt_base.specs.declared.flight.Record.{Record}
 use Rattle.mt_base.specs.declared.hit.Hit.{Hit}
 use Rattle.mt_base.specs.Picture.{flight_of}
-use Rattle.mt_board.specs.Probing.{Probe}
+use Rattle.mt_board.specs.Probing.{ToldProbe}
 use Rattle.mt_machine.specs.Book.{probe_at}
 use Rattle.mt_read.specs.declared.request.Request.{Request}
 use Rattle.mt_read.specs.declared.request.Request.TheVariants as requests
@@ -50,7 +50,7 @@ told : (w next : World) (call : List ℕ) (sec : Option ℕ) (found : Option Rec
 told w next call sec (Some flight) reply g = kept_same w next g.next_is
 told w next call sec None reply r = kept_same w next r.same
 
-accepted : (w next : World) (who : ℕ) (found : Option Probe) (reply : Reply) → IsAcceptedOf w who found reply next → IsSetupKept w next
+accepted : (w next : World) (who : ℕ) (found : Option ToldProbe) (reply : Reply) → IsAcceptedOf w who found reply next → IsSetupKept w next
 accepted w next who None reply r = kept_same w next r.same
 accepted w next who (Some probe) reply a =
     on_either (is_empty probe.hits) _ _ _ (λ changed. outcome w next changed.decision reply changed.outcome) (λ r. kept_same w next r.same) a

@@ -27,7 +27,7 @@ use Rattle.mt_machine.specs.Book.{probe_at}
 use Rattle.mt_write.specs.declared.reply.DoneWord.{DoneWord}
 use Rattle.mt_write.specs.declared.reply.Reply.{Reply}
 use Rattle.mt_write.specs.declared.reply.Reply.TheVariants.{Areas as areas_told, List as listed, Settled as settled}
-use Rattle.mt_board.specs.Probing.{Probe}
+use Rattle.mt_board.specs.Probing.{ToldProbe}
 use Rattle.mt_base.proofs.Cases.{on_both}
 use Rattle.mt_world.specs.World.{AreAreasTold, IsAcceptedOf, IsAdded, IsAdviceAnswered, IsAdvisedAs, IsAreaAdded, IsAreaGiven, IsCommandAnswered, IsGiven, IsListAnswered, IsOutcome, IsProbeAnswered, IsRefused, IsServed, IsSettling, IsFlightTold, IsTrialAnswered, World, actor_of, is_empty, picture_of, picture_taken, setup_of}
 use Rattle.mt_base.proofs.OneSolution.{one_advised, one_decision, one_renewal, one_what_if}
@@ -106,7 +106,7 @@ one_probed w who call clearance eff r s next other x y =
     one_tried w who call clearance at x.result r s next other x.tried
     (subst (λ (found : Result (List Hit) Refusal). IsTrialAnswered w who call clearance at found s other) same y.tried)
 
-one_accepted : (w : World) (who : ℕ) (found : Option Probe) (r s : Reply) (next other : World) → IsAcceptedOf w who found r next
+one_accepted : (w : World) (who : ℕ) (found : Option ToldProbe) (r s : Reply) (next other : World) → IsAcceptedOf w who found r next
     → IsAcceptedOf w who found s other → AreOne r s next other
 one_accepted w who None r s next other x y = one_refused w _ r s next other x y
 one_accepted w who (Some probe) r s next other x y =

@@ -26,7 +26,7 @@ use Rattle.mt_base.specs.Tally.{raised}
 use Rattle.mt_base.specs.Tables.{Setup, Tables, no_tables}
 use Rattle.mt_base.specs.View.{view_of}
 use Rattle.mt_base.specs.WhatIf.{IsWhatIf}
-use Rattle.mt_board.specs.Probing.{Probe, acceptance, free_probe}
+use Rattle.mt_board.specs.Probing.{ToldProbe, acceptance, free_probe}
 use Rattle.mt_picture.specs.Story.{Story}
 use Rattle.mt_machine.specs.Book.{Book, empty_book, probe_at, with_all, with_probe}
 use Rattle.mt_tables.specs.declared.add_no.AddNo.{AddNo}
@@ -49,7 +49,7 @@ is_empty (x ∷ xs) = false
 -- `Actor`, `new_actor`: a script's actor: entries taken, and book of probes
 pub record Actor : Type 0 where
   pub taken : ℕ
-  pub book : Book Probe
+  pub book : Book ToldProbe
 
 abbrev pub new_actor : Actor
 new_actor = record { taken = 0; book = empty_book }
@@ -100,7 +100,7 @@ abbrev pub picture_taken : World → ℕ → State
 picture_taken w who = state_of (setup_of w) (take (actor_of w who).taken w.history)
 
 -- `with_book`, `with_all_taken`: a world with an actor's new book, or with all entries taken by it
-abbrev pub with_book : World → ℕ → Book Probe → World
+abbrev pub with_book : World → ℕ → Book ToldProbe → World
 with_book w who book = record w { actors = slice_set w.actors who (record (actor_of w who) { book = book }) }
 
 abbrev pub with_all_taken : World → ℕ → World
@@ -188,7 +188,7 @@ pub record IsProbeAnswered (w : World) (who : ℕ) (call : List ℕ) (clearance 
 
 -- `IsAcceptedOf`, `IsAccepted`: the reply to an acceptance: unknown, not free, or decided. The book has no probe of that number; the probe had hits;
 -- or what is decided of it now.
-abbrev pub IsAcceptedOf : World → ℕ → Option Probe → Reply → World → Type 0
+abbrev pub IsAcceptedOf : World → ℕ → Option ToldProbe → Reply → World → Type 0
 IsAcceptedOf w who None reply next = IsRefused w (replies.Refused NoProbe (length w.history)) reply next
 IsAcceptedOf w who (Some probe) reply next = MatchBool (is_empty probe.hits)
     (IsCommandAnswered w who (acceptance probe) reply next)

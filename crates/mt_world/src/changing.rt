@@ -10,7 +10,7 @@ ghost use Rattle.mt_world.specs.World.{IsAccepted, IsCommandAnswered, IsRefused}
 use crate::centre::Centre;
 use mt_base::{Command, Entered, Refusal, Tally};
 use mt_board::{No, Probed};
-use mt_lines::changed;
+use mt_lines::reply_to_change;
 use mt_probe::{Prep, makes_strand, prepare};
 use mt_write::Reply;
 
@@ -22,7 +22,7 @@ impl Centre {
         ensures answered { IsCommandAnswered self.old who command.now result self.new ⊎ IsRefused self.old replies.Memory result self.new }
         ensures fit { IsFit result }
     {
-        changed(self.enter(who, command, tests))
+        reply_to_change(self.enter(who, command, tests))
     }
 
     // Enters a command, or says why not; it is prepared on the state now, where it makes a trajectory.
@@ -108,7 +108,7 @@ impl Centre {
             return Reply::Memory;
         };
         let command = prep.command();
-        changed(
+        reply_to_change(
             self.picture
                 .publish(self.alloc, who, command, Some(&prep), tests),
         )

@@ -17,7 +17,7 @@ use mt_lines::told;
 use mt_memory::Memory;
 use mt_picture::Picture;
 use mt_read::Request;
-use mt_snapshot::{check, due, view};
+use mt_snapshot::{check, due, view_of_call};
 use mt_write::Reply;
 use std::alloc::Global;
 use std::thread::Threads;
@@ -133,7 +133,7 @@ fn viewed(
     ensures { IfOk result (λ told. told ≡ option_map (view_of picture.now.setup (state_of picture.now.setup picture.now.history) sec)
         (flight_of (state_of picture.now.setup picture.now.history).records call)) }
 {
-    Ok(view(&picture.snapshot()?, call, sec))
+    Ok(view_of_call(&picture.snapshot()?, call, sec))
 }
 
 // Some entries of the history.

@@ -10,7 +10,7 @@ ghost use Rattle.serde_json.specs.Written.{compact_text};
 use crate::cleared::{Accepted, put_accept, put_call, put_clear, put_who};
 use crate::external::put_external;
 use crate::number::put_numbers;
-use crate::planned::{Start, put_plan};
+use crate::planned::{PlanStart, put_plan};
 use crate::truth::truth_text;
 use crate::write::{put, put_all};
 use crate::written::Written;
@@ -37,7 +37,7 @@ impl Written for Entry {
                 level,
                 rvsm,
             } => {
-                let start = Start {
+                let start = PlanStart {
                     at: *at,
                     from: *from,
                     level: *level,

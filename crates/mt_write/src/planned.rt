@@ -13,7 +13,7 @@ use mt_memory::Memory;
 
 /// When a plan begins, and its levels.
 #[derive(Clone, Copy)]
-pub(crate) struct Start {
+pub(crate) struct PlanStart {
     pub(crate) at: u32,
     pub(crate) from: u32,
     pub(crate) level: u32,
@@ -26,7 +26,7 @@ pub(crate) fn put_plan(
     call: &Callsign,
     kind: &TypeName,
     route: &Route,
-    start: &Start,
+    start: &PlanStart,
     rvsm: bool,
 ) -> Result<(), Memory>
     ensures { Puts result out.old out.new

@@ -5,7 +5,7 @@ use Rattle.std.specs.Io.KnownBytes.{IsAtEnd}
 use Rattle.arrayvec.specs.ArrayVec.{ArrayVec}
 use Rattle.mt_ws.specs.declared.opening.LinkKind.{LinkKind}
 use Rattle.mt_ws.specs.declared.opening.LinkKind.TheVariants as Kind
-use Rattle.mt_ws.specs.Methods.{text_of, IsFrontOfMethod, ReadsHead}
+use Rattle.mt_ws.specs.Methods.{method_text, IsFrontOfMethod, ReadsHead}
 use Rattle.mt_ws.specs.Opening.{BeginsLink}
 use Rattle.mt_ws.specs.Private.Opening.{IsKindBy}
 use Rattle.mt_ws.proofs.Opened.{ended_before}
@@ -15,7 +15,7 @@ use Rattle.mt_ws.proofs.Texts.{no_front_g, none_is_front}
 front_take : (n : ℕ) (head : List ℕ) → IsFrontOfMethod head → IsFrontOfMethod (take n head)
 front_take n head front =
     let rest = front.1.0.0 in
-    let is : text_of front.0 ≡ take n head ++ (drop n head ++ rest) =
+    let is : method_text front.0 ≡ take n head ++ (drop n head ++ rest) =
     front.1.0.1 ∙ (ap (λ l. l ++ rest) (sym (take-append-drop n head)) ∙ append_assoc (take n head) (drop n head) rest) in
     (front.0, ((drop n head ++ rest, is), omega (arith, length-take n head, front.1.1)))
 

@@ -2,7 +2,7 @@
 use Rattle.std.proofs.Common.{◌≡◌, ◌<◌, ℕ, List, [], ◌∷◌, length, get_or, refl, ap, arith, Any, ◌⊎◌, inl, inr}
 use Rattle.mt_ws.specs.declared.methods.Method.{Method}
 use Rattle.mt_ws.specs.declared.methods.Method.TheVariants as Named
-use Rattle.mt_ws.specs.Methods.{text_of, IsFrontOfMethod}
+use Rattle.mt_ws.specs.Methods.{method_text, IsFrontOfMethod}
 
 abbrev pub all_methods : List Method
 all_methods = Named.Post ∷ Named.Put ∷ Named.Head ∷ Named.Options ∷ Named.Delete ∷ Named.Patch ∷ Named.Trace ∷ Named.Connect ∷ []
@@ -19,7 +19,7 @@ any_method P Named.Trace p = (6, Named.Trace, omega arith, refl, p)
 any_method P Named.Connect p = (7, Named.Connect, omega arith, refl, p)
 
 -- a method and its space have at most 8 bytes
-short : (m : Method) (n : ℕ) → n < length (text_of m) → n < 8
+short : (m : Method) (n : ℕ) → n < length (method_text m) → n < 8
 short Named.Post n few = omega arith
 short Named.Put n few = omega arith
 short Named.Head n few = omega arith
@@ -33,7 +33,7 @@ pub front_is_short : (bytes : List ℕ) → IsFrontOfMethod bytes → length byt
 front_is_short bytes front = short front.0 (length bytes) front.1.1
 
 -- no method begins with a `G`
-first_byte : (m : Method) → (get_or (text_of m) 0 0 < 71) ⊎ (71 < get_or (text_of m) 0 0)
+first_byte : (m : Method) → (get_or (method_text m) 0 0 < 71) ⊎ (71 < get_or (method_text m) 0 0)
 first_byte Named.Post = inr (omega arith)
 first_byte Named.Put = inr (omega arith)
 first_byte Named.Head = inr (omega arith)
@@ -48,8 +48,8 @@ other n (inl lt) is = absurd (omega arith)
 other n (inr gt) is = absurd (omega arith)
 
 pub no_front_g : (rest : List ℕ) → IsFrontOfMethod (71 ∷ rest) → ⊥
-no_front_g rest front = other (get_or (text_of front.0) 0 0) (first_byte front.0) (ap (λ l. get_or l 0 0) front.1.0.1)
+no_front_g rest front = other (get_or (method_text front.0) 0 0) (first_byte front.0) (ap (λ l. get_or l 0 0) front.1.0.1)
 
 -- of no bytes more can become of any
 pub none_is_front : IsFrontOfMethod []
-none_is_front = (Named.Post, ((text_of Named.Post, refl), omega arith))
+none_is_front = (Named.Post, ((method_text Named.Post, refl), omega arith))

@@ -1,6 +1,6 @@
 //! How a request of HTTP begins that asks for no WebSocket.
 ghost use Rattle.std.specs.Prelude.{◌↔◌, ◌≡◌, Any, IsTrue};
-ghost use Rattle.mt_ws.specs.Methods.{HasFront, BeginsWithMethod, IsFrontOf, IsFrontOfMethod, text_of as text_by};
+ghost use Rattle.mt_ws.specs.Methods.{HasFront, BeginsWithMethod, IsFrontOf, IsFrontOfMethod, method_text as text_by};
 
 /// A method of HTTP other than `GET`.
 #[derive(Clone, Copy)]
@@ -28,7 +28,7 @@ const METHODS: [Method; 8] = [
 ];
 
 /// Whether the bytes begin with a method and its space.
-pub fn is_request(bytes: &[u8]) -> bool
+pub fn begins_with_method(bytes: &[u8]) -> bool
     ensures { IsTrue result ↔ BeginsWithMethod bytes.now }
 {
     begins_with_one(bytes, &METHODS)

@@ -6,7 +6,7 @@ ghost use Rattle.mt_ws.specs.Opening.{BeginsLink, IsStreamUnread, Opens, ReadsKi
 ghost use Rattle.mt_ws.specs.Private.Opening.{IsKindBy, IsStartOf};
 
 use crate::front::{Front, Head, read_on};
-use crate::methods::{is_front, is_request};
+use crate::methods::{begins_with_method, is_front};
 use crate::ws_link::WsLink;
 use mt_io::{Failed, Sink, Source};
 use std::alloc::Global;
@@ -147,7 +147,7 @@ fn start_of(head: &[u8]) -> Start
     if head[0] == b'G' {
         return Start::Web;
     }
-    if is_request(head) {
+    if begins_with_method(head) {
         return Start::Request;
     }
     Start::Lines

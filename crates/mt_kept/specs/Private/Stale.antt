@@ -19,14 +19,14 @@ begins_stale stale c = is_stale stale c.first
 abbrev pub is_renewed : ℕ → Stale → Edge → Bool
 is_renewed now stale e = straddles now e || is_stale stale e.first
 
--- `IsSecondMarked`, `IsMarked`: a second was marked; that in which a conflict begins was, where there is one
+-- `IsSecondMarked`, `IsBeginMarked`: a second was marked; that in which a conflict begins was, where there is one
 pub record IsSecondMarked (second : ℕ) (old new : Stale) : Type 0 where
   pub from_stays : new.from ≡ old.from
   pub length_stays : length new.marks.items ≡ length old.marks.items
   pub stays : (k : ℕ) → is_stale old k ≡ true → is_stale new k ≡ true
   pub marked : is_stale new second ≡ true
 
-pub record IsMarked (conflict : Option Conflict) (old new : Stale) : Type 0 where
+pub record IsBeginMarked (conflict : Option Conflict) (old new : Stale) : Type 0 where
   pub from_stays : new.from ≡ old.from
   pub length_stays : length new.marks.items ≡ length old.marks.items
   pub stays : (k : ℕ) → is_stale old k ≡ true → is_stale new k ≡ true

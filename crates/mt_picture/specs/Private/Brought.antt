@@ -12,7 +12,7 @@ use Rattle.mt_probe.specs.declared.flight.Flight.{Flight}
 use Rattle.mt_probe.specs.Prepared.{IsLeftByEntry, Prepared}
 use Rattle.mt_probe.specs.Shot.{Shot, flight_at}
 use Rattle.mt_probe.specs.Shot.{state_in_shot as state_in}
-use Rattle.mt_picture.specs.declared.change.Change.{Change}
+use Rattle.mt_picture.specs.declared.change.SlotChange.{SlotChange}
 use Rattle.mt_picture.specs.declared.entering.Entering.{Entering}
 use Rattle.mt_picture.specs.Private.Places.{first_of, place_kind, place_other, second_of}
 use Rattle.mt_picture.specs.Private.Stamps.{HaveStood}
@@ -31,7 +31,7 @@ pub record BringsNew (shot : Shot) (slot : ℕ) (f : Flight) (kind : Kind) (p : 
   pub stood : HaveStood shot p
 
 -- the change of the kept conflicts where a flight is put into a slot. What stands in its two places then, and the pairs of these.
-pub record IsChangeFor (kept : Watched) (slot : ℕ) (f : Flight) (change : Change) : Type 0 where
+pub record IsChangeFor (kept : Watched) (slot : ℕ) (f : Flight) (change : SlotChange) : Type 0 where
   pub first_is : seen change.first ≡ first_of (Some f)
   pub second_is : seen change.second ≡ second_of (Some f)
   pub finds_are : AreFindsOfSlot kept.rules (with_slot kept.places slot (first_of (Some f)) (second_of (Some f))) kept.moment slot change.finds.items

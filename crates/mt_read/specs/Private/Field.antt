@@ -1,7 +1,7 @@
 -- No public contract names these: they are of private steps and of proofs.
 use Rattle.std.specs.Prelude.{◌≡◌, ℕ, ℤ, pos, Bool, true, false, Option, Result, Ok, Err, ⊤}
 use Rattle.serde_json.specs.Data.{Data, Members}
-use Rattle.mt_base.specs.Checks.{check, next}
+use Rattle.mt_base.specs.Checks.{check_answer, next}
 use Rattle.mt_read.specs.declared.key.Key.{Key}
 use Rattle.mt_read.specs.declared.key.Fault.{Fault}
 use Rattle.mt_read.specs.declared.stop.Stop.{Stop}
@@ -14,10 +14,10 @@ there key kind ms = form_check key false true (is_of kind) ms
 
 -- `within`, `count_within`: the number at a key, within bounds
 unfoldable pub within : Key → ℤ → ℤ → Members → Result ℤ Fault
-within key low high ms = next (check (bound key low high (number key ms))) (Ok (number key ms))
+within key low high ms = next (check_answer (bound key low high (number key ms))) (Ok (number key ms))
 
 unfoldable pub count_within : Key → ℕ → ℕ → Members → Result ℕ Fault
-count_within key low high ms = next (check (bound key (pos low) (pos high) (number key ms))) (Ok (count key ms))
+count_within key low high ms = next (check_answer (bound key (pos low) (pos high) (number key ms))) (Ok (count key ms))
 
 -- a value that was read where a check passed; else its refusal
 abbrev pub ReadsChecked : {A : Type 0} → Result A Fault → Result ⊤ Fault → A → Type 0

@@ -10,7 +10,7 @@ use Rattle.mt_io.specs.declared.sink.Sink as Sink
 use Rattle.mt_turn.specs.declared.view.View.{View}
 use Rattle.mt_turn.specs.Seats.{SeatNow}
 use Rattle.mt_serve.specs.Private.Seating.{HasJoined, views_of}
-use Rattle.mt_serve.specs.Sitting.{Met}
+use Rattle.mt_serve.specs.Sitting.{SessionRun}
 use Rattle.mt_serve.specs.declared.counts.Counts.{Counts}
 use Rattle.mt_serve.specs.Summary.{counted}
 use Rattle.mt_serve.specs.Tied.{backs_of}
@@ -32,11 +32,11 @@ pub record JoinsWorkers (desk : Desk) (v w : View Entry Setup) (all rest : List 
   pub worked : All IsRested past
 
 module _ {L : Type 0} (source : Source.Ghosts L) (sink : Sink.Ghosts L) where
-  pub record JoinsSessions (desk : Desk) (v w : View Entry Setup) (all rest : List (Met L)) (old new : Count) (back now : Option (List L)) (counts : Counts) : Type 0 where
-    pub past : List (Met L)
+  pub record JoinsSessions (desk : Desk) (v w : View Entry Setup) (all rest : List (SessionRun L)) (old new : Count) (back now : Option (List L)) (counts : Counts) : Type 0 where
+    pub past : List (SessionRun L)
     pub parts : all ≡ past ++ rest
     pub joined : HasJoined v w (views_of (ends_of past))
-    pub ready : All (λ (x : Met L). IsSeatOfDesk desk x.from.seat) rest
+    pub ready : All (λ (x : SessionRun L). IsSeatOfDesk desk x.from.seat) rest
     pub served : AreOver source sink past
     pub count : new ≡ gave_back old (length past)
     pub returned : Gains back now (backs_of past)

@@ -7,16 +7,16 @@ use Rattle.mt_io.specs.declared.source.Source as Source
 use Rattle.mt_io.specs.declared.sink.Sink as Sink
 use Rattle.mt_turn.specs.Seats.{SeatNow}
 use Rattle.mt_serve.specs.Serving.{HasServed}
-use Rattle.mt_serve.specs.Sitting.{Met}
+use Rattle.mt_serve.specs.Sitting.{SessionRun}
 
 -- `ends_of`, `gave_back`: the seats that sessions gave back; the counts with so many links back more
-abbrev pub ends_of : {L : Type 0} → List (Met L) → List (SeatNow Entry Setup)
-ends_of {L} mets = map (λ (m : Met L). m.seat) mets
+abbrev pub ends_of : {L : Type 0} → List (SessionRun L) → List (SeatNow Entry Setup)
+ends_of {L} runs = map (λ (m : SessionRun L). m.seat) runs
 
 abbrev pub gave_back : Count → ℕ → Count
 gave_back c n = record c { back = c.back + n }
 
 module _ {L : Type 0} (source : Source.Ghosts L) (sink : Sink.Ghosts L) where
   -- each session served its link
-  abbrev pub AreOver : List (Met L) → Type 0
-  AreOver mets = All (λ (m : Met L). HasServed source sink m.from.link m.from.seat m.from.has_channel m.link m.seat m.outcome) mets
+  abbrev pub AreOver : List (SessionRun L) → Type 0
+  AreOver runs = All (λ (m : SessionRun L). HasServed source sink m.from.link m.from.seat m.from.has_channel m.link m.seat m.outcome) runs

@@ -6,7 +6,7 @@ use Rattle.mt_board.specs.declared.ask.Answer.{Answer}
 use Rattle.mt_board.specs.declared.ask.Answer.TheVariants as answers
 use Rattle.mt_board.specs.declared.no.No.{No}
 use Rattle.mt_board.specs.declared.no.No.TheVariants as no
-use Rattle.mt_board.specs.Seat.{Seat}
+use Rattle.mt_board.specs.BoardSeat.{BoardSeat}
 use Rattle.mt_board.specs.Settling.{IsNotSettled, HasSettled}
 
 -- memory ran out
@@ -20,6 +20,6 @@ told_due (Ok (answers.Due calls version)) = Some (calls, version)
 told_due result = None
 
 -- what settling gives: the flights left and the version, or that memory ran out
-abbrev pub Settles : Seat → Option (List (List ℕ) × ℕ) → Seat → Type 0
+abbrev pub Settles : BoardSeat → Option (List (List ℕ) × ℕ) → BoardSeat → Type 0
 Settles s (Some told) t = HasSettled s t told.0 told.1
 Settles s None t = IsNotSettled s t

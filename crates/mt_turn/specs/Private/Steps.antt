@@ -18,8 +18,8 @@ Seated E F S = Me (Option S) (View E F)
 
 module _ {E F S : Type 0} where
   -- a ticket was drawn, and the word has its remainder
-  abbrev pub Draws : Seated E F S → ℕ → Seated E F S → Type 0
-  Draws m r m' = (t : ℕ) × (t % 2 ^ 64 ≡ r) × (m' ≡ (with_phase m.0 (Waits t), m.1))
+  abbrev pub DrawsTicket : Seated E F S → ℕ → Seated E F S → Type 0
+  DrawsTicket m r m' = (t : ℕ) × (t % 2 ^ 64 ≡ r) × (m' ≡ (with_phase m.0 (Waits t), m.1))
 
   -- the seat with the ticket being served takes the slot, and is lent its value. Any other goes on waiting.
   abbrev pub Looks : (S → List E) → (E → ℕ) → (S → F) → Seated E F S → ℕ → Seated E F S → Type 0

@@ -1,5 +1,5 @@
 use Rattle.std.proofs.lemmas.Result.{err_from_is_err_and}
-use Rattle.mt_board.specs.Seat.{Seat}
+use Rattle.mt_board.specs.BoardSeat.{BoardSeat}
 use Rattle.mt_board.proofs.SeatLemmas.{change_on}
 use Rattle.mt_desk.specs.Desk.{seat_of}
 use Rattle.mt_desk.proofs.Answered.{given_taken, not_prepared}
@@ -9,7 +9,7 @@ use Rattle.mt_desk.proofs.board.change_prepared.Goals as goal
 
 pub returns-in_err-prep-clause-changed : goal.returns-in_err-prep-clause-changed
 returns-in_err-prep-clause-changed g c =
-    let t : Seat = seat_of c.args.desk.now.fixed c.take.new.seat.view in
+    let t : BoardSeat = seat_of c.args.desk.now.fixed c.take.new.seat.view in
     let e = not_prepared (seat_of c.args.desk.now.fixed c.args.seat.now.view) t c.in_ok-snapshot.snapshot c.args.command.now c.in_err-prep.field-0.0
     c.take.ensures.seen c.in_ok-snapshot.ensures.taken c.requires.makes (rw c.number-who.ensures at c.in_err-prep.ensures.refused) in
     let p = err_from_is_err_and c.from_residual-in_err-prep.result c.from_residual-in_err-prep.ensures.1 in
@@ -17,13 +17,13 @@ returns-in_err-prep-clause-changed g c =
 
 pub publish-requires-clause-prepared : goal.publish-requires-clause-prepared
 publish-requires-clause-prepared g c κs within =
-    let t : Seat = seat_of c.args.desk.now.fixed c.take.new.seat.view in
+    let t : BoardSeat = seat_of c.args.desk.now.fixed c.take.new.seat.view in
     given_taken t c.in_ok-snapshot.snapshot t.number c.args.command.now c.in_ok-prep.prep c.in_ok-snapshot.ensures.taken c.requires.makes
     (rw c.number-who.ensures at c.in_ok-prep.ensures.prep)
 
 pub returns-clause-changed : goal.returns-clause-changed
 returns-clause-changed g c =
-    let t : Seat = seat_of c.args.desk.now.fixed c.take.new.seat.view in
+    let t : BoardSeat = seat_of c.args.desk.now.fixed c.take.new.seat.view in
     change_on (seat_of c.args.desk.now.fixed c.args.seat.now.view) t _ c.args.command.now c.publish.result c.take.ensures.seen.looked c.publish.ensures.changed
 
 pub returns-in_err-snapshot-clause-ready : goal.returns-in_err-snapshot-clause-ready

@@ -2,7 +2,7 @@ use Rattle.std.proofs.Common.{ℕ, Some, ap₂, sym, ◌∙◌}
 use Rattle.std.proofs.lemmas.Option.{none-some}
 use Rattle.mt_probe.specs.Shot.{flight_at, records_in}
 use Rattle.mt_probe.proofs.Placed.{filled_inside}
-use Rattle.mt_picture.specs.declared.places.Standing.{Standing}
+use Rattle.mt_picture.specs.declared.places.FoundPlace.{FoundPlace}
 use Rattle.mt_picture.proofs.Entered.{there}
 use Rattle.mt_picture.proofs.Exits.{few_slots}
 use Rattle.mt_picture.proofs.Standings.{call_found, flight_listed, one_standing, stamp_listed, stands_found}
@@ -33,7 +33,7 @@ returns-clause-only c = λ place stamp stands.
     let mine = stands_found shot slot c.place_of-place.result c.args.call c.args.kind c.in_ok-stamp.stamp c.place_of-place.ensures.slot c.place_of-place.ensures.kind
     called c.in_ok-stamp.ensures in
     let one = one_standing shot c.keeps.ensures.sound c.args.call c.args.kind c.place_of-place.result place c.in_ok-stamp.stamp stamp mine stands in
-    let made : ℕ → ℕ → Standing = λ p q. record { place = p; stamp = q } in
+    let made : ℕ → ℕ → FoundPlace = λ p q. record { place = p; stamp = q } in
     ap₂ (λ (p q : ℕ). Some (made p q)) one.0 one.1
 
 pub returns-in_err-slot-clause-only : goal.returns-in_err-slot-clause-only

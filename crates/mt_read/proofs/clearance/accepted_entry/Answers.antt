@@ -2,7 +2,7 @@ use Rattle.std.proofs.Common.{inl, sym, map, [], ◌∷◌}
 use Rattle.mt_json.specs.Shown.{members}
 use Rattle.mt_json.specs.Field.{as_whole}
 use Rattle.mt_read.specs.declared.key.Key.TheVariants as key
-use Rattle.mt_read.specs.Field.{kind_check, must}
+use Rattle.mt_read.specs.Field.{kind_check, must_have}
 use Rattle.mt_read.specs.Table.{clearance_fields}
 use Rattle.mt_read.proofs.CheckedSteps.{actor_fails, bounds_fail, gives, kinds_fail, who_fails, passed, failed, fail_more, also, later}
 use Rattle.mt_read.proofs.clearance.accepted_entry.Goals as goal
@@ -10,7 +10,7 @@ use Rattle.mt_read.proofs.clearance.accepted_entry.Goals as goal
 pub returns-in_err-cleared : goal.returns-in_err-cleared
 returns-in_err-cleared c =
     gives c.from_residual.result c.in_err-cleared.field-0.0 _ c.from_residual.ensures.1 (kinds_fail _ _ _ _ _ (fail_more (map (kind_check
-    c.args.origin (members c.args.fields.now)) clearance_fields) (kind_check c.args.origin (members c.args.fields.now) (must key.Probed as_whole) ∷
+    c.args.origin (members c.args.fields.now)) clearance_fields) (kind_check c.args.origin (members c.args.fields.now) (must_have key.Probed as_whole) ∷
     []) _ (failed (map (kind_check c.args.origin (members c.args.fields.now)) clearance_fields) _ c.in_err-cleared.ensures)))
 
 pub returns-in_err-whole : goal.returns-in_err-whole

@@ -9,7 +9,7 @@ use Rattle.mt_turn.specs.declared.view.View.{View}
 use Rattle.mt_serve.specs.declared.counts.Counts.{Counts}
 use Rattle.mt_serve.specs.Private.Joining.{JoinsSessions}
 use Rattle.mt_serve.specs.Private.Seating.{HasJoined, views_of}
-use Rattle.mt_serve.specs.Sitting.{Met}
+use Rattle.mt_serve.specs.Sitting.{SessionRun}
 use Rattle.mt_serve.specs.Tied.{backs_of}
 use Rattle.mt_serve.specs.Private.Tied.{ends_of, gave_back}
 use Rattle.mt_serve.proofs.Accepts.{all_front}
@@ -18,7 +18,7 @@ use Rattle.mt_serve.proofs.Counting.{counted_parts}
 use Rattle.mt_serve.proofs.seating.join_sessions.Goals as goal
 
 module _ {L : Type 0} (source : Source.Ghosts L) (sink : Sink.Ghosts L) where
-  module _ (desk : Desk) (v w : View Entry Setup) (all rest : List (Met L)) (c d : Count) (back now : Option (List L)) (counts : Counts) (so : JoinsSessions source sink desk v w all rest c d back now counts) where
+  module _ (desk : Desk) (v w : View Entry Setup) (all rest : List (SessionRun L)) (c d : Count) (back now : Option (List L)) (counts : Counts) (so : JoinsSessions source sink desk v w all rest c d back now counts) where
     past_is : rest ≡ [] → so.past ≡ all
     past_is none = sym (so.parts ∙ ap (λ zs. so.past ++ zs) none ∙ append-nil so.past)
 
@@ -26,19 +26,19 @@ module _ {L : Type 0} (source : Source.Ghosts L) (sink : Sink.Ghosts L) where
     joined_over none = subst (λ ms. HasJoined v w (views_of (ends_of ms))) (past_is none) so.joined
 
     count_over : rest ≡ [] → d ≡ gave_back c (length all)
-    count_over none = so.count ∙ ap (λ (ms : List (Met L)). gave_back c (length ms)) (past_is none)
+    count_over none = so.count ∙ ap (λ (ms : List (SessionRun L)). gave_back c (length ms)) (past_is none)
 
     returned_over : rest ≡ [] → Gains back now (backs_of all)
     returned_over none = subst (λ ms. Gains back now (backs_of ms)) (past_is none) so.returned
 
   -- where a session is left, so is a link
-  link_out : (desk : Desk) (v w : View Entry Setup) (all rest rest' : List (Met L)) (c d : Count) (back now : Option (List L)) (counts : Counts) (y : Met L)
+  link_out : (desk : Desk) (v w : View Entry Setup) (all rest rest' : List (SessionRun L)) (c d : Count) (back now : Option (List L)) (counts : Counts) (y : SessionRun L)
       → JoinsSessions source sink desk v w all rest c d back now counts → rest ≡ y ∷ rest' → length all ≤ c.given - c.back → d.back < d.given
   link_out desk v w all rest rest' c d back now counts y so front few =
       let kept : d.back ≡ c.back + length so.past = ap (λ (z : Count). z.back) so.count in
       let given : d.given ≡ c.given = ap (λ (z : Count). z.given) so.count in
-      let parts : length all ≡ length so.past + length rest = ap (λ (xs : List (Met L)). length xs) so.parts ∙ length-append so.past rest in
-      let many : length rest ≡ length (y ∷ rest') = ap (λ (xs : List (Met L)). length xs) front in
+      let parts : length all ≡ length so.past + length rest = ap (λ (xs : List (SessionRun L)). length xs) so.parts ∙ length-append so.past rest in
+      let many : length rest ≡ length (y ∷ rest') = ap (λ (xs : List (SessionRun L)). length xs) front in
       omega (arith, kept, given, parts, many, few)
 
 pub loop-done-init : goal.loop-done-init
@@ -47,7 +47,7 @@ loop-done-init g c =
 
 pub loop-done-preserved : goal.loop-done-preserved
 loop-done-preserved g c =
-    let x : Met g.row.D-Link.Denot = record { from = record { link = c.done.inside.given.link.value; seat = c.done.inside.given.seat.value; has_channel = c.done.inside.given.has_channel }; link = c.done.inside.back.link; seat = c.done.inside.back.seat; outcome = c.done.inside.back.outcome } in
+    let x : SessionRun g.row.D-Link.Denot = record { from = record { link = c.done.inside.given.link.value; seat = c.done.inside.given.seat.value; has_channel = c.done.inside.given.has_channel }; link = c.done.inside.back.link; seat = c.done.inside.back.seat; outcome = c.done.inside.back.outcome } in
     let was = c.loop-done.invariant in (
       sessions_more g.D.Link.Source g.D.Link.Sink _ _ _ _ _ _ _ _ _ _ _ _ _ _ _ x c.in-Some.done was.0 c.in-Some.ensures.items c.done.view_is c.join_session.ensures.joins c.done.invariant c.join_session.ensures.count c.join_session.ensures.returned c.join_session.ensures.counted,
       c.join_session.ensures.ready,
@@ -75,10 +75,10 @@ join_session-requires-clause-first g c κs within = c.loop-done.invariant.0.join
 
 pub join_session-requires-clause-other : goal.join_session-requires-clause-other
 join_session-requires-clause-other g c κs within =
-    let y : Met g.row.D-Link.Denot = record { from = record { link = c.done.inside.given.link.value; seat = c.done.inside.given.seat.value; has_channel = c.done.inside.given.has_channel }; link = c.done.inside.back.link; seat = c.done.inside.back.seat; outcome = c.done.inside.back.outcome } in
-    let from = all_front (λ (m : Met g.row.D-Link.Denot). IsSeatOfDesk c.args.desk.now m.from.seat) c.in-Some.done _ _ c.loop-done.invariant.0.ready c.in-Some.ensures.items in
+    let y : SessionRun g.row.D-Link.Denot = record { from = record { link = c.done.inside.given.link.value; seat = c.done.inside.given.seat.value; has_channel = c.done.inside.given.has_channel }; link = c.done.inside.back.link; seat = c.done.inside.back.seat; outcome = c.done.inside.back.outcome } in
+    let from = all_front (λ (m : SessionRun g.row.D-Link.Denot). IsSeatOfDesk c.args.desk.now m.from.seat) c.in-Some.done _ _ c.loop-done.invariant.0.ready c.in-Some.ensures.items in
     done_ready g.D.Link.Source g.D.Link.Sink c.args.desk.now y.from.link y.from.seat y.from.has_channel y.link y.seat y.outcome c.done.invariant
-    (subst (λ (m : Met g.row.D-Link.Denot). IsSeatOfDesk c.args.desk.now m.from.seat) (sym c.done.view_is) from)
+    (subst (λ (m : SessionRun g.row.D-Link.Denot). IsSeatOfDesk c.args.desk.now m.from.seat) (sym c.done.view_is) from)
 
 pub join_session-requires-clause-given : goal.join_session-requires-clause-given
 join_session-requires-clause-given g c κs within =

@@ -6,10 +6,10 @@ use Rattle.mt_turn.specs.Views.{first_view}
 use Rattle.mt_serve.specs.Seating.{numbers_of}
 use Rattle.mt_base.specs.declared.command.Entry.{Entry}
 use Rattle.mt_base.specs.Tables.{Setup}
-use Rattle.mt_serve.specs.Sitting.{Met, seats_of, starts_of}
+use Rattle.mt_serve.specs.Sitting.{SessionRun, seats_of, starts_of}
 use Rattle.mt_serve.specs.Tied.{doorway_of}
 use Rattle.mt_serve.specs.Private.Working.{froms_of}
-use Rattle.mt_serve.proofs.Whole.{few_met, not_listened, ready_of, served_all, split_as, whole}
+use Rattle.mt_serve.proofs.Whole.{few_runs, not_listened, ready_of, served_all, split_as, whole}
 use Rattle.mt_serve.proofs.Seats.{length_both, length_map}
 use Rattle.mt_serve.proofs.service.serve.Goals as goal
 
@@ -57,7 +57,7 @@ settle-requires-2-clause-split g c κs within =
 
 pub settle-requires-2-clause-few : goal.settle-requires-2-clause-few
 settle-requires-2-clause-few g c κs within =
-    few_met c.args.sessions c.args.workers _ _ _ _ c.split_all.new.seats.items c.serve_beside-left.result.seats.items c.serve_beside-left.result.dones.items
+    few_runs c.args.sessions c.args.workers _ _ _ _ c.split_all.new.seats.items c.serve_beside-left.result.seats.items c.serve_beside-left.result.dones.items
     c.serve_beside-left.ensures.links.begun c.split_all.ensures.many.0 c.requires.few
 
 pub returns-clause-served : goal.returns-clause-served
@@ -111,10 +111,10 @@ pub settle-requires-clause-ready : goal.settle-requires-clause-ready
 settle-requires-clause-ready g c κs within = c.split_all-2.ensures.ready
 
 pub settle-requires-clause-given : goal.settle-requires-clause-given
-settle-requires-clause-given g c κs within = omega (arith, ap (λ (ds : List (Met g.row.D-Link.Denot)). length ds) c.in_ok-room.ensures.empty.1)
+settle-requires-clause-given g c κs within = omega (arith, ap (λ (ds : List (SessionRun g.row.D-Link.Denot)). length ds) c.in_ok-room.ensures.empty.1)
 
 pub settle-requires-clause-few : goal.settle-requires-clause-few
-settle-requires-clause-few g c κs within = omega (arith, ap (λ (ds : List (Met g.row.D-Link.Denot)). length ds) c.in_ok-room.ensures.empty.1)
+settle-requires-clause-few g c κs within = omega (arith, ap (λ (ds : List (SessionRun g.row.D-Link.Denot)). length ds) c.in_ok-room.ensures.empty.1)
 
 pub settle-requires-2-clause-ready : goal.settle-requires-2-clause-ready
 settle-requires-2-clause-ready g c κs within = c.split_all-2.ensures.ready
@@ -127,5 +127,5 @@ settle-requires-2-clause-given g c κs within =
       c.serve_beside-left.ensures.links.begun.back,
       ap (λ (z : Count). z.given) c.in-Ok-listen.ensures.count,
       ap (λ (z : Count). z.back) c.in-Ok-listen.ensures.count,
-      length_map (λ (m : Met g.row.D-Link.Denot). m.from) c.serve_beside-left.result.dones.items,
+      length_map (λ (m : SessionRun g.row.D-Link.Denot). m.from) c.serve_beside-left.result.dones.items,
     )

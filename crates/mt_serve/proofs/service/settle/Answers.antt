@@ -1,11 +1,11 @@
 use Rattle.std.proofs.Common.{◌∙◌, subst}
 use Rattle.mt_base.specs.History.{IsLegal}
 use Rattle.mt_base.specs.Tables.{Setup}
-use Rattle.mt_serve.proofs.Binding.{ready_mets, ready_rest, ready_works, ready_hands, are_joined, all_joined, tied}
+use Rattle.mt_serve.proofs.Binding.{ready_runs, ready_rest, ready_works, ready_hands, are_joined, all_joined, tied}
 use Rattle.mt_serve.proofs.service.settle.Goals as goal
 
 pub join_sessions-counts-requires-clause-others : goal.join_sessions-counts-requires-clause-others
-join_sessions-counts-requires-clause-others g c κs within = ready_mets c.args.desk c.args.first.view c.args.left.dones.items c.args.left.seats.items c.args.left.resteds.items c.args.left.hands.items c.requires.split
+join_sessions-counts-requires-clause-others g c κs within = ready_runs c.args.desk c.args.first.view c.args.left.dones.items c.args.left.seats.items c.args.left.resteds.items c.args.left.hands.items c.requires.split
 
 pub join_seats-requires-clause-others : goal.join_seats-requires-clause-others
 join_seats-requires-clause-others g c = ready_rest c.args.desk c.args.first.view c.args.left.dones.items c.args.left.seats.items c.args.left.resteds.items c.args.left.hands.items c.requires.split

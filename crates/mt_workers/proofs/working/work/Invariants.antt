@@ -1,5 +1,5 @@
 use Rattle.std.proofs.Common.{◌≡◌}
-use Rattle.mt_board.specs.Seat.{GoesOn, IsSameSeat}
+use Rattle.mt_board.specs.BoardSeat.{GoesOn, IsSameSeat}
 use Rattle.mt_workers.specs.Private.Work.{HasWorked}
 use Rattle.mt_workers.proofs.working.work.Given as goal
 

@@ -27,7 +27,7 @@ invariant_of-self g c =
 
 pub returns-clause-accepted : goal.returns-clause-accepted
 returns-clause-accepted g c = rw (← c.self.view_is) (inl (accepted g.B.Probe.Probed.told c.self.inside.role c.self.inside.book _ _ c.args.number _ _ _ (sym c.in-Some.ensures.value)
-    (rw (← c.hits.ensures.told) (sym c.if-not-is_empty.ensures)) c.accept.ensures.changed c.changed.ensures.reply))
+    (rw (← c.hits.ensures.told) (sym c.if-not-is_empty.ensures)) c.accept.ensures.changed c.reply_to_change.ensures.reply))
 
 pub returns-clause-on : goal.returns-clause-on
 returns-clause-on g c =
@@ -47,4 +47,4 @@ pub returns-then-not-is_empty-clause-fit : goal.returns-then-not-is_empty-clause
 returns-then-not-is_empty-clause-fit g c = c.refuse_number-then-not-is_empty.ensures.fit
 
 pub returns-clause-fit : goal.returns-clause-fit
-returns-clause-fit g c = c.changed.ensures.fit
+returns-clause-fit g c = c.reply_to_change.ensures.fit

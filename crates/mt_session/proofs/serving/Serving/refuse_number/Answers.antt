@@ -6,18 +6,18 @@ use Rattle.mt_board.specs.declared.ask.Ask.TheVariants.{History}
 use Rattle.mt_board.specs.declared.no.No.{No}
 use Rattle.mt_board.specs.declared.no.No.TheVariants.{Memory, Refused}
 use Rattle.mt_board.specs.Asking.{IsRead}
-use Rattle.mt_board.specs.Seat.{HasLooked, HasSeen, Seat}
+use Rattle.mt_board.specs.BoardSeat.{BoardSeat, HasLooked, HasSeen}
 use Rattle.mt_session.specs.Private.Served.{told_version}
 use Rattle.mt_session.proofs.serving.Serving.refuse_number.Goals as goal
 
 -- a read is a look
-looked_by : (s t : Seat) (ask : Ask) (result : Result Answer No) → IsRead s ask result t → HasLooked s t
+looked_by : (s t : BoardSeat) (ask : Ask) (result : Result Answer No) → IsRead s ask result t → HasLooked s t
 looked_by s t ask (Ok answer) read = read.0.looked
 looked_by s t ask (Err (Refused refusal version)) read = read.0.looked
 looked_by s t ask (Err Memory) read = read
 
 -- and one that tells entries has seen its version
-seen_by : (s t : Seat) (ask : Ask) (result : Result Answer No) (version : ℕ) → IsRead s ask result t → told_version result ≡ Some version → HasSeen s t version
+seen_by : (s t : BoardSeat) (ask : Ask) (result : Result Answer No) (version : ℕ) → IsRead s ask result t → told_version result ≡ Some version → HasSeen s t version
 seen_by s t ask (Ok (answers.History entries told)) version read is =
     let same : told ≡ version = cc in
     rw (← same) read.0

@@ -74,7 +74,7 @@ returns-clause-answered c =
     let actors = c.self.inside.actors.items in
     let after : Story = c.publish.new.self in
     let changed = published_is c.self.inside.areas story after actors c.args.who command c.publish.result c.publish.ensures.entered c.publish.ensures.refused c.publish.ensures.unchanged in
-    rw (← c.self.view_is, c.changed.ensures.reply) (accepted c.self.inside.areas story actors c.args.who c.index.result.now c.self.invariant below c.index.ensures c.args.number p found
+    rw (← c.self.view_is, c.reply_to_change.ensures.reply) (accepted c.self.inside.areas story actors c.args.who c.index.result.now c.self.invariant below c.index.ensures c.args.number p found
     (seen c.self.inside.areas after actors) (entered_reply c.publish.result) none
     (subst (λ (k : Command). IsCommandAnswered (seen c.self.inside.areas story actors) c.args.who k (entered_reply c.publish.result) (seen c.self.inside.areas after actors)
     ⊎ IsRefused (seen c.self.inside.areas story actors) replies.Memory (entered_reply c.publish.result) (seen c.self.inside.areas after actors)) same changed))
@@ -86,7 +86,7 @@ pub returns-then-not-is_empty-clause-fit : goal.returns-then-not-is_empty-clause
 returns-then-not-is_empty-clause-fit c = c.refused-then-not-is_empty.ensures.fit
 
 pub returns-clause-fit : goal.returns-clause-fit
-returns-clause-fit c = c.changed.ensures.fit
+returns-clause-fit c = c.reply_to_change.ensures.fit
 
 pub returns-in_default-clause-answered : goal.returns-in_default-clause-answered
 returns-in_default-clause-answered c =

@@ -1,5 +1,5 @@
 use Rattle.std.proofs.Common.{◌<◌, ◌∙◌, ap, get_or, length, map, slice_set, sym, arith}
-use Rattle.mt_board.specs.Probing.{Probe}
+use Rattle.mt_board.specs.Probing.{ToldProbe}
 use Rattle.mt_machine.specs.Book.{Book, with_probe}
 use Rattle.mt_machine.proofs.Books.{all_push, told_push}
 use Rattle.mt_picture.specs.Story.{Story}
@@ -30,7 +30,7 @@ returns-clause-kept c =
     let book = told_push told_of a.book c.args.probe ∙ ap (λ (b : world.Actor). with_probe b.book (told_of c.args.probe)) (sym actor) in
     rw (← c.self.view_is, c.put.ensures.kept) (λ i. world_of c.self.inside.picture c.self.inside.areas
     ((book_view items c.args.who a (with_probe a.book c.args.probe) within c.index_mut.ensures.value
-    ∙ ap (λ (b : Book Probe). slice_set (map actor_shown items) c.args.who (record (get_or (map actor_shown items) c.args.who new_actor) { book = b })) book) i))
+    ∙ ap (λ (b : Book ToldProbe). slice_set (map actor_shown items) c.args.who (record (get_or (map actor_shown items) c.args.who new_actor) { book = b })) book) i))
 
 pub returns-clause-number : goal.returns-clause-number
 returns-clause-number c =

@@ -1,5 +1,5 @@
 use Rattle.std.proofs.Common.{◌<◌, ◌∙◌, ap, get_or, length, map, slice_set, sym, arith}
-use Rattle.mt_board.specs.Probing.{Probe}
+use Rattle.mt_board.specs.Probing.{ToldProbe}
 use Rattle.mt_machine.specs.Book.{Book, with_all}
 use Rattle.mt_machine.proofs.Books.{all_more, told_all}
 use Rattle.mt_picture.specs.Story.{Story}
@@ -29,4 +29,4 @@ returns c =
     let book = told_all told_of a.book c.args.probes.items ∙ ap (λ (b : world.Actor). with_all b.book (map told_of c.args.probes.items)) (sym actor) in
     rw (← c.self.view_is, c.put_all.ensures) (λ i. world_of c.self.inside.picture c.self.inside.areas
     ((book_view items c.args.who a (with_all a.book c.args.probes.items) within c.index_mut.ensures.value
-    ∙ ap (λ (b : Book Probe). slice_set (map actor_shown items) c.args.who (record (get_or (map actor_shown items) c.args.who new_actor) { book = b })) book) i))
+    ∙ ap (λ (b : Book ToldProbe). slice_set (map actor_shown items) c.args.who (record (get_or (map actor_shown items) c.args.who new_actor) { book = b })) book) i))

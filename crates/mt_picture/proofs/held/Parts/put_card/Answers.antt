@@ -7,7 +7,7 @@ use Rattle.mt_picture.proofs.Slotted.{places_same}
 use Rattle.mt_picture.proofs.Standing.{picture_put}
 use Rattle.std.proofs.lemmas.Result.{MatchResult-from_err}
 use Rattle.mt_picture.proofs.Exits.{has_room, pushed_on, told, told_same}
-use Rattle.mt_picture.proofs.held.Held.put_card.Goals as goal
+use Rattle.mt_picture.proofs.held.Parts.put_card.Goals as goal
 
 pub put_again-requires-clause-same : goal.put_again-requires-clause-same
 put_again-requires-clause-same c =

@@ -9,7 +9,7 @@ use Rattle.mt_picture.proofs.Slotted.{length_places, places_set}
 use Rattle.mt_picture.proofs.Standing.{picture_put}
 use Rattle.std.proofs.lemmas.Result.{MatchResult-from_err}
 use Rattle.mt_picture.proofs.Exits.{has_room, pushed_on, told, told_same}
-use Rattle.mt_picture.proofs.held.Held.put_change.Goals as goal
+use Rattle.mt_picture.proofs.held.Parts.put_change.Goals as goal
 
 pub change-requires-clause-slot : goal.change-requires-clause-slot
 change-requires-clause-slot c =

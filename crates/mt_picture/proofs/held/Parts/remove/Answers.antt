@@ -9,7 +9,7 @@ use Rattle.mt_picture.proofs.Moved.{picture_drop}
 use Rattle.mt_picture.proofs.Slotted.{length_places, places_set}
 use Rattle.std.proofs.lemmas.Result.{MatchResult-from_err}
 use Rattle.mt_picture.proofs.Exits.{has_room, pushed_on, told, told_same}
-use Rattle.mt_picture.proofs.held.Held.remove.Goals as goal
+use Rattle.mt_picture.proofs.held.Parts.remove.Goals as goal
 
 pub put-requires-clause-place : goal.put-requires-clause-place
 put-requires-clause-place c =

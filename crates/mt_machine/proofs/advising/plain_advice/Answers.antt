@@ -1,6 +1,6 @@
 use Rattle.mt_base.specs.Tables.{setup_with}
 use Rattle.mt_machine.proofs.Advised.{advice_is, each_free, few_free}
-use Rattle.mt_machine.proofs.advising.advise.Goals as goal
+use Rattle.mt_machine.proofs.advising.plain_advice.Goals as goal
 
 pub returns-clause-exact : goal.returns-clause-exact
 returns-clause-exact g c =

@@ -6,7 +6,7 @@ use Rattle.mt_picture.proofs.Moved.{none_tested, picture_tick}
 use Rattle.std.proofs.lemmas.Result.{MatchResult-from_err}
 use Rattle.mt_probe.specs.Shot.{Shot}
 use Rattle.mt_picture.proofs.Exits.{has_room, pushed_on, told, told_same}
-use Rattle.mt_picture.proofs.held.Held.tick.Goals as goal
+use Rattle.mt_picture.proofs.held.Parts.tick.Goals as goal
 
 pub invariant_of-self-2 : goal.invariant_of-self-2
 invariant_of-self-2 c =

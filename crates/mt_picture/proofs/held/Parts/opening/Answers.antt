@@ -1,7 +1,7 @@
 use Rattle.std.proofs.Common.{length}
 use Rattle.mt_base.specs.Tables.{Setup}
 use Rattle.mt_picture.proofs.Opening.{picture_opening}
-use Rattle.mt_picture.proofs.held.Held.opening.Goals as goal
+use Rattle.mt_picture.proofs.held.Parts.opening.Goals as goal
 
 pub invariant_of-result : goal.invariant_of-result
 invariant_of-result c =

@@ -1,5 +1,5 @@
 use Rattle.mt_picture.proofs.Published.{published_now}
-use Rattle.mt_picture.proofs.held.Held.published.Goals as goal
+use Rattle.mt_picture.proofs.held.Parts.published.Goals as goal
 
 pub returns : goal.returns
 returns c =

@@ -1,5 +1,5 @@
 use Rattle.mt_ws.proofs.Texts.{any_method}
-use Rattle.mt_ws.proofs.methods.is_request.Goals as goal
+use Rattle.mt_ws.proofs.methods.begins_with_method.Goals as goal
 
 pub returns : goal.returns
 returns c = (
