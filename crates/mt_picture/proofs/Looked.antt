@@ -1,9 +1,7 @@
 -- What a decision on a snapshot has at hand.
 use Rattle.std.proofs.Common.{◌≡◌, ℕ, List, Option, Some, None, option_map, refl, sym, ◌∙◌, ap}
 use Rattle.std.specs.Arc.{arc_value}
-use Rattle.std.specs.Prelude.{option_and_then}
 use Rattle.mt_base.specs.declared.command.Command.TheVariants as commands
-use Rattle.mt_base.specs.declared.conflict.Kind.TheVariants.{Actual}
 use Rattle.mt_base.specs.declared.flight.Course.{Course}
 use Rattle.mt_base.specs.declared.flight.Path.{Path}
 use Rattle.mt_base.specs.declared.flight.Path.TheVariants.{Planned}
@@ -16,18 +14,10 @@ use Rattle.mt_base.specs.Trajectory.{Trajectory}
 use Rattle.mt_base.specs.Verdict.{verdict_of}
 use Rattle.mt_base.specs.WhatIf.{course_in, course_on}
 use Rattle.mt_probe.specs.declared.flight.Flight.{Flight}
-use Rattle.mt_probe.specs.Items.{path_of}
 use Rattle.mt_probe.specs.Shot.{Shot, flight_at, records_in}
 use Rattle.mt_probe.specs.Shot.{state_in_shot as state_in}
 use Rattle.mt_probe.specs.Standing.{IsSoundShot}
 use Rattle.mt_picture.proofs.Entered.{own_actual}
-
--- the trajectory that is flown is the one of that kind
-pub strand_looked : (shot : Shot) (slot : ℕ) → option_map (λ (f : Flight). arc_value f.actual.strand) (flight_at shot slot) ≡ option_and_then (path_of Actual) (flight_at shot slot)
-strand_looked shot slot = by_flight (flight_at shot slot) where
-  by_flight : (at : Option Flight) → option_map (λ (f : Flight). arc_value f.actual.strand) at ≡ option_and_then (path_of Actual) at
-  by_flight None = refl
-  by_flight (Some f) = refl
 
 -- the verdict on a report of a planned flight, by the trajectory that it flies
 pub planned_verdict : (shot : Shot) (slot : ℕ) (call : List ℕ) (card : Record) (course : Course) (report : Report) (t : Trajectory) (v : Verdict)

@@ -5,13 +5,12 @@ ghost use Rattle.mt_base.specs.Bounds.{IsBoundedCommand};
 ghost use Rattle.mt_base.specs.Checks.{judged};
 ghost use Rattle.mt_base.specs.Decision.{checks, look_at};
 ghost use Rattle.mt_base.specs.Effect.{verdict_in};
-ghost use Rattle.mt_predict.specs.Looking.{HasStrand, look_of};
 ghost use Rattle.mt_probe.specs.Shot.{flight_at};
 ghost use Rattle.mt_probe.specs.Shot.{state_in_shot as state_in};
 
 use mt_base::{Command, Kind, Path, Refusal, Verdict};
-use mt_predict::{Looked, judge};
-use mt_probe::Snapshot;
+use mt_predict::judge;
+use mt_probe::{Snapshot, look};
 use mt_track::Strand;
 use mt_watch::verdict;
 
@@ -23,46 +22,12 @@ pub(crate) fn strand_at(snapshot: &Snapshot, slot: u32) -> Option<&Strand>
     Some(&**strand)
 }
 
-// What a decision of a command looks at.
-fn look<'a>(snapshot: &'a Snapshot, command: &Command) -> Looked<'a>
-    ensures look { look_of result ≡ look_at (state_in snapshot.now) command.now }
-    ensures strand { HasStrand snapshot.now.setup result command.now }
-{
-    let now = snapshot.now();
-    let held = snapshot.flights();
-    let entries = snapshot.version();
-    let Some(call) = command.call() else {
-        return Looked {
-            now,
-            held,
-            entries,
-            flight: None,
-            strand: None,
-        };
-    };
-    let Some(slot) = snapshot.find(call) else {
-        return Looked {
-            now,
-            held,
-            entries,
-            flight: None,
-            strand: None,
-        };
-    };
-    Looked {
-        now,
-        held,
-        entries,
-        flight: snapshot.flight(slot),
-        strand: strand_at(snapshot, slot),
-    }
-}
-
 /// The first refusal of an actor's command on a snapshot, but for one that was probed and is no longer free; or none.
 pub(crate) fn decide(snapshot: &Snapshot, who: u32, command: &Command) -> Result<(), Refusal>
     ensures { result ≡ judged (checks snapshot.now.setup (look_at (state_in snapshot.now) command.now) who command.now) (tt {0}) }
 {
-    let looked = look(snapshot, command);
+    let (held, entries) = (snapshot.flights(), snapshot.version());
+    let looked = look(snapshot, command, held, entries);
     judge(snapshot.tables(), snapshot.rules(), &looked, who, command)
 }
 

@@ -23,7 +23,7 @@ pub use laws::filing_order_law;
 pub use mt_memory::Memory;
 pub use narrow::narrowed;
 pub use prep::Prep;
-pub use preparing::{kind_made, left_of, makes_strand, prepare, strand_of};
+pub use preparing::{kind_made, left_of, look, makes_strand, prepare, strand_of};
 pub use probe::Probe;
 pub use snapshot::Snapshot;
 pub use trying::{probe_if_free, what_if};

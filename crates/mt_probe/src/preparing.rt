@@ -2,13 +2,14 @@
 ghost use Rattle.std.specs.Prelude.{◌≡◌, ◌↔◌, Ok, Some, true, is_some, IfOk, IfErr, IsTrue};
 ghost use Rattle.std.specs.Arc.{arc_value};
 ghost use Rattle.mt_base.specs.Bounds.{IsSoundFlight};
+ghost use Rattle.mt_base.specs.Decision.{look_at};
 ghost use Rattle.mt_base.specs.Trajectory.{Trajectory};
 ghost use Rattle.mt_base.specs.Tables.{setup_with};
 ghost use Rattle.mt_change.specs.Altered.{IsBoundedBesides};
 ghost use Rattle.mt_predict.specs.Looking.{HasStrand, look_of};
 ghost use Rattle.mt_probe.specs.Finds.{AreFinds};
 ghost use Rattle.mt_probe.specs.Items.{WasTestedNear};
-ghost use Rattle.mt_probe.specs.Prepared.{IsLeftByEntry, IsLeftOr, IsPrepOf, IsRefusedOn, MakesStrand, WasTestedFor, kind_made, path_made, roomy};
+ghost use Rattle.mt_probe.specs.Prepared.{IsLeftByEntry, IsLeftOr, IsPrepOf, IsRefusedOn, MakesStrand, WasTestedFor, kind_made, path_made};
 ghost use Rattle.mt_probe.specs.Shot.{state_in_shot};
 ghost use Rattle.mt_probe.specs.Tests.{IsUntested};
 
@@ -66,9 +67,10 @@ pub fn strand_of(
     Ok(Arc::new(alloc, strand)?)
 }
 
-// What a command looks at, as if there were room for a flight and an entry. The trajectory that the flight flies is at hand.
-fn look<'a>(snapshot: &'a Snapshot, command: &Command) -> Looked<'a>
-    ensures look { look_of result ≡ roomy (state_in_shot snapshot.now) command.now }
+/// What the decision of a command looks at, as if so many flights were held and so many entries made. The trajectory that the flight flies is at
+/// hand.
+pub fn look<'a>(snapshot: &'a Snapshot, command: &Command, held: u32, entries: u64) -> Looked<'a>
+    ensures look { look_of result ≡ record (look_at (state_in_shot snapshot.now) command.now) { held = held; entries = entries } }
     ensures strand { HasStrand snapshot.now.setup result command.now }
 {
     snapshot.keeps();
@@ -86,8 +88,8 @@ fn look<'a>(snapshot: &'a Snapshot, command: &Command) -> Looked<'a>
     };
     Looked {
         now: snapshot.now(),
-        held: 0,
-        entries: 0,
+        held,
+        entries,
         flight,
         strand,
     }
@@ -107,7 +109,8 @@ pub fn left_of(
     ensures { IfOk result (IsLeftOr snapshot.now.setup (state_in_shot snapshot.now) who command.now) }
 {
     snapshot.keeps();
-    let looked = look(snapshot, command);
+    // There is room for a flight and an entry.
+    let looked = look(snapshot, command, 0, 0);
     if let Err(refusal) = judge(snapshot.tables(), snapshot.rules(), &looked, who, command) {
         return Ok(Err(refusal));
     }

@@ -5,5 +5,7 @@ pub judge-requires : goal.judge-requires
 judge-requires c = record { strand = some_strand c.args.snapshot.now.setup c.look-looked.result c.args.command.now c.look-looked.ensures.strand }
 
 pub returns : goal.returns
-returns c = rw c.look-looked.ensures.look at (judged_flown c.args.snapshot.now.setup c.look-looked.result c.args.who c.args.command.now c.judge.result
+returns c =
+    let looked = rw (c.flights-held.ensures, c.version-entries.ensures.version) at c.look-looked.ensures.look in
+    rw looked at (judged_flown c.args.snapshot.now.setup c.look-looked.result c.args.who c.args.command.now c.judge.result
     c.look-looked.ensures.strand (rw (c.tables.ensures, c.rules.ensures.rules) at c.judge.ensures))

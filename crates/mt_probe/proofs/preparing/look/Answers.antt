@@ -15,7 +15,7 @@ returns-clause-strand c =
       | in-Some-slot w ↦
           elim c.match-slot-2.branch [
             | in-Some-slot-2 v ↦
-                let looked : Looked = record { now = c.now.result; held = 0; entries = 0; flight = w.flight-flight.result; strand = v.path-strand.result } in
+                let looked : Looked = record { now = c.now.result; held = c.args.held; entries = c.args.entries; flight = w.flight-flight.result; strand = v.path-strand.result } in
                 let same : v.in-Some-slot-2.slot ≡ w.in-Some-slot.slot = one_place v.in-Some-slot-2.slot w.in-Some-slot.slot v.in-Some-slot-2.is w.slot-is in
                 rw (w.flight-is, v.strand-is) (flight_looked shot w.in-Some-slot.slot looked c.args.command.now c.keeps.ensures.sound
                 w.flight-flight.ensures
@@ -23,7 +23,7 @@ returns-clause-strand c =
             | in-None-slot-2 v ↦ absurd (no_place w.in-Some-slot.slot w.slot-is v.in-None-slot-2.is)
           ]
       | in-None-slot w ↦
-          let looked : Looked = record { now = c.now.result; held = 0; entries = 0; flight = None; strand = c.match-slot-2.strand } in
+          let looked : Looked = record { now = c.now.result; held = c.args.held; entries = c.args.entries; flight = None; strand = c.match-slot-2.strand } in
           rw w.flight-is (nothing_looked shot.setup looked c.args.command.now refl)
     ]
 
