@@ -1,10 +1,11 @@
 //! How few segments trajectories have, those that no plan can say too: from heights and margins of their own.
 ghost use Rattle.std.specs.Prelude.{pos, IsTrue, All};
 ghost use Rattle.mt_base.specs.Bounds.{AreBoundedBands, IsBoundedBand, IsInPlane, IsWithin};
+ghost use Rattle.mt_base.specs.Predictor.{base_place};
 ghost use Rattle.mt_predict.specs.Manners.{IsFlownPlace};
 
 use crate::cases::{Check, Values, assert_part, check_each, check_end, columns, number};
-use mt_base::{Band, Place, Point, Rules};
+use mt_base::{Band, Base, Point, Rules, Second};
 use mt_predict::fly_route;
 use mt_track::Strand;
 use std::alloc::Global;
@@ -148,34 +149,33 @@ fn are_in_plane(fixes: &[Point]) -> bool
     true
 }
 
-fn is_held(rules: &Rules, a: &Place) -> bool
-    ensures { IsTrue result → IsFlownPlace rules.now a.now }
+fn is_held(rules: &Rules, base: &Base) -> bool
+    ensures { IsTrue result → IsFlownPlace rules.now (base_place base.now) }
 {
-    if !is_in_plane(&a.x, &a.y) || !is_within(0, 3_600_000, &a.z) {
+    if !is_in_plane(&base.x, &base.y) || !is_within(0, 3_600_000, &base.z) {
         return false;
     }
-    is_up_to(&rules.rmax, &a.r) && is_up_to(&rules.wmax, &a.w)
+    is_up_to(&rules.rmax, &base.r) && is_up_to(&rules.wmax, &base.w)
 }
 
-/// The trajectory from a place over the first fix to the others, from a second on, in the usual rules, of an aircraft that isn't approved.
+/// The trajectory from a base to the fixes, in the usual rules, of an aircraft that isn't approved.
 fn fly(
     rt: &impl Abort,
     alloc: Global,
     bands: &[Band],
     level: u32,
     fixes: &[Point],
-    at: u32,
-    from: Place,
+    base: &Base,
 ) -> Strand {
     let rules = Rules::usual();
     assert!(rt; are_bands(bands));
     assert!(rt; level <= 600);
     assert!(rt; are_in_plane(fixes));
     assert!(rt; fixes.len() <= 64);
-    assert!(rt; 1 < fixes.len());
-    assert!(rt; at <= 10_000_000);
-    assert!(rt; is_held(&rules, &from));
-    fly_route(alloc, &rules, bands, level, fixes, 1, at, from, false).expect(rt, "memory")
+    assert!(rt; (base.next as usize) < fixes.len());
+    assert!(rt; base.at <= 10_000_000);
+    assert!(rt; is_held(&rules, base));
+    fly_route(alloc, &rules, bands, level, fixes, base, false).expect(rt, "memory")
 }
 
 fn read_band(rt: &impl Abort, text: &str) -> Band {
@@ -217,15 +217,17 @@ fn read_fixes(rt: &impl Abort, alloc: Global, text: &str) -> Vec<Point> {
     fixes
 }
 
-/// Over the first fix, at a height and with a horizontal margin.
-fn over_first(rt: &impl Abort, fixes: &[Point], z: i64, r: i64) -> Place {
+/// Over the first fix and flying to the second, at a height and with a horizontal margin, from a second on.
+fn over_first(rt: &impl Abort, fixes: &[Point], z: i64, r: i64, at: Second) -> Base {
     let first = fixes.first().expect(rt, "a fix");
-    Place {
+    Base {
+        at,
         x: first.x,
         y: first.y,
         z,
         r,
         w: 0,
+        next: 1,
     }
 }
 
@@ -237,8 +239,8 @@ fn read_flown(rt: &impl Abort, alloc: Global, values: &mut Values<'_>, text: &st
     let z = number(rt, values);
     let level = number(rt, values);
     let start = number(rt, values);
-    let begin = over_first(rt, &fixes, z, number(rt, values));
-    let strand = fly(rt, alloc, &bands, level, &fixes, start, begin);
+    let base = over_first(rt, &fixes, z, number(rt, values), start);
+    let strand = fly(rt, alloc, &bands, level, &fixes, &base);
     assert!(rt; strand.start() == start);
     strand
 }

@@ -1,33 +1,47 @@
 -- A leg while it is flown: what stands after each stretch, and at the end.
-use Rattle.std.proofs.Common.{◌≡◌, ℕ, zero, suc, ◌+◌, ◌-◌, ◌<◌, ◌≤◌, pos, List, ◌++◌, length, take, All, min, sym, ap, ◌∙◌, subst, arith, append_assoc, length-append}
+use Rattle.std.proofs.Common.{◌≡◌, ℕ, zero, suc, ◌+◌, ◌-◌, ◌<◌, ◌≤◌, pos, List, ◌++◌, length, take, All, min, sym, ap, ◌∙◌, subst, arith, refl, append_assoc, length-append}
 use Rattle.std.proofs.lemmas.Int.{clamps, ints}
 use Rattle.std.proofs.lemmas.List.Elements.{All-head}
 use Rattle.mt_base.specs.declared.place.Leg.{Leg}
 use Rattle.mt_base.specs.declared.place.Place.{Place}
 use Rattle.mt_base.specs.declared.row.Row.{Row}
-use Rattle.mt_base.specs.Bounds.{IsBoundedOver, IsBoundedRow, IsWithin}
-use Rattle.mt_base.specs.Predictor.{Manner, end_after, end_of, row_on, rows_on}
+use Rattle.mt_base.specs.Bounds.{AreWithinBounds, IsBoundedOver, IsBoundedRow, IsWithin}
+use Rattle.mt_base.specs.Predictor.{Manner, climb_from, end_after, end_of, row_on, rows_on}
 use Rattle.mt_base.specs.Trajectory.{Trajectory, straight_rows}
 use Rattle.mt_track.specs.Laid.{Follows, extended}
 use Rattle.mt_track.proofs.Straight.{length-straight_rows}
-use Rattle.mt_predict.specs.Private.Flying.{EndAt, IsSteady, place_at}
+use Rattle.mt_predict.specs.Private.Flying.{EndAt, IsFlownRow, IsSteady, place_at}
+use Rattle.mt_predict.proofs.Margins.{vertical_within}
 use Rattle.mt_predict.proofs.Rows.{All-back, All-front, EndAt-stretch, IsBoundedOver-stretch, continues_at, end_after-append, end_after-straight, first_of_all, length-rows_on, stretch}
 
--- the row that is next is bounded, and with it its margin
+-- the row that is next is bounded, and with it its margins
 pub first_bounded : (m : Manner) (leg : Leg) (left : ℕ) (a : Place) → 0 < left → All IsBoundedRow (rows_on m leg left a) → IsBoundedRow (row_on m leg (left - 1) a)
 first_bounded m leg zero a some all = absurd (omega arith)
 first_bounded m leg (suc n) a some all =
     let e : n ≡ suc n - 1 = omega arith in
     subst (λ (k : ℕ). IsBoundedRow (row_on m leg k a)) e (All-head IsBoundedRow (row_on m leg n a) (rows_on m leg n (end_of (row_on m leg n a))) all)
 
-pub margin_within : (m : Manner) (leg : Leg) (n : ℕ) (a : Place) (row : Row) → row ≡ row_on m leg n a → IsBoundedRow (row_on m leg n a)
-    → IsWithin (pos 0) m.rules.rmax row.r
+margin_within : (m : Manner) (leg : Leg) (n : ℕ) (a : Place) → IsBoundedRow (row_on m leg n a) → IsWithin (pos 0) m.rules.rmax (row_on m leg n a).r
 unfolding row_on
-margin_within m leg n a row is bounded =
-    let e : row.r ≡ a.r = ap (λ (row : Row). row.r) is in
+margin_within m leg n a bounded =
     let value = bounded.r.value in
     let growth = bounded.r.growth in
-    rw e (record { least = value.least; most = omega (arith, ints, clamps, growth.least) })
+    record { least = value.least; most = omega (arith, ints, clamps, growth.least) }
+
+height_margin_within : (m : Manner) (leg : Leg) (n : ℕ) (a : Place) → AreWithinBounds m.rules → IsBoundedRow (row_on m leg n a)
+    → IsWithin (pos 0) m.rules.wmax (row_on m leg n a).w
+unfolding row_on
+height_margin_within m leg n a kept bounded = vertical_within m.rules (climb_from m a.z) a.w kept bounded.w.value bounded.w.growth
+
+pub row_flown : (m : Manner) (leg : Leg) (n : ℕ) (a : Place) (row : Row) → AreWithinBounds m.rules → row ≡ row_on m leg n a → IsBoundedRow (row_on m leg n a)
+    → IsFlownRow m row
+unfolding row_on
+row_flown m leg n a row kept is bounded = subst (IsFlownRow m) (sym is) (record {
+  height = bounded.z.value;
+  climb = refl;
+  r = margin_within m leg n a bounded;
+  w = height_margin_within m leg n a kept bounded;
+})
 
 -- With so many seconds of a leg left, some rows stand after the old ones, and with those that are left they are all of the leg.
 pub record IsUnderWay (m : Manner) (leg : Leg) (old : Trajectory) (from : Place) (cut : ℕ) (t : Trajectory) (left : ℕ) (a : Place) : Type 0 where

@@ -3,8 +3,10 @@ pub mod Ahead
 pub mod Aims
 pub mod Bounds
 pub mod Casts
+pub mod Climbs
 pub mod Durations
 pub mod Gains
+pub mod Layers
 pub mod Legs
 pub mod Looks
 pub mod Margins

@@ -7,6 +7,9 @@ ghost use Rattle.mt_predict.specs.Manners.{manner};
 use mt_base::{Band, Rules};
 use mt_tables::band_at;
 
+/// How many units of height, each 1/60 of a foot, a flight level has.
+pub(crate) const LEVEL: i64 = 6_000;
+
 /// What a second climbs from a height: what is left to the level, at most the rate of climb and at least minus the rate of descent of
 /// the band that holds the height.
 pub(crate) fn climb_from(bands: &[Band], level: u32, z: i64) -> i64
@@ -16,7 +19,7 @@ pub(crate) fn climb_from(bands: &[Band], level: u32, z: i64) -> i64
     ensures { (rules : Rules) → result ≡ climb_from (manner rules bands.now level) z }
 {
     let band = band_at(bands, z);
-    let to_level = 6000 * i64::from(level) - z;
+    let to_level = LEVEL * i64::from(level) - z;
     to_level.min(band.climb).max(-band.descent)
 }
 

@@ -1,28 +1,15 @@
 ghost use Rattle.std.specs.Prelude.{◌≡◌, ◌≤◌, length, All, IfOk, is_some, true};
 ghost use Rattle.mt_base.specs.Bounds.{AreWithinBounds, IsInPlane, IsRightBase, IsSoundCourse};
 ghost use Rattle.mt_base.specs.Tables.{setup_with};
-ghost use Rattle.mt_base.specs.Predictor.{flown, base_place, points_of};
+ghost use Rattle.mt_base.specs.Predictor.{flown, points_of};
 ghost use Rattle.mt_base.specs.declared.conflict.Kind.TheVariants.{Tentative};
 ghost use Rattle.mt_predict.specs.Paths.{IsPathOf};
 
 use crate::fly::fly_route;
-use mt_base::{Base, Course, Kind, Memory, Place, Point, Route, Rules};
+use mt_base::{Base, Course, Kind, Memory, Point, Route, Rules};
 use mt_tables::Tables;
 use mt_track::Strand;
 use std::alloc::Global;
-
-/// The place where a trajectory begins.
-fn place_of(base: &Base) -> Place
-    ensures { result ≡ base_place base.now }
-{
-    Place {
-        x: base.x,
-        y: base.y,
-        z: base.z,
-        r: base.r,
-        w: base.w,
-    }
-}
 
 /// The positions of the fixes of a route.
 fn points_of(alloc: Global, tables: &Tables, route: &Route) -> Result<Vec<Point>, Memory>
@@ -56,18 +43,7 @@ fn fly(
     let Some(bands) = tables.bands(course.kind) else {
         unreachable!()
     };
-    let from = place_of(base);
-    fly_route(
-        alloc,
-        rules,
-        bands,
-        level,
-        &points,
-        base.next,
-        base.at,
-        from,
-        course.rvsm,
-    )
+    fly_route(alloc, rules, bands, level, &points, base, course.rvsm)
 }
 
 /// The trajectory of a course, or that of its tentative clearance, second by second: from the base along the rest of the route, at the

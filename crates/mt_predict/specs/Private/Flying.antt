@@ -3,7 +3,8 @@ use Rattle.std.specs.Prelude.{◌≡◌, ℕ, suc, pos, ◌+ℤ◌, ◌*ℤ◌, 
 use Rattle.mt_base.specs.declared.place.Leg.{Leg}
 use Rattle.mt_base.specs.declared.place.Place.{Place}
 use Rattle.mt_base.specs.declared.row.Row.{Row}
-use Rattle.mt_base.specs.Predictor.{Manner, end_of, row_on}
+use Rattle.mt_base.specs.Bounds.{IsHeight, IsWithin}
+use Rattle.mt_base.specs.Predictor.{Manner, climb_from, end_of, row_on}
 use Rattle.mt_track.specs.Rows.{row_after}
 
 -- the place that a row reaches in so many seconds of its gains
@@ -15,6 +16,13 @@ place_at a seconds = record {
   r = a.r +ℤ a.gr *ℤ pos seconds;
   w = a.w +ℤ a.gw *ℤ pos seconds;
 }
+
+-- a row that climbs as its manner says, its height within bounds and its margins within the rules'
+pub record IsFlownRow (m : Manner) (row : Row) : Type 0 where
+  pub height : IsHeight row.z
+  pub climb : row.vz ≡ climb_from m row.z
+  pub r : IsWithin (pos 0) m.rules.rmax row.r
+  pub w : IsWithin (pos 0) m.rules.wmax row.w
 
 -- with so many seconds of a leg left, each row of the next n seconds goes on from the first with the same gains
 abbrev pub IsSteady : Manner → Leg → ℕ → Row → ℕ → Type 0

@@ -1,7 +1,7 @@
-use Rattle.std.proofs.Common.{◌-◌, length, refl, arith, rules}
+use Rattle.std.proofs.Common.{◌-◌, length, arith, rules}
 use Rattle.std.proofs.lemmas.Result.{IfOk-from_err}
 use Rattle.mt_predict.specs.Manners.{manner}
-use Rattle.mt_predict.proofs.Legs.{IsNext, first_bounded, margin_within, place_flown, rows_flown, stretch_bounded, stretch_flown, stretch_follows}
+use Rattle.mt_predict.proofs.Legs.{IsNext, first_bounded, place_flown, row_flown, rows_flown, stretch_bounded, stretch_flown, stretch_follows}
 use Rattle.mt_predict.proofs.fly.fly_leg.Goals as goal
 
 -- all seconds of the leg are left
@@ -11,16 +11,17 @@ loop-left-init c = search rules
 pub row_on-row-requires-clause-bounded : goal.row_on-row-requires-clause-bounded
 row_on-row-requires-clause-bounded c = first_bounded _ _ _ _ (omega (arith, c.loop-left-test.true)) c.loop-left.invariant.bounded
 
-pub steady-seconds-requires-clause-r_kept : goal.steady-seconds-requires-clause-r_kept
-steady-seconds-requires-clause-r_kept c =
-    margin_within _ _ _ _ _ c.row_on-row.ensures (first_bounded _ _ _ _ (omega (arith, c.loop-left-test.true)) c.loop-left.invariant.bounded)
+pub steady-seconds-requires-clause-row_kept : goal.steady-seconds-requires-clause-row_kept
+steady-seconds-requires-clause-row_kept c =
+    row_flown _ _ _ _ _ c.requires.manner_kept.rules c.row_on-row.ensures
+    (first_bounded _ _ _ _ (omega (arith, c.loop-left-test.true)) c.loop-left.invariant.bounded)
 
 pub push-requires : goal.push-requires
 push-requires c =
     let m = manner c.args.rules.now c.args.bands.now c.args.level in
     let next : IsNext m c.args.leg.now (c.args.leg.now.seconds - c.min.result) c.loop-left.left c.loop-left.place c.row_on-row.result c.steady-seconds.result = record {
       is = c.row_on-row.ensures;
-      steady = c.steady-seconds.ensures.steady m c.loop-left.place refl c.row_on-row.ensures;
+      steady = c.steady-seconds.ensures.steady c.loop-left.place c.row_on-row.ensures;
       some = c.steady-seconds.ensures.some;
       few = c.steady-seconds.ensures.within;
     } in
@@ -32,7 +33,7 @@ place_at-place-requires c =
     let m = manner c.args.rules.now c.args.bands.now c.args.level in
     let next : IsNext m c.args.leg.now (c.args.leg.now.seconds - c.min.result) c.loop-left.left c.loop-left.place c.row_on-row.result c.steady-seconds.result = record {
       is = c.row_on-row.ensures;
-      steady = c.steady-seconds.ensures.steady m c.loop-left.place refl c.row_on-row.ensures;
+      steady = c.steady-seconds.ensures.steady c.loop-left.place c.row_on-row.ensures;
       some = c.steady-seconds.ensures.some;
       few = c.steady-seconds.ensures.within;
     } in
@@ -43,7 +44,7 @@ loop-left-preserved c =
     let m = manner c.args.rules.now c.args.bands.now c.args.level in
     let next : IsNext m c.args.leg.now (c.args.leg.now.seconds - c.min.result) c.loop-left.left c.loop-left.place c.row_on-row.result c.steady-seconds.result = record {
       is = c.row_on-row.ensures;
-      steady = c.steady-seconds.ensures.steady m c.loop-left.place refl c.row_on-row.ensures;
+      steady = c.steady-seconds.ensures.steady c.loop-left.place c.row_on-row.ensures;
       some = c.steady-seconds.ensures.some;
       few = c.steady-seconds.ensures.within;
     } in
@@ -77,8 +78,8 @@ row_on-row-requires-clause-leg_kept c = c.requires.leg_kept
 pub steady-seconds-requires-clause-leg_kept : goal.steady-seconds-requires-clause-leg_kept
 steady-seconds-requires-clause-leg_kept c = c.requires.leg_kept
 
-pub steady-seconds-requires-clause-rules_kept : goal.steady-seconds-requires-clause-rules_kept
-steady-seconds-requires-clause-rules_kept c = c.requires.manner_kept.rules
+pub steady-seconds-requires-clause-manner_kept : goal.steady-seconds-requires-clause-manner_kept
+steady-seconds-requires-clause-manner_kept c = c.requires.manner_kept
 
 pub returns-clause-at : goal.returns-clause-at
 returns-clause-at c = c.loop-left.invariant.at

@@ -35,11 +35,11 @@ loop-number-preserved c =
     } in
     next_leg origin c.leg_to-leg.result c.loop-number.invariant c.loop-number-test.true c.leg_to-leg.ensures c.requires.manner_kept
     (c.requires.fixes_kept c.loop-number.number origin c.loop-number-test.true) flown
-    (omega (arith, c.end.ensures.end, c.end.ensures.kept.short, c.if-end-at-eq-MOST.false, flown.start, c.loop-number.invariant.start))
+    (omega (arith, c.end.ensures.end, c.end.ensures.kept.short, c.if-end-base-eq-MOST.false, flown.start, c.loop-number.invariant.start))
 
-pub returns-then-end-at-eq-MOST-clause-rows : goal.returns-then-end-at-eq-MOST-clause-rows
+pub returns-then-end-base-eq-MOST-clause-rows : goal.returns-then-end-base-eq-MOST-clause-rows
 unfolding origin
-returns-then-end-at-eq-MOST-clause-rows c =
+returns-then-end-base-eq-MOST-clause-rows c =
     let flown : IsLegFlown (manner c.args.rules.now c.args.bands.now c.args.level) c.leg_to-leg.result c.loop-number.strand c.fly_leg.new.strand c.loop-number.place c.in_ok-place.place =
     record {
       start = c.in_ok-place.ensures.start;
@@ -49,7 +49,7 @@ returns-then-end-at-eq-MOST-clause-rows c =
       place = c.in_ok-place.ensures.place;
     } in
     full origin c.leg_to-leg.result c.loop-number.invariant c.loop-number-test.true c.leg_to-leg.ensures flown
-    (omega (arith, c.end.ensures.end, c.if-end-at-eq-MOST.true, flown.start, c.loop-number.invariant.start))
+    (omega (arith, c.end.ensures.end, c.if-end-base-eq-MOST.true, flown.start, c.loop-number.invariant.start))
 
 pub returns-clause-rows : goal.returns-clause-rows
 returns-clause-rows c = over_last c.loop-number.invariant c.loop-number-test.false

@@ -1,17 +1,25 @@
-use Rattle.std.proofs.Common.{◌≡◌, pos, w64, to_z, rules, arith, FitsSigned, sym, ◌∙◌, ap}
-use Rattle.std.proofs.lemmas.Int.{ints, to_z-of_z}
+use Rattle.std.proofs.Common.{arith}
+use Rattle.std.proofs.lemmas.Int.{ints}
+use Rattle.mt_predict.specs.Manners.{manner}
 use Rattle.mt_predict.proofs.Casts.{as_is}
 use Rattle.mt_predict.proofs.Steadiness.{steady_is}
 use Rattle.mt_predict.proofs.steady.steady.Goals as goal
 
 pub returns-clause-steady : goal.returns-clause-steady
-returns-clause-steady c = λ m a rules_are is k some below.
-    let margin : FitsSigned w64 c.args.row.now.r = search rules in
-    let rate : FitsSigned w64 c.args.row.now.vz = search rules in
-    let level : c.args.row.now.vz ≡ pos 0 = sym (to_z-of_z w64 c.args.row.now.vz rate) ∙ ap (to_z w64) c.if-row-ne0.false in
+returns-clause-steady c = λ a is k some below.
+    let rules = c.args.rules.now in
+    let gh = c.requires.manner_kept.rules.gh in
+    let rmax = c.requires.manner_kept.rules.rmax in
+    let r = c.requires.row_kept.r in
     let dx = c.requires.leg_kept.east in
     let dy = c.requires.leg_kept.north in
-    let east = rw (as_is c.args.leg.now.dx (omega (arith, ints, dx)) (omega (arith, ints, dx))) at c.phase-east.ensures.same k (omega (arith, c.min.ensures, c.min-2.ensures)) in
-    let north = rw (as_is c.args.leg.now.dy (omega (arith, ints, dy)) (omega (arith, ints, dy))) at c.phase-north.ensures.same k (omega (arith, c.min-2.ensures)) in
-    let growth = rw (to_z-of_z w64 c.args.row.now.r margin, ← rules_are) at c.growing.ensures.same k (omega (arith, c.min.ensures, c.min-2.ensures)) in
-    steady_is m c.args.leg.now c.args.left k a c.args.row.now is level east north growth
+    let east = rw (as_is c.args.leg.now.dx (omega (arith, ints, dx)) (omega (arith, ints, dx))) at c.phase-east.ensures.same k (omega (arith, c.min.ensures, c.min-2.ensures, c.min-3.ensures)) in
+    let north = rw (as_is c.args.leg.now.dy (omega (arith, ints, dy)) (omega (arith, ints, dy))) at c.phase-north.ensures.same k (omega (arith, c.min-3.ensures)) in
+    let growth = rw (
+      as_is rules.gh (omega (arith, ints, gh)) (omega (arith, ints, gh)),
+      as_is rules.rmax (omega (arith, ints, rmax)) (omega (arith, ints, rmax)),
+      as_is c.args.row.now.r (omega (arith, ints, r, rmax)) (omega (arith, ints, r, rmax)),
+    ) at c.growing-grown.ensures.same k (omega (arith, c.min.ensures, c.min-2.ensures, c.min-3.ensures)) in
+    steady_is (manner rules c.args.bands.now c.args.level) c.args.leg.now c.args.left k a c.args.row.now is east north
+    (c.vertical.ensures.climb k (omega (arith, c.min.ensures, c.min-2.ensures, c.min-3.ensures))) growth
+    (c.vertical.ensures.margin k (omega (arith, c.min.ensures, c.min-2.ensures, c.min-3.ensures)))
