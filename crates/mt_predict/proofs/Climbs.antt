@@ -1,8 +1,7 @@
 -- For how long a climb stays the same.
-use Rattle.std.proofs.Common.{◌≡◌, ℕ, zero, suc, ◌+◌, ◌*◌, ◌/◌, ◌<◌, ◌≤◌, min, ℤ, pos, negsuc, neg_ℤ, ◌+ℤ◌, ◌-ℤ◌, ◌*ℤ◌, ◌<ℤ◌, ◌≤ℤ◌, unsigned_abs, List, sym, ap, ◌∙◌, arith, refl, of_z, w64}
+use Rattle.std.proofs.Common.{◌≡◌, ℕ, zero, suc, ◌+◌, ◌*◌, ◌<◌, ◌≤◌, ℤ, pos, negsuc, neg_ℤ, ◌+ℤ◌, ◌-ℤ◌, ◌*ℤ◌, ◌<ℤ◌, ◌≤ℤ◌, unsigned_abs, List, sym, ap, ◌∙◌, arith, refl, of_z, w64}
 use Rattle.std.specs.Int.{int_max, int_min}
 use Rattle.std.proofs.lemmas.Int.{clamps, ints}
-use Rattle.std.proofs.lemmas.Nat.{le-div}
 use Rattle.mt_base.specs.declared.band.Band.{Band}
 use Rattle.mt_base.specs.declared.rules.Rules.{Rules}
 use Rattle.mt_base.specs.Bounds.{AreBoundedBands, IsBoundedBand, IsWithin}
@@ -118,6 +117,3 @@ rate_ahead to z (pos g) lowest highest ahead rate l h above below up down is som
 rate_ahead to z (negsuc n) lowest highest ahead rate l h above below up down is some =
     let descends : negsuc n ≤ℤ pos 0 = omega (arith, ints) in
     omega (arith, ints, clamps, l, h, below descends, down descends, is)
-
-pub some_seconds : (most ahead rate : ℕ) → 0 < most → 0 < rate → rate ≤ ahead → 0 < min most (ahead / rate)
-some_seconds most ahead rate room some far = omega (arith, room, le-div 1 ahead rate some (omega (arith, far)))

@@ -3,6 +3,7 @@ use Rattle.std.proofs.Common.{◌≡◌, ℕ, suc, ◌+◌, ◌-◌, ◌*◌, �
 use Rattle.std.specs.Int.{int_min, int_rem_euclid}
 use Rattle.std.proofs.Math.Nat.{div-mul-le_self}
 use Rattle.std.proofs.lemmas.Int.{clamps, ints}
+use Rattle.std.proofs.lemmas.Nat.{le-div}
 use Rattle.mt_base.specs.declared.place.Leg.{Leg}
 use Rattle.mt_base.specs.declared.place.Place.{Place}
 use Rattle.mt_base.specs.declared.row.Row.{Row}
@@ -54,6 +55,10 @@ room_for room gain most k below =
     let h : suc k ≤ room / gain = omega arith in
     let p = mul-le-mul h (le_refl gain) in
     omega (arith, p, div-mul-le_self room gain)
+
+-- a rate that is ahead lasts a second at least
+pub some_seconds : (most ahead rate : ℕ) → 0 < most → 0 < rate → rate ≤ ahead → 0 < min most (ahead / rate)
+some_seconds most ahead rate room some far = omega (arith, room, le-div 1 ahead rate some (omega (arith, far)))
 
 -- The rows go on from the first while its gains stay.
 pub steady_is : (m : Manner) (leg : Leg) (left k : ℕ) (a : Place) (row : Row) → row ≡ row_on m leg (left - 1) a

@@ -1,8 +1,8 @@
 use Rattle.std.proofs.Common.{◌≡◌, ◌*◌, ◌*ℤ◌, pos, to_z, w64, arith, ap, ◌∙◌, sym}
 use Rattle.std.proofs.lemmas.Int.{ints, to_z-of_z}
 use Rattle.mt_predict.proofs.Reading.{read}
-use Rattle.mt_predict.proofs.Steadiness.{room_for}
-use Rattle.mt_predict.proofs.Climbs.{climb_ahead, climb_kept, climb_stays, descent_ahead, level_stays, rate_ahead, rate_some, some_seconds}
+use Rattle.mt_predict.proofs.Steadiness.{room_for, some_seconds}
+use Rattle.mt_predict.proofs.Climbs.{climb_ahead, climb_kept, climb_stays, descent_ahead, level_stays, rate_ahead, rate_some}
 use Rattle.mt_predict.proofs.steady.climbing.Goals as goal
 
 pub reach-ahead-requires-clause-rate : goal.reach-ahead-requires-clause-rate

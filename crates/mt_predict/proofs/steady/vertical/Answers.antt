@@ -36,3 +36,24 @@ returns-else-row-eq0-clause-margin c = λ k below.
       as_is rules.wmax (omega (arith, ints, wmax)) (omega (arith, ints, wmax)),
       as_is row.w (omega (arith, ints, w, wmax)) (omega (arith, ints, w, wmax)),
     ) at c.growing.ensures.same k below)
+
+pub climbing-seconds-requires-clause-height : goal.climbing-seconds-requires-clause-height
+climbing-seconds-requires-clause-height c =
+    let height = c.requires.row_kept.height in
+    rw (as_is c.args.row.now.z (omega (arith, ints, height)) (omega (arith, ints, height))) height
+
+pub growing-requires-clause-gain_kept : goal.growing-requires-clause-gain_kept
+growing-requires-clause-gain_kept c =
+    let gv = c.requires.manner_kept.rules.gv in
+    rw (as_is c.args.rules.now.gv (omega (arith, ints, gv)) (omega (arith, ints, gv))) gv
+
+pub growing-requires-clause-greatest_kept : goal.growing-requires-clause-greatest_kept
+growing-requires-clause-greatest_kept c =
+    let wmax = c.requires.manner_kept.rules.wmax in
+    rw (as_is c.args.rules.now.wmax (omega (arith, ints, wmax)) (omega (arith, ints, wmax))) wmax
+
+pub growing-requires-clause-margin_kept : goal.growing-requires-clause-margin_kept
+growing-requires-clause-margin_kept c =
+    let wmax = c.requires.manner_kept.rules.wmax in
+    let w = c.requires.row_kept.w in
+    rw (as_is c.args.rules.now.wmax (omega (arith, ints, wmax)) (omega (arith, ints, wmax)), as_is c.args.row.now.w (omega (arith, ints, w, wmax)) (omega (arith, ints, w, wmax))) w
