@@ -1,13 +1,12 @@
 //! The course that a plan files.
-ghost use Rattle.std.specs.Prelude.{◌≡◌, ◌≤◌, IfOk};
+ghost use Rattle.std.specs.Prelude.{◌≡◌, ◌≤◌};
 ghost use Rattle.mt_base.specs.Bounds.{IsInPlane};
 ghost use Rattle.mt_base.specs.Effect.{base_of, course_of, first_of_points};
 ghost use Rattle.mt_base.specs.Predictor.{points_of};
 ghost use Rattle.mt_base.specs.Tables.{setup_with};
 
-use mt_base::{Base, Course, Memory, Point, Route, Rules, Second, TypeName};
+use mt_base::{Base, Course, Point, Route, Rules, Second, TypeName};
 use mt_tables::Tables;
-use std::alloc::Global;
 
 /// Where a route begins whose first name is no fix's.
 const ORIGIN: Point = Point { x: 0, y: 0 };
@@ -42,29 +41,28 @@ fn base_of(rules: &Rules, fix: Point, at: Second, from: u32) -> Base
 /// The course of a plan: it begins at the second `at` over the first fix of its route, at level `from`, which is at most 600, and is cleared
 /// to `level`; `rvsm` is the approval. That it begins in the plane is said here too.
 pub fn planned_course(
-    alloc: Global,
     tables: &Tables,
     rules: &Rules,
     kind: TypeName,
-    route: &Route,
+    route: Route,
     at: Second,
     from: u32,
     level: u32,
     rvsm: bool,
-) -> Result<Course, Memory>
+) -> Course
     requires { from ≤ 600 }
-    ensures course { IfOk result (λ course. course ≡ course_of (setup_with rules.now tables.now) kind route.now at from level rvsm) }
-    ensures plane { IsInPlane (first_of_points (points_of tables.now route.now)).x (first_of_points (points_of tables.now route.now)).y }
+    ensures course { result ≡ course_of (setup_with rules.now tables.now) kind route at from level rvsm }
+    ensures plane { IsInPlane (first_of_points (points_of tables.now route)).x (first_of_points (points_of tables.now route)).y }
 {
-    let fix = first_point(tables, route);
-    Ok(Course {
+    let fix = first_point(tables, &route);
+    Course {
         kind,
-        route: route.copy(alloc)?,
+        route,
         base: base_of(rules, fix, at, from),
         level,
         rvsm,
         last: None,
         due: false,
         mark: None,
-    })
+    }
 }

@@ -1,6 +1,5 @@
 -- The book of what was probed: the last 64 values, under numbers from 1 up.
 use Rattle.std.specs.Prelude.{ℕ, ◌+◌, ◌-◌, List, [], ◌∷◌, ◌++◌, length, map, Option, None, slice_get, if◌then◌else◌, nat_lt}
-use Rattle.std.specs.Coded.{coded×}
 use Rattle.mt_base.specs.Tally.{raised}
 use Rattle.circular_buffer.specs.Buffer.{keep_last}
 

@@ -72,9 +72,8 @@ impl Plain {
                 level,
                 rvsm,
             } => {
-                let course = planned_course(
-                    self.alloc, tables, rules, *kind, route, *at, *from, *level, *rvsm,
-                )?;
+                let route = route.copy(self.alloc)?;
+                let course = planned_course(tables, rules, *kind, route, *at, *from, *level, *rvsm);
                 let path = Path::Planned(course);
                 self.file(Record { call: *call, path })?;
                 Ok(None)

@@ -124,8 +124,8 @@ pub fn left_of(
             level,
             rvsm,
         } => {
+            let route = route.copy(alloc)?;
             let course = planned_course(
-                alloc,
                 snapshot.tables(),
                 snapshot.rules(),
                 *kind,
@@ -134,7 +134,7 @@ pub fn left_of(
                 *from,
                 *level,
                 *rvsm,
-            )?;
+            );
             Ok(Ok(Record {
                 call: *call,
                 path: Path::Planned(course),

@@ -34,15 +34,15 @@ altered_flight-requires c =
       passed = sym passed;
     }
 
-pub returns-in_ok-course-in-Plan : goal.returns-in_ok-course-in-Plan
-returns-in_ok-course-in-Plan c =
+pub returns-in_ok-route-in-Plan : goal.returns-in_ok-route-in-Plan
+returns-in_ok-route-in-Plan c =
     let shot = c.args.snapshot.now in
     let passed = subst (λ (m : Command). judged_aside shot.setup (state_in_shot shot) c.args.who m ≡ Ok (tt {0})) c.in-Plan.is
     (sym (judged_here shot c.look-looked.result c.args.who c.args.command.now _ c.look-looked.ensures.strand c.look-looked.ensures.look
     (rw (c.rules.ensures.rules, c.tables.ensures) at c.in_default.ensures))) in
     let bounded = rw c.in-Plan.is at c.requires.bounded in
-    let plane = rw c.tables-in-Plan.ensures at c.in_ok-course-in-Plan.ensures.plane in
-    rw (c.in-Plan.is, c.in_ok-course-in-Plan.ensures.course, c.rules-in-Plan.ensures.rules, c.tables-in-Plan.ensures)
+    let plane = rw (c.tables-in-Plan.ensures, c.in_ok-route-in-Plan.ensures) at c.planned_course-course.ensures.plane in
+    rw (c.in-Plan.is, c.planned_course-course.ensures.course, c.in_ok-route-in-Plan.ensures, c.rules-in-Plan.ensures.rules, c.tables-in-Plan.ensures)
     (left_plan shot.setup (state_in_shot shot) c.args.who c.in-Plan.call c.in-Plan.kind c.in-Plan.route c.in-Plan.at c.in-Plan.from c.in-Plan.level c.in-Plan.rvsm
     c.keeps.ensures.sound.rules passed bounded.0 bounded.1 bounded.2 plane)
 

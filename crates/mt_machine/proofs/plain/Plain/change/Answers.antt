@@ -11,8 +11,8 @@ pub returns-in_ok-file-in-Plan-clause-sound : goal.returns-in_ok-file-in-Plan-cl
 returns-in_ok-file-in-Plan-clause-sound c =
     let passed = rw c.in-Plan.is at c.requires.passed in
     let within = rw c.in-Plan.is at c.requires.bounded in
-    let plane = c.planned_course.ensures.plane in
-    rw (c.in_ok-file-in-Plan.ensures.ok, c.in_ok-course-in-Plan.ensures.course)
+    let plane = rw c.in_ok-route-in-Plan.ensures at c.planned_course-course.ensures.plane in
+    rw (c.in_ok-file-in-Plan.ensures.ok, c.planned_course-course.ensures.course, c.in_ok-route-in-Plan.ensures)
     (sound_plan (setup_with c.args.rules.now c.args.tables.now) c.args.self.now c.args.who c.in-Plan.call c.in-Plan.kind
     c.in-Plan.route c.in-Plan.at c.in-Plan.from c.in-Plan.level c.in-Plan.rvsm c.requires.rules c.requires.sound passed within plane)
 
@@ -34,7 +34,7 @@ returns-in-Drop-clause-sound c = rw (returns-in-Drop-clause-ok c, c.in-Drop.is)
     (sound_drop (setup_with c.args.rules.now c.args.tables.now) c.args.self.now c.in-Drop.call c.requires.sound)
 
 pub returns-in_ok-file-in-Plan-clause-ok : goal.returns-in_ok-file-in-Plan-clause-ok
-returns-in_ok-file-in-Plan-clause-ok c = rw (c.in-Plan.is, c.in_ok-file-in-Plan.ensures.ok, c.in_ok-course-in-Plan.ensures.course) refl
+returns-in_ok-file-in-Plan-clause-ok c = rw (c.in-Plan.is, c.in_ok-file-in-Plan.ensures.ok, c.planned_course-course.ensures.course, c.in_ok-route-in-Plan.ensures) refl
 
 pub returns-in_ok-file-in-Plan-clause-verdict : goal.returns-in_ok-file-in-Plan-clause-verdict
 returns-in_ok-file-in-Plan-clause-verdict c = rw c.in-Plan.is refl
@@ -54,8 +54,8 @@ returns-in-Tick-clause-ok c = rw (c.in-Tick.is, ← c.self-in-Tick.view_is) refl
 pub returns-in-Tick-clause-verdict : goal.returns-in-Tick-clause-verdict
 returns-in-Tick-clause-verdict c = rw c.in-Tick.is refl
 
-pub returns-in_err-course-in-Plan-clause-err : goal.returns-in_err-course-in-Plan-clause-err
-returns-in_err-course-in-Plan-clause-err c = MatchResult-from_err c.from_residual.result _ _ c.from_residual.ensures.0 (λ err. refl)
+pub returns-in_err-route-in-Plan-clause-err : goal.returns-in_err-route-in-Plan-clause-err
+returns-in_err-route-in-Plan-clause-err c = MatchResult-from_err c.from_residual.result _ _ c.from_residual.ensures.0 (λ err. refl)
 
 pub returns-in_err-file-in-Plan-clause-err : goal.returns-in_err-file-in-Plan-clause-err
 returns-in_err-file-in-Plan-clause-err c = MatchResult-from_err c.from_residual-in_err-file-in-Plan.result _ _ c.from_residual-in_err-file-in-Plan.ensures.0 (λ err. c.in_err-file-in-Plan.ensures.err)
