@@ -1,7 +1,7 @@
 -- Requests that are answered one after the other.
 use Rattle.std.proofs.Common.{◌≡◌, ℕ, ◌+◌, ◌%◌, List, refl, add-one, nat_eq}
 use Rattle.std.specs.Prelude.{MatchBool}
-use Rattle.mt_make.specs.Input.{callsign}
+use Rattle.mt_load.specs.Input.{callsign}
 use Rattle.mt_world.specs.World.{World}
 use Rattle.mt_load.specs.Load.{EachDivided}
 

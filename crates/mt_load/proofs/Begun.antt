@@ -1,7 +1,7 @@
 -- The picture of a load run has begun at its end.
 use Rattle.std.proofs.Common.{◌≡◌, ◌∙◌, ℕ, zero, suc, ◌%◌, Bool, true, false, List, [], ◌∷◌, ◌++◌, refl, ap, nat_eq}
 use Rattle.mt_base.specs.declared.command.Command.TheVariants.{Drop, Tick}
-use Rattle.mt_make.specs.Input.{bands, callsign, each_below, fix, kind_name, plan_of}
+use Rattle.mt_load.specs.Input.{bands, callsign, each_below, fix, kind_name, plan_of}
 use Rattle.mt_read.specs.declared.request.Request.{Request}
 use Rattle.mt_read.specs.declared.request.Request.TheVariants.{Accept, Advise, Begin, Change, Take, TypeLine}
 use Rattle.mt_write.specs.declared.reply.AdviceItem.{AdviceItem}

@@ -1,7 +1,14 @@
 pub mod Asking
 pub mod Begun
 pub mod Counted
+pub mod DrawLemmas
+pub mod FirstDraw
+pub mod InputBounds
+pub mod Inputs
+pub mod Lists
 pub mod Numbers
 pub mod OneRun
+pub mod PlanLemmas
 pub mod Rebuilding
+pub mod Routes
 pub mod SummaryLine

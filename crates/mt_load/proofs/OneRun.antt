@@ -1,7 +1,7 @@
 -- A load run ends in one world.
 use Rattle.std.proofs.Common.{◌≡◌, ◌∙◌, ℕ, zero, suc, ◌%◌, List, [], ◌∷◌, sym, subst, nat_eq}
 use Rattle.mt_base.specs.declared.command.Command.TheVariants.{Drop, Tick}
-use Rattle.mt_make.specs.Input.{callsign, inputs}
+use Rattle.mt_load.specs.Input.{callsign, inputs}
 use Rattle.mt_read.specs.declared.request.Request.{Request}
 use Rattle.mt_read.specs.declared.request.Request.TheVariants.{Accept, Advise, Change, Take}
 use Rattle.mt_write.specs.declared.reply.AdviceItem.{AdviceItem}

@@ -1,7 +1,7 @@
 -- A load run: an input that is made from a number, then advice, acceptances and drops. Each request is answered by the definition of a world.
 use Rattle.std.specs.Prelude.{◌≡◌, ℕ, zero, suc, ◌%◌, List, [], ◌∷◌, nat_eq, MatchBool}
 use Rattle.mt_base.specs.declared.command.Command.TheVariants.{Drop, Tick}
-use Rattle.mt_make.specs.Input.{callsign, inputs}
+use Rattle.mt_load.specs.Input.{callsign, inputs}
 use Rattle.mt_read.specs.declared.request.Request.{Request}
 use Rattle.mt_read.specs.declared.request.Request.TheVariants.{Accept, Advise, Change, Take}
 use Rattle.mt_write.specs.declared.reply.AdviceItem.{AdviceItem}

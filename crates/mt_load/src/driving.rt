@@ -1,14 +1,15 @@
 //! The requests of a load run, served one after the other.
 ghost use Rattle.std.specs.Prelude.{◌≡◌, ◌<◌, ◌≤◌, ◌+◌, ◌%◌, ◌^◌, All, IfOk, MatchBool, OnOk, nat_eq};
 ghost use Rattle.mt_base.specs.declared.rules.Rules.{Rules};
-ghost use Rattle.mt_make.specs.Input.{callsign};
+ghost use Rattle.mt_load.specs.Input.{callsign};
 ghost use Rattle.mt_read.specs.Bounded.{IsBoundedRequest};
 ghost use Rattle.mt_world.specs.World.{IsServed, opening_world};
 ghost use Rattle.mt_load.specs.Load.{AreRequestsAnswered, EachDivided, IsAdviceTaken, IsAdvisedFlight, IsAsked, IsDroppedFlight, IsFirstAccepted, IsLoadRun};
 ghost use Rattle.mt_load.specs.Private.Load.{HaveProbeNumbers, CanBeNamed, probes_of};
 
+use crate::making::input;
+use crate::names::callsign;
 use mt_base::{Callsign, Command};
-use mt_make::{callsign, input};
 use mt_memory::Memory;
 use mt_read::Request;
 use mt_world::Script;

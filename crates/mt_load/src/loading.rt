@@ -36,10 +36,11 @@ fn sum_up<R: Threads + Sync>(rt: &R, alloc: Global, script: &Script) -> Result<S
 
 /// Makes the load run of so many flights, 1 to 1,024, and a number, and sums it up.
 ///
-/// The input of `mt_make` is made by actor 0. Then, for each flight whose number 8 divides, actor 1 takes the version now, asks for advice and
-/// accepts the first clearance that is advised. Actor 0 moves the moment to second 120 and drops each flight whose number 5 divides. Then the
-/// history is printed, read back and rebuilt. The definition is `IsLoaded`. It says nothing of the number of pair tests; all else is the same
-/// at each call, by [`one_summary_law`](crate::one_summary_law).
+/// Actor 0 makes the input: it sets fixes and a type, begins, files the flights and moves the moment to second 60, by the definition `inputs`.
+/// Then, for each flight whose number 8 divides, actor 1 takes the version now, asks for advice and accepts the first clearance that is advised.
+/// Actor 0 moves the moment to second 120 and drops each flight whose number 5 divides. Then the history is printed, read back and rebuilt. The
+/// definition is `IsLoaded`. It says nothing of the number of pair tests; all else is the same at each call, by
+/// [`one_summary_law`](crate::one_summary_law).
 ///
 /// The error is want of memory, wherever it is, and nothing else.
 pub fn load<R: Threads + Sync>(

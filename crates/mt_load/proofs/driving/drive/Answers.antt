@@ -1,6 +1,6 @@
 use Rattle.std.proofs.Common.{rules, subst, sym}
 use Rattle.std.specs.Prelude.{All}
-use Rattle.mt_make.specs.Input.{inputs}
+use Rattle.mt_load.specs.Input.{inputs}
 use Rattle.mt_read.specs.Bounded.{IsBoundedRequest}
 use Rattle.mt_world.specs.World.{opening_world}
 use Rattle.mt_load.specs.Load.{AreRequestsAnswered}
