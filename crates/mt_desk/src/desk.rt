@@ -60,6 +60,11 @@ impl Desk {
         }
     }
 
+    /// Where its memory comes from.
+    pub fn alloc(&self) -> Global {
+        self.alloc
+    }
+
     /// A hand with a seat of this desk. It takes no memory.
     pub fn hand(&self, seat: Seat) -> Hand<'_>
         requires ready { IsSeatOfDesk self.now seat }

@@ -20,7 +20,7 @@ use Rattle.mt_serve.specs.Sitting.{HaveNoChannel, SessionRun, SessionStart, star
 use Rattle.mt_serve.specs.Private.Sitting.{HasSeatedLinks, HasServedLinks, IsDoorOver}
 use Rattle.mt_serve.specs.Private.Seating.{IsNewSeat, AllSplit, HasSplit}
 use Rattle.mt_serve.specs.Tied.{Doorway, IsTied, HasServedAll, backs_of}
-use Rattle.mt_serve.specs.Private.Tied.{gave_back}
+use Rattle.mt_serve.specs.Private.Tied.{HasTakenBack}
 use Rattle.mt_serve.proofs.Accepts.{loses_none}
 use Rattle.mt_serve.proofs.Seats.{length_map}
 use Rattle.mt_serve.proofs.Binding.{all_split}
@@ -63,23 +63,24 @@ module _ {L : Type 0} (source : Source.Ghosts L) (sink : Sink.Ghosts L) where
   pub served_all : (setup : Setup) (port sessions workers staff : ℕ) (at_first at_listening at_end at_last : Doorway L) (desk : Desk) (faulted : Bool) (h : List Entry) (runs : List (SessionRun L)) (seats rest : List (SeatNow Entry Setup))
       → at_listening.count ≡ listened port sessions → at_listening.still ≡ at_first.still → at_listening.returned ≡ at_first.returned → at_first.faults ≤ at_listening.faults
       → HasServedLinks desk at_listening at_end seats rest (starts_of runs) faulted
-      → IsTied source sink setup h runs → at_last.count ≡ gave_back at_end.count (length runs) → at_last.still ≡ at_end.still → Gains at_end.returned at_last.returned (backs_of runs) → at_end.faults ≤ at_last.faults
+      → IsTied source sink setup h runs → HasTakenBack at_end at_last (backs_of runs)
       → staff ≤ workers → (staff ≡ 0 → HaveNoChannel (starts_of runs)) → HasServedAll source sink setup port sessions workers at_first at_last faulted h runs
-  served_all setup port sessions workers staff at_first at_listening at_end at_last desk faulted h runs seats rest listen ss bs later1 links tied back ss3 gains later3 staff_is channels =
+  served_all setup port sessions workers staff at_first at_listening at_end at_last desk faulted h runs seats rest listen ss bs later links tied back staff_is channels =
       let begun = links.begun in
       let many = length_map (λ (z : SessionRun L). z.from) runs in
       let p1 = ap (λ (z : Count). z.port) listen in let n1 = ap (λ (z : Count). z.sessions) listen in let g1 = ap (λ (z : Count). z.given) listen in let k1 = ap (λ (z : Count). z.back) listen in
       let given : at_end.count.given ≡ length runs = omega (arith, begun.given, g1, many) in
-      let k3 : at_last.count.back ≡ length runs = omega (arith, ap (λ (z : Count). z.back) back, begun.back, k1) in
+      let backs = length_map (λ (z : SessionRun L). z.link) runs in
+      let k3 : at_last.count.back ≡ length runs = omega (arith, ap (λ (z : Count). z.back) back.count, backs, begun.back, k1) in
       record {
         tied = tied;
-        given = subst (λ s. LosesFront s at_last.still (links_of (starts_of runs))) ss (subst (λ s. LosesFront at_listening.still s (links_of (starts_of runs))) (sym ss3) begun.links);
-        returned = subst (λ b. Gains b at_last.returned (backs_of runs)) (links.returned ∙ bs) gains;
+        given = subst (λ s. LosesFront s at_last.still (links_of (starts_of runs))) ss (subst (λ s. LosesFront at_listening.still s (links_of (starts_of runs))) (sym back.still) begun.links);
+        returned = subst (λ b. Gains b at_last.returned (backs_of runs)) (links.returned ∙ bs) back.returned;
         count = inl (
-          count_is at_last.count port sessions (length runs) (length runs) (ap (λ (z : Count). z.port) back ∙ begun.port ∙ p1) (ap (λ (z : Count). z.sessions) back ∙ begun.sessions ∙ n1) (ap (λ (z : Count). z.given) back ∙ given) k3,
+          count_is at_last.count port sessions (length runs) (length runs) (ap (λ (z : Count). z.port) back.count ∙ begun.port ∙ p1) (ap (λ (z : Count). z.sessions) back.count ∙ begun.sessions ∙ n1) (ap (λ (z : Count). z.given) back.count ∙ given) k3,
           over_all faulted at_end.count at_listening.faults at_end.faults (length runs) sessions links.over given (begun.sessions ∙ n1),
         );
-        cause = λ is. let r = over_cause faulted at_end.count at_listening.faults at_end.faults links.over is in omega (arith, r, later1, later3);
+        cause = λ is. let r = over_cause faulted at_end.count at_listening.faults at_end.faults links.over is in omega (arith, r, later, back.faults);
         staff = staff;
         staff_is = staff_is;
         channels = channels;
@@ -87,17 +88,18 @@ module _ {L : Type 0} (source : Source.Ghosts L) (sink : Sink.Ghosts L) where
 
   pub not_listened : (setup : Setup) (port sessions workers : ℕ) (at_first at_listening at_last : Doorway L) (h : List Entry) (runs : List (SessionRun L))
       → at_listening.count ≡ at_first.count → at_listening.still ≡ at_first.still → at_listening.returned ≡ at_first.returned → Rose at_first.faults at_listening.faults → runs ≡ []
-      → IsTied source sink setup h runs → at_last.count ≡ gave_back at_listening.count (length runs) → at_last.still ≡ at_listening.still → Gains at_listening.returned at_last.returned (backs_of runs) → at_listening.faults ≤ at_last.faults
+      → IsTied source sink setup h runs → HasTakenBack at_listening at_last (backs_of runs)
       → HasServedAll source sink setup port sessions workers at_first at_last true h runs
-  not_listened setup port sessions workers at_first at_listening at_last h runs listen ss bs rose none tied back ss3 gains later =
+  not_listened setup port sessions workers at_first at_listening at_last h runs listen ss bs rose none tied back =
       let zero_ : length runs ≡ 0 = ap (λ (ms : List (SessionRun L)). length ms) none in
-      let same : at_listening.count.back + length runs ≡ at_listening.count.back = omega (arith, zero_) in
+      let backs = length_map (λ (z : SessionRun L). z.link) runs in
+      let same : at_listening.count.back + length (backs_of runs) ≡ at_listening.count.back = omega (arith, backs, zero_) in
       record {
         tied = tied;
-        given = subst (λ ms. LosesFront at_first.still at_last.still (links_of (starts_of ms))) (sym none) (subst (λ s. LosesFront at_first.still s []) (sym (ss3 ∙ ss)) (loses_none at_first.still));
-        returned = subst (λ b. Gains b at_last.returned (backs_of runs)) bs gains;
-        count = inr (back ∙ ap (λ n. record { port = at_listening.count.port; sessions = at_listening.count.sessions; given = at_listening.count.given; back = n }) same ∙ listen, zero_, refl);
-        cause = λ is. omega (arith, rose, later);
+        given = subst (λ ms. LosesFront at_first.still at_last.still (links_of (starts_of ms))) (sym none) (subst (λ s. LosesFront at_first.still s []) (sym (back.still ∙ ss)) (loses_none at_first.still));
+        returned = subst (λ b. Gains b at_last.returned (backs_of runs)) bs back.returned;
+        count = inr (back.count ∙ ap (λ n. record { port = at_listening.count.port; sessions = at_listening.count.sessions; given = at_listening.count.given; back = n }) same ∙ listen, zero_, refl);
+        cause = λ is. omega (arith, rose, back.faults);
         staff = 0;
         staff_is = omega arith;
         channels = λ _. subst (λ (ms : List (SessionRun L)). HaveNoChannel (starts_of ms)) (sym none) (λ k d below. absurd (omega arith));

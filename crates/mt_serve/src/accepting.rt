@@ -12,7 +12,6 @@ use crate::sitting::{Done, Sitting};
 use mt_desk::{Desk, Seat};
 use mt_io::{Door, Failed, Gate};
 use mt_workers::JobSender;
-use std::alloc::Global;
 use std::collections::VecDeque;
 use std::sync::Wait;
 use std::thread;
@@ -23,7 +22,6 @@ use std::thread::{Scope, Threads};
 fn accept<'s, E, R: Threads + Wait + Sync, D: Door, G: Gate + Sync>(
     scope: &Scope<'s, E>,
     rt: &'s R,
-    alloc: Global,
     desk: &'s Desk,
     gate: &'s G,
     door: &mut D,
@@ -51,7 +49,7 @@ where
                     unreachable!()
                 };
                 let jobs = senders.pop_front();
-                let sitting = begin(scope, rt, alloc, desk, seat, link, jobs, gate);
+                let sitting = begin(scope, rt, desk, seat, link, jobs, gate);
                 sittings.push_back_reserved(sitting);
             }
         }
@@ -79,7 +77,6 @@ fn join_all<R: Threads, D: Door>(
 #[tactic(auto, using(crate::proofs::Accepts::links_at))]
 pub(crate) fn serve_links<R: Threads + Wait + Sync, D: Door, G: Gate + Sync>(
     rt: &R,
-    alloc: Global,
     desk: &Desk,
     gate: &G,
     door: &mut D,
@@ -111,7 +108,6 @@ pub(crate) fn serve_links<R: Threads + Wait + Sync, D: Door, G: Gate + Sync>(
             let faulted = accept(
                 scope,
                 rt,
-                alloc,
                 desk,
                 gate,
                 door,

@@ -2,12 +2,11 @@
 ghost use Rattle.std.specs.Prelude.{◌≡◌, ◌<◌, ◌≤◌, ◌+◌, ◌-◌, ◌^◌, [], ◌∷◌, All, length};
 ghost use Rattle.std.specs.VecDeque.{deque_len, deque_capacity};
 ghost use Rattle.mt_desk.specs.Desk.{IsSeatOfDesk};
-ghost use Rattle.mt_io.specs.Door.{Gains, took_one};
 ghost use Rattle.mt_serve.specs.Private.Seating.{HasJoined, HasSplit, views_of};
 ghost use Rattle.mt_serve.specs.Summary.{counted};
 ghost use Rattle.mt_serve.specs.Private.Summary.{with_outcome};
-ghost use Rattle.mt_serve.specs.Tied.{backs_of};
-ghost use Rattle.mt_serve.specs.Private.Tied.{AreOver, ends_of, gave_back};
+ghost use Rattle.mt_serve.specs.Tied.{backs_of, doorway_of};
+ghost use Rattle.mt_serve.specs.Private.Tied.{AreOver, HasTakenBack, ends_of};
 ghost use Rattle.mt_serve.specs.Private.Working.{IsRested, rests_of};
 ghost use Rattle.mt_turn.specs.Views.{taker};
 
@@ -79,10 +78,8 @@ fn join_session<D: Door>(
     requires parts { (counts.old.faulted ≤ counts.old.sessions) × (counts.old.starved ≤ counts.old.sessions) }
     ensures ready { IsSeatOfDesk desk.now first.new }
     ensures joins { first.new.view ≡ taker first.old.view back.seat.view }
-    ensures count { D.count door.new ≡ took_one (D.count door.old) }
-    ensures still { D.still door.new ≡ D.still door.old }
-    ensures returned { Gains (D.returned door.old) (D.returned door.new) (back.link ∷ []) }
-    ensures faults { D.faults door.old ≤ D.faults door.new }
+    ensures door { HasTakenBack (doorway_of D.count D.still D.returned D.faults door.old)
+        (doorway_of D.count D.still D.returned D.faults door.new) (back.link ∷ []) }
     ensures counted { counts.new ≡ with_outcome back.outcome counts.old }
 {
     let Back {
@@ -110,10 +107,8 @@ pub(crate) fn join_sessions<D: Door>(
     ensures ready { IsSeatOfDesk desk.now first.new }
     ensures joined { HasJoined first.old.view first.new.view (views_of (ends_of dones.items)) }
     ensures served { AreOver D.Link.Source D.Link.Sink dones.items }
-    ensures count { D.count door.new ≡ gave_back (D.count door.old) (length dones.items) }
-    ensures still { D.still door.new ≡ D.still door.old }
-    ensures returned { Gains (D.returned door.old) (D.returned door.new) (backs_of dones.items) }
-    ensures faults { D.faults door.old ≤ D.faults door.new }
+    ensures door { HasTakenBack (doorway_of D.count D.still D.returned D.faults door.old)
+        (doorway_of D.count D.still D.returned D.faults door.new) (backs_of dones.items) }
     ensures counted { result ≡ counted dones.items }
 {
     let mut counts = Counts::none();

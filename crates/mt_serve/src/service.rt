@@ -4,13 +4,12 @@ ghost use Rattle.std.specs.Thread.{IsSync};
 ghost use Rattle.std.specs.VecDeque.{deque_len, deque_capacity};
 ghost use Rattle.mt_base.specs.History.{IsLegal};
 ghost use Rattle.mt_desk.specs.Desk.{IsSeatOfDesk};
-ghost use Rattle.mt_io.specs.Door.{Gains};
 ghost use Rattle.mt_serve.specs.Private.Seating.{AllSplit};
 ghost use Rattle.mt_serve.specs.Sitting.{HaveNoChannel, seats_of, starts_of};
 ghost use Rattle.mt_serve.specs.Private.Sitting.{HasServedLinks, IsReadyToServe};
 ghost use Rattle.mt_serve.specs.Summary.{HasServedWhole, counted};
 ghost use Rattle.mt_serve.specs.Tied.{IsTied, backs_of, doorway_of};
-ghost use Rattle.mt_serve.specs.Private.Tied.{gave_back};
+ghost use Rattle.mt_serve.specs.Private.Tied.{HasTakenBack};
 ghost use Rattle.mt_serve.specs.Private.Working.{HasStaffed, IsStaffed, froms_of};
 
 use crate::accepting::{serve_links, take_back};
@@ -69,7 +68,6 @@ fn senders_to(alloc: Global, staff: u64, senders: VecDeque<JobSender>) -> VecDeq
 #[tactic(auto, using(crate::proofs::Accepts::links_at))]
 fn serve_beside<R: Threads + Wait + Sync, D: Door, G: Gate + Sync>(
     rt: &R,
-    alloc: Global,
     desk: &Desk,
     left_out: &AtomicU64,
     gate: &G,
@@ -119,9 +117,9 @@ fn serve_beside<R: Threads + Wait + Sync, D: Door, G: Gate + Sync>(
                 receivers,
                 &mut workings,
             );
-            let senders = senders_to(alloc, staff, senders);
+            let senders = senders_to(desk.alloc(), staff, senders);
             let (seats, dones, faulted) = serve_links(
-                rt, alloc, desk, gate, door, seats, sittings, dones, senders,
+                rt, desk, gate, door, seats, sittings, dones, senders,
             );
             rest_all(rt, workings, &mut resteds);
             let left = Left {
@@ -150,10 +148,8 @@ fn settle<D: Door>(desk: Desk, door: &mut D, first: Seat, left: Left<D::Link>) -
     ensures legal { IsLegal desk.fixed result.picture.history }
     ensures counted { result.counts ≡ counted left.dones.items }
     ensures faulted { result.faulted ≡ left.faulted }
-    ensures count { D.count door.new ≡ gave_back (D.count door.old) (length left.dones.items) }
-    ensures still { D.still door.new ≡ D.still door.old }
-    ensures returned { Gains (D.returned door.old) (D.returned door.new) (backs_of left.dones.items) }
-    ensures faults { D.faults door.old ≤ D.faults door.new }
+    ensures door { HasTakenBack (doorway_of D.count D.still D.returned D.faults door.old)
+        (doorway_of D.count D.still D.returned D.faults door.new) (backs_of left.dones.items) }
 {
     let Left {
         seats,
@@ -225,6 +221,6 @@ pub fn serve<R: Threads + Wait + Sync, D: Door, G: Gate + Sync>(
     };
     // No worker has this place.
     let left_out = AtomicU64::new(u64::MAX);
-    let left = serve_beside(rt, alloc, &desk, &left_out, gate, door, seats, hands, room);
+    let left = serve_beside(rt, &desk, &left_out, gate, door, seats, hands, room);
     Ok(settle(desk, door, first, left))
 }

@@ -9,7 +9,6 @@ use mt_desk::{Desk, Seat};
 use mt_io::{Duplex, Gate};
 use mt_session::session;
 use mt_workers::JobSender;
-use std::alloc::Global;
 use std::snapshot::Snapshot;
 use std::sync::Wait;
 use std::thread::{Scope, Threads};
@@ -17,7 +16,6 @@ use std::thread::{Scope, Threads};
 // Serves a link.
 fn serve_one<L: Duplex, R: Threads + Wait + Sync, G: Gate>(
     rt: &R,
-    alloc: Global,
     desk: &Desk,
     seat: Seat,
     mut link: L,
@@ -28,6 +26,7 @@ fn serve_one<L: Duplex, R: Threads + Wait + Sync, G: Gate>(
     requires ready { IsSeatOfDesk desk.now seat }
     ensures { HasServed L.Source L.Sink link seat (is_some jobs) result.link result.seat result.outcome }
 {
+    let alloc = desk.alloc();
     let hand = desk.hand(seat);
     let (hand, outcome) = match jobs {
         Some(mut sender) => session(rt, alloc, hand, &mut link, Some(&mut sender), gate),
@@ -44,7 +43,6 @@ fn serve_one<L: Duplex, R: Threads + Wait + Sync, G: Gate>(
 pub(crate) fn begin<'s, E, L: Duplex + Send + Drop + 's, R: Threads + Wait + Sync, G: Gate + Sync>(
     scope: &Scope<'s, E>,
     rt: &'s R,
-    alloc: Global,
     desk: &'s Desk,
     seat: Seat,
     link: L,
@@ -70,7 +68,7 @@ pub(crate) fn begin<'s, E, L: Duplex + Send + Drop + 's, R: Threads + Wait + Syn
         promise,
         move ||
             requires { IsSync R.row × IsSeatOfDesk desk.now seat }
-        { serve_one(rt, alloc, desk, seat, link, jobs, gate) },
+        { serve_one(rt, desk, seat, link, jobs, gate) },
     ) {
         Ok(handle) => Sitting {
             given,

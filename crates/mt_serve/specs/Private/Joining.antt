@@ -1,10 +1,9 @@
 -- No public contract names these: they are of private steps and of proofs.
 -- Seats that were joined so far.
-use Rattle.std.specs.Prelude.{◌≡◌, List, ◌++◌, length, All, Option}
+use Rattle.std.specs.Prelude.{◌≡◌, List, ◌++◌, All}
 use Rattle.mt_base.specs.declared.command.Entry.{Entry}
 use Rattle.mt_base.specs.Tables.{Setup}
 use Rattle.mt_desk.specs.Desk.{Desk, IsSeatOfDesk}
-use Rattle.mt_io.specs.Door.{Count, Gains}
 use Rattle.mt_io.specs.declared.source.Source as Source
 use Rattle.mt_io.specs.declared.sink.Sink as Sink
 use Rattle.mt_turn.specs.declared.view.View.{View}
@@ -13,8 +12,8 @@ use Rattle.mt_serve.specs.Private.Seating.{HasJoined, views_of}
 use Rattle.mt_serve.specs.Sitting.{SessionRun}
 use Rattle.mt_serve.specs.declared.counts.Counts.{Counts}
 use Rattle.mt_serve.specs.Summary.{counted}
-use Rattle.mt_serve.specs.Tied.{backs_of}
-use Rattle.mt_serve.specs.Private.Tied.{AreOver, ends_of, gave_back}
+use Rattle.mt_serve.specs.Tied.{Doorway, backs_of}
+use Rattle.mt_serve.specs.Private.Tied.{AreOver, HasTakenBack, ends_of}
 use Rattle.mt_serve.specs.Private.Working.{IsRested, Worked, rests_of}
 
 -- `JoinsSeats`, `JoinsWorkers`, `JoinsSessions`: the first seats of a list are joined, and others are left; so for workers, and for sessions
@@ -32,12 +31,11 @@ pub record JoinsWorkers (desk : Desk) (v w : View Entry Setup) (all rest : List 
   pub worked : All IsRested past
 
 module _ {L : Type 0} (source : Source.Ghosts L) (sink : Sink.Ghosts L) where
-  pub record JoinsSessions (desk : Desk) (v w : View Entry Setup) (all rest : List (SessionRun L)) (old new : Count) (back now : Option (List L)) (counts : Counts) : Type 0 where
+  pub record JoinsSessions (desk : Desk) (v w : View Entry Setup) (all rest : List (SessionRun L)) (before after : Doorway L) (counts : Counts) : Type 0 where
     pub past : List (SessionRun L)
     pub parts : all ≡ past ++ rest
     pub joined : HasJoined v w (views_of (ends_of past))
     pub ready : All (λ (x : SessionRun L). IsSeatOfDesk desk x.from.seat) rest
     pub served : AreOver source sink past
-    pub count : new ≡ gave_back old (length past)
-    pub returned : Gains back now (backs_of past)
+    pub door : HasTakenBack before after (backs_of past)
     pub counts_are : counts ≡ counted past

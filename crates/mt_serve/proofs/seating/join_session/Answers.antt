@@ -5,11 +5,13 @@ pub join-requires-clause-ready : goal.join-requires-clause-ready
 join-requires-clause-ready g c = (c.requires.ready, c.requires.other)
 
 -- the door has the link back
-pub returns-clause-count : goal.returns-clause-count
-returns-clause-count g c = cc
-
-pub returns-clause-returned : goal.returns-clause-returned
-returns-clause-returned g c = search rules
+pub returns-clause-door : goal.returns-clause-door
+returns-clause-door g c = record {
+  count = cc;
+  still = search rules;
+  returned = search rules;
+  faults = search rules;
+}
 
 pub returns-clause-joins : goal.returns-clause-joins
 returns-clause-joins g c = c.join.ensures.joins
@@ -31,9 +33,3 @@ join-requires-clause-first g c = c.requires.first
 
 pub returns-clause-ready : goal.returns-clause-ready
 returns-clause-ready g c = c.join.ensures.ready
-
-pub returns-clause-still : goal.returns-clause-still
-returns-clause-still g c = c.back.ensures.still
-
-pub returns-clause-faults : goal.returns-clause-faults
-returns-clause-faults g c = c.back.ensures.faults

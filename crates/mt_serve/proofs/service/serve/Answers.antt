@@ -28,7 +28,7 @@ returns-in_default-listen-clause-served g c =
     (not_listened g.D.Link.Source g.D.Link.Sink c.in-Ok.desk.fixed c.args.port c.args.sessions c.args.workers (door c.args.door.now) (door c.listen.new.self) (door c.settle.new.door)
     _ c.in_ok-room.room.dones.items c.in_default-listen.ensures.count c.in_default-listen.ensures.links.0
     c.in_default-listen.ensures.links.1 c.in_default-listen.ensures.cause.failed c.in_ok-room.ensures.empty.1
-    c.settle.ensures.tied c.settle.ensures.count c.settle.ensures.still c.settle.ensures.returned c.settle.ensures.faults)
+    c.settle.ensures.tied c.settle.ensures.door)
     c.settle.ensures.counted
 
 pub serve_beside-left-requires-clause-served : goal.serve_beside-left-requires-clause-served
@@ -69,7 +69,7 @@ returns-clause-served g c =
     (door c.serve_beside-left.new.door) (door c.settle-2.new.door) c.in-Ok.desk _ _ c.serve_beside-left.result.dones.items c.split_all.new.seats.items
     c.serve_beside-left.result.seats.items c.in-Ok-listen.ensures.count c.in-Ok-listen.ensures.links.0 c.in-Ok-listen.ensures.links.1 c.in-Ok-listen.ensures.cause.later
     c.serve_beside-left.ensures.links
-    c.settle-2.ensures.tied c.settle-2.ensures.count c.settle-2.ensures.still c.settle-2.ensures.returned c.settle-2.ensures.faults
+    c.settle-2.ensures.tied c.settle-2.ensures.door
     (omega (arith, c.serve_beside-left.ensures.staff.few, c.split_all-2.ensures.many.1)) c.serve_beside-left.ensures.channels)
     c.settle-2.ensures.counted
 

@@ -59,14 +59,5 @@ returns-clause-legal g c = subst (λ (s : Setup). IsLegal s c.close.result.histo
 pub returns-clause-counted : goal.returns-clause-counted
 returns-clause-counted g c = c.join_sessions-counts.ensures.counted
 
-pub returns-clause-count : goal.returns-clause-count
-returns-clause-count g c = c.join_sessions-counts.ensures.count
-
-pub returns-clause-still : goal.returns-clause-still
-returns-clause-still g c = c.join_sessions-counts.ensures.still
-
-pub returns-clause-returned : goal.returns-clause-returned
-returns-clause-returned g c = c.join_sessions-counts.ensures.returned
-
-pub returns-clause-faults : goal.returns-clause-faults
-returns-clause-faults g c = c.join_sessions-counts.ensures.faults
+pub returns-clause-door : goal.returns-clause-door
+returns-clause-door g c = c.join_sessions-counts.ensures.door
