@@ -16,6 +16,14 @@ use std::alloc::Global;
 use std::sync::Wait;
 use std::thread::Threads;
 
+/// What is to be served: links at a port, by so many sessions, with so many workers.
+#[derive(Drop)]
+pub(crate) struct ServeTask {
+    pub(crate) port: u16,
+    pub(crate) sessions: u32,
+    pub(crate) workers: u32,
+}
+
 // Puts the line that sums up what was served into the room, which is emptied and takes it all.
 fn sum_up_in(room: &mut Vec<u8>, served: &Served)
     requires { 65536 ≤ vec_capacity room.old }
@@ -44,25 +52,23 @@ fn close<K: Sink>(room: &mut Vec<u8>, served: &Served, output: &mut K) -> Status
     }
 }
 
-/// Answers the lines of the input up to the one that begins the picture, serves so many links of the door over it, with so many workers, and
-/// writes the line that sums up what was served.
+/// Answers the lines of the input up to the one that begins the picture, serves the links of the door over it, and writes the line that sums up
+/// what was served.
 ///
 /// The definition is `ServeMeans`. The room of 65,536 bytes for replies and the summary is taken before the first line, and what serving takes
 /// before the door is called. `Memory` comes then, and at no later time.
 pub(crate) fn serve<R: Threads + Wait + Sync, S: Source, K: Sink, D: Door, G: Gate + Sync>(
     rt: &R,
     alloc: Global,
-    port: u16,
-    sessions: u32,
-    workers: u32,
+    task: ServeTask,
     input: &mut S,
     output: &mut K,
     door: &mut D,
     gate: &G,
 ) -> Status
     requires sync { IsSync R.row }
-    requires few { sessions + workers ≤ 2 ^ 31 }
-    ensures means { Explains (ServeMeans D.Link.Source D.Link.Sink port sessions workers
+    requires few { task.sessions + task.workers ≤ 2 ^ 31 }
+    ensures means { Explains (ServeMeans D.Link.Source D.Link.Sink task.port task.sessions task.workers
         (record { count = D.count door.old; still = D.still door.old; returned = D.returned door.old; faults = D.faults door.old })
         (record { count = D.count door.new; still = D.still door.new; returned = D.returned door.new; faults = D.faults door.new })
         (K.faults output.old) (K.faults output.new) result)
@@ -75,6 +81,11 @@ pub(crate) fn serve<R: Threads + Wait + Sync, S: Source, K: Sink, D: Door, G: Ga
         Ok(opened) => opened,
         Err(status) => return status,
     };
+    let ServeTask {
+        port,
+        sessions,
+        workers,
+    } = task;
     match mt_serve::serve(rt, alloc, picture, port, sessions, workers, door, gate) {
         Ok(served) => close(&mut room, &served, output),
         Err(_) => Status::Memory,

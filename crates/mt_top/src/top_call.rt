@@ -11,7 +11,7 @@ ghost use Rattle.mt_top.specs.declared.status.Status.TheVariants.{DoorFault, Rea
 use crate::following::Follower;
 use crate::lines::Lines;
 use crate::load::load;
-use crate::serving::serve;
+use crate::serving::{ServeTask, serve};
 use crate::status::Status;
 use mt_args::{Task, read_words};
 use mt_base::Words;
@@ -72,9 +72,14 @@ pub fn run<R: Threads + Wait + Sync, S: Source, K: Sink, D: Door, G: Gate + Sync
             port,
             sessions,
             workers,
-        } => serve(
-            rt, alloc, port, sessions, workers, input, output, door, gate,
-        ),
+        } => {
+            let task = ServeTask {
+                port,
+                sessions,
+                workers,
+            };
+            serve(rt, alloc, task, input, output, door, gate)
+        }
     }
 }
 
