@@ -1,5 +1,5 @@
 //! The text of a reply that is given.
-ghost use Rattle.std.specs.Prelude.{◌≡◌, ◌≤◌, true, vec_capacity};
+ghost use Rattle.std.specs.Prelude.{◌≡◌, ◌<◌, ◌≤◌, ◌^◌, true, vec_capacity};
 ghost use Rattle.mt_lines.specs.Fit.{AreBrief, AreBriefCalls, IsBriefAdvice, IsFit};
 ghost use Rattle.mt_lines.specs.Given.{is_brief, is_farewell};
 ghost use Rattle.mt_lines.specs.Private.Given.{IsGivenAs};
@@ -67,14 +67,8 @@ fn is_brief(reply: &Reply) -> bool
     match reply {
         Reply::Done(_) => true,
         Reply::Hello(_) => true,
-        Reply::Entered(entered) => {
-            let _version = entered.version;
-            true
-        }
-        Reply::Taken { version } => {
-            let _version = *version;
-            true
-        }
+        Reply::Entered(entered) => is_short_version(entered.version),
+        Reply::Taken { version } => is_short_version(*version),
         Reply::Probe {
             conflicts,
             eff,
@@ -96,6 +90,14 @@ fn is_brief(reply: &Reply) -> bool
         Reply::Form(_) | Reply::Range(_) | Reply::TakenFix(_) | Reply::TakenType(_) => false,
         Reply::Refused { .. } | Reply::Illegal { .. } | Reply::Late { .. } => false,
     }
+}
+
+// Whether a reply whose one number is this version is brief: it is.
+fn is_short_version(version: u64) -> bool
+    ensures short { version < 2 ^ 64 }
+    ensures brief { result ≡ true }
+{
+    true
 }
 
 // Whether the reply of a probe is brief: it is.
