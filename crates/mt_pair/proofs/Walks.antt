@@ -14,7 +14,7 @@ use Rattle.mt_track.proofs.Joined.{one_element}
 use Rattle.mt_track.proofs.Places.{at_place, blank, edge_to}
 use Rattle.mt_track.proofs.Segments.{edge_from, lies_at}
 use Rattle.mt_track.proofs.Strands.{found}
-use Rattle.mt_pair.specs.Private.Held.{BeginsBy}
+use Rattle.mt_pair.specs.Private.Held.{BeginsBy, StandsAt}
 use Rattle.mt_base.specs.Span.{IsSpan, joined}
 use Rattle.mt_base.proofs.Spans.{IsSpan-joined, IsSpan-same}
 use Rattle.mt_pair.proofs.Spans.{loss_second}
@@ -88,6 +88,10 @@ reads_cover t ss i from to kept are covers =
           (found t.start (t.start + length t.rows) t.rvsm ss i (suc i) k (slice_index_or ss i blank) all (omega arith) (omega arith) (omega arith)
           (omega (arith, first, lies.from, begun)) (omega (arith, lies.from, begun)) (omega (arith, lies.to, ahead)) read);
     }
+
+-- a segment that holds a second stands at it
+pub StandsAt-covers : (t : Trajectory) (s : Segment) (k : ℕ) → CoversSecond t k s → StandsAt s k
+StandsAt-covers t s k covers = record { begun = covers.begun; kept = covers.kept; bounded = covers.bounded }
 
 -- what two segments say of the seconds that both hold
 pub overlap_is : (rules : Rules) (a b : Trajectory) (from to : ℕ) (s t : Segment) (span : Option (ℕ × ℕ))

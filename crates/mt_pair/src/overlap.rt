@@ -1,11 +1,12 @@
 ghost use Rattle.std.specs.Prelude.{◌+◌, ◌-◌, ◌<◌, ◌≤◌};
-ghost use Rattle.mt_base.specs.Bounds.{AreWithinBounds, IsBoundedOver, IsBoundedRow};
+ghost use Rattle.mt_base.specs.Bounds.{AreWithinBounds, IsBoundedRow};
 ghost use Rattle.mt_base.specs.Conflict.{IsConflict};
 ghost use Rattle.mt_base.specs.Loss.{LosesIn};
 ghost use Rattle.mt_track.specs.Laid.{Covers};
 ghost use Rattle.mt_track.specs.Rows.{row_after};
 ghost use Rattle.mt_frac.specs.Instants.{HoldsIn};
 ghost use Rattle.mt_pair.specs.Private.Cases.{IsLoss};
+ghost use Rattle.mt_pair.specs.Private.Held.{StandsAt};
 ghost use Rattle.mt_base.specs.Span.{IsSpan};
 
 use crate::approach::{Approach, High};
@@ -74,12 +75,8 @@ fn overlap(
     steps: &mut Steps,
 ) -> Option<(Second, Second)>
     requires rules_kept { AreWithinBounds rules.now }
-    requires s_begun { s.now.from ≤ from }
-    requires s_kept { IsBoundedOver s.now.first (from - s.now.from) }
-    requires s_bounded { IsBoundedRow (row_after s.now.first (from - s.now.from)) }
-    requires t_begun { t.now.from ≤ from }
-    requires t_kept { IsBoundedOver t.now.first (from - t.now.from) }
-    requires t_bounded { IsBoundedRow (row_after t.now.first (from - t.now.from)) }
+    requires s_stands { StandsAt s.now from }
+    requires t_stands { StandsAt t.now from }
     requires some { from < to }
     requires short { to ≤ from + 14400 }
     ensures span { IsSpan (λ k. LosesIn rules.now s_rvsm t_rvsm (row_after s.now.first (k - s.now.from)) (row_after t.now.first (k - t.now.from))) from to result }

@@ -1,5 +1,5 @@
 use Rattle.std.proofs.Common.{arith, le_refl}
-use Rattle.mt_pair.proofs.Walks.{overlap_is, reads_cover}
+use Rattle.mt_pair.proofs.Walks.{StandsAt-covers, overlap_is, reads_cover}
 use Rattle.mt_pair.proofs.overlap.stretch.Goals as goal
 
 pub offset_bounds-left-i : goal.offset_bounds-left-i
@@ -12,20 +12,9 @@ bounds-left-i c =
     let at = reads_cover c.args.a.now c.segments-left.result.now c.args.i c.args.from c.args.to c.segments-left.ensures.kept c.segments-left.ensures.are c.requires.a_covers in
     at.below
 
-pub overlap-requires-clause-s_begun : goal.overlap-requires-clause-s_begun
-overlap-requires-clause-s_begun c =
-    let at = reads_cover c.args.a.now c.segments-left.result.now c.args.i c.args.from c.args.to c.segments-left.ensures.kept c.segments-left.ensures.are c.requires.a_covers in
-    (at.holds c.args.from (le_refl c.args.from) c.requires.some).begun
-
-pub overlap-requires-clause-s_kept : goal.overlap-requires-clause-s_kept
-overlap-requires-clause-s_kept c =
-    let at = reads_cover c.args.a.now c.segments-left.result.now c.args.i c.args.from c.args.to c.segments-left.ensures.kept c.segments-left.ensures.are c.requires.a_covers in
-    (at.holds c.args.from (le_refl c.args.from) c.requires.some).kept
-
-pub overlap-requires-clause-s_bounded : goal.overlap-requires-clause-s_bounded
-overlap-requires-clause-s_bounded c =
-    let at = reads_cover c.args.a.now c.segments-left.result.now c.args.i c.args.from c.args.to c.segments-left.ensures.kept c.segments-left.ensures.are c.requires.a_covers in
-    (at.holds c.args.from (le_refl c.args.from) c.requires.some).bounded
+pub overlap-requires-clause-s_stands : goal.overlap-requires-clause-s_stands
+overlap-requires-clause-s_stands c =
+    StandsAt-covers c.args.a.now _ c.args.from ((reads_cover c.args.a.now c.segments-left.result.now c.args.i c.args.from c.args.to c.segments-left.ensures.kept c.segments-left.ensures.are c.requires.a_covers).holds c.args.from (le_refl c.args.from) c.requires.some)
 
 pub offset_bounds-right-j : goal.offset_bounds-right-j
 offset_bounds-right-j c =
@@ -37,20 +26,9 @@ bounds-right-j c =
     let at = reads_cover c.args.b.now c.segments-right.result.now c.args.j c.args.from c.args.to c.segments-right.ensures.kept c.segments-right.ensures.are c.requires.b_covers in
     at.below
 
-pub overlap-requires-clause-t_begun : goal.overlap-requires-clause-t_begun
-overlap-requires-clause-t_begun c =
-    let at = reads_cover c.args.b.now c.segments-right.result.now c.args.j c.args.from c.args.to c.segments-right.ensures.kept c.segments-right.ensures.are c.requires.b_covers in
-    (at.holds c.args.from (le_refl c.args.from) c.requires.some).begun
-
-pub overlap-requires-clause-t_kept : goal.overlap-requires-clause-t_kept
-overlap-requires-clause-t_kept c =
-    let at = reads_cover c.args.b.now c.segments-right.result.now c.args.j c.args.from c.args.to c.segments-right.ensures.kept c.segments-right.ensures.are c.requires.b_covers in
-    (at.holds c.args.from (le_refl c.args.from) c.requires.some).kept
-
-pub overlap-requires-clause-t_bounded : goal.overlap-requires-clause-t_bounded
-overlap-requires-clause-t_bounded c =
-    let at = reads_cover c.args.b.now c.segments-right.result.now c.args.j c.args.from c.args.to c.segments-right.ensures.kept c.segments-right.ensures.are c.requires.b_covers in
-    (at.holds c.args.from (le_refl c.args.from) c.requires.some).bounded
+pub overlap-requires-clause-t_stands : goal.overlap-requires-clause-t_stands
+overlap-requires-clause-t_stands c =
+    StandsAt-covers c.args.b.now _ c.args.from ((reads_cover c.args.b.now c.segments-right.result.now c.args.j c.args.from c.args.to c.segments-right.ensures.kept c.segments-right.ensures.are c.requires.b_covers).holds c.args.from (le_refl c.args.from) c.requires.some)
 
 pub overlap-requires-clause-short : goal.overlap-requires-clause-short
 overlap-requires-clause-short c =
