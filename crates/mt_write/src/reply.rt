@@ -1,6 +1,6 @@
 //! Replies, and what stands in them.
-ghost use Rattle.std.specs.Prelude.{◌≡◌};
-ghost use Rattle.mt_write.specs.Short.{IsShortAdvised};
+ghost use Rattle.std.specs.Prelude.{◌≡◌, ◌<◌, ◌^◌};
+ghost use Rattle.mt_write.specs.Short.{IsShortAdvised, IsShortClearance};
 
 use mt_base::{
     Calls, Callsign, Clearance, Conflicts, Entered, Entries, FieldName, FixName, FlightView, Hits,
@@ -39,16 +39,23 @@ impl AdviceItem {
         ensures is { result ≡ record { clearance = clearance; probe = probe } }
         ensures short { IsShortAdvised result }
     {
-        match &clearance {
-            Clearance::Level(level) => {
-                let _feet = *level;
-                AdviceItem { clearance, probe }
-            }
-            Clearance::Direct(fix) => {
-                fix.keeps();
-                AdviceItem { clearance, probe }
-            }
-        }
+        clearance_is_short(&clearance);
+        AdviceItem { clearance, probe }
+    }
+}
+
+// A level has 32 bits. It does nothing; the proof of its caller goes by its contract.
+fn level_is_short(level: u32)
+    ensures { level < 2 ^ 32 }
+{}
+
+// The level or the fix of a clearance is short, as its type says. It does nothing, as the one above.
+fn clearance_is_short(clearance: &Clearance)
+    ensures { IsShortClearance clearance.now }
+{
+    match clearance {
+        Clearance::Level(level) => level_is_short(*level),
+        Clearance::Direct(fix) => fix.keeps(),
     }
 }
 
