@@ -1,4 +1,4 @@
--- What a slice adds to the cover.
+-- What a slice adds to the cover, and its box.
 use Rattle.std.proofs.Common.{◌≡◌, ℕ, min, ◌+◌, ◌-◌, ◌*◌, ◌<◌, ⊎_elim, List, [], ◌∷◌, Some, length, take, drop, refl, sym, ap, ◌∙◌, arith, length-drop, length-take, take_all}
 use Rattle.std.proofs.lemmas.Bool.{cases_lt}
 use Rattle.std.specs.Prelude.{slice_get}
@@ -26,27 +26,27 @@ take_up_to {X} n xs = ⊎_elim
     (λ many. let e : min (length xs) n ≡ n = omega arith in rw e refl)
     (cases_lt (length xs) n)
 
--- the rows of a slice, of which a box was gathered
-record IsGathered (t : Trajectory) (i from to : ℕ) (bounds : BoundingBox) : Type 0 where
-  some : 0 < length (slice_rows t.rows i)
-  end : from + length (slice_rows t.rows i) ≡ to
-  each : (row : Row) → slice_get (slice_rows t.rows i) 0 ≡ Some row → bounds ≡ box_over (slice_rows t.rows i) row
+-- rows in a row, of which a box was gathered
+record IsGathered (rows : List Row) (from to : ℕ) (bounds : BoundingBox) : Type 0 where
+  some : 0 < length rows
+  end : from + length rows ≡ to
+  each : (row : Row) → slice_get rows 0 ≡ Some row → bounds ≡ box_over rows row
 
-is_gathered : (t : Trajectory) (rows : List Row) (i end from to : ℕ) (bounds : BoundingBox) → rows ≡ t.rows → end ≡ t.start + length t.rows → from ≡ t.start + 256 * i
-    → to ≡ min end (from + 256) → from < end
+is_gathered : (t : Trajectory) (rows : List Row) (number skipped end from to : ℕ) (bounds : BoundingBox) → 0 < number → rows ≡ t.rows → end ≡ t.start + length t.rows
+    → from ≡ t.start + skipped → to ≡ min end (from + number) → from < end
     → ((row : Row) → slice_get rows (from - t.start) ≡ Some row → bounds ≡ box_over (part rows (from - t.start) (to - from)) row)
-    → IsGathered t i from to bounds
-is_gathered t rows i end from to bounds rows_is end_is from_is to_is some area_is =
-    let place : from - t.start ≡ 256 * i = omega (arith, from_is) in
-    let rest : length (drop (256 * i) t.rows) ≡ length t.rows - 256 * i = length-drop (256 * i) t.rows in
-    let number : min (length (drop (256 * i) t.rows)) 256 ≡ to - from = omega (arith, rest, end_is, from_is, to_is, some) in
-    let all : part t.rows (256 * i) (to - from) ≡ slice_rows t.rows i = sym (take_up_to 256 (drop (256 * i) t.rows) ∙ ap (λ (n : ℕ). take n (drop (256 * i) t.rows)) number) in
-    let long : length (slice_rows t.rows i) ≡ to - from = omega (arith, length-take 256 (drop (256 * i) t.rows), number) in
+    → IsGathered (part t.rows skipped number) from to bounds
+is_gathered t rows number skipped end from to bounds long rows_is end_is from_is to_is some area_is =
+    let place : from - t.start ≡ skipped = omega (arith, from_is) in
+    let rest : length (drop skipped t.rows) ≡ length t.rows - skipped = length-drop skipped t.rows in
+    let count : min (length (drop skipped t.rows)) number ≡ to - from = omega (arith, rest, end_is, from_is, to_is, some) in
+    let all : part t.rows skipped (to - from) ≡ part t.rows skipped number = sym (take_up_to number (drop skipped t.rows) ∙ ap (λ (n : ℕ). take n (drop skipped t.rows)) count) in
+    let size : length (part t.rows skipped number) ≡ to - from = omega (arith, length-take number (drop skipped t.rows), count) in
     record {
-      some = omega (arith, long, to_is, some);
-      end = omega (arith, long, from_is, to_is, some);
-      each = λ row at. let none : 256 * i + 0 ≡ 256 * i = omega arith in
-          let there : slice_get t.rows (256 * i) ≡ Some row = rw none at (sym (slice_get-drop (256 * i) t.rows 0) ∙ sym (slice_get-take 256 (drop (256 * i) t.rows) 0 (omega arith)) ∙ at) in
+      some = omega (arith, size, to_is, some, long);
+      end = omega (arith, size, from_is, to_is, some);
+      each = λ row at. let none : skipped + 0 ≡ skipped = omega arith in
+          let there : slice_get t.rows skipped ≡ Some row = rw none at (sym (slice_get-drop skipped t.rows 0) ∙ sym (slice_get-take number (drop skipped t.rows) 0 long) ∙ at) in
           rw (rows_is, place, all) at (area_is row (rw (rows_is, place) there));
     }
 
@@ -55,7 +55,7 @@ pub slice_is : (rules : Rules) (t : Trajectory) (rows : List Row) (i end from to
     → ((row : Row) → slice_get rows (from - t.start) ≡ Some row → bounds ≡ box_over (part rows (from - t.start) (to - from)) row)
     → stays_in rules t i ≡ stays_of from to (cells_of rules bounds)
 slice_is rules t rows i end from to bounds rows_is end_is from_is to_is some area_is =
-    let h = is_gathered t rows i end from to bounds rows_is end_is from_is to_is some area_is in
+    let h = is_gathered t rows 256 (256 * i) end from to bounds (omega arith) rows_is end_is from_is to_is some area_is in
     let end_of : (t.start + 256 * i) + length (slice_rows t.rows i) ≡ to = omega (arith, h.end, from_is) in
     over_is rules (t.start + 256 * i) to (slice_rows t.rows i) bounds h.some end_of h.each ∙ ap (λ (n : ℕ). stays_of n to (cells_of rules bounds)) (sym from_is)
 
@@ -64,10 +64,10 @@ slice_over_is : (rules : Rules) (rows : List Row) (bounds : BoundingBox) → 0 <
 slice_over_is rules [] bounds some area_is = absurd (omega arith)
 slice_over_is rules (row ∷ rows) bounds some area_is = ap (slice_by rules) (sym (area_is row refl))
 
-pub box_is : (rules : Rules) (t : Trajectory) (rows : List Row) (i end from to : ℕ) (bounds : BoundingBox) → rows ≡ t.rows → end ≡ t.start + length t.rows → from ≡ t.start + 256 * i
-    → to ≡ min end (from + 256) → from < end
+pub box_is : (rules : Rules) (t : Trajectory) (rows : List Row) (i end from to : ℕ) (bounds : BoundingBox) → rows ≡ t.rows → end ≡ t.start + length t.rows → from ≡ t.start + 128 * i
+    → to ≡ min end (from + 128) → from < end
     → ((row : Row) → slice_get rows (from - t.start) ≡ Some row → bounds ≡ box_over (part rows (from - t.start) (to - from)) row)
     → slice_in rules t i ≡ slice_by rules bounds
 box_is rules t rows i end from to bounds rows_is end_is from_is to_is some area_is =
-    let h = is_gathered t rows i end from to bounds rows_is end_is from_is to_is some area_is in
-    slice_over_is rules (slice_rows t.rows i) bounds h.some h.each
+    let h = is_gathered t rows 128 (128 * i) end from to bounds (omega arith) rows_is end_is from_is to_is some area_is in
+    slice_over_is rules (take 128 (drop (128 * i) t.rows)) bounds h.some h.each

@@ -1,16 +1,31 @@
--- Slices that hold several others, window by window.
-use Rattle.std.proofs.Common.{◌≡◌, ◌≤◌, ◌<◌, ◌+◌, ◌-◌, ◌*◌, ◌/◌, ℕ, [], List, ◌++◌, ◌∷◌, min, max, length, get_or, take, drop, length-append, ⊎_elim, sym, subst, arith}
-use Rattle.std.proofs.lemmas.Bool.{cases_lt}
+-- A slice that holds those of a window: the first, the one in the middle, and the last.
+use Rattle.std.proofs.Common.{◌≡◌, ◌≤◌, ◌<◌, ◌+◌, ◌-◌, ◌*◌, ◌/◌, ℕ, min, max, List, length, get_or, ⊎_elim, subst, sym, ◌∙◌, arith}
+use Rattle.std.proofs.lemmas.Bool.{cases_eq}
 use Rattle.std.proofs.lemmas.Int.{ints}
-use Rattle.std.proofs.lemmas.List.{get_or-drop, get_or_append_left, get_or_push, take_rest}
-use Rattle.std.proofs.lemmas.List.Elements.{All-push}
-use Rattle.std.specs.Int.{div_ceil}
-use Rattle.mt_cover.specs.Layer.{IsLayerKept}
+use Rattle.std.proofs.lemmas.List.{get_or_default}
 use Rattle.mt_cover.specs.declared.sliced.Slice.{Slice}
-use Rattle.mt_cover.specs.Sliced.{Holds, no_slice}
-use Rattle.mt_cover.specs.Private.Wide.{AreWide, AreWideUntil}
+use Rattle.mt_cover.specs.Sliced.{AreSlices, HaveWindow, Holds, HoldsWindow, Sliced, no_slice}
 
-pub holds_on : (a b c : Slice) → Holds a b → Holds b c → Holds a c
+-- where the window begins and ends
+pub record IsAlong (s : Sliced) (window begin end : ℕ) : Type 0 where
+  pub begun : s.from ≤ begin
+  pub some : begin < end
+  pub within : end ≤ s.to
+  pub few : end ≤ begin + 256
+
+pub is_along : (s : Sliced) (window begin end : ℕ) → HaveWindow s window → begin ≡ max s.from (256 * window) → end ≡ min s.to (256 * window + 256) → IsAlong s window begin end
+is_along s window begin end have begin_is end_is = record {
+  begun = omega (arith, begin_is);
+  some = omega (arith, begin_is, end_is, have.begun, have.within, have.some);
+  within = omega (arith, end_is);
+  few = omega (arith, begin_is, end_is);
+}
+
+-- what holds an element of a list
+holds_element : (wide own : Slice) (list : List Slice) (i : ℕ) → i < length list → own ≡ get_or list i own → Holds wide own → Holds wide (get_or list i no_slice)
+holds_element wide own list i below is holds = subst (Holds wide) (is ∙ get_or_default list i own no_slice below) holds
+
+holds_on : (a b c : Slice) → Holds a b → Holds b c → Holds a c
 holds_on a b c h g = record {
   x = record { low = omega (arith, ints, h.x.low, g.x.low); high = omega (arith, ints, h.x.high, g.x.high) };
   y = record { low = omega (arith, ints, h.y.low, g.y.low); high = omega (arith, ints, h.y.high, g.y.high) };
@@ -18,42 +33,26 @@ holds_on a b c h g = record {
   high = omega (arith, ints, h.high, g.high);
 }
 
-pub held_more : (all more next : Slice) (list : List Slice) (first place : ℕ) → ((i : ℕ) → first ≤ i → i < place → Holds all (get_or list i no_slice))
-    → next ≡ get_or list place no_slice → Holds more all → Holds more next → (i : ℕ) → first ≤ i → i < place + 1 → Holds more (get_or list i no_slice)
-held_more all more next list first place so_far is left right i late below = ⊎_elim
-    (λ early. holds_on more all (get_or list i no_slice) left (so_far i late early))
-    (λ last. let same : place ≡ i = omega (arith, last, below) in
-    subst (λ (n : ℕ). Holds more (get_or list n no_slice)) same (subst (Holds more) is right))
-    (cases_lt i place)
-
-pub none_wide : (start end : ℕ) (list : List Slice) → AreWideUntil start end list (start / 1024) []
-none_wide start end list = record {
-  number = omega arith;
-  hold = λ k begun within early. absurd (omega (arith, begun, early));
-  kept = λ i d below. absurd (omega arith);
-}
-
-pub one_wide : (start end window begin until first past : ℕ) (list wide : List Slice) (own : Slice) → start / 1024 ≤ window
-    → begin ≡ max start (1024 * window) → until ≡ min end (1024 * window + 1024) → first ≡ (begin - start) / 256 → past ≡ div_ceil (until - start) 256
-    → ((i : ℕ) → first ≤ i → i < past → Holds own (get_or list i no_slice)) → IsLayerKept own.layer → AreWideUntil start end list window wide
-    → AreWideUntil start end list (window + 1) (wide ++ own ∷ [])
-one_wide start end window begin until first past list wide own on begin_is until_is first_is past_is holds kept so_far = record {
-  number = (let more : length (wide ++ own ∷ []) ≡ length wide + 1 = length-append wide (own ∷ []) in omega (arith, more, so_far.number, on));
-  hold = λ k begun within early. ⊎_elim
-      (λ before. subst (λ (s : Slice). Holds s (get_or list ((k - start) / 256) no_slice))
-      (sym (get_or_append_left wide (own ∷ []) no_slice (k / 1024 - start / 1024) (omega (arith, so_far.number, before, begun))))
-      (so_far.hold k begun within before))
-      (λ last. subst (λ (s : Slice). Holds s (get_or list ((k - start) / 256) no_slice))
-      (sym (get_or_push wide own no_slice (k / 1024 - start / 1024) (omega (arith, so_far.number, last, early))))
-      (holds ((k - start) / 256) (omega (arith, first_is, begin_is, begun, last)) (omega (arith, past_is, until_is, within, early))))
-      (cases_lt (k / 1024) window);
-  kept = All-push (λ (slice : Slice). IsLayerKept slice.layer) wide own so_far.kept kept;
-}
-
--- those of the windows from one on
-pub wide_after : (start end from i k : ℕ) (list wide : List Slice) → AreWide start end list wide → start ≤ from → start ≤ k → k < end → k / 1024 ≡ from / 1024 + i
-    → Holds (get_or (take (length wide - (from / 1024 - start / 1024)) (drop (from / 1024 - start / 1024) wide)) i no_slice) (get_or list ((k - start) / 256) no_slice)
-wide_after start end from i k list wide are late begun within same =
-    let place : (from / 1024 - start / 1024) + i ≡ k / 1024 - start / 1024 = omega (arith, late, same) in
-    rw (take_rest wide (from / 1024 - start / 1024), get_or-drop (from / 1024 - start / 1024) wide i no_slice, place)
-    (are.hold k begun within (omega (arith, within)))
+-- the slice of each second is the first, the one in the middle, or the last
+pub holds_window : (s : Sliced) (window begin end first middle last : ℕ) (wide front a b c : Slice) → AreSlices s → HaveWindow s window
+    → begin ≡ max s.from (256 * window) → end ≡ min s.to (256 * window + 256) → first ≡ (begin - s.from) / 128 → last ≡ (end - 1 - s.from) / 128
+    → middle ≡ (first + last) / 2 → a ≡ get_or s.list first a → b ≡ get_or s.list middle b → c ≡ get_or s.list last c
+    → Holds front a → Holds front b → Holds wide front → Holds wide c → HoldsWindow s window wide
+holds_window s window begin end first middle last wide front a b c kept have begin_is end_is first_is last_is middle_is a_is b_is c_is on_a on_b on_front on_c = λ k here same.
+    let along = is_along s window begin end have begin_is end_is in
+    let late : begin ≤ k = omega (arith, begin_is, here.begun, same) in
+    let early : k < end = omega (arith, end_is, here.within, same) in
+    let from_first : first ≤ (k - s.from) / 128 = omega (arith, first_is, late, along.begun) in
+    let to_last : (k - s.from) / 128 ≤ last = omega (arith, last_is, late, early, along.begun) in
+    let few : last ≤ first + 2 = omega (arith, first_is, last_is, along.begun, along.some, along.few) in
+    let inside : last < length s.list = omega (arith, kept.number, last_is, along.begun, along.some, along.within) in
+    ⊎_elim
+    (λ at_first. subst (λ (i : ℕ). Holds wide (get_or s.list i no_slice)) (sym at_first)
+    (holds_element wide a s.list first (omega (arith, inside, from_first, to_last)) a_is (holds_on wide front a on_front on_a)))
+    (λ later. ⊎_elim
+    (λ at_last. subst (λ (i : ℕ). Holds wide (get_or s.list i no_slice)) (sym at_last) (holds_element wide c s.list last inside c_is on_c))
+    (λ between. let place : middle ≡ (k - s.from) / 128 = omega (arith, middle_is, from_first, to_last, few, later, between) in
+    subst (λ (i : ℕ). Holds wide (get_or s.list i no_slice)) place
+    (holds_element wide b s.list middle (omega (arith, inside, middle_is, from_first, to_last)) b_is (holds_on wide front b on_front on_b)))
+    (cases_eq ((k - s.from) / 128) last))
+    (cases_eq ((k - s.from) / 128) first)

@@ -1,5 +1,3 @@
 -- What no public contract names: invariants and relations of private steps.
 pub mod InPlane
-pub mod Part
 pub mod Walk
-pub mod Wide

@@ -3,7 +3,6 @@ ghost use Rattle.std.specs.Prelude.{◌≡◌};
 ghost use Rattle.mt_base.specs.Bounds.{IsBoundedRow};
 ghost use Rattle.mt_cover.specs.Layer.{IsLayerKept};
 ghost use Rattle.mt_cover.specs.Box.{both, layer_of};
-ghost use Rattle.mt_cover.specs.Sliced.{no_layer};
 
 use crate::layer::Layer;
 use mt_base::Row;
@@ -32,16 +31,5 @@ pub(crate) fn both(a: Layer, b: Layer) -> Layer
     Layer {
         low: a.low.min(b.low),
         high: a.high.max(b.high),
-    }
-}
-
-/// No height.
-pub(crate) fn no_layer() -> Layer
-    ensures is { result ≡ no_layer }
-    ensures kept { IsLayerKept result }
-{
-    Layer {
-        low: 4_200_000,
-        high: -600_000,
     }
 }

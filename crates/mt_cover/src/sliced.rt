@@ -1,14 +1,12 @@
-ghost use Rattle.std.specs.Prelude.{◌≡◌, ◌-◌, ◌/◌, All, drop, length};
-ghost use Rattle.std.specs.Int.{div_ceil};
+ghost use Rattle.std.specs.Prelude.{◌≡◌, ◌-◌, ◌/◌, All, drop};
 ghost use Rattle.mt_base.specs.Bounds.{AreWithinBounds};
 ghost use Rattle.mt_cover.specs.Layer.{IsLayerKept};
 ghost use Rattle.mt_cover.specs.Private.InPlane.{IsBoxInPlane};
 ghost use Rattle.mt_cover.specs.declared.sliced.Slice.{Slice as Cut};
-ghost use Rattle.mt_cover.specs.Sliced.{AreSlices, Have, HoldWindows, layer_over, slice_by};
+ghost use Rattle.mt_cover.specs.Sliced.{AreSlices, Have, slice_by};
 
 use crate::bounding_box::{BoundingBox, Extent, half, wider};
 use crate::layer::Layer;
-use crate::wide::WINDOW;
 use mt_base::{Rules, Second};
 use std::marker::Model;
 
@@ -25,31 +23,25 @@ pub struct Slice {
 }
 
 /// How many seconds a slice has, but the last one, which may be shorter.
-pub(crate) const SLICE: Second = 256;
+pub(crate) const SLICE: Second = 128;
 
-/// The slices of a trajectory, one for each 256 seconds from its start, the last of which may be shorter; and for each window of 1,024 seconds of
-/// the clock that has some of its seconds a slice that holds those of them all, to be compared first.
+/// The slices of a trajectory, one for each 128 seconds from its start, the last of which may be shorter.
 #[derive(Drop)]
 pub struct Slices {
     pub(crate) from: Second,
     pub(crate) to: Second,
     pub(crate) rvsm: bool,
-    pub(crate) layer: Layer,
     pub(crate) list: Vec<Slice>,
-    pub(crate) wide: Vec<Slice>,
 }
 
 impl Model for Slices {
-    ghost use Rattle.std.specs.Prelude.{◌≡◌};
-    ghost use Rattle.mt_cover.specs.Sliced.{AreSlices, Sliced, layer_over};
-    ghost use Rattle.mt_cover.specs.Private.Wide.{AreWide};
+    ghost use Rattle.mt_cover.specs.Sliced.{AreSlices, Sliced};
 
     ghost Value = { Sliced };
 
     ghost view = { λ s. record { from = s.from; to = s.to; rvsm = s.rvsm; list = s.list.items } };
 
-    ghost invariant = { λ s. AreSlices (record { from = s.from; to = s.to; rvsm = s.rvsm; list = s.list.items }) × (s.layer ≡ layer_over s.list.items)
-        × AreWide s.from s.to s.list.items s.wide.items };
+    ghost invariant = { λ s. AreSlices (record { from = s.from; to = s.to; rvsm = s.rvsm; list = s.list.items }) };
 }
 
 impl Slices {
@@ -82,31 +74,13 @@ impl Slices {
         self.rvsm
     }
 
-    /// The heights of all slices.
-    pub fn layer(&self) -> Layer
-        ensures is { result ≡ layer_over self.now.list }
-        ensures kept { IsLayerKept result }
-    {
-        self.layer
-    }
-
     /// The slices from that of a second on.
     pub fn slices_from(&self, k: Second) -> &[Slice]
         requires { Have self.now k }
-        ensures is { result.now ≡ drop ((k - self.now.from) / 256) self.now.list }
+        ensures is { result.now ≡ drop ((k - self.now.from) / 128) self.now.list }
         ensures kept { All (λ (slice : Cut). IsLayerKept slice.layer) result.now }
     {
         &self.list[((k - self.from) / SLICE) as usize..]
-    }
-
-    /// The slices of the windows from that of a second on: each holds those of all seconds in its window.
-    pub fn wide_from(&self, k: Second) -> &[Slice]
-        requires { Have self.now k }
-        ensures number { length result.now ≡ div_ceil self.now.to 1024 - k / 1024 }
-        ensures hold { HoldWindows self.now (k / 1024) result.now }
-        ensures kept { All (λ (slice : Cut). IsLayerKept slice.layer) result.now }
-    {
-        &self.wide[(k / WINDOW - self.from / WINDOW) as usize..]
     }
 }
 

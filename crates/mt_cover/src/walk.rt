@@ -1,4 +1,5 @@
-ghost use Rattle.std.specs.Prelude.{◌≡◌, ◌+◌, ◌-◌, ◌<◌, ◌≤◌, Some, All, IfOk, slice_get};
+ghost use Rattle.std.specs.Prelude.{◌≡◌, ◌+◌, ◌-◌, ◌<◌, ◌≤◌, Some, All, IfOk, length, slice_get};
+ghost use Rattle.std.specs.Int.{div_ceil};
 ghost use Rattle.mt_base.specs.declared.row.Row.{Row};
 ghost use Rattle.mt_base.specs.Bounds.{AreWithinBounds, IsBoundedOver};
 ghost use Rattle.mt_base.specs.Trajectory.{straight_rows};
@@ -7,15 +8,13 @@ ghost use Rattle.mt_track.specs.Rows.{row_after};
 ghost use Rattle.mt_cover.specs.Box.{box_over, grown_by};
 ghost use Rattle.mt_cover.specs.Cells.{cover_of};
 ghost use Rattle.mt_cover.specs.Private.InPlane.{IsBoxInPlane};
-ghost use Rattle.mt_cover.specs.Sliced.{slices_of};
+ghost use Rattle.mt_cover.specs.Sliced.{AreFrontUntil, slices_of};
 ghost use Rattle.mt_cover.specs.declared.stays.Stay.{Stay};
-ghost use Rattle.mt_cover.specs.Private.Walk.{StandsAtSecond, part};
+ghost use Rattle.mt_cover.specs.Private.Walk.{StandsAtSecond, front_of, part};
 
 use crate::bounding_box::{BoundingBox, box_of, grown};
-use crate::heights::{both, no_layer};
 use crate::sliced::{SLICE, Slices, slice_by};
 use crate::stays::Cover;
-use crate::wide::wide;
 use mt_base::{Memory, Rules, Second};
 use mt_track::{Segment, Strand, later};
 use std::alloc::Global;
@@ -78,6 +77,9 @@ fn gather(
     GatheredSlice { bounds, index }
 }
 
+/// How many seconds a slice of a cover has, but the last one, which may be shorter.
+const COVER_SLICE: Second = 256;
+
 /// The cover of a strand. Its seconds are cut from its start into slices of 256. In each slice the strand counts to the cells that the box of
 /// the slice's rows meets, made wider on each side by their greatest horizontal margin and half of the horizontal minimum, rounded up.
 pub fn cover(alloc: Global, strand: &Strand, rules: &Rules) -> Result<Cover, Memory>
@@ -90,9 +92,9 @@ pub fn cover(alloc: Global, strand: &Strand, rules: &Rules) -> Result<Cover, Mem
     let segments = strand.segments();
     let mut cover = Cover::empty(alloc);
     let mut index = 0;
-    for slice in 0..(end - start).div_ceil(SLICE) {
-        let from = start + SLICE * slice;
-        let to = end.min(from + SLICE);
+    for slice in 0..(end - start).div_ceil(COVER_SLICE) {
+        let from = start + COVER_SLICE * slice;
+        let to = end.min(from + COVER_SLICE);
         let gathered = gather(segments, start, end, index, from, to);
         cover.add(rules, gathered.bounds, from, to)?;
         index = gathered.index;
@@ -100,33 +102,52 @@ pub fn cover(alloc: Global, strand: &Strand, rules: &Rules) -> Result<Cover, Mem
     Ok(cover)
 }
 
-/// The slices of a strand: the boxes that its cover is cut from, each with the heights of its seconds.
-pub fn slices(alloc: Global, strand: &Strand, rules: &Rules) -> Result<Slices, Memory>
-    requires { AreWithinBounds rules.now }
-    ensures { IfOk result (λ slices. slices ≡ slices_of rules.now strand.now) }
+// The first slices of a strand.
+fn front(alloc: Global, strand: &Strand, rules: &Rules, number: u32) -> Result<Slices, Memory>
+    requires rules_kept { AreWithinBounds rules.now }
+    requires few { number ≤ div_ceil (length strand.now.rows) 128 }
+    ensures { IfOk result (λ slices. slices ≡ front_of rules.now strand.now number) }
 {
     let start = strand.start();
     let end = strand.end();
     let segments = strand.segments();
-    let mut list = Vec::with_capacity(alloc, (end - start).div_ceil(SLICE) as usize)?;
-    let mut layer = no_layer();
+    let mut list = Vec::with_capacity(alloc, number as usize)?;
     let mut index = 0;
-    for slice in 0..(end - start).div_ceil(SLICE) {
+    for slice in 0..number {
         let begin = start + SLICE * slice;
         let until = end.min(begin + SLICE);
         let gathered = gather(segments, start, end, index, begin, until);
-        let own = slice_by(rules, gathered.bounds);
-        layer = both(layer, own.layer);
-        list.push(own)?;
+        list.push(slice_by(rules, gathered.bounds))?;
         index = gathered.index;
     }
-    let wide = wide(alloc, start, end, &list)?;
     Ok(Slices {
         from: start,
-        to: end,
+        to: end.min(start + SLICE * number),
         rvsm: strand.rvsm(),
-        layer,
         list,
-        wide,
     })
+}
+
+/// The slices of a strand: the boxes of its seconds, 128 by 128 from its start, each with their heights.
+pub fn slices(alloc: Global, strand: &Strand, rules: &Rules) -> Result<Slices, Memory>
+    requires { AreWithinBounds rules.now }
+    ensures { IfOk result (λ slices. slices ≡ slices_of rules.now strand.now) }
+{
+    let number = (strand.end() - strand.start()).div_ceil(SLICE);
+    front(alloc, strand, rules, number)
+}
+
+/// The slices of a strand up to a second: whole ones, so the last may have seconds after it.
+pub fn slices_until(
+    alloc: Global,
+    strand: &Strand,
+    rules: &Rules,
+    to: Second,
+) -> Result<Slices, Memory>
+    requires { AreWithinBounds rules.now }
+    ensures { IfOk result (AreFrontUntil (slices_of rules.now strand.now) to) }
+{
+    let start = strand.start();
+    let until = strand.end().min(to).max(start);
+    front(alloc, strand, rules, (until - start).div_ceil(SLICE))
 }

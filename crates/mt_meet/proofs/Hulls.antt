@@ -1,8 +1,8 @@
 -- The first and the last of some places or seconds.
 use Rattle.std.proofs.Common.{◌≡◌, ◌+◌, ◌⊎◌, ℕ, min, max, Option, Some, None, ⊎_elim, subst, arith}
 use Rattle.std.proofs.lemmas.Bool.{cases_lt}
-use Rattle.mt_meet.specs.Meeting.{IsHull, IsHullOf}
-use Rattle.mt_meet.specs.Private.Meeting.{Before, first_met, hull_join, span_of}
+use Rattle.mt_meet.specs.Meeting.{IsHullOf}
+use Rattle.mt_meet.specs.Private.Meeting.{Before, IsHull, first_met, hull_join, span_of}
 
 -- one place more, at which they meet or don't
 module _ (P : ℕ → Type 0) where

@@ -1,9 +1,9 @@
-pub mod Bits
+pub mod Boxed
+pub mod Crossing
+pub mod Equal
 pub mod Hulls
-pub mod Kept
 pub mod Layers
 pub mod Listing
-pub mod Marked
 pub mod Meetings
+pub mod Same
 pub mod Turns
-pub mod Windows

@@ -1,3 +1,4 @@
 pub mod Heights
 pub mod Meeting
 pub mod Private
+pub mod Searching

@@ -29,11 +29,6 @@ pub record IsHullOf (P : ℕ → Type 0) (first last : ℕ) : Type 0 where
   pub last_is : P last
   pub none_outside : (k : ℕ) → P k → (first ≤ k) × (k ≤ last)
 
--- those seconds, or none where no second has P
-abbrev pub IsHull : (ℕ → Type 0) → Option (ℕ × ℕ) → Type 0
-IsHull P (Some span) = IsHullOf P span.0 span.1
-IsHull P None = (k : ℕ) → ¬ P k
-
 -- in a loss second the slices meet
 abbrev pub LosingMeet : Type 0
 LosingMeet = (rules : Rules) (a b : Trajectory) (k : ℕ) → AreWithinBounds rules → IsStrand a → IsStrand b → IsLossSecond rules a b k
@@ -43,6 +38,11 @@ LosingMeet = (rules : Rules) (a b : Trajectory) (k : ℕ) → AreWithinBounds ru
 abbrev pub MeetingIsNear : Type 0
 MeetingIsNear = (rules : Rules) (a b : Trajectory) (k : ℕ) → AreWithinBounds rules → IsStrand a → IsStrand b
     → MeetAt rules (slices_of rules a) (slices_of rules b) k → ShareAt (cover_of rules a) (cover_of rules b) k
+
+-- slices for which others are looked for, by some rules
+pub record Asked : Type 0 where
+  pub rules : Rules
+  pub sliced : Sliced
 
 -- this item's slices meet ours from first to last
 pub record IsMetIn (rules : Rules) (mine : Sliced) (table : List (Option Sliced)) (met : Met) : Type 0 where

@@ -1,5 +1,6 @@
 -- What no public contract names: invariants and relations of private steps.
+pub mod Boxing
 pub mod Heights
-pub mod Marking
 pub mod Meeting
-pub mod Reaching
+pub mod Searching
+pub mod Stepping

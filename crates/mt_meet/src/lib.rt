@@ -4,16 +4,19 @@
 //! What never loses separation with it need not be tested, and what is tested is near by the definition of cells.
 #![tactic(auto)]
 
+mod boxes;
 mod heights;
 mod laws;
-mod marks;
 mod meeting;
-mod reach;
-mod reaches;
+mod search;
+mod steps;
+mod subject;
 mod table;
+mod windows;
 
 pub use heights::lie_apart;
 pub use laws::{losing_meet_law, meeting_is_near_law};
-pub use meeting::meet;
 pub use mt_memory::Memory;
+pub use search::Search;
+pub use subject::Subject;
 pub use table::{Met, SliceTable};

@@ -4,18 +4,15 @@ ghost use Rattle.mt_base.specs.Bounds.{AreWithinBounds};
 ghost use Rattle.mt_cover.specs.Layer.{IsLayerKept};
 ghost use Rattle.mt_cover.specs.declared.sliced.Slice.{Slice as Cut};
 ghost use Rattle.mt_cover.specs.Sliced.{Touch};
-ghost use Rattle.mt_meet.specs.Meeting.{IsHull, MeetAt, SlicesMeet};
-ghost use Rattle.mt_meet.specs.Private.Meeting.{AreTurns, Before, MeetInTurn, MeetOnlyIn, NoneEarlier, PlaceMeets, first_met, hull_join};
+ghost use Rattle.mt_meet.specs.Meeting.{MeetAt, SlicesMeet};
+ghost use Rattle.mt_meet.specs.Private.Meeting.{AreTurns, Before, IsHull, MeetInTurn, MeetOnlyIn, PlaceMeets, first_met, hull_join};
 
 use crate::heights::lie_apart;
 use mt_base::{Rules, Second};
 use mt_cover::{Extent, Slice, Slices};
 
-// How many seconds of the clock a window has.
-const WINDOW: Second = 1024;
-
 // How many seconds a slice has.
-const SLICE: Second = 256;
+const SLICE: Second = 128;
 
 // Whether two extents have a coordinate in common. Their ends belong to them.
 fn touch(a: &Extent, b: &Extent) -> bool
@@ -81,53 +78,7 @@ fn places_that_meet(
     }
 }
 
-// The first of some places at which the slices of two lists meet.
-#[inline(always)]
-fn first_that_meets(
-    rules: &Rules,
-    approved: bool,
-    a: &[Slice],
-    b: &[Slice],
-    number: usize,
-) -> Option<usize>
-    requires rules { AreWithinBounds rules.now }
-    requires a_enough { number ≤ length a.now }
-    requires b_enough { number ≤ length b.now }
-    requires a_kept { All (λ (slice : Cut). IsLayerKept slice.layer) a.now }
-    requires b_kept { All (λ (slice : Cut). IsLayerKept slice.layer) b.now }
-    ensures { NoneEarlier (PlaceMeets rules.now approved a.now b.now) number result }
-{
-    for place in 0..number {
-        if slices_meet(rules, approved, &a[place], &b[place]) {
-            return Some(place);
-        }
-    }
-    None
-}
-
-// How many of some places there are up to the last one at which the slices of two lists meet. The first place counts without being compared.
-#[inline(always)]
-fn up_to_last(rules: &Rules, approved: bool, a: &[Slice], b: &[Slice], number: usize) -> usize
-    requires rules { AreWithinBounds rules.now }
-    requires some { 0 < number }
-    requires a_enough { number ≤ length a.now }
-    requires b_enough { number ≤ length b.now }
-    requires a_kept { All (λ (slice : Cut). IsLayerKept slice.layer) a.now }
-    requires b_kept { All (λ (slice : Cut). IsLayerKept slice.layer) b.now }
-    ensures some { 0 < result }
-    ensures within { result ≤ number }
-    ensures none { (place : ℕ) → result ≤ place → ¬ Before (PlaceMeets rules.now approved a.now b.now) number place }
-{
-    let mut count = 1;
-    for place in 1..number {
-        if slices_meet(rules, approved, &a[place], &b[place]) {
-            count = place + 1;
-        }
-    }
-    count
-}
-
-// The first and the last second in which slices meet, of those in turn: from a start on and before a stop, and so each 256 seconds later.
+// The first and the last second in which slices meet, of those in turn: from a start on and before a stop, and so each 128 seconds later.
 #[inline(always)]
 fn meet_in_turn(
     a: &Slices,
@@ -171,9 +122,10 @@ fn joined(a: Option<(Second, Second)>, b: Option<(Second, Second)>) -> Option<(S
     Some((a_first.min(b_first), a_last.max(b_last)))
 }
 
-// The first and the last second in which slices meet, of seconds outside of which they never do: slice by slice. Where those of one trajectory
-// begin earlier, each of them meets two of the other one's, in turn.
-fn meet_between(
+/// The first and the last second in which slices meet, of seconds outside of which they never do; `None` exactly where there is no such second.
+///
+/// It goes from slice to slice. Where those of one trajectory begin earlier, each of them meets two of the other one's, in turn.
+pub(crate) fn meet_within(
     a: &Slices,
     b: &Slices,
     rules: &Rules,
@@ -190,66 +142,4 @@ fn meet_between(
     let both = meet_in_turn(a, b, rules, start, next, begin, end);
     let later = meet_in_turn(a, b, rules, next, start + SLICE, begin, end);
     joined(both, later)
-}
-
-// The first and the last second in which slices meet, of seconds outside of which they never do, where the slices that hold all others meet in
-// the first window. Few pairs of trajectories come so far.
-#[inline(never)]
-fn meet_from(
-    a: &Slices,
-    b: &Slices,
-    rules: &Rules,
-    begin: Second,
-    end: Second,
-) -> Option<(Second, Second)>
-    requires rules { AreWithinBounds rules.now }
-    requires outside { MeetOnlyIn rules.now a.now b.now begin end }
-    ensures { IsHull (MeetAt rules.now a.now b.now) result }
-{
-    a.keeps();
-    let approved = are_approved(a, b);
-    let (left, right) = (a.wide_from(begin), b.wide_from(begin));
-    let window = begin / WINDOW;
-    let number = ((end - 1) / WINDOW - window + 1) as usize;
-    let count = up_to_last(rules, approved, left, right, number);
-    let past = WINDOW * (window + count as Second);
-    meet_between(a, b, rules, begin, end.min(past))
-}
-
-/// The first and the last second in which slices meet, of seconds outside of which they never do. `approved`: whether both aircraft are
-/// approved for RVSM. Of each window of the clock the slices that hold all others are compared first.
-#[inline(always)]
-pub(crate) fn meet_within(
-    a: &Slices,
-    b: &Slices,
-    rules: &Rules,
-    approved: bool,
-    begin: Second,
-    end: Second,
-) -> Option<(Second, Second)>
-    requires rules { AreWithinBounds rules.now }
-    requires approved { approved ≡ (a.now.rvsm && b.now.rvsm) }
-    requires outside { MeetOnlyIn rules.now a.now b.now begin end }
-    ensures { IsHull (MeetAt rules.now a.now b.now) result }
-{
-    a.keeps();
-    let (left, right) = (a.wide_from(begin), b.wide_from(begin));
-    let window = begin / WINDOW;
-    let number = ((end - 1) / WINDOW - window + 1) as usize;
-    let first = first_that_meets(rules, approved, left, right, number)?;
-    let least = WINDOW * (window + first as Second);
-    meet_from(a, b, rules, begin.max(least), end)
-}
-
-/// The first and the last second in which slices of both meet; `None` exactly where there is no such second.
-pub fn meet(a: &Slices, b: &Slices, rules: &Rules) -> Option<(Second, Second)>
-    requires { AreWithinBounds rules.now }
-    ensures { IsHull (MeetAt rules.now a.now b.now) result }
-{
-    let begin = a.from().max(b.from());
-    let end = a.to().min(b.to());
-    if begin >= end {
-        return None;
-    }
-    meet_within(a, b, rules, are_approved(a, b), begin, end)
 }

@@ -1,20 +1,25 @@
 //! The slices of many trajectories.
-ghost use Rattle.std.specs.Prelude.{◌≡◌, ◌<◌, ◌+◌, ◌*◌, ◌/◌, ◌%◌, Some, None, length, get_or, replicate, slice_set, IfOk, option_copied};
-ghost use Rattle.mt_base.specs.Bounds.{AreWithinBounds};
+ghost use Rattle.std.specs.Prelude.{◌≡◌, ◌≤◌, ◌<◌, ◌+◌, ◌*◌, ◌/◌, ◌%◌, false, ℕ, Some, None, get_or, length, replicate, slice_set, IfOk, IfSome, option_copied};
+ghost use Rattle.std.specs.Int.{div_ceil};
 ghost use Rattle.mt_meet.specs.Meeting.{AreMet, IsMetAt, IsNextMet};
-ghost use Rattle.mt_meet.specs.Private.Marking.{AreCloseMarked};
-ghost use Rattle.mt_meet.specs.Private.Reaching.{AreReachesOn, AreSlicesIn, IsNextOn, IsReachOf, page_of, reach_in, reach_of};
+ghost use Rattle.mt_meet.specs.Private.Boxing.{AreSlicesIn, IsApartIn, no_window};
+ghost use Rattle.mt_meet.specs.Private.Searching.{IsNextBetween};
+ghost use Rattle.mt_meet.specs.Searching.{MeetOnlyMarked, IsSearched};
 
-use crate::marks::{band, first_mark, marks_from, without_mark};
+use crate::boxes::{Boxes, ITEMS, mark_in};
 use crate::meeting::meet_within;
-use crate::reach::{Reach, are_close, both_approved, guarded, nowhere, reach_of};
-use crate::reaches::{ITEMS, ReachPage, with_reach};
-use mt_base::{Memory, Rules, Second};
+use crate::search::Search;
+use crate::subject::{Subject, Window};
+use crate::windows::with_item;
+use mt_base::{Memory, Second};
 use mt_cover::Slices;
 use mt_paged::Paged;
 use std::alloc::Global;
 use std::marker::Model;
 use std::sync::Arc;
+
+// How many items in a row have two pages: one for the even ones, one for the odd ones.
+const BLOCK: u32 = 2 * ITEMS;
 
 /// An item whose slices meet some others, and the first and the last second in which they do.
 #[derive(Clone, Copy)]
@@ -27,27 +32,26 @@ pub struct Met {
     pub last: Second,
 }
 
-/// The slices of items, each of which may have none. They stand in pages that tables share; beside them, in pages of their own, stand the
-/// heights of each item and its first and last seconds. Of these only the items are gone over that are marked in the bands of heights in
-/// question; pages that no item with slices was on are passed over.
+/// The slices of items, each of which may have none. They stand in pages that tables share. Beside them stand the steps in which they lie in each
+/// window of the clock, those of 64 items side by side, so that most items are passed over 64 at a time.
 #[derive(Drop)]
 pub struct SliceTable {
     alloc: Global,
     count: u32,
     slices: Paged<Slices>,
-    pages: Paged<ReachPage>,
+    pages: Paged<Paged<Boxes>>,
 }
 
 impl Model for SliceTable {
     ghost use Rattle.std.specs.Prelude.{List, Option};
     ghost use Rattle.mt_cover.specs.Sliced.{Sliced};
-    ghost use Rattle.mt_meet.specs.Private.Reaching.{AreReachesKept};
+    ghost use Rattle.mt_meet.specs.Private.Boxing.{AreBoxesKept};
 
     ghost Value = { List (Option Sliced) };
 
     ghost view = { λ s. s.slices };
 
-    ghost invariant = { λ s. AreReachesKept s.count s.slices s.pages };
+    ghost invariant = { λ s. AreBoxesKept s.count s.slices s.pages };
 }
 
 impl SliceTable {
@@ -59,7 +63,7 @@ impl SliceTable {
             alloc,
             count,
             slices: Paged::make(alloc, count)?,
-            pages: Paged::make(alloc, count.div_ceil(ITEMS))?,
+            pages: Paged::make(alloc, 2 * count.div_ceil(BLOCK))?,
         })
     }
 
@@ -84,90 +88,119 @@ impl SliceTable {
         if slices.is_none() && self.slices.get(item).is_none() {
             return self.share();
         }
-        let own = reach_in(slices.as_ref());
-        let pages = with_reach_of(self.alloc, &self.pages, item, own)?;
+        keeps(slices.as_ref());
+        let (number, place) = (2 * (item / BLOCK) + item % 2, item % BLOCK / 2);
+        let page = with_item(self.alloc, self.pages.get(number), place, slices.as_ref())?;
         Ok(SliceTable {
             alloc: self.alloc,
             count: self.count,
             slices: with_slices(self.alloc, &self.slices, item, slices)?,
-            pages,
+            pages: with_page(self.alloc, &self.pages, number, page)?,
         })
     }
 
-    // The seconds in which the slices of an item meet some, where there is one. `own` is what is compared first, with that of the item.
-    fn met_at(
-        &self,
-        item: u32,
-        reach: &Reach,
-        own: &Reach,
-        mine: &Slices,
-        rules: &Rules,
-    ) -> Option<Met>
-        requires rules { AreWithinBounds rules.now }
-        requires reach { IsReachOf (get_or self.now item None) reach.now }
-        requires own { own.now ≡ reach_of mine.now }
-        ensures { IsMetAt rules.now mine.now self.now item result }
+    // The seconds in which the slices of an item meet some, where there is one.
+    fn met_at(&self, item: u32, subject: &Subject) -> Option<Met>
+        ensures { IsMetAt subject.now.rules subject.now.sliced self.now item result }
     {
-        mine.keeps();
-        let approved = both_approved(own, reach);
-        if !are_close(rules, approved, own, reach) {
+        if item >= self.count {
             return None;
         }
-        let theirs = self.slices.get(item)?;
-        let (begin, end) = (own.from.max(reach.from), own.to.min(reach.to));
-        let (first, last) = meet_within(mine, theirs, rules, approved, begin, end)?;
+        let (mine, theirs) = (subject.slices(), self.slices.get(item)?);
+        let (begin, end) = (mine.from().max(theirs.from()), mine.to().min(theirs.to()));
+        if begin >= end {
+            return None;
+        }
+        let (first, last) = meet_within(mine, theirs, &subject.rules, begin, end)?;
         Some(Met { item, first, last })
     }
 
-    // The first item of a page, from a place on, whose slices meet some. Only those with a mark may be close.
-    fn next_on(
-        &self,
-        page: &ReachPage,
-        number: u32,
-        from: u32,
-        near: u64,
-        own: &Reach,
-        mine: &Slices,
-        rules: &Rules,
-    ) -> Option<Met>
-        requires rules { AreWithinBounds rules.now }
-        requires few { number < 67108864 }
-        requires begun { from < 64 }
-        requires page { AreReachesOn self.now number page.now }
-        requires own { own.now ≡ reach_of mine.now }
-        requires near { AreCloseMarked rules.now own.now page.now near }
-        ensures { IsNextOn rules.now mine.now self.now number from result }
+    // Marks of the items of a page: those without one don't meet.
+    fn marks_on(&self, number: u32, subject: &Subject) -> [u8; ITEMS as usize]
+        requires { number < 2 * div_ceil (length self.now) 128 }
+        ensures { MeetOnlyMarked subject.now self.now number result }
     {
-        mine.keeps();
-        let list = page.list();
-        let mut marks = marks_from(near, from);
-        while marks != 0 {
-            let place = first_mark(marks);
-            let reach = &list[place as usize];
-            if let Some(met) = self.met_at(number * ITEMS + place, reach, own, mine, rules) {
-                return Some(met);
+        let mut marks = [0; ITEMS as usize];
+        let Some(page) = self.pages.get(number) else {
+            return marks;
+        };
+        mark_page(page, &subject.windows, &mut marks);
+        marks
+    }
+
+    // Marks 128 items, unless they are marked already.
+    fn mark(&self, search: &mut Search, block: u32, subject: &Subject)
+        requires block { block < div_ceil (length self.now) 128 }
+        requires few { block < 33554432 }
+        requires searched { IsSearched subject.now self.now search.old }
+        ensures even { MeetOnlyMarked subject.now self.now (2 * block) search.new.even }
+        ensures odd { MeetOnlyMarked subject.now self.now (2 * block + 1) search.new.odd }
+        ensures searched { IsSearched subject.now self.now search.new }
+        ensures from { search.new.from ≡ search.old.from }
+    {
+        if search.block != Some(block) {
+            search.even = self.marks_on(2 * block, subject);
+            search.odd = self.marks_on(2 * block + 1, subject);
+            search.block = Some(block);
+        }
+    }
+
+    // The first of 128 items, from a place on and before another, whose slices meet some. Only those with a mark may.
+    fn next_between(
+        &self,
+        block: u32,
+        from: u32,
+        to: u32,
+        search: &Search,
+        subject: &Subject,
+    ) -> Option<Met>
+        requires few { block < 33554432 }
+        requires within { to ≤ 128 }
+        requires even { MeetOnlyMarked subject.now self.now (2 * block) search.now.even }
+        requires odd { MeetOnlyMarked subject.now self.now (2 * block + 1) search.now.odd }
+        ensures { IsNextBetween subject.now self.now (128 * block + from) (128 * block + to) result }
+    {
+        for place in from..to {
+            if is_marked(search, place) {
+                if let Some(met) = self.met_at(block * BLOCK + place, subject) {
+                    return Some(met);
+                }
             }
-            marks = without_mark(marks, place);
         }
         None
     }
 
-    /// The first of the items, from one of them on, whose slices meet some, with the first and the last second in which they do; `None` exactly
-    /// where there is none. It takes no memory.
-    pub fn next_meeting(&self, from: u32, mine: &Slices, rules: &Rules) -> Option<Met>
-        requires { AreWithinBounds rules.now }
-        ensures { IsNextMet rules.now mine.now self.now from result }
+    // The first of 128 items, from a place on, whose slices meet some: two by two, and most of these have no mark.
+    fn next_in(&self, block: u32, from: u32, search: &Search, subject: &Subject) -> Option<Met>
+        requires few { block < 33554432 }
+        requires even { MeetOnlyMarked subject.now self.now (2 * block) search.now.even }
+        requires odd { MeetOnlyMarked subject.now self.now (2 * block + 1) search.now.odd }
+        ensures { IsNextBetween subject.now self.now (128 * block + from) (128 * block + 128) result }
     {
-        let own = reach_of(mine);
-        let guard = guarded(rules, &own.layer);
-        let (low, high) = (band(&guard.low), band(&guard.high));
-        for number in from / ITEMS..self.count.div_ceil(ITEMS) {
-            let place = from.saturating_sub(number * ITEMS);
-            let Some(page) = self.pages.get(number) else {
-                continue;
-            };
-            let near = page.near(low, high);
-            if let Some(met) = self.next_on(page, number, place, near, &own, mine, rules) {
+        for pair in from / 2..ITEMS {
+            if are_marked(search, pair) {
+                let place = from.max(2 * pair);
+                if let Some(met) = self.next_between(block, place, 2 * pair + 2, search, subject) {
+                    return Some(met);
+                }
+            }
+        }
+        None
+    }
+
+    /// The next of the items, in a search through them, whose slices meet some, with the first and the last second in which they do; `None` exactly
+    /// where no other does. It takes no memory.
+    pub fn next_meeting(&self, search: &mut Search, subject: &Subject) -> Option<Met>
+        requires { IsSearched subject.now self.now search.old }
+        ensures next { IsNextMet subject.now.rules subject.now.sliced self.now search.old.from result }
+        ensures searched { IsSearched subject.now self.now search.new }
+        ensures on { IfSome result (λ met. search.new.from ≡ met.item + 1) }
+    {
+        for block in search.from / BLOCK..self.count.div_ceil(BLOCK) {
+            self.mark(search, block, subject);
+            let from = search.from.saturating_sub(block * BLOCK);
+            if let Some(met) = self.next_in(block, from, search, subject) {
+                search.from = met.item + 1;
                 return Some(met);
             }
         }
@@ -175,45 +208,74 @@ impl SliceTable {
     }
 
     /// The items whose slices meet some, rising, each once, with the first and the last second in which they do.
-    pub fn meeting(&self, mine: &Slices, rules: &Rules) -> Result<Vec<Met>, Memory>
-        requires { AreWithinBounds rules.now }
-        ensures { IfOk result (λ met. AreMet rules.now mine.now self.now met.items) }
+    pub fn meeting(&self, subject: &Subject) -> Result<Vec<Met>, Memory>
+        ensures { IfOk result (λ met. AreMet subject.now.rules subject.now.sliced self.now met.items) }
     {
         let mut list = Vec::new(self.alloc);
-        let mut from = 0;
-        while let Some(met) = self.next_meeting(from, mine, rules) {
+        let mut search = Search::begin();
+        while let Some(met) = self.next_meeting(&mut search, subject) {
             list.push(met)?;
-            from = met.item + 1;
         }
         Ok(list)
     }
 }
 
-// The reach of an item that may have slices. What these keep is said here too.
-fn reach_in(slices: Option<&Slices>) -> Reach
-    ensures is { result ≡ reach_in (option_copied slices.entry) }
-    ensures kept { AreSlicesIn (option_copied slices.entry) }
+// Pages with another one of a number. Those before stay.
+fn with_page(
+    alloc: Global,
+    all: &Paged<Paged<Boxes>>,
+    number: u32,
+    page: Paged<Boxes>,
+) -> Result<Paged<Paged<Boxes>>, Memory>
+    requires { number < length all.now }
+    ensures { IfOk result (λ after. after ≡ slice_set all.now number (Some page)) }
 {
-    match slices {
-        Some(slices) => reach_of(slices),
-        None => nowhere(),
+    all.set(number, Some(Arc::new(alloc, page)?))
+}
+
+// What stands for an item, if anything, are slices. It does nothing.
+fn keeps(slices: Option<&Slices>)
+    ensures { AreSlicesIn (option_copied slices.entry) }
+{
+    if let Some(slices) = slices {
+        slices.keeps();
     }
 }
 
-// Pages of reaches with another one of an item. Those before stay.
-fn with_reach_of(
-    alloc: Global,
-    pages: &Paged<ReachPage>,
-    item: u32,
-    reach: Reach,
-) -> Result<Paged<ReachPage>, Memory>
-    requires { item / 64 < length pages.now }
-    ensures pages { IfOk result (λ after. after ≡ slice_set pages.now (item / 64) (Some (slice_set (page_of (get_or pages.now (item / 64) None)) (item % 64) reach))) }
-    ensures full { length (page_of (get_or pages.now (item / 64) None)) ≡ 64 }
+// Whether one of two items, an even one and the next, is marked.
+#[inline(always)]
+fn are_marked(search: &Search, pair: u32) -> bool
+    requires { pair < 64 }
+    ensures even { result ≡ false → get_or search.now.even pair 0 ≡ 0 }
+    ensures odd { result ≡ false → get_or search.now.odd pair 0 ≡ 0 }
 {
-    let (number, place) = (item / ITEMS, item % ITEMS);
-    let page = with_reach(alloc, pages.get(number), place, reach)?;
-    pages.set(number, Some(Arc::new(alloc, page)?))
+    search.even[pair as usize].max(search.odd[pair as usize]) != 0
+}
+
+// Whether the item at a place of 128 is marked.
+fn is_marked(search: &Search, place: u32) -> bool
+    requires { place < 128 }
+    ensures even { result ≡ false → place % 2 ≡ 0 → get_or search.now.even (place / 2) 0 ≡ 0 }
+    ensures odd { result ≡ false → place % 2 ≡ 1 → get_or search.now.odd (place / 2) 0 ≡ 0 }
+{
+    let marks = if place % 2 == 0 {
+        &search.even
+    } else {
+        &search.odd
+    };
+    marks[(place / 2) as usize] != 0
+}
+
+// Marks the items of a page that have steps in common with a subject in some window: those without a mark have none.
+fn mark_page(page: &Paged<Boxes>, windows: &[Window], marks: &mut [u8; ITEMS as usize])
+    requires full { length page.now ≡ 64 }
+    requires few { (number : ℕ) → number < length windows.now → (get_or windows.now number no_window).remainder < 64 }
+    ensures { (place number : ℕ) → place < 64 → get_or marks.new place 0 ≡ 0 → number < length windows.now → IsApartIn page.now (get_or windows.now number no_window) place }
+{
+    for number in 0..windows.len() {
+        let window = &windows[number];
+        mark_in(page.get(window.remainder), &window.bounds, marks);
+    }
 }
 
 // The slices of items with other ones of an item, or none. Those before stay.

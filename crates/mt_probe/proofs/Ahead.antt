@@ -32,7 +32,7 @@ module _ (shot : Shot) (t : Trajectory) (mine : Sliced) (ahead : AreAhead shot t
   pub met_ahead : (theirs : Sliced) (k : ℕ) → shot.now ≤ k → k < window_end shot.now → MeetAt shot.setup.rules (slices_of shot.setup.rules t) theirs k
       → MeetAt shot.setup.rules mine theirs k
   met_ahead theirs k low high meet =
-      let left = ahead.whole k meet.left low high in
+      let left = ahead.whole k meet.left high in
       record { left = left; right = meet.right; meet = rw (← ahead.rvsm_is, ← (ahead.same k left).1) at meet.meet }
 
 -- what an item names loses separation in the look-ahead only in the seconds in which its slices meet

@@ -1,5 +1,6 @@
 -- A table that has the slices of the trajectories of a snapshot.
 use Rattle.std.proofs.Common.{◌≡◌, ◌≢◌, ⊎_elim, ℕ, zero, suc, ◌+◌, ◌*◌, ◌/◌, ◌<◌, List, Option, Some, None, length, get_or, replicate, refl, sym, ◌∙◌, ap, subst, length-set, arith}
+use Rattle.std.specs.Option.{IfSome}
 use Rattle.std.proofs.Math.ListN.{set}
 use Rattle.std.proofs.lemmas.Bool.{cases_eq}
 use Rattle.std.proofs.lemmas.List.{get_or-set_same, get_or-set_other, length-replicate}
@@ -9,10 +10,12 @@ use Rattle.mt_base.specs.declared.rules.Rules.{Rules}
 use Rattle.mt_cover.specs.Sliced.{Sliced}
 use Rattle.mt_probe.specs.declared.flight.Flight.{Flight}
 use Rattle.mt_meet.specs.declared.table.Met.{Met}
-use Rattle.mt_meet.specs.Meeting.{AreMet, IsNextMet}
+use Rattle.mt_meet.specs.Meeting.{AreMet, IsNextMet, MeetAt}
+use Rattle.mt_meet.specs.Searching.{IsSearched, MeetOnlyMarked, item_at}
+use Rattle.mt_meet.specs.declared.search.Search.{Search}
 use Rattle.mt_meet.proofs.Meetings.{within}
 use Rattle.mt_probe.specs.Meeting.{AreMetItems, slices_at, slices_by}
-use Rattle.mt_probe.specs.Private.Boxed.{HoldsSlices, IsNextMetOf, table_with}
+use Rattle.mt_probe.specs.Private.Boxed.{HoldsSlices, IsNextMetOf, IsSearchedIn, MeetOnlyMarkedOn, table_with}
 use Rattle.mt_probe.specs.Items.{kind_at}
 use Rattle.mt_probe.specs.Shot.{Shot}
 use Rattle.mt_probe.proofs.Covered.{even_half, even_kind, odd_half, odd_kind}
@@ -103,3 +106,26 @@ next_met shot mine table from (Some met) holds first = record {
   is = record { theirs = first.is.theirs; there = sym (holds.held met.item) ∙ first.is.there; hull = first.is.hull };
   none_before = λ item late below theirs k there meet. first.none_before item late below theirs k (holds.held item ∙ there) meet;
 }
+
+if_some : {X : Type 0} (x : Option X) (P Q : X → Type 0) → ((y : X) → P y → Q y) → IfSome x P → IfSome x Q
+if_some None P Q on h = h
+if_some (Some y) P Q on h = on y h
+
+-- a search through the table is one through the trajectories
+module _ (shot : Shot) (mine : Sliced) (rules : Rules) (rules_is : rules ≡ shot.setup.rules) (table : List (Option Sliced))
+    (holds : HoldsSlices shot.setup.rules shot.slots table) where
+  on_table : (page : ℕ) (marks : List ℕ) → MeetOnlyMarkedOn shot mine page marks → MeetOnlyMarked (record { rules = rules; sliced = mine }) table page marks
+  on_table page marks of place within none theirs k there meet =
+      of place within none theirs k (sym (holds.held (item_at page place)) ∙ there) (subst (λ (r : Rules). MeetAt r mine theirs k) rules_is meet)
+
+  off_table : (page : ℕ) (marks : List ℕ) → MeetOnlyMarked (record { rules = rules; sliced = mine }) table page marks → MeetOnlyMarkedOn shot mine page marks
+  off_table page marks of place within none theirs k there meet =
+      of place within none theirs k (holds.held (item_at page place) ∙ there) (subst (λ (r : Rules). MeetAt r mine theirs k) (sym rules_is) meet)
+
+  pub to_table : (search : Search) → IsSearchedIn shot mine search → IsSearched (record { rules = rules; sliced = mine }) table search
+  to_table search of = if_some search.block _ _
+      (λ block marks. (on_table (2 * block) search.even marks.0, on_table (2 * block + 1) search.odd marks.1)) of
+
+  pub from_table : (search : Search) → IsSearched (record { rules = rules; sliced = mine }) table search → IsSearchedIn shot mine search
+  from_table search of = if_some search.block _ _
+      (λ block marks. (off_table (2 * block) search.even marks.0, off_table (2 * block + 1) search.odd marks.1)) of

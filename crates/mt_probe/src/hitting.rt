@@ -9,7 +9,7 @@ ghost use Rattle.mt_base.specs.Picture.{window_end};
 ghost use Rattle.mt_base.specs.Trajectory.{horizon};
 ghost use Rattle.mt_base.specs.WhatIf.{AreHitsOf, HasHit};
 ghost use Rattle.mt_probe.specs.Items.{kind_at};
-ghost use Rattle.mt_probe.specs.Private.Ahead.{IsMetAhead};
+ghost use Rattle.mt_probe.specs.Private.Ahead.{IsAskedAhead, IsMetAhead};
 ghost use Rattle.mt_probe.specs.Private.Clear.{IsClearAt, IsHitAt};
 ghost use Rattle.mt_probe.specs.Shot.{state_in_shot};
 ghost use Rattle.mt_probe.specs.Tests.{WasTriedNear, flown_at};
@@ -17,7 +17,7 @@ ghost use Rattle.mt_probe.specs.Tests.{WasTriedNear, flown_at};
 use crate::finding::kind_of;
 use crate::snapshot::Snapshot;
 use mt_base::{Callsign, Hit, Hits, Kind, Memory, Rules, Second, Tally, WINDOW};
-use mt_meet::Met;
+use mt_meet::{Met, Search, Subject};
 use mt_pair::lose;
 use mt_track::Strand;
 use std::alloc::Global;
@@ -80,6 +80,29 @@ fn hit_with(
     })
 }
 
+// Whether a new trajectory of a flight, whose slices for the look-ahead are given, has a hit.
+fn has_hit_among(
+    snapshot: &Snapshot,
+    call: Callsign,
+    strand: &Strand,
+    mine: &Subject,
+    tests: &mut Tally,
+) -> bool
+    requires ahead { IsAskedAhead snapshot.now strand.now mine.now }
+    ensures hit { IsTrue result ↔ HasHit snapshot.now.setup (state_in_shot snapshot.now) call strand.now }
+    ensures counted { WasTriedNear snapshot.now call strand.now tests.old tests.new }
+{
+    snapshot.keeps();
+    strand.keeps();
+    let mut search = Search::begin();
+    while let Some(met) = snapshot.next_meeting(&mut search, mine) {
+        if hit_with(snapshot, met, call, strand, tests).is_some() {
+            return true;
+        }
+    }
+    false
+}
+
 /// Whether a new trajectory of a flight has a hit. What its slices meet in the look-ahead is tested where it is flown, one after the other, up to
 /// the first hit; tentative trajectories aren't.
 pub(crate) fn has_hit(
@@ -91,17 +114,35 @@ pub(crate) fn has_hit(
     ensures hit { IfOk result (λ has. IsTrue has ↔ HasHit snapshot.now.setup (state_in_shot snapshot.now) call strand.now) }
     ensures counted { WasTriedNear snapshot.now call strand.now tests.old tests.new }
 {
+    let mine = snapshot.ahead(strand)?;
+    Ok(has_hit_among(snapshot, call, strand, &mine, tests))
+}
+
+// The hits of a new trajectory of a flight, whose slices for the look-ahead are given, in order.
+fn hits_among(
+    alloc: Global,
+    snapshot: &Snapshot,
+    call: Callsign,
+    strand: &Strand,
+    mine: &Subject,
+    tests: &mut Tally,
+) -> Result<Hits, Memory>
+    requires ahead { IsAskedAhead snapshot.now strand.now mine.now }
+    ensures hits { IfOk result (AreHitsOf snapshot.now.setup (state_in_shot snapshot.now) call strand.now) }
+    ensures named { IfOk result (All (λ (hit : Clash). is_name 1 7 hit.with ≡ true)) }
+    ensures counted { WasTriedNear snapshot.now call strand.now tests.old tests.new }
+{
     snapshot.keeps();
     strand.keeps();
-    let mine = snapshot.ahead(strand)?;
-    let mut from = 0;
-    while let Some(met) = snapshot.next_meeting(from, &mine) {
-        if hit_with(snapshot, met, call, strand, tests).is_some() {
-            return Ok(true);
+    let mut list = Hits::make(alloc)?;
+    let mut search = Search::begin();
+    while let Some(met) = snapshot.next_meeting(&mut search, mine) {
+        if let Some(hit) = hit_with(snapshot, met, call, strand, tests) {
+            list.push(hit)?;
         }
-        from = met.item + 1;
     }
-    Ok(false)
+    list.order();
+    Ok(list)
 }
 
 /// The hits of a new trajectory of a flight, in order. All that its slices meet in the look-ahead is tested where it is flown, and no other: it
@@ -117,17 +158,6 @@ pub(crate) fn hits(
     ensures named { IfOk result (All (λ (hit : Clash). is_name 1 7 hit.with ≡ true)) }
     ensures counted { WasTriedNear snapshot.now call strand.now tests.old tests.new }
 {
-    snapshot.keeps();
-    strand.keeps();
     let mine = snapshot.ahead(strand)?;
-    let mut list = Hits::make(alloc)?;
-    let mut from = 0;
-    while let Some(met) = snapshot.next_meeting(from, &mine) {
-        if let Some(hit) = hit_with(snapshot, met, call, strand, tests) {
-            list.push(hit)?;
-        }
-        from = met.item + 1;
-    }
-    list.order();
-    Ok(list)
+    hits_among(alloc, snapshot, call, strand, &mine, tests)
 }

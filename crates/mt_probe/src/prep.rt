@@ -39,7 +39,6 @@ impl Prep {
         ensures version { result ≡ self.now.state.version }
         ensures kept { IsPrepared self.now }
     {
-        let _who = self.who;
         self.snapshot.version()
     }
 

@@ -5,10 +5,10 @@ ghost use Rattle.mt_base.specs.Bounds.{AreWithinBounds};
 ghost use Rattle.mt_base.specs.Picture.{flight_of, opening};
 ghost use Rattle.mt_change.specs.Sound.{IsSoundState};
 ghost use Rattle.mt_cover.specs.Sliced.{slices_of};
-ghost use Rattle.mt_probe.specs.Private.Ahead.{AreAhead};
+ghost use Rattle.mt_probe.specs.Private.Ahead.{IsAskedAhead};
 ghost use Rattle.mt_probe.specs.Private.Body.{shot_of};
 ghost use Rattle.mt_probe.specs.Meeting.{AreMetItems};
-ghost use Rattle.mt_probe.specs.Private.Boxed.{IsSnapshotKept, IsNextMetOf};
+ghost use Rattle.mt_probe.specs.Private.Boxed.{IsNextMetOf, IsSearchedIn, IsSnapshotKept};
 ghost use Rattle.mt_probe.specs.Items.{AreNearItems, IsNearItem, path_of};
 ghost use Rattle.mt_probe.specs.Putting.{Fits, records_put, with_flight, with_moment};
 ghost use Rattle.mt_probe.specs.Shot.{IsFreeIn, flight_at, kept_of, made_of, records_in, state_in_shot};
@@ -20,8 +20,8 @@ use crate::index::Index;
 use crate::nearness::share;
 use crate::placing::moved;
 use mt_base::{Callsign, Kind, Memory, Record, Rules, Second, WINDOW};
-use mt_cover::{Cover, Slices, cover, slices};
-use mt_meet::{Met, SliceTable};
+use mt_cover::{Cover, cover, slices, slices_until};
+use mt_meet::{Met, Search, SliceTable, Subject};
 use mt_paged::Paged;
 use mt_tables::Tables;
 use mt_track::Strand;
@@ -271,32 +271,30 @@ impl Snapshot {
     pub fn meeting(&self, strand: &Strand) -> Result<Vec<Met>, Memory>
         ensures { IfOk result (λ list. AreMetItems self.now (slices_of self.now.setup.rules strand.now) list.items) }
     {
-        let mine = self.sliced(strand)?;
-        self.body.table.meeting(&mine, self.rules())
-    }
-
-    /// The slices of a new trajectory.
-    pub(crate) fn sliced(&self, strand: &Strand) -> Result<Slices, Memory>
-        ensures { IfOk result (λ mine. mine ≡ slices_of self.now.setup.rules strand.now) }
-    {
-        slices(self.body.alloc, strand, self.rules())
+        let (alloc, rules) = (self.body.alloc, self.rules());
+        let mine = Subject::of(alloc, rules, slices(alloc, strand, rules)?)?;
+        self.body.table.meeting(&mine)
     }
 
     /// The slices of a new trajectory for the look-ahead.
-    pub(crate) fn ahead(&self, strand: &Strand) -> Result<Slices, Memory>
-        ensures { IfOk result (AreAhead self.now strand.now) }
+    pub(crate) fn ahead(&self, strand: &Strand) -> Result<Subject, Memory>
+        ensures { IfOk result (IsAskedAhead self.now strand.now) }
     {
-        let all = self.sliced(strand)?;
-        let now = self.now();
-        Ok(all.over(self.body.alloc, now, now + WINDOW)?)
+        let (alloc, rules) = (self.body.alloc, self.rules());
+        let front = slices_until(alloc, strand, rules, self.now() + WINDOW)?;
+        Subject::of(alloc, rules, front)
     }
 
-    /// The first of the items, from one on, whose trajectories have slices that meet some, with the first and the last second in which they do;
-    /// `None` exactly where there is none.
-    pub(crate) fn next_meeting(&self, from: u32, mine: &Slices) -> Option<Met>
-        ensures { IsNextMetOf self.now mine.now from result }
+    /// The next of the items, in a search through them, whose trajectories have slices that meet some, with the first and the last second in which
+    /// they do; `None` exactly where no other has.
+    pub(crate) fn next_meeting(&self, search: &mut Search, mine: &Subject) -> Option<Met>
+        requires rules { mine.now.rules ≡ self.now.setup.rules }
+        requires searched { IsSearchedIn self.now mine.now.sliced search.old }
+        ensures next { IsNextMetOf self.now mine.now.sliced search.old.from result }
+        ensures searched { IsSearchedIn self.now mine.now.sliced search.new }
+        ensures on { IfSome result (λ met. search.new.from ≡ met.item + 1) }
     {
-        self.body.table.next_meeting(from, mine, self.rules())
+        self.body.table.next_meeting(search, mine)
     }
 
     /// The picture with that flight at a place, or none, one version later. This snapshot stays as it is.

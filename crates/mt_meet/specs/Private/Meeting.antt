@@ -3,7 +3,12 @@ use Rattle.std.specs.Prelude.{◌≤◌, ◌<◌, ◌+◌, ◌-◌, ◌*◌, ◌
 use Rattle.mt_base.specs.declared.rules.Rules.{Rules}
 use Rattle.mt_cover.specs.declared.sliced.Slice.{Slice}
 use Rattle.mt_cover.specs.Sliced.{Sliced, no_slice}
-use Rattle.mt_meet.specs.Meeting.{MeetAt, SlicesMeet}
+use Rattle.mt_meet.specs.Meeting.{IsHullOf, MeetAt, SlicesMeet}
+
+-- those seconds, or none where no second has P
+abbrev pub IsHull : (ℕ → Type 0) → Option (ℕ × ℕ) → Type 0
+IsHull P (Some span) = IsHullOf P span.0 span.1
+IsHull P None = (k : ℕ) → ¬ P k
 
 -- `first_met`, `span_of`: the first of some places and of a later one; the first and the last one. There is a last one where there is a first one.
 abbrev pub first_met : Option ℕ → ℕ → ℕ
@@ -24,11 +29,6 @@ hull_join (Some a) (Some b) = Some (min a.0 b.0, max a.1 b.1)
 abbrev pub Before : (ℕ → Type 0) → ℕ → ℕ → Type 0
 Before P at k = (k < at) × P k
 
--- of so many places none is so before the given one, or none at all where none is given
-abbrev pub NoneEarlier : (ℕ → Type 0) → ℕ → Option ℕ → Type 0
-NoneEarlier P number (Some first) = (first < number) × ((k : ℕ) → ¬ Before P first k)
-NoneEarlier P number None = (k : ℕ) → ¬ Before P number k
-
 -- the slices at one place of two lists meet
 abbrev pub PlaceMeets : Rules → Bool → List Slice → List Slice → ℕ → Type 0
 PlaceMeets rules approved a b place = SlicesMeet rules approved (get_or a place no_slice) (get_or b place no_slice)
@@ -42,16 +42,16 @@ pub record MeetOnlyIn (rules : Rules) (a b : Sliced) (begin end : ℕ) : Type 0 
   pub b_within : end ≤ b.to
   pub all : (k : ℕ) → MeetAt rules a b k → (begin ≤ k) × (k < end)
 
--- second k is in the turn of a number. The first turn lasts from a start on and before a stop, and each later one is 256 seconds later.
+-- second k is in the turn of a number. The first turn lasts from a start on and before a stop, and each later one is 128 seconds later.
 pub record InTurn (start stop k : ℕ) : Type 0 where
   pub number : ℕ
-  pub late : start + 256 * number ≤ k
-  pub early : k < stop + 256 * number
+  pub late : start + 128 * number ≤ k
+  pub early : k < stop + 128 * number
 
 -- the slice of second `at` lasts at least from a start to a stop
 pub record LastsOver (s : Sliced) (start stop at : ℕ) : Type 0 where
-  pub begun : s.from + 256 * ((at - s.from) / 256) ≤ start
-  pub within : stop ≤ s.from + 256 * ((at - s.from) / 256) + 256
+  pub begun : s.from + 128 * ((at - s.from) / 128) ≤ start
+  pub within : stop ≤ s.from + 128 * ((at - s.from) / 128) + 128
 
 -- in each turn two trajectories have one slice each. The first turn isn't over at a beginning.
 pub record AreTurns (a b : Sliced) (start stop begin : ℕ) : Type 0 where

@@ -1,12 +1,14 @@
 -- No public contract names these: they are of private steps and of proofs.
 -- How a snapshot keeps the slices of its trajectories.
-use Rattle.std.specs.Prelude.{◌≡◌, ℕ, ◌+◌, ◌*◌, ◌<◌, ◌≤◌, List, Option, Some, None, Contains, get_or, length, slice_set}
+use Rattle.std.specs.Prelude.{◌≡◌, ℕ, ◌+◌, ◌*◌, ◌<◌, ◌≤◌, List, Option, Some, None, Contains, get_or, length, slice_set, IfSome}
 use Rattle.mt_base.specs.declared.conflict.Kind.TheVariants.{Actual, Tentative}
 use Rattle.mt_base.specs.declared.rules.Rules.{Rules}
 use Rattle.mt_base.specs.Picture.{NamedTrajectory}
 use Rattle.mt_cover.specs.Sliced.{Sliced}
 use Rattle.mt_meet.specs.declared.table.Met.{Met}
 use Rattle.mt_meet.specs.Meeting.{MeetAt}
+use Rattle.mt_meet.specs.Searching.{item_at}
+use Rattle.mt_meet.specs.declared.search.Search.{Search}
 use Rattle.mt_track.specs.Laid.{IsStrand}
 use Rattle.mt_probe.specs.declared.flight.Flight.{Flight}
 use Rattle.mt_probe.specs.Private.Indexed.{Indexed, IsIndexOf}
@@ -37,6 +39,15 @@ AreLaid f = (t : NamedTrajectory) → Contains (kept_of f) t → IsStrand t.path
 -- the trajectory that an item names, where it names one, has no slices that meet some
 abbrev pub IsNotMet : Shot → Sliced → ℕ → Type 0
 IsNotMet shot mine item = (theirs : Sliced) (k : ℕ) → slices_at shot.setup.rules shot.slots item ≡ Some theirs → ¬ MeetAt shot.setup.rules mine theirs k
+
+-- the items of a page that have no mark are not met
+abbrev pub MeetOnlyMarkedOn : Shot → Sliced → ℕ → List ℕ → Type 0
+MeetOnlyMarkedOn shot mine page marks = (place : ℕ) → place < 64 → get_or marks place 0 ≡ 0 → IsNotMet shot mine (item_at page place)
+
+-- a search by some slices: the marks of its pages are right
+abbrev pub IsSearchedIn : Shot → Sliced → Search → Type 0
+IsSearchedIn shot mine search = IfSome search.block (λ block.
+    MeetOnlyMarkedOn shot mine (2 * block) search.even × MeetOnlyMarkedOn shot mine (2 * block + 1) search.odd)
 
 -- it is the first item, from one on, whose trajectory has slices that meet some
 pub record IsFirstMetOf (shot : Shot) (mine : Sliced) (from : ℕ) (met : Met) : Type 0 where

@@ -1,5 +1,4 @@
-use Rattle.mt_meet.specs.Meeting.{IsHull}
-use Rattle.mt_meet.specs.Private.Meeting.{Before, PlaceMeets, span_of}
+use Rattle.mt_meet.specs.Private.Meeting.{Before, IsHull, PlaceMeets, span_of}
 use Rattle.mt_meet.proofs.meeting.places_that_meet.Given as goal
 
 abbrev pub invariant-loop-place : goal.invariant-loop-place

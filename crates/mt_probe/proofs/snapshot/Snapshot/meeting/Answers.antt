@@ -14,4 +14,4 @@ returns c =
     let holds = subst (λ (s : Shot). HoldsSlices s.setup.rules s.slots table) c.self.view_is c.self.invariant.holds in
     IfOk-weaker c.meeting.result _ _ (λ list met.
     met_items shot (slices_of shot.setup.rules c.args.strand.now) table list.items holds
-    (rw (c.in_ok-mine.ensures, c.rules.ensures.rules, c.deref.ensures) at met)) c.meeting.ensures
+    (rw (c.in_ok-mine.ensures, c.in_ok-slices.ensures, c.rules-rules.ensures.rules, c.deref-2.ensures) at met)) c.meeting.ensures

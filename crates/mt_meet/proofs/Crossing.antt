@@ -1,0 +1,148 @@
+-- Steps of 1,024 units: what meets crosses.
+use Rattle.std.proofs.Common.{◌≡◌, ◌≤◌, ◌/◌, ◌&&◌, inl, inr, ⊎_elim, Bool, true, ℕ, ℤ, pos, negsuc, neg_ℤ, ◌+ℤ◌, ◌-ℤ◌, ◌≤ℤ◌, refl, arith}
+use Rattle.std.proofs.lemmas.Int.{ints, clamps}
+use Rattle.std.specs.Int.{int_max, int_min}
+use Rattle.std.specs.Prelude.{unsigned_abs}
+use Rattle.mt_ring.proofs.Signs.{cases_lt}
+use Rattle.mt_base.specs.declared.rules.Rules.{Rules}
+use Rattle.mt_base.specs.Bounds.{AreWithinBounds}
+use Rattle.mt_cover.specs.declared.layer.Layer.{Layer}
+use Rattle.mt_cover.specs.declared.sliced.Slice.{Slice}
+use Rattle.mt_cover.specs.Sliced.{Holds}
+use Rattle.mt_pair.specs.High.{level_of}
+use Rattle.mt_meet.specs.Heights.{EndBelow, LieApart}
+use Rattle.mt_meet.specs.Meeting.{SlicesMeet}
+use Rattle.mt_meet.specs.Private.Stepping.{Cross, Enclose, IsBoxedBy, IsGuard, IsGuardedBy, IsBelowTop, IsReach, bounds_of, step, wider_by}
+use Rattle.mt_meet.specs.declared.steps.Bounds.{Bounds}
+
+abs_rises : (a b : ℤ) → pos 0 ≤ℤ a → a ≤ℤ b → unsigned_abs a ≤ unsigned_abs b
+abs_rises (pos m) (pos n) some more = omega (arith, ints, more)
+abs_rises (pos m) (negsuc n) some more = absurd (omega (arith, ints, more))
+abs_rises (negsuc m) b some more = absurd (omega (arith, ints, some))
+
+quotient_rises : (m n : ℕ) → m ≤ n → m / 1024 ≤ n / 1024
+quotient_rises m n more = omega (arith, more)
+
+-- a greater value is in no lesser step
+pub step_rises : (y z : ℤ) → y ≤ℤ z → pos (step y) ≤ℤ pos (step z)
+step_rises y z more =
+    let rises = quotient_rises _ _ (abs_rises (int_min (int_max y (neg_ℤ (pos 16777216))) (pos 16777215) +ℤ pos 16777216)
+    (int_min (int_max z (neg_ℤ (pos 16777216))) (pos 16777215) +ℤ pos 16777216) (omega (arith, ints, clamps)) (omega (arith, ints, clamps, more))) in
+    omega (arith, ints, rises)
+
+on : {a b c : Bounds} → Enclose a b → Enclose b c → Enclose a c
+on h g = record {
+  west = omega (arith, ints, h.west, g.west);
+  east = omega (arith, ints, h.east, g.east);
+  south = omega (arith, ints, h.south, g.south);
+  north = omega (arith, ints, h.north, g.north);
+  low = omega (arith, ints, h.low, g.low);
+  high = omega (arith, ints, h.high, g.high);
+}
+
+-- what a slice holds lies between its steps
+enclosed : (wide s : Slice) → Holds wide s → Enclose (bounds_of wide) (bounds_of s)
+enclosed wide s holds = record {
+  west = step_rises wide.x.low s.x.low holds.x.low;
+  east = step_rises s.x.high wide.x.high holds.x.high;
+  south = step_rises wide.y.low s.y.low holds.y.low;
+  north = step_rises s.y.high wide.y.high holds.y.high;
+  low = step_rises wide.layer.low s.layer.low holds.low;
+  high = step_rises s.layer.high wide.layer.high holds.high;
+}
+
+-- so it is with other heights
+with_layers : (wide s : Slice) (a b : Layer) → Holds wide s → a.low ≤ℤ b.low → b.high ≤ℤ a.high → Holds (record wide { layer = a }) (record s { layer = b })
+with_layers wide s a b holds low high = record { x = holds.x; y = holds.y; low = low; high = high }
+
+low_within : (approved : Bool) (wide s : Layer) → s.high ≤ℤ wide.high → IsBelowTop approved wide → IsBelowTop approved s
+low_within approved wide s high low = record { approved_is = low.approved_is; below = omega (arith, ints, high, low.below) }
+
+wider_low : (by y z : ℤ) → y ≤ℤ z → (y -ℤ by) ≤ℤ (z -ℤ by)
+wider_low by y z more = omega (arith, ints, more)
+
+wider_high : (by y z : ℤ) → y ≤ℤ z → (y +ℤ by) ≤ℤ (z +ℤ by)
+wider_high by y z more = omega (arith, ints, more)
+
+pub boxed_within : (b : Bounds) (approved : Bool) (wide s : Slice) → Holds wide s → IsBoxedBy b approved wide → IsBoxedBy b approved s
+boxed_within b approved wide s holds by = ⊎_elim
+    (λ low. record {
+      reach = s.layer;
+      reach_is = inl (low_within approved wide.layer s.layer holds.high low.0, refl);
+      enclose = on by.enclose (enclosed (record wide { layer = by.reach }) s
+          (with_layers wide s by.reach s.layer holds (rw low.1 holds.low) (rw low.1 holds.high)));
+    })
+    (λ far. record {
+      reach = wider_by (pos 600000) s.layer;
+      reach_is = inr refl;
+      enclose = on by.enclose (enclosed (record wide { layer = by.reach }) (record s { layer = wider_by (pos 600000) s.layer })
+          (with_layers wide s by.reach (wider_by (pos 600000) s.layer) holds
+          (rw far (wider_low (pos 600000) wide.layer.low s.layer.low holds.low)) (rw far (wider_high (pos 600000) s.layer.high wide.layer.high holds.high))));
+    })
+    by.reach_is
+
+pub guarded_within : (rules : Rules) (b : Bounds) (approved : Bool) (wide s : Slice) → Holds wide s → IsGuardedBy rules b approved wide → IsGuardedBy rules b approved s
+guarded_within rules b approved wide s holds by = ⊎_elim
+    (λ low. record {
+      guard = wider_by rules.sv s.layer;
+      guard_is = inl (low_within approved wide.layer s.layer holds.high low.0, refl);
+      enclose = on by.enclose (enclosed (record wide { layer = by.guard }) (record s { layer = wider_by rules.sv s.layer })
+          (with_layers wide s by.guard (wider_by rules.sv s.layer) holds
+          (rw low.1 (wider_low rules.sv wide.layer.low s.layer.low holds.low)) (rw low.1 (wider_high rules.sv s.layer.high wide.layer.high holds.high))));
+    })
+    (λ far. record {
+      guard = wider_by rules.sv2 s.layer;
+      guard_is = inr refl;
+      enclose = on by.enclose (enclosed (record wide { layer = by.guard }) (record s { layer = wider_by rules.sv2 s.layer })
+          (with_layers wide s by.guard (wider_by rules.sv2 s.layer) holds
+          (rw far (wider_low rules.sv2 wide.layer.low s.layer.low holds.low)) (rw far (wider_high rules.sv2 s.layer.high wide.layer.high holds.high))));
+    })
+    by.guard_is
+
+between : (a b c d : ℤ) → a ≤ℤ b → b ≤ℤ c → c ≤ℤ d → a ≤ℤ d
+between a b c d p q r = omega (arith, ints, p, q, r)
+
+not_far : (least y z : ℤ) → ¬ (least ≤ℤ (y -ℤ z)) → y ≤ℤ (z +ℤ least)
+not_far least y z near = ⊎_elim (λ less. omega (arith, ints, less)) (λ far. absurd (near far)) (cases_lt (y -ℤ z) least)
+
+-- the heights by which two are found and looked for have one in common, unless the two lie apart
+record InCommon (guard reach : Layer) : Type 0 where
+  low : guard.low ≤ℤ reach.high
+  high : reach.low ≤ℤ guard.high
+
+in_common : (rules : Rules) (left right : Bool) (a b guard reach : Layer) → AreWithinBounds rules → ¬ LieApart rules (level_of (left && right)) a b
+    → IsGuard rules left a guard → IsReach right b reach → InCommon guard reach
+in_common rules left right a b guard reach kept near guard_is reach_is =
+    let above = not_far rules.sv2 a.low b.high (λ far. near (inl (inr far))) in
+    let below = not_far rules.sv2 b.low a.high (λ far. near (inl (inl far))) in
+    let sv = kept.sv.least in
+    let sv2 = kept.sv2.most in ⊎_elim
+    (λ low. ⊎_elim
+    (λ other.
+    let level : level_of (left && right) ≡ level_of true = rw (low.0.approved_is, other.0.approved_is) refl in
+    let ends : EndBelow (level_of (left && right)) a b = record { first = rw level low.0.below; second = rw level other.0.below } in
+    let over = not_far rules.sv a.low b.high (λ far. near (inr (ends, inr far))) in
+    let under = not_far rules.sv b.low a.high (λ far. near (inr (ends, inl far))) in
+    record { low = rw (low.1, other.1) (omega (arith, ints, over)); high = rw (low.1, other.1) (omega (arith, ints, under)) })
+    (λ wide. let far : reach ≡ wider_by (pos 600000) b = wide in record { low = rw (low.1, far) (omega (arith, ints, above, sv, sv2)); high = rw (low.1, far) (omega (arith, ints, below, sv, sv2)) })
+    reach_is)
+    (λ far. let guard_far : guard ≡ wider_by rules.sv2 a = far in ⊎_elim
+    (λ other. record { low = rw (guard_far, other.1) (omega (arith, ints, above)); high = rw (guard_far, other.1) (omega (arith, ints, below)) })
+    (λ wide. let reach_far : reach ≡ wider_by (pos 600000) b = wide in
+    record { low = rw (guard_far, reach_far) (omega (arith, ints, above)); high = rw (guard_far, reach_far) (omega (arith, ints, below)) })
+    reach_is)
+    guard_is
+
+-- two slices that meet have steps in common
+pub crossing : (rules : Rules) (left right : Bool) (a b : Slice) (p q : Bounds) → AreWithinBounds rules → SlicesMeet rules (left && right) a b
+    → IsGuardedBy rules p left a → IsBoxedBy q right b → Cross p q
+crossing rules left right a b p q kept meet mine theirs =
+    let heights = in_common rules left right a.layer b.layer mine.guard theirs.reach kept meet.heights mine.guard_is theirs.reach_is in
+    record {
+      west = between _ _ _ _ mine.enclose.west (step_rises a.x.low b.x.high meet.touch.x.left) theirs.enclose.east;
+      east = between _ _ _ _ theirs.enclose.west (step_rises b.x.low a.x.high meet.touch.x.right) mine.enclose.east;
+      south = between _ _ _ _ mine.enclose.south (step_rises a.y.low b.y.high meet.touch.y.left) theirs.enclose.north;
+      north = between _ _ _ _ theirs.enclose.south (step_rises b.y.low a.y.high meet.touch.y.right) mine.enclose.north;
+      low = between _ _ _ _ mine.enclose.low (step_rises mine.guard.low theirs.reach.high heights.low) theirs.enclose.high;
+      high = between _ _ _ _ theirs.enclose.low (step_rises theirs.reach.low mine.guard.high heights.high) mine.enclose.high;
+    }

@@ -1,9 +1,0 @@
-use Rattle.std.proofs.Common.{rules, w64}
-use Rattle.std.proofs.lemmas.Nat.Bits.{bit_at-trailing_zeros}
-use Rattle.mt_meet.proofs.marks.first_mark.Goals as goal
-
-pub returns-clause-marked : goal.returns-clause-marked
-returns-clause-marked c = (bit_at-trailing_zeros w64 c.args.marks c.requires (search rules)).1
-
-pub returns-clause-before : goal.returns-clause-before
-returns-clause-before c = (bit_at-trailing_zeros w64 c.args.marks c.requires (search rules)).2

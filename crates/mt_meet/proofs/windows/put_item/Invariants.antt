@@ -1,0 +1,15 @@
+use Rattle.std.proofs.Common.{◌≡◌, ◌≢◌, ◌<◌, ◌/◌, ◌%◌, ℕ, Some, None, get_or, length}
+use Rattle.std.specs.Option.{option_copied}
+use Rattle.mt_cover.specs.Sliced.{Have, Sliced, slice_at}
+use Rattle.mt_meet.specs.Private.Boxing.{bounds_in}
+use Rattle.mt_meet.specs.Private.Stepping.{IsBoxedBy}
+use Rattle.mt_meet.proofs.windows.put_item.Given as goal
+
+abbrev pub invariant-loop-window : goal.invariant-loop-window
+invariant-loop-window l = record {
+  full : length l.page ≡ 64;
+  own : (theirs : Sliced) (k : ℕ) → option_copied l.slices ≡ Some theirs → Have theirs k → k / 256 % 64 < l.window
+      → IsBoxedBy (bounds_in (get_or l.page (k / 256 % 64) None) l.place) theirs.rvsm (slice_at theirs k);
+  beside : (remainder other : ℕ) → other < 64 → other ≢ l.place
+      → bounds_in (get_or l.page remainder None) other ≡ bounds_in (get_or l.fn.page remainder None) other;
+}

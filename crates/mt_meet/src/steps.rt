@@ -1,0 +1,130 @@
+//! Where a trajectory is in a window of the clock, in steps of 1,024 units.
+ghost use Rattle.std.specs.Prelude.{◌≡◌, ◌↔◌, pos, IsTrue};
+ghost use Rattle.mt_base.specs.Bounds.{AreWithinBounds, IsWithin};
+ghost use Rattle.mt_cover.specs.Layer.{IsLayerKept};
+ghost use Rattle.mt_meet.specs.Private.Stepping.{IsBoxedBy, IsGuard, IsGuardedBy, IsBelowTop, IsReach, bounds_of, nowhere, step, wider_by};
+
+use mt_base::Rules;
+use mt_cover::{Layer, Slice};
+use mt_pair::level_of;
+
+// What lies farther from 0 counts as there.
+const FAR: i64 = 16_777_216;
+
+/// In which steps a trajectory is in a window: positions east and north, and heights with the vertical margin.
+#[derive(Clone, Copy, PartialEq, Eq)]
+pub(crate) struct Bounds {
+    /// The least position east.
+    pub(crate) west: i16,
+    /// The greatest position east.
+    pub(crate) east: i16,
+    /// The least position north.
+    pub(crate) south: i16,
+    /// The greatest position north.
+    pub(crate) north: i16,
+    /// The least height.
+    pub(crate) low: i16,
+    /// The greatest height.
+    pub(crate) high: i16,
+}
+
+// In which of 32,768 steps of 1,024 units a position or a height lies. What lies below counts to the first, what lies above to the last.
+fn step(z: i64) -> i16
+    ensures { result ≡ pos (step z) }
+{
+    let from_least = z.max(-FAR).min(FAR - 1) + FAR;
+    (from_least.unsigned_abs() / 1024) as i16
+}
+
+/// Those of what is nowhere: no step lies between them.
+pub(crate) fn nowhere() -> Bounds
+    ensures { result ≡ nowhere }
+{
+    Bounds {
+        west: 32_767,
+        east: -1,
+        south: 32_767,
+        north: -1,
+        low: 32_767,
+        high: -1,
+    }
+}
+
+// Those of a position and heights.
+fn bounds_of(slice: &Slice) -> Bounds
+    ensures { result ≡ bounds_of slice.now }
+{
+    Bounds {
+        west: step(slice.x.low),
+        east: step(slice.x.high),
+        south: step(slice.y.low),
+        north: step(slice.y.high),
+        low: step(slice.layer.low),
+        high: step(slice.layer.high),
+    }
+}
+
+// Whether the aircraft is approved for RVSM, and nowhere above the level from which on the greater vertical minimum holds all the same.
+fn is_below_top(approved: bool, layer: &Layer) -> bool
+    ensures { IsTrue result ↔ IsBelowTop approved layer.now }
+{
+    approved && layer.high <= level_of(true)
+}
+
+// Heights that reach farther by so much on each side.
+fn wider(layer: &Layer, by: i64) -> Layer
+    requires kept { IsLayerKept layer.now }
+    requires by_kept { IsWithin (pos 1) (pos 600000) by }
+    ensures { result ≡ wider_by by layer.now }
+{
+    Layer {
+        low: layer.low - by,
+        high: layer.high + by,
+    }
+}
+
+// The heights by which an item is found: its own where they end below the top, else wider by the most that the vertical minimum can be.
+fn reach_of(approved: bool, layer: &Layer) -> Layer
+    requires { IsLayerKept layer.now }
+    ensures { IsReach approved layer.now result }
+{
+    if is_below_top(approved, layer) {
+        return *layer;
+    }
+    wider(layer, 600_000)
+}
+
+// The heights by which a subject is looked for: wider by the lesser minimum where they end below the top, else by the greater one.
+fn guard_of(rules: &Rules, approved: bool, layer: &Layer) -> Layer
+    requires rules { AreWithinBounds rules.now }
+    requires kept { IsLayerKept layer.now }
+    ensures { IsGuard rules.now approved layer.now result }
+{
+    if is_below_top(approved, layer) {
+        return wider(layer, rules.sv);
+    }
+    wider(layer, rules.sv2)
+}
+
+/// The steps by which an item with a slice is found.
+pub(crate) fn boxed(approved: bool, slice: &Slice) -> Bounds
+    requires { IsLayerKept slice.now.layer }
+    ensures { IsBoxedBy result approved slice.now }
+{
+    bounds_of(&Slice {
+        layer: reach_of(approved, &slice.layer),
+        ..*slice
+    })
+}
+
+/// The steps by which a subject with a slice is looked for.
+pub(crate) fn guarded(rules: &Rules, approved: bool, slice: &Slice) -> Bounds
+    requires rules { AreWithinBounds rules.now }
+    requires kept { IsLayerKept slice.now.layer }
+    ensures { IsGuardedBy rules.now result approved slice.now }
+{
+    bounds_of(&Slice {
+        layer: guard_of(rules, approved, &slice.layer),
+        ..*slice
+    })
+}
