@@ -20,6 +20,9 @@ use std::thread::Threads;
 ///
 /// Each answer but want of memory names a version, and the seat has seen the history of that version then, which is legal, begins with
 /// what it had seen, and has no entry of its number but its own. Want of memory changes nothing, but that the seat may have seen more.
+///
+/// Tries and advice that follow each other may be answered from one look at the picture, until `look_anew` is called or the seat sees more by
+/// another call. So who asks for others calls it once before all that was asked since is answered.
 pub trait Board {
     /// What a probe answers.
     type Probe: Probed + Drop + Send;
@@ -36,6 +39,11 @@ pub trait Board {
     /// The seat's number.
     fn number(&self) -> u32
         ensures { result ≡ (seat self.now).number };
+
+    /// Lets go of the look at the picture that tries are answered from, so that the next one is answered from the picture as it stands then.
+    fn look_anew(&mut self)
+        ensures seat { seat self.new ≡ seat self.old }
+        ensures home { home self.new ≡ home self.old };
 
     /// Reads. It is refused exactly where a flight is asked for and there is none of that callsign.
     fn read<R: Threads + Wait + Sync>(&mut self, rt: &R, ask: &Ask) -> Result<Answer, No>

@@ -44,11 +44,6 @@ use Rattle.mt_desk.specs.Private.Taken.{StandsFor}
 
 -- ---- a snapshot that stands for what a seat has seen
 
--- what a hand's seat has seen then, as the hand tells it
-pub hand_seen : (h k : Hand) (t : BoardSeat) → h ≡ k → HasSeen (seat_of h.desk.fixed h.view) t (length t.seen)
-    → HasSeen (seat_of k.desk.fixed k.view) t (length t.seen)
-hand_seen h k t same seen = subst (λ (j : Hand). HasSeen (seat_of j.desk.fixed j.view) t (length t.seen)) same seen
-
 -- its version is that of the seat
 counted : (t : BoardSeat) (shot : Shot) → StandsFor t shot → shot.version ≡ length t.seen
 counted t shot for = ap (λ (s : State). s.version) for.state_is ∙ version_is t.fixed t.seen
@@ -60,6 +55,14 @@ there P t shot for x = subst (λ (f : Setup). P f (state_seen t)) for.setup_is (
 -- the seat has seen the history of that version
 pub seen_at : (s t : BoardSeat) (version : ℕ) → HasSeen s t (length t.seen) → version ≡ length t.seen → HasSeen s t version
 seen_at s t version seen is = record { looked = seen.looked; version_is = is; sound = seen.sound }
+
+-- a seat that looks at nothing
+pub unlooked : (s : BoardSeat) → HasLooked s s
+unlooked s = record { same = record { number = refl; fixed = refl }; begins = ([], sym (append-nil s.seen)); own = refl; mine = refl }
+
+-- what it has seen it sees again
+pub seen_again : (s t : BoardSeat) (version : ℕ) → HasSeen s t version → HasSeen t t version
+seen_again s t version seen = record { looked = unlooked t; version_is = seen.version_is; sound = seen.sound }
 
 -- Its state is that of the first entries that the seat has seen, as many as its version says: of all.
 past_taken : (t : BoardSeat) (shot : Shot) (fixed : Setup) (state : State) → StandsFor t shot → fixed ≡ shot.setup → state ≡ state_in shot
@@ -249,10 +252,6 @@ probed_given h k p prep c same is of past =
     } in
     subst (λ (d : Command). IsPrepGivenFor (record { setup = h.desk.fixed; history = h.view.seen }) h.view.number d (Some prep)) (sym (is ∙ of.command_is))
     (subst (λ (j : Hand). IsPrepGivenFor (record { setup = j.desk.fixed; history = j.view.seen }) j.view.number (acceptance (told_of p)) (Some prep)) (sym same) there)
-
--- a seat that looked at nothing
-pub unlooked : (s : BoardSeat) → HasLooked s s
-unlooked s = record { same = record { number = refl; fixed = refl }; begins = ([], sym (append-nil s.seen)); own = refl; mine = refl }
 
 -- A probe without hits, of what a hand's seat has seen, was free there.
 pub probed_free : (h k : Hand) (p : Trial) (c : Command) → h ≡ k → c ≡ acceptance (told_of p) → IsTried p

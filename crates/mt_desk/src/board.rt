@@ -58,7 +58,12 @@ impl<'a> Board for Hand<'a> {
         self.seat.number()
     }
 
+    fn look_anew(&mut self) {
+        self.look = None;
+    }
+
     fn read<R: Threads + Wait + Sync>(&mut self, rt: &R, ask: &Ask) -> Result<Answer, No> {
+        self.look = None;
         let (desk, seat) = (self.desk, &mut self.seat);
         match ask {
             Ask::List => desk.list(rt, seat),
@@ -77,9 +82,9 @@ impl<'a> Board for Hand<'a> {
         eff: Option<Second>,
         gate: &G,
     ) -> Result<Probe, No> {
-        let desk = self.desk;
-        let snapshot = desk.take(rt, &mut self.seat)?;
-        gate.between(self.seat.number());
+        let (desk, who) = (self.desk, self.seat.number());
+        let snapshot = self.look(rt)?;
+        gate.between(who);
         let (tables, rules) = (snapshot.tables(), snapshot.rules());
         let mut tests = Tally::new(rt);
         what_if(
@@ -93,9 +98,9 @@ impl<'a> Board for Hand<'a> {
         call: Callsign,
         gate: &G,
     ) -> Result<Advised<Probe>, No> {
-        let desk = self.desk;
-        let snapshot = desk.take(rt, &mut self.seat)?;
-        gate.between(self.seat.number());
+        let (desk, who) = (self.desk, self.seat.number());
+        let snapshot = self.look(rt)?;
+        gate.between(who);
         advise(rt, desk.alloc, &snapshot, call)
     }
 
@@ -105,6 +110,7 @@ impl<'a> Board for Hand<'a> {
         command: Command,
         gate: &G,
     ) -> Result<Entered, No> {
+        self.look = None;
         let (desk, seat) = (self.desk, &mut self.seat);
         if makes_strand(&command) {
             return change_prepared(rt, desk, seat, &command, gate);
@@ -119,6 +125,7 @@ impl<'a> Board for Hand<'a> {
         probe: &Probe,
         gate: &G,
     ) -> Result<Entered, No> {
+        self.look = None;
         gate.between(self.seat.number());
         let desk = self.desk;
         let mut tests = Tally::new(rt);

@@ -70,7 +70,11 @@ impl Desk {
         requires ready { IsSeatOfDesk self.now seat }
         ensures { result ≡ record { desk = self.now; view = seat.view } }
     {
-        Hand { desk: self, seat }
+        Hand {
+            desk: self,
+            seat,
+            look: None,
+        }
     }
 
     /// Splits a seat off the first one, with the next number and with all that the first one has seen. It takes no memory.

@@ -31,6 +31,8 @@ use std::thread::Threads;
 /// Answers the lines of a link over a board, to its end or to the line that ends the session, and gives the board back. It takes its memory
 /// before the first line: the reader, the book, and the room for a reply that follows a change and for those that wait.
 ///
+/// Tries and advice of lines that are ahead together are answered from one look at the picture, which was taken when they all had come.
+///
 /// Replies wait while a whole line is ahead, and all that wait are written at once: before a read that may block, so that none is held back while
 /// the session waits for its peer; before a job is handed on; where 65,536 bytes wait; and at the end.
 ///
@@ -176,7 +178,9 @@ impl<B: Board> Lines<B> {
         ensures reads { TellsFault (result ≡ Some endings.ReadFault) (L.Source.faults link.old) (L.Source.faults link.new) }
         ensures writes { TellsFault (result ≡ Some endings.WriteFault) (L.Sink.faults link.old) (L.Sink.faults link.new) }
     {
-        match self.outgoing.ready(self.reader.has_line(), link) {
+        let ahead = self.reader.has_line();
+        self.serving.before_read(ahead);
+        match self.outgoing.ready(ahead, link) {
             Ok(()) => self.answer_next(rt, alloc, link, jobs, gate),
             Err(_) => Some(Ending::WriteFault),
         }

@@ -65,6 +65,16 @@ impl<B: Board> Serving<B> {
         board
     }
 
+    // Where no whole line is ahead, lets go of the look at the picture that tries are answered from: what is read next may have been asked for later
+    // than that.
+    pub(crate) fn before_read(&mut self, ahead: bool)
+        ensures { self.new ≡ self.old }
+    {
+        if !ahead {
+            self.board.look_anew();
+        }
+    }
+
     // Reads.
     pub(crate) fn read<R: Threads + Wait + Sync>(&mut self, rt: &R, ask: &Ask) -> Result<Answer, No>
         requires sync { IsSync R.row }

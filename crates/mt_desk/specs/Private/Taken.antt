@@ -3,7 +3,7 @@
 use Rattle.std.specs.Prelude.{◌≡◌, ◌≤◌, length}
 use Rattle.mt_base.specs.Bounds.{AreWithinBounds}
 use Rattle.mt_base.specs.History.{IsLegal}
-use Rattle.mt_board.specs.BoardSeat.{BoardSeat, state_seen}
+use Rattle.mt_board.specs.BoardSeat.{BoardSeat, HasSeen, state_seen}
 use Rattle.mt_picture.specs.Story.{Story}
 use Rattle.mt_probe.specs.Shot.{Shot}
 use Rattle.mt_probe.specs.Shot.{state_in_shot as state_in}
@@ -18,3 +18,8 @@ pub record IsLegalStory (story : Story) : Type 0 where
 pub record StandsFor (s : BoardSeat) (shot : Shot) : Type 0 where
   pub setup_is : shot.setup ≡ s.fixed
   pub state_is : state_in shot ≡ state_seen s
+
+-- such a snapshot that a seat keeps, of a history that it has seen
+pub record IsLook (s : BoardSeat) (shot : Shot) : Type 0 where
+  pub for : StandsFor s shot
+  pub seen : HasSeen s s (length s.seen)
