@@ -10,14 +10,42 @@ use mt_base::Entry;
 use mt_memory::Memory;
 use std::alloc::Global;
 
-/// The room that a text gets at first: most replies fit, and so grow no more.
+/// The bytes of most replies that tell no list, and of what stands beside the items of one.
 const SHORT: usize = 128;
+
+/// The most bytes of a conflict and its comma.
+const CONFLICT: usize = 81;
+
+/// The most bytes of a callsign, its quotes and its comma.
+const CALLSIGN: usize = 10;
+
+/// The most bytes of a passage through an area and its comma.
+const PASSAGE: usize = 82;
+
+/// The bytes of most entries and their comma.
+const ENTRY: usize = 192;
+
+/// How many bytes a list has, its items having so many each.
+fn list_size(count: usize, each: usize) -> usize {
+    count.saturating_mul(each).saturating_add(SHORT)
+}
+
+/// How many bytes the text of a reply has at most, or about.
+fn text_size(reply: &Reply) -> usize {
+    match reply {
+        Reply::List { conflicts, .. } => list_size(conflicts.items().len(), CONFLICT),
+        Reply::Due { calls, .. } => list_size(calls.items().len(), CALLSIGN),
+        Reply::Areas { areas, .. } => list_size(areas.items().len(), PASSAGE),
+        Reply::History { entries, .. } => list_size(entries.items().len(), ENTRY),
+        _ => SHORT,
+    }
+}
 
 /// The text of a reply: one compact object, its keys in byte order, and 0x0A at its end.
 pub fn write_reply(alloc: Global, reply: &Reply) -> Result<Vec<u8>, Memory>
     ensures { IfOk result (λ line. line.items ≡ reply_text reply.now) }
 {
-    let mut line = Vec::with_capacity(alloc, SHORT)?;
+    let mut line = Vec::with_capacity(alloc, text_size(reply))?;
     put_reply(&mut line, reply)?;
     Ok(line)
 }
