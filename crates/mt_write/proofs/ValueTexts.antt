@@ -1,5 +1,5 @@
 -- The pieces of a conflict, a hit and an advised clearance, joined, are the compact texts of their values; and those of a flight.
-use Rattle.std.proofs.Common.{◌≡◌, ℕ, pos, List, [], ◌∷◌, ◌++◌, decimal, codes, refl, ap, ◌∙◌, append_assoc, append-nil}
+use Rattle.std.proofs.Common.{◌≡◌, ℕ, pos, List, [], ◌∷◌, ◌++◌, decimal, codes, refl, ap, ◌∙◌, append_assoc}
 use Rattle.json.proofs.OnLiterals.{json_on_literals}
 use Rattle.json.specs.Print.{escape}
 use Rattle.serde_json.specs.Data.{string, array, object, no_items, item, no_members, member}
@@ -16,15 +16,15 @@ use Rattle.mt_write.specs.Flight.{or_null, row_value, tent_value}
 use Rattle.mt_write.specs.Private.Numbers.{flight_front, flight_text}
 use Rattle.mt_write.specs.Reply.{advised_members, hit_value, kind_letter, reply_text}
 
--- a text that began empty, piece by piece
-pub made_of_seven : (a b c d e f g h i j k t0 t1 t2 t3 t4 t5 t6 t7 : List ℕ) → t0 ≡ [] → t1 ≡ t0 ++ (a ++ b) → t2 ≡ t1 ++ c → t3 ≡ t2 ++ d → t4 ≡ t3 ++ (e ++ f)
-    → t5 ≡ t4 ++ (g ++ h) → t6 ≡ t5 ++ (i ++ j) → t7 ≡ t6 ++ k
+-- a text that began empty, piece by piece from its end to its beginning
+pub made_of_seven : (a b c d e f g h i j k t0 t1 t2 t3 t4 t5 t6 t7 : List ℕ) → t0 ≡ [] → t1 ≡ k ++ t0 → t2 ≡ i ++ (j ++ t1) → t3 ≡ g ++ (h ++ t2)
+    → t4 ≡ e ++ (f ++ t3) → t5 ≡ d ++ t4 → t6 ≡ c ++ t5 → t7 ≡ a ++ (b ++ t6)
     → t7 ≡ a ++ (b ++ (c ++ (d ++ (e ++ (f ++ (g ++ (h ++ (i ++ (j ++ (k ++ []))))))))))
-made_of_seven a b c d e f g h i j k t0 t1 t2 t3 t4 t5 t6 t7 e0 e1 e2 e3 e4 e5 e6 e7 = rw (e7, e6, e5, e4, e3, e2, e1, e0) (simp (append_assoc, append-nil))
+made_of_seven a b c d e f g h i j k t0 t1 t2 t3 t4 t5 t6 t7 e0 e1 e2 e3 e4 e5 e6 e7 = rw (e7, e6, e5, e4, e3, e2, e1, e0) refl
 
-pub made_of_four : (a b c d e f g t0 t1 t2 t3 t4 : List ℕ) → t0 ≡ [] → t1 ≡ t0 ++ (a ++ b) → t2 ≡ t1 ++ (c ++ d) → t3 ≡ t2 ++ (e ++ f) → t4 ≡ t3 ++ g
+pub made_of_four : (a b c d e f g t0 t1 t2 t3 t4 : List ℕ) → t0 ≡ [] → t1 ≡ g ++ t0 → t2 ≡ e ++ (f ++ t1) → t3 ≡ c ++ (d ++ t2) → t4 ≡ a ++ (b ++ t3)
     → t4 ≡ a ++ (b ++ (c ++ (d ++ (e ++ (f ++ (g ++ []))))))
-made_of_four a b c d e f g t0 t1 t2 t3 t4 e0 e1 e2 e3 e4 = rw (e4, e3, e2, e1, e0) (simp (append_assoc, append-nil))
+made_of_four a b c d e f g t0 t1 t2 t3 t4 e0 e1 e2 e3 e4 = rw (e4, e3, e2, e1, e0) refl
 
 pub plain_kinds : (a b : Kind) → kind_letter a ∷ kind_letter b ∷ [] ≡ escape (kind_letter a ∷ kind_letter b ∷ [])
 unfolding json_on_literals

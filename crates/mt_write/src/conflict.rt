@@ -22,13 +22,13 @@ impl Written for Conflict {
 
     fn put(&self, out: &mut Vec<u8>) -> Result<(), Memory> {
         let mut text = ShortText::new();
-        text.add_number(b"{\"first\":", self.first);
-        text.add(b",\"kinds\":\"");
-        text.add(&[letter(self.ka), letter(self.kb)]);
-        text.add_number(b"\",\"last\":", self.last);
-        text.add_callsign(b",\"pair\":[\"", &self.a);
-        text.add_callsign(b"\",\"", &self.b);
-        text.add(b"\"]}");
+        text.prepend(b"\"]}");
+        text.prepend_callsign(b"\",\"", &self.b);
+        text.prepend_callsign(b",\"pair\":[\"", &self.a);
+        text.prepend_number(b"\",\"last\":", self.last);
+        text.prepend(&[letter(self.ka), letter(self.kb)]);
+        text.prepend(b",\"kinds\":\"");
+        text.prepend_number(b"{\"first\":", self.first);
         put(out, text.bytes())
     }
 }

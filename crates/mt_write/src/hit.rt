@@ -11,10 +11,10 @@ impl Written for Hit {
 
     fn put(&self, out: &mut Vec<u8>) -> Result<(), Memory> {
         let mut text = ShortText::new();
-        text.add_number(b"{\"first\":", self.first);
-        text.add_number(b",\"last\":", self.last);
-        text.add_callsign(b",\"with\":\"", &self.with);
-        text.add(b"\"}");
+        text.prepend(b"\"}");
+        text.prepend_callsign(b",\"with\":\"", &self.with);
+        text.prepend_number(b",\"last\":", self.last);
+        text.prepend_number(b"{\"first\":", self.first);
         put(out, text.bytes())
     }
 }

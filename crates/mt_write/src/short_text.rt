@@ -1,29 +1,30 @@
-//! A short text, made on the stack and put into a room as one piece.
+//! A short text, made on the stack from its end to its beginning and put into a room as one piece.
 ghost use Rattle.std.specs.Prelude.{◌≡◌, ◌+◌, ◌≤◌, [], ◌++◌, decimal, length};
 ghost use Rattle.mt_base.specs.Name.{IsCallsign};
 
-use itoa::Buffer;
+use itoa::write_digits;
 use mt_base::Callsign;
 use std::marker::Model;
 
 /// How many bytes it may have.
 const LONGEST: usize = 128;
 
-/// A text of at most 128 bytes, in a buffer of fixed size, seen as its list.
+/// A text of at most 128 bytes, at the end of a buffer of fixed size, seen as its list. It grows at its beginning, so that the digits of a number
+/// are written where they stay.
 #[derive(Drop)]
 pub(crate) struct ShortText {
     bytes: [u8; LONGEST],
-    len: usize,
+    start: usize,
 }
 
 impl Model for ShortText {
-    ghost use Rattle.std.specs.Prelude.{◌≡◌, ◌≤◌, ℕ, List, length, take};
+    ghost use Rattle.std.specs.Prelude.{◌≡◌, ◌+◌, ℕ, List, drop, length};
 
     ghost Value = { List ℕ };
 
-    ghost view = { λ t. take t.len t.bytes };
+    ghost view = { λ t. drop t.start t.bytes };
 
-    ghost invariant = { λ t. (t.len ≤ 128) × (length (take t.len t.bytes) ≡ t.len) };
+    ghost invariant = { λ t. length (drop t.start t.bytes) + t.start ≡ 128 };
 }
 
 impl ShortText {
@@ -33,7 +34,7 @@ impl ShortText {
     {
         ShortText {
             bytes: [0; LONGEST],
-            len: 0,
+            start: LONGEST,
         }
     }
 
@@ -41,42 +42,41 @@ impl ShortText {
     pub(crate) fn bytes(&self) -> &[u8]
         ensures { result.now ≡ self.now }
     {
-        &self.bytes[..self.len]
+        &self.bytes[self.start..]
     }
 
-    /// Adds bytes.
+    /// Puts bytes before it.
     #[inline(always)]
-    pub(crate) fn add(&mut self, bytes: &[u8])
+    pub(crate) fn prepend(&mut self, bytes: &[u8])
         requires { length self.old + length bytes.now ≤ 128 }
-        ensures added { self.new ≡ self.old ++ bytes.now }
+        ensures added { self.new ≡ bytes.now ++ self.old }
         ensures size { length self.new ≡ length self.old + length bytes.now }
     {
-        let end = self.len + bytes.len();
-        self.bytes[self.len..end].copy_from_slice(bytes);
-        self.len = end;
+        let start = self.start - bytes.len();
+        self.bytes[start..self.start].copy_from_slice(bytes);
+        self.start = start;
     }
 
-    /// Adds a number of 32 bits after what stands before it.
+    /// Puts a number of 32 bits before it, and what stands before the number.
     #[inline(always)]
-    pub(crate) fn add_number(&mut self, front: &[u8], number: u32)
+    pub(crate) fn prepend_number(&mut self, front: &[u8], number: u32)
         requires { length self.old + length front.now + 10 ≤ 128 }
-        ensures added { self.new ≡ self.old ++ (front.now ++ decimal number) }
+        ensures added { self.new ≡ front.now ++ (decimal number ++ self.old) }
         ensures size { length self.new ≤ length self.old + length front.now + 10 }
     {
-        let mut digits = Buffer::new();
-        self.add(front);
-        self.add(digits.format(number).as_bytes());
+        self.start = write_digits(u64::from(number), &mut self.bytes, self.start);
+        self.prepend(front);
     }
 
-    /// Adds a callsign after what stands before it.
+    /// Puts a callsign before it, and what stands before the callsign.
     #[inline(always)]
-    pub(crate) fn add_callsign(&mut self, front: &[u8], call: &Callsign)
+    pub(crate) fn prepend_callsign(&mut self, front: &[u8], call: &Callsign)
         requires { length self.old + length front.now + 7 ≤ 128 }
-        ensures added { self.new ≡ self.old ++ (front.now ++ call.now) }
+        ensures added { self.new ≡ front.now ++ (call.now ++ self.old) }
         ensures size { length self.new ≤ length self.old + length front.now + 7 }
         ensures named { IsCallsign call.now }
     {
-        self.add(front);
-        self.add(call.bytes());
+        self.prepend(call.bytes());
+        self.prepend(front);
     }
 }

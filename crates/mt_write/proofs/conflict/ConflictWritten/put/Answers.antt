@@ -10,9 +10,9 @@ returns c =
     let s = c.args.self.now in
     let letters = kind_letter s.ka ∷ kind_letter s.kb ∷ [] in
     puts_is c.put.result c.args.out.now c.put.new.out _ _
-    (c.bytes.ensures ∙ made_of_seven (codes "{\"first\":") (decimal s.first) (codes ",\"kinds\":\"") _ (codes "\",\"last\":") (decimal s.last) (codes ",\"pair\":[\"") s.a
-    (codes "\",\"") s.b (codes "\"]}") _ _ _ _ _ _ _ _ c.new-text.ensures c.add_number.ensures.added c.add.ensures.added c.add-2.ensures.added
-    c.add_number-2.ensures.added c.add_callsign.ensures.added c.add_callsign-2.ensures.added c.add-3.ensures.added
+    (c.bytes.ensures ∙ made_of_seven (codes "{\"first\":") (decimal s.first) (codes ",\"kinds\":\"") (c.letter.result ∷ c.letter-2.result ∷ []) (codes "\",\"last\":") (decimal s.last) (codes ",\"pair\":[\"") s.a
+    (codes "\",\"") s.b (codes "\"]}") _ _ _ _ _ _ _ _ c.new-text.ensures c.prepend.ensures.added c.prepend_callsign.ensures.added
+    c.prepend_callsign-2.ensures.added c.prepend_number.ensures.added c.prepend-2.ensures.added c.prepend-3.ensures.added c.prepend_number-2.ensures.added
     ∙ conflict_text s.first s.last letters s.a s.b _ _ _ _ _ (ap₂ (λ (x y : ℕ). x ∷ y ∷ []) c.letter.ensures c.letter-2.ensures ∙ plain_kinds s.ka s.kb)
-    (sym (plain_name 1 7 s.a c.add_callsign.ensures.named)) (sym (plain_name 1 7 s.b c.add_callsign-2.ensures.named)) refl refl)
+    (sym (plain_name 1 7 s.a c.prepend_callsign-2.ensures.named)) (sym (plain_name 1 7 s.b c.prepend_callsign.ensures.named)) refl refl)
     c.put.ensures

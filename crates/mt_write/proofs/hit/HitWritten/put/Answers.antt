@@ -9,6 +9,6 @@ returns c =
     let hit = c.args.self.now in
     puts_is c.put.result c.args.out.now c.put.new.out _ _
     (c.bytes.ensures ∙ made_of_four (codes "{\"first\":") (decimal hit.first) (codes ",\"last\":") (decimal hit.last) (codes ",\"with\":\"") hit.with (codes "\"}") _ _ _ _ _
-    c.new-text.ensures c.add_number.ensures.added c.add_number-2.ensures.added c.add_callsign.ensures.added c.add.ensures.added
-    ∙ hit_text hit _ _ _ refl refl (sym (plain_name 1 7 hit.with c.add_callsign.ensures.named)))
+    c.new-text.ensures c.prepend.ensures.added c.prepend_callsign.ensures.added c.prepend_number.ensures.added c.prepend_number-2.ensures.added
+    ∙ hit_text hit _ _ _ refl refl (sym (plain_name 1 7 hit.with c.prepend_callsign.ensures.named)))
     c.put.ensures
