@@ -1,8 +1,8 @@
 -- Numbers that pass through their bits, and stay within bounds.
-use Rattle.std.proofs.Common.{◌≡◌, ◌∙◌, ℤ, pos, neg_ℤ, ◌+ℤ◌, ◌-ℤ◌, ◌*ℤ◌, ◌≤ℤ◌, FitsSigned, to_z, of_z, w64, arith, lit<}
+use Rattle.std.proofs.Common.{◌≡◌, ◌∙◌, ℕ, ◌^◌, ◌<◌, ℤ, pos, neg_ℤ, ◌+ℤ◌, ◌*ℤ◌, ◌≤ℤ◌, FitsSigned, to_z, of_z, w64, arith, lit<}
 use Rattle.std.proofs.lemmas.Int.{clamps, ints, to_z-of_z}
 use Rattle.std.specs.Int.{int_max, int_min}
-use Rattle.mt_base.specs.Bounds.{IsWithin}
+use Rattle.mt_base.specs.Bounds.{IsKeptOver, IsWithin}
 use Rattle.mt_ring.proofs.Sizes.{Abs, fits_64}
 use Rattle.mt_cover.specs.Private.InPlane.{IsExtentInPlane}
 
@@ -69,6 +69,53 @@ min_below_max y z = omega (arith, ints, clamps)
 pub hull_ordered : (a b c d : ℤ) → a ≤ℤ b → int_min a c ≤ℤ int_max b d
 hull_ordered a b c d h = omega (arith, ints, clamps)
 
+pub fits_reach : (z : ℤ) → IsWithin (neg_ℤ (pos 9000000)) (pos 9000000) z → FitsSigned w64 z
+fits_reach z h = let size : Abs 9000000 z = record { low = h.least; high = h.most } in fits_64 size (lit< tt)
+
+-- what lies between two coordinates
+far_off : (z gain : ℤ) → InPlane z → InPlane (z +ℤ gain) → IsWithin (neg_ℤ (pos 9000000)) (pos 9000000) gain
+far_off z gain a b = record { least = omega (arith, ints, a.most, b.least); most = omega (arith, ints, a.least, b.most) }
+
+-- a count of seconds, as the code has it
+pub count_is : (n : ℕ) (z : ℤ) → n < 2 ^ 32 → z ≡ pos n → in_64 z ≡ pos n
+count_is n z few is =
+    let size : Abs 4294967296 z = record { low = omega (arith, ints, is); high = omega (arith, ints, is, few) } in
+    to_z-of_z w64 z (fits_64 size (lit< tt)) ∙ is
+
+-- a value, its gain, and what it is after so many seconds, as the code has them
+pub record AreGained (z v n : ℤ) : Type 0 where
+  pub z_is : in_64 z ≡ z
+  pub v_is : in_64 v ≡ v
+  pub far_is : in_64 (v *ℤ n) ≡ v *ℤ n
+  pub end_is : in_64 (z +ℤ v *ℤ n) ≡ z +ℤ v *ℤ n
+  pub far_fits : FitsSigned w64 (v *ℤ n)
+  pub end_fits : FitsSigned w64 (z +ℤ v *ℤ n)
+
+pub gained : (low high least most z v : ℤ) (n : ℕ) → neg_ℤ (pos 3686400) ≤ℤ low → high ≤ℤ pos 3686400 → neg_ℤ (pos 10000) ≤ℤ least → most ≤ℤ pos 10000
+    → IsKeptOver low high least most z v n → AreGained z v (pos n)
+gained low high least most z v n above below slow fast kept =
+    let value = kept.value in
+    let growth = kept.growth in
+    let end = kept.end in
+    let far = far_off z (v *ℤ pos n) (record { least = omega (arith, ints, above, value.least); most = omega (arith, ints, below, value.most) })
+    (record { least = omega (arith, ints, above, end.least); most = omega (arith, ints, below, end.most) }) in
+    let after : IsWithin (neg_ℤ (pos 9000000)) (pos 9000000) (z +ℤ v *ℤ pos n) =
+    record { least = omega (arith, ints, above, end.least); most = omega (arith, ints, below, end.most) } in
+    record {
+      z_is = reach_is z (record { least = omega (arith, ints, above, value.least); most = omega (arith, ints, below, value.most) });
+      v_is = reach_is v (record { least = omega (arith, ints, slow, growth.least); most = omega (arith, ints, fast, growth.most) });
+      far_is = reach_is (v *ℤ pos n) far;
+      end_is = reach_is (z +ℤ v *ℤ pos n) after;
+      far_fits = fits_reach (v *ℤ pos n) far;
+      end_fits = fits_reach (z +ℤ v *ℤ pos n) after;
+    }
+
+pub gained_in_plane : (z v : ℤ) (n : ℕ) → IsKeptOver (neg_ℤ (pos 3686400)) (pos 3686400) (neg_ℤ (pos 1000)) (pos 1000) z v n → AreGained z v (pos n)
+gained_in_plane z v n kept = gained _ _ _ _ z v n (omega (arith, ints)) (omega (arith, ints)) (omega (arith, ints)) (omega (arith, ints)) kept
+
+pub gained_margin : (r g : ℤ) (n : ℕ) → IsKeptOver (pos 0) (pos 72000) (pos 0) (pos 1000) r g n → AreGained r g (pos n)
+gained_margin r g n kept = gained _ _ _ _ r g n (omega (arith, ints)) (omega (arith, ints)) (omega (arith, ints)) (omega (arith, ints)) kept
+
 -- heights, with a margin
 abbrev pub IsHigh : ℤ → Type 0
 IsHigh z = IsWithin (neg_ℤ (pos 600000)) (pos 4200000) z
@@ -78,56 +125,3 @@ high_is z h = as_it_is (neg_ℤ (pos 600000)) (pos 4200000) z h (omega (arith, i
 
 pub IsHigh-64 : (z : ℤ) → IsHigh z → IsHigh (in_64 z)
 IsHigh-64 z h = rw (high_is z h) h
-
--- the heights of a row are such
-pub lowest : (z w v g : ℤ) → IsWithin (pos 0) (pos 3600000) z → IsWithin (pos 0) (pos 600000) w → IsWithin (pos 0) (pos 3600000) (z +ℤ v *ℤ pos 1)
-    → IsWithin (pos 0) (pos 600000) (w +ℤ g *ℤ pos 1) → IsHigh (int_min (z -ℤ w) ((z -ℤ w) +ℤ (v -ℤ g)))
-lowest z w v g a b c d = record {
-  least = omega (arith, ints, clamps, a.least, b.most, c.least, d.most);
-  most = omega (arith, ints, clamps, a.most, b.least);
-}
-
-pub highest : (z w v g : ℤ) → IsWithin (pos 0) (pos 3600000) z → IsWithin (pos 0) (pos 600000) w → IsWithin (pos 0) (pos 3600000) (z +ℤ v *ℤ pos 1)
-    → IsWithin (pos 0) (pos 600000) (w +ℤ g *ℤ pos 1) → IsHigh (int_max (z +ℤ w) ((z +ℤ w) +ℤ (v +ℤ g)))
-highest z w v g a b c d = record {
-  least = omega (arith, ints, clamps, a.least, b.least);
-  most = omega (arith, ints, clamps, a.most, b.most, c.most, d.most);
-}
-
--- a height, its margin and their gains, and their sums and differences, as the code has them
-pub record AreAsCoded (z w v g : ℤ) : Type 0 where
-  pub z_is : in_64 z ≡ z
-  pub w_is : in_64 w ≡ w
-  pub v_is : in_64 v ≡ v
-  pub g_is : in_64 g ≡ g
-  pub less : in_64 (z -ℤ w) ≡ z -ℤ w
-  pub more : in_64 (z +ℤ w) ≡ z +ℤ w
-  pub less_gain : in_64 (v -ℤ g) ≡ v -ℤ g
-  pub more_gain : in_64 (v +ℤ g) ≡ v +ℤ g
-  pub less_end : in_64 ((z -ℤ w) +ℤ (v -ℤ g)) ≡ (z -ℤ w) +ℤ (v -ℤ g)
-  pub more_end : in_64 ((z +ℤ w) +ℤ (v +ℤ g)) ≡ (z +ℤ w) +ℤ (v +ℤ g)
-  pub fits : FitsSigned w64 ((z +ℤ w) +ℤ (v +ℤ g))
-
-pub as_coded : (z w v g : ℤ) → IsWithin (pos 0) (pos 3600000) z → IsWithin (pos 0) (pos 600000) w → IsWithin (neg_ℤ (pos 10000)) (pos 10000) v
-    → IsWithin (pos 0) (pos 10000) g → AreAsCoded z w v g
-as_coded z w v g a b c d = record {
-  z_is = reach_is z (record { least = omega (arith, ints, a.least); most = omega (arith, ints, a.most) });
-  w_is = reach_is w (record { least = omega (arith, ints, b.least); most = omega (arith, ints, b.most) });
-  v_is = reach_is v (record { least = omega (arith, ints, c.least); most = omega (arith, ints, c.most) });
-  g_is = reach_is g (record { least = omega (arith, ints, d.least); most = omega (arith, ints, d.most) });
-  less = reach_is (z -ℤ w) (record { least = omega (arith, ints, a.least, b.most); most = omega (arith, ints, a.most, b.least) });
-  more = reach_is (z +ℤ w) (record { least = omega (arith, ints, a.least, b.least); most = omega (arith, ints, a.most, b.most) });
-  less_gain = reach_is (v -ℤ g) (record { least = omega (arith, ints, c.least, d.most); most = omega (arith, ints, c.most, d.least) });
-  more_gain = reach_is (v +ℤ g) (record { least = omega (arith, ints, c.least, d.least); most = omega (arith, ints, c.most, d.most) });
-  less_end = reach_is ((z -ℤ w) +ℤ (v -ℤ g)) (record {
-    least = omega (arith, ints, a.least, b.most, c.least, d.most);
-    most = omega (arith, ints, a.most, b.least, c.most, d.least);
-  });
-  more_end = reach_is ((z +ℤ w) +ℤ (v +ℤ g)) (record {
-    least = omega (arith, ints, a.least, b.least, c.least, d.least);
-    most = omega (arith, ints, a.most, b.most, c.most, d.most);
-  });
-  fits = fits_64 size (lit< tt);
-} where
-  size : Abs 9000000 ((z +ℤ w) +ℤ (v +ℤ g))
-  size = record { low = omega (arith, ints, a.least, b.least, c.least, d.least); high = omega (arith, ints, a.most, b.most, c.most, d.most) }

@@ -1,5 +1,5 @@
 -- The segment at which a slice stands, and what its rows add.
-use Rattle.std.proofs.Common.{◌≡◌, ℕ, zero, suc, min, ◌+◌, ◌-◌, ◌<◌, ◌≤◌, ⊎_elim, List, [], ◌∷◌, ◌++◌, Some, length, get_or, refl, sym, ap, ◌∙◌, arith}
+use Rattle.std.proofs.Common.{◌≡◌, ℕ, zero, suc, min, ◌+◌, ◌-◌, ◌<◌, ◌≤◌, ⊎_elim, List, [], ◌∷◌, ◌++◌, Some, length, get_or, sym, subst, ap, ◌∙◌, arith}
 use Rattle.std.proofs.lemmas.Bool.{cases_lt}
 use Rattle.std.proofs.lemmas.List.{get_or_default}
 use Rattle.std.specs.Prelude.{slice_get}
@@ -9,14 +9,15 @@ use Rattle.mt_base.specs.Trajectory.{straight_rows}
 use Rattle.mt_track.specs.declared.segment.Segment.{Segment}
 use Rattle.mt_track.specs.Laid.{IsLaid, all_rows, edge}
 use Rattle.mt_track.specs.Rows.{row_after}
-use Rattle.mt_track.proofs.Joined.{IsBoundedOver-segment}
+use Rattle.mt_track.proofs.Joined.{IsBoundedOver-last, IsBoundedOver-segment}
 use Rattle.mt_track.proofs.Segments.{edge-length, edge_from, lies_at, row_in}
 use Rattle.mt_track.proofs.Straight.{IsBoundedRow-row_after, row_after-add}
 use Rattle.mt_cover.specs.declared.bounding_box.BoundingBox.{BoundingBox}
-use Rattle.mt_cover.specs.Box.{box_of, box_over, grown, grown_by}
-use Rattle.mt_cover.specs.Private.Walk.{StandsAtSecond, part}
-use Rattle.mt_cover.proofs.Ends.{grown_by-append, grown_by-straight}
-use Rattle.mt_cover.proofs.Parts.{part-more, part-straight}
+use Rattle.mt_cover.specs.Box.{box_over}
+use Rattle.mt_cover.specs.Private.Parts.{box_of_both}
+use Rattle.mt_cover.specs.Private.Walk.{IsBoxOver, StandsAtSecond, part}
+use Rattle.mt_cover.proofs.Ends.{box_over-append}
+use Rattle.mt_cover.proofs.Parts.{part-cons, part-more, part-straight}
 
 -- bounds over some seconds are bounds over fewer
 pub IsBoundedOver-front : (a : Row) (n k : ℕ) → k < n → IsBoundedOver a n → IsBoundedOver a k
@@ -30,14 +31,11 @@ IsBoundedOver-front a n k below kept =
       w = record { value = kept.w.value; growth = kept.w.growth; end = at.w.value };
     }
 
--- what the rows of a segment from one second to another add to a box
-pub grown_by-ends : (a : BoundingBox) (f : Row) (begin from to : ℕ) → begin ≤ from → from < to
-    → grown (grown a (row_after f (from - begin))) (row_after f (to - 1 - begin)) ≡ grown_by a (straight_rows (row_after f (from - begin)) (to - from))
-grown_by-ends a f begin from to begun some =
-    let count : to - from ≡ suc (to - 1 - from) = omega arith in
-    let sum : (from - begin) + (to - 1 - from) ≡ to - 1 - begin = omega arith in
-    rw count (ap (grown (grown a (row_after f (from - begin)))) (ap (row_after f) (sym sum) ∙ sym (row_after-add f (from - begin) (to - 1 - from)))
-    ∙ sym (grown_by-straight a (row_after f (from - begin)) (to - 1 - from)))
+-- and over some that begin later
+pub IsBoundedOver-part : (a : Row) (n k m : ℕ) → 0 < m → k + m ≤ n → IsBoundedOver a n → IsBoundedOver (row_after a k) m
+IsBoundedOver-part a n k m some within kept =
+    IsBoundedOver-last (row_after a k) (m - 1) m (omega (arith, some)) (IsBoundedRow-row_after a n k (omega (arith, some, within)) kept)
+    (rw (row_after-add a k (m - 1)) (IsBoundedRow-row_after a n (k + (m - 1)) (omega (arith, some, within)) kept))
 
 -- the segment at which second k stands
 pub record Here (end : ℕ) (segments : List Segment) (index k : ℕ) (s : Segment) : Type 0 where
@@ -82,28 +80,52 @@ pub row_here : (start end : ℕ) (ss : List Segment) (index k : ℕ) (s : Segmen
 row_here start end ss index k s laid stands early is =
     row_in start end ss index s k laid.adjoin is stands.begun (stands.ahead (stands_within start end ss index k laid stands early))
 
--- a box that has the rows up to a second, with those of the segment up to another
-pub gathered_on : (start end : ℕ) (ss : List Segment) (index from at until : ℕ) (s : Segment) (row : Row) (a b : BoundingBox) → IsLaid start end ss
-    → StandsAtSecond start ss index at → at < end → s ≡ get_or ss index s → start ≤ from → from ≤ at → at ≤ until → until ≤ s.to
-    → a ≡ box_over (part (all_rows ss) (from - start) (at - from)) row → b ≡ grown_by a (straight_rows (row_after s.first (at - s.from)) (until - at))
-    → b ≡ box_over (part (all_rows ss) (from - start) (until - from)) row
-gathered_on start end ss index from at until s row a b laid stands early is covered begun on within a_is b_is =
-    let h = here start end ss index at s laid stands early is in
-    let lies = lies_at start end ss index s laid.adjoin (stands_within start end ss index at laid stands early) is in
-    let each : (k : ℕ) → k < until - at → slice_get (all_rows ss) ((at - start) + k) ≡ Some (row_after (row_after s.first (at - s.from)) k) =
-    λ k below. let place : (at + k) - start ≡ (at - start) + k = omega arith in
-    let sum : (at + k) - s.from ≡ (at - s.from) + k = omega (arith, h.begun) in
-    let one = row_in start end ss index s (at + k) laid.adjoin is (omega (arith, stands.begun)) (omega (arith, lies.to, within, below)) in
-    rw (row_after-add s.first (at - s.from) k) (rw (place, sum) at one) in
-    let new = part-straight (all_rows ss) (at - start) (until - at) (row_after s.first (at - s.from)) each in
+-- the rows from one second to another in a segment, and their box
+pub part_box : (start end : ℕ) (ss : List Segment) (index from until : ℕ) (s : Segment) (bounds : BoundingBox) → IsLaid start end ss → StandsAtSecond start ss index from
+    → from < end → s ≡ get_or ss index s → start ≤ from → from ≤ until → until ≤ s.to
+    → bounds ≡ box_over (straight_rows (row_after s.first (from - s.from)) (until - from)) (row_after s.first (from - s.from))
+    → IsBoxOver (all_rows ss) (from - start) (until - from) bounds
+part_box start end ss index from until s bounds laid stands early is begun on within bounds_is row at =
+    let h = here start end ss index from s laid stands early is in
+    let lies = lies_at start end ss index s laid.adjoin (stands_within start end ss index from laid stands early) is in
+    let each : (k : ℕ) → k < until - from → slice_get (all_rows ss) ((from - start) + k) ≡ Some (row_after (row_after s.first (from - s.from)) k) =
+    λ k below. let place : (from + k) - start ≡ (from - start) + k = omega arith in
+    let sum : (from + k) - s.from ≡ (from - s.from) + k = omega (arith, h.begun) in
+    let one = row_in start end ss index s (from + k) laid.adjoin is (omega (arith, stands.begun)) (omega (arith, lies.to, within, below)) in
+    rw (row_after-add s.first (from - s.from) k) (rw (place, sum) at one) in
+    let rows = part-straight (all_rows ss) (from - start) (until - from) (row_after s.first (from - s.from)) each in
+    let one = row_here start end ss index from s laid stands early is in
+    let same : row_after s.first (from - s.from) ≡ row = cc in
+    bounds_is ∙ ap (λ (list : List Row). box_over list (row_after s.first (from - s.from))) (sym rows)
+    ∙ ap (box_over (part (all_rows ss) (from - start) (until - from))) same
+
+pub at_element : (start end : ℕ) (ss : List Segment) (index k : ℕ) (d : Segment) → IsLaid start end ss → StandsAtSecond start ss index k → k < end
+    → get_or ss index d ≡ get_or ss index (get_or ss index d)
+at_element start end ss index k d laid stands early = get_or_default ss index d (get_or ss index d) (stands_within start end ss index k laid stands early)
+
+-- the boxes of two parts, one after the other, and that of both
+pub parts_joined : (start end : ℕ) (ss : List Segment) (index from at until : ℕ) (a b c : BoundingBox) → IsLaid start end ss → StandsAtSecond start ss index at → at < end
+    → start ≤ from → from ≤ at → at < until → IsBoxOver (all_rows ss) (from - start) (at - from) a → IsBoxOver (all_rows ss) (at - start) (until - at) b → c ≡ box_of_both a b
+    → IsBoxOver (all_rows ss) (from - start) (until - from) c
+parts_joined start end ss index from at until a b c laid stands early begun on more a_is b_is c_is row there =
+    let s = get_or ss index (record { from = 0; to = 0; first = row }) in
+    let next = row_after s.first (at - s.from) in
+    let next_at = row_here start end ss index at s laid stands early (at_element start end ss index at (record { from = 0; to = 0; first = row }) laid stands early) in
     let count : until - from ≡ (at - from) + (until - at) = omega arith in
     let seam : (from - start) + (at - from) ≡ at - start = omega arith in
-    let all = part-more (all_rows ss) (from - start) (at - from) (until - at) in
-    b_is
-    ∙ ap (λ (z : BoundingBox). grown_by z (straight_rows (row_after s.first (at - s.from)) (until - at))) a_is
-    ∙ sym (grown_by-append (box_of row) (part (all_rows ss) (from - start) (at - from)) (straight_rows (row_after s.first (at - s.from)) (until - at)))
-    ∙ ap (λ (rows : List Row). grown_by (box_of row) (part (all_rows ss) (from - start) (at - from) ++ rows)) (sym new)
-    ∙ rw (count, all, seam) refl
+    let some : until - at ≡ suc (until - at - 1) = omega arith in
+    let front = part (all_rows ss) (from - start) (at - from) in
+    let rest = part (all_rows ss) ((at - start) + 1) (until - at - 1) in
+    let cons : part (all_rows ss) (at - start) (until - at) ≡ next ∷ rest =
+    subst (λ (n : ℕ). part (all_rows ss) (at - start) n ≡ next ∷ rest) (sym some) (part-cons (all_rows ss) (at - start) (until - at - 1) next next_at) in
+    let back : part (all_rows ss) ((from - start) + (at - from)) (until - at) ≡ next ∷ rest = rw seam cons in
+    let both : part (all_rows ss) (from - start) (until - from) ≡ front ++ part (all_rows ss) ((from - start) + (at - from)) (until - at) =
+    rw count (part-more (all_rows ss) (from - start) (at - from) (until - at)) in
+    let all : part (all_rows ss) (from - start) (until - from) ≡ front ++ next ∷ rest = both ∙ ap (λ (rows : List Row). front ++ rows) back in
+    c_is ∙ ap (λ (z : BoundingBox). box_of_both z b) (a_is row there) ∙ ap (box_of_both (box_over front row)) (b_is next next_at)
+    ∙ ap (λ (rows : List Row). box_of_both (box_over front row) (box_over rows next)) cons
+    ∙ sym (box_over-append front rest row next)
+    ∙ ap (λ (rows : List Row). box_over rows row) (sym all)
 
 -- the next second to be gathered
 pub stands_on : (start end : ℕ) (ss : List Segment) (index at until : ℕ) (s : Segment) → IsLaid start end ss → StandsAtSecond start ss index at → at < end → s ≡ get_or ss index s
@@ -126,21 +148,9 @@ stands_next start end ss index at s t laid stands early is =
           (get_or_default ss (suc index) s (get_or ss (suc index) s) next) in omega (arith, more.some, more.from, more.to, lies.to);
     })
 
-pub at_element : (start end : ℕ) (ss : List Segment) (index k : ℕ) (d : Segment) → IsLaid start end ss → StandsAtSecond start ss index k → k < end
-    → get_or ss index d ≡ get_or ss index (get_or ss index d)
-at_element start end ss index k d laid stands early = get_or_default ss index d (get_or ss index d) (stands_within start end ss index k laid stands early)
-
 pub here_or : (start end : ℕ) (ss : List Segment) (index k : ℕ) (d : Segment) → IsLaid start end ss → StandsAtSecond start ss index k → k < end
     → Here end ss index k (get_or ss index d)
 here_or start end ss index k d laid stands early = here start end ss index k (get_or ss index d) laid stands early (at_element start end ss index k d laid stands early)
-
-pub first_box : (start end : ℕ) (ss : List Segment) (index k n : ℕ) (row first : Row) (s : Segment) (bounds : BoundingBox) → IsLaid start end ss → StandsAtSecond start ss index k → k < end
-    → s ≡ get_or ss index s → n ≡ 0 → first ≡ row_after s.first (k - s.from) → bounds ≡ box_of first → slice_get (all_rows ss) (k - start) ≡ Some row
-    → bounds ≡ box_over (part (all_rows ss) (k - start) n) row
-first_box start end ss index k n row first s bounds laid stands early is none first_is area_is at =
-    let one = row_here start end ss index k s laid stands early is in
-    let same : first ≡ row = cc in
-    rw none (area_is ∙ ap box_of same)
 
 -- at the end of the segment the next one holds; before it, the same one
 pub stands_past : (start end : ℕ) (ss : List Segment) (index at until to : ℕ) (s : Segment) → IsLaid start end ss → StandsAtSecond start ss index at → at < end → s ≡ get_or ss index s

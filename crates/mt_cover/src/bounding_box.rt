@@ -1,12 +1,14 @@
 ghost use Rattle.std.specs.Prelude.{◌≡◌, pos, neg_ℤ, ◌<◌, ◌+ℤ◌};
-ghost use Rattle.mt_base.specs.Bounds.{AreWithinBounds, IsBoundedRow, IsWithin};
-ghost use Rattle.mt_cover.specs.Box.{box_of, extent_of, grown, half, hull, wider};
+ghost use Rattle.mt_base.specs.Bounds.{AreWithinBounds, IsBoundedOver, IsWithin};
+ghost use Rattle.mt_base.specs.Trajectory.{straight_rows};
+ghost use Rattle.mt_cover.specs.Box.{box_over, extent_of, half, hull, wider};
 ghost use Rattle.mt_cover.specs.Cells.{place};
 ghost use Rattle.mt_cover.specs.Private.InPlane.{IsBoxInPlane, IsExtentInPlane, IsExtentNearPlane};
+ghost use Rattle.mt_cover.specs.Private.Parts.{box_of_both};
 
-use crate::heights::{both, layer_of};
+use crate::heights::{both, straight_layer};
 use crate::layer::Layer;
-use mt_base::{Row, Rules};
+use mt_base::{Row, Rules, Second};
 
 /// Coordinates from a least to a greatest one, in units of the plane.
 #[derive(Clone, Copy)]
@@ -31,7 +33,7 @@ pub struct BoundingBox {
     pub layer: Layer,
 }
 
-/// From the lesser to the greater of a coordinate and what it is a second later.
+/// From the lesser to the greater of a coordinate and what it is after a gain.
 fn extent_of(z: i64, gain: i64) -> Extent
     requires z_kept { IsWithin (neg_ℤ (pos 3686400)) (pos 3686400) z }
     requires end_kept { IsWithin (neg_ℤ (pos 3686400)) (pos 3686400) (z +ℤ gain) }
@@ -58,42 +60,35 @@ fn hull(a: Extent, b: Extent) -> Extent
     }
 }
 
-/// The horizontal margin at the end of a row's second, where it is greatest.
-fn margin_of(row: &Row) -> i64
-    requires { IsBoundedRow row.now }
-    ensures is { result ≡ row.now.r +ℤ row.now.gr }
-    ensures kept { IsWithin (pos 0) (pos 72000) result }
-{
-    row.r + row.gr
-}
-
-/// The box of one row.
-pub(crate) fn box_of(row: &Row) -> BoundingBox
-    requires { IsBoundedRow row.now }
-    ensures is { result ≡ box_of row.now }
+/// The box of so many seconds with the same gains, of which a row is the first. Positions are linear, so they are extreme at the first instant or
+/// at the last; the margin gains, so it is greatest at the last.
+pub(crate) fn straight_box(first: &Row, seconds: Second) -> BoundingBox
+    requires some { 0 < seconds }
+    requires bounded { IsBoundedOver first.now seconds }
+    ensures is { result ≡ box_over (straight_rows first.now seconds) first.now }
     ensures kept { IsBoxInPlane result }
 {
+    let lasting = i64::from(seconds);
     BoundingBox {
-        x: extent_of(row.x, row.vx),
-        y: extent_of(row.y, row.vy),
-        margin: margin_of(row),
-        layer: layer_of(row),
+        x: extent_of(first.x, first.vx * lasting),
+        y: extent_of(first.y, first.vy * lasting),
+        margin: first.r + first.gr * lasting,
+        layer: straight_layer(first, seconds),
     }
 }
 
-/// The box with a row more.
-pub(crate) fn grown(bounds: BoundingBox, row: &Row) -> BoundingBox
-    requires row_kept { IsBoundedRow row.now }
-    requires kept { IsBoxInPlane bounds }
-    ensures is { result ≡ grown bounds row.now }
+/// So far that it holds both boxes, with the greater margin.
+pub(crate) fn box_of_both(a: BoundingBox, b: BoundingBox) -> BoundingBox
+    requires a_kept { IsBoxInPlane a }
+    requires b_kept { IsBoxInPlane b }
+    ensures is { result ≡ box_of_both a b }
     ensures kept { IsBoxInPlane result }
 {
-    let own = box_of(row);
     BoundingBox {
-        x: hull(bounds.x, own.x),
-        y: hull(bounds.y, own.y),
-        margin: bounds.margin.max(own.margin),
-        layer: both(bounds.layer, own.layer),
+        x: hull(a.x, b.x),
+        y: hull(a.y, b.y),
+        margin: a.margin.max(b.margin),
+        layer: both(a.layer, b.layer),
     }
 }
 

@@ -1,23 +1,26 @@
 //! The heights of rows.
 ghost use Rattle.std.specs.Prelude.{◌≡◌};
-ghost use Rattle.mt_base.specs.Bounds.{IsBoundedRow};
+ghost use Rattle.mt_base.specs.Bounds.{IsBoundedOver};
 ghost use Rattle.mt_cover.specs.Layer.{IsLayerKept};
-ghost use Rattle.mt_cover.specs.Box.{both, layer_of};
+ghost use Rattle.mt_cover.specs.Box.{both};
+ghost use Rattle.mt_cover.specs.Private.Parts.{straight_layer};
 
 use crate::layer::Layer;
-use mt_base::Row;
+use mt_base::{Row, Second};
 
-/// The heights of a row at any instant of its second, with the vertical margin below and above.
-pub(crate) fn layer_of(row: &Row) -> Layer
-    requires { IsBoundedRow row.now }
-    ensures is { result ≡ layer_of row.now }
+/// The heights of so many seconds with the same gains, of which a row is the first, with the vertical margin below and above. Both are linear, so
+/// they are extreme at the first instant or at the last.
+pub(crate) fn straight_layer(first: &Row, seconds: Second) -> Layer
+    requires { IsBoundedOver first.now seconds }
+    ensures is { result ≡ straight_layer first.now seconds }
     ensures kept { IsLayerKept result }
 {
-    let low = row.z - row.w;
-    let high = row.z + row.w;
+    let seconds = i64::from(seconds);
+    let low = first.z - first.w;
+    let high = first.z + first.w;
     Layer {
-        low: low.min(low + (row.vz - row.gw)),
-        high: high.max(high + (row.vz + row.gw)),
+        low: low.min(low + (first.vz - first.gw) * seconds),
+        high: high.max(high + (first.vz + first.gw) * seconds),
     }
 }
 

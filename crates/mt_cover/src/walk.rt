@@ -1,44 +1,56 @@
-ghost use Rattle.std.specs.Prelude.{◌≡◌, ◌+◌, ◌-◌, ◌<◌, ◌≤◌, Some, All, IfOk, length, slice_get};
+ghost use Rattle.std.specs.Prelude.{◌≡◌, ◌-◌, ◌<◌, ◌≤◌, All, IfOk, length};
 ghost use Rattle.std.specs.Int.{div_ceil};
-ghost use Rattle.mt_base.specs.declared.row.Row.{Row};
-ghost use Rattle.mt_base.specs.Bounds.{AreWithinBounds, IsBoundedOver};
-ghost use Rattle.mt_base.specs.Trajectory.{straight_rows};
+ghost use Rattle.mt_base.specs.Bounds.{AreWithinBounds};
 ghost use Rattle.mt_track.specs.Laid.{IsLaid, all_rows};
-ghost use Rattle.mt_track.specs.Rows.{row_after};
-ghost use Rattle.mt_cover.specs.Box.{box_over, grown_by};
 ghost use Rattle.mt_cover.specs.Cells.{cover_of};
 ghost use Rattle.mt_cover.specs.Private.InPlane.{IsBoxInPlane};
 ghost use Rattle.mt_cover.specs.Sliced.{AreFrontUntil, slices_of};
 ghost use Rattle.mt_cover.specs.declared.stays.Stay.{Stay};
-ghost use Rattle.mt_cover.specs.Private.Walk.{StandsAtSecond, front_of, part};
+ghost use Rattle.mt_cover.specs.Private.Walk.{IsBoxOver, StandsAtSecond, front_of};
 
-use crate::bounding_box::{BoundingBox, box_of, grown};
+use crate::bounding_box::{BoundingBox, box_of_both, straight_box};
 use crate::sliced::{SLICE, Slices, slice_by};
 use crate::stays::Cover;
 use mt_base::{Memory, Rules, Second};
 use mt_track::{Segment, Strand, later};
 use std::alloc::Global;
 
-/// The box with the rows of a segment from one second to another. Their values are linear, so they are extreme in the first or the last.
-fn with_part(bounds: BoundingBox, segment: &Segment, from: Second, to: Second) -> BoundingBox
-    requires kept { IsBoxInPlane bounds }
-    requires bounded { IsBoundedOver segment.now.first (segment.now.to - segment.now.from) }
-    requires begun { segment.now.from ≤ from }
-    requires some { from < to }
-    requires within { to ≤ segment.now.to }
-    ensures is { result ≡ grown_by bounds (straight_rows (row_after segment.now.first (from - segment.now.from)) (to - from)) }
-    ensures kept { IsBoxInPlane result }
-{
-    let first = later(&segment.first, from - segment.from);
-    let last = later(&segment.first, to - 1 - segment.from);
-    grown(grown(bounds, &first), &last)
+/// What was gathered of a slice: the box of its rows up to a second, that second, and the number of the segment that holds it.
+#[derive(Clone, Copy)]
+pub(crate) struct GatheredRows {
+    bounds: BoundingBox,
+    until: Second,
+    index: usize,
 }
 
-/// What was gathered of a slice: its box, and the number of the segment that holds the second after it.
-#[derive(Clone, Copy)]
-pub(crate) struct GatheredSlice {
-    bounds: BoundingBox,
+/// The box of the rows from one second to another, as far as the segment goes that holds the first. `index` is the number of that segment.
+fn gather_part(
+    segments: &[Segment],
+    start: Second,
+    end: Second,
     index: usize,
+    from: Second,
+    to: Second,
+) -> GatheredRows
+    requires laid { IsLaid start end segments.now }
+    requires stands { StandsAtSecond start segments.now index from }
+    requires begun { start ≤ from }
+    requires some { from < to }
+    requires within { to ≤ end }
+    ensures on { from < result.until }
+    ensures within { result.until ≤ to }
+    ensures is { IsBoxOver (all_rows segments.now) (from - start) (result.until - from) result.bounds }
+    ensures kept { IsBoxInPlane result.bounds }
+    ensures stands { StandsAtSecond start segments.now result.index result.until }
+{
+    let segment = &segments[index];
+    let until = segment.to.min(to);
+    let first = later(&segment.first, from - segment.from);
+    GatheredRows {
+        bounds: straight_box(&first, until - from),
+        until,
+        index: if segment.to <= to { index + 1 } else { index },
+    }
 }
 
 /// The box of the rows from one second to another. `index` is the number of the segment that holds the first. It takes a few steps for each
@@ -50,31 +62,25 @@ fn gather(
     index: usize,
     from: Second,
     to: Second,
-) -> GatheredSlice
+) -> GatheredRows
     requires laid { IsLaid start end segments.now }
     requires stands { StandsAtSecond start segments.now index from }
     requires begun { start ≤ from }
     requires some { from < to }
     requires within { to ≤ end }
-    ensures is { (row : Row) → slice_get (all_rows segments.now) (from - start) ≡ Some row
-        → result.bounds ≡ box_over (part (all_rows segments.now) (from - start) (to - from)) row }
+    ensures is { IsBoxOver (all_rows segments.now) (from - start) (to - from) result.bounds }
     ensures kept { IsBoxInPlane result.bounds }
     ensures stands { StandsAtSecond start segments.now result.index to }
 {
-    let mut index = index;
-    let mut at = from;
-    let first = later(&segments[index].first, from - segments[index].from);
-    let mut bounds = box_of(&first);
-    while at < to {
-        let segment = &segments[index];
-        let until = segment.to.min(to);
-        bounds = with_part(bounds, segment, at, until);
-        at = until;
-        if segment.to <= to {
-            index += 1;
-        }
+    let mut gathered = gather_part(segments, start, end, index, from, to);
+    while gathered.until < to {
+        let part = gather_part(segments, start, end, gathered.index, gathered.until, to);
+        gathered = GatheredRows {
+            bounds: box_of_both(gathered.bounds, part.bounds),
+            ..part
+        };
     }
-    GatheredSlice { bounds, index }
+    gathered
 }
 
 /// How many seconds a slice of a cover has, but the last one, which may be shorter.
