@@ -23,12 +23,16 @@ impl Written for Conflict {
     fn put(&self, out: &mut Vec<u8>) -> Result<(), Memory> {
         let mut text = ShortText::new();
         text.prepend(b"\"]}");
-        text.prepend_callsign(b"\",\"", &self.b);
-        text.prepend_callsign(b",\"pair\":[\"", &self.a);
-        text.prepend_number(b"\",\"last\":", self.last);
+        text.prepend_callsign(&self.b);
+        text.prepend(b"\",\"");
+        text.prepend_callsign(&self.a);
+        text.prepend(b",\"pair\":[\"");
+        text.prepend_number(self.last);
+        text.prepend(b"\",\"last\":");
         text.prepend(&[letter(self.ka), letter(self.kb)]);
         text.prepend(b",\"kinds\":\"");
-        text.prepend_number(b"{\"first\":", self.first);
+        text.prepend_number(self.first);
+        text.prepend(b"{\"first\":");
         put(out, text.bytes())
     }
 }

@@ -12,9 +12,12 @@ impl Written for Hit {
     fn put(&self, out: &mut Vec<u8>) -> Result<(), Memory> {
         let mut text = ShortText::new();
         text.prepend(b"\"}");
-        text.prepend_callsign(b",\"with\":\"", &self.with);
-        text.prepend_number(b",\"last\":", self.last);
-        text.prepend_number(b"{\"first\":", self.first);
+        text.prepend_callsign(&self.with);
+        text.prepend(b",\"with\":\"");
+        text.prepend_number(self.last);
+        text.prepend(b",\"last\":");
+        text.prepend_number(self.first);
+        text.prepend(b"{\"first\":");
         put(out, text.bytes())
     }
 }

@@ -57,26 +57,23 @@ impl ShortText {
         self.start = start;
     }
 
-    /// Puts a number of 32 bits before it, and what stands before the number.
-    #[inline(always)]
-    pub(crate) fn prepend_number(&mut self, front: &[u8], number: u32)
-        requires { length self.old + length front.now + 10 ≤ 128 }
-        ensures added { self.new ≡ front.now ++ (decimal number ++ self.old) }
-        ensures size { length self.new ≤ length self.old + length front.now + 10 }
+    /// Puts a number of 32 bits before it.
+    pub(crate) fn prepend_number(&mut self, number: u32)
+        requires { length self.old + 10 ≤ 128 }
+        ensures added { self.new ≡ decimal number ++ self.old }
+        ensures size { length self.new ≤ length self.old + 10 }
     {
         self.start = write_digits(u64::from(number), &mut self.bytes, self.start);
-        self.prepend(front);
     }
 
-    /// Puts a callsign before it, and what stands before the callsign.
+    /// Puts a callsign before it.
     #[inline(always)]
-    pub(crate) fn prepend_callsign(&mut self, front: &[u8], call: &Callsign)
-        requires { length self.old + length front.now + 7 ≤ 128 }
-        ensures added { self.new ≡ front.now ++ (call.now ++ self.old) }
-        ensures size { length self.new ≤ length self.old + length front.now + 7 }
+    pub(crate) fn prepend_callsign(&mut self, call: &Callsign)
+        requires { length self.old + 7 ≤ 128 }
+        ensures added { self.new ≡ call.now ++ self.old }
+        ensures size { length self.new ≤ length self.old + 7 }
         ensures named { IsCallsign call.now }
     {
         self.prepend(call.bytes());
-        self.prepend(front);
     }
 }

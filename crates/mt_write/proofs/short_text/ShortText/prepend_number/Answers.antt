@@ -1,4 +1,4 @@
-use Rattle.std.proofs.Common.{◌++◌, decimal, arith, length-append}
+use Rattle.std.proofs.Common.{decimal, arith, length-append}
 use Rattle.mt_write.proofs.Lengths.{second_length}
 use Rattle.mt_write.proofs.short_text.ShortText.prepend_number.Goals as goal
 
@@ -7,13 +7,8 @@ write_digits-self-inside-requires c =
     let room = rw c.self.view_is at c.self.invariant in
     (rw c.from.ensures (omega (arith, c.requires, room, second_length c.args.number c.ranges.number.fits)), omega (arith, c.self.told, room))
 
-pub prepend-requires : goal.prepend-requires
-prepend-requires c =
-    let w = c.write_digits-self-inside in
-    rw (w.ensures.written, c.from.ensures, c.self.view_is) (omega (arith, c.requires, second_length c.args.number c.ranges.number.fits, length-append (decimal c.args.number) c.args.self.now))
-
 pub returns-clause-size : goal.returns-clause-size
 returns-clause-size c =
     let w = c.write_digits-self-inside in
-    rw (c.prepend.ensures.added, w.ensures.written, c.from.ensures, c.self.view_is)
-    (omega (arith, second_length c.args.number c.ranges.number.fits, length-append (decimal c.args.number) c.args.self.now, length-append c.args.front.now (decimal c.args.number ++ c.args.self.now)))
+    rw (w.ensures.written, c.from.ensures, c.self.view_is)
+    (omega (arith, second_length c.args.number c.ranges.number.fits, length-append (decimal c.args.number) c.args.self.now))
