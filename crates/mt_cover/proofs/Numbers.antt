@@ -47,11 +47,14 @@ margin_max y z v y_kept z_kept is =
 pub reach_is : (z : ℤ) → IsWithin (neg_ℤ (pos 9000000)) (pos 9000000) z → in_64 z ≡ z
 reach_is z h = as_it_is (neg_ℤ (pos 9000000)) (pos 9000000) z h (omega (arith, ints)) (omega (arith, ints))
 
+pub half_is : (z : ℤ) → IsWithin (pos 1) (pos 36000) z → in_64 z ≡ z
+half_is z h = as_it_is (pos 1) (pos 36000) z h (omega (arith, ints)) (omega (arith, ints))
+
 -- a margin and half of the minimum, as the code has their sum
 pub sum_is : (m k : ℤ) → IsWithin (pos 0) (pos 72000) m → IsWithin (pos 1) (pos 36000) k → in_64 (in_64 m +ℤ in_64 k) ≡ m +ℤ k
 sum_is m k m_kept k_kept =
     let a = margin_is m m_kept in
-    let b = as_it_is (pos 1) (pos 36000) k k_kept (omega (arith, ints)) (omega (arith, ints)) in
+    let b = half_is k k_kept in
     let s : IsWithin (pos 1) (pos 108000) (m +ℤ k) =
     record { least = omega (arith, ints, m_kept.least, k_kept.least); most = omega (arith, ints, m_kept.most, k_kept.most) } in
     rw (a, b) (as_it_is (pos 1) (pos 108000) (m +ℤ k) s (omega (arith, ints)) (omega (arith, ints)))

@@ -1,13 +1,14 @@
-ghost use Rattle.std.specs.Prelude.{◌≡◌, ◌-◌, ◌/◌, All, drop};
-ghost use Rattle.mt_base.specs.Bounds.{AreWithinBounds};
+ghost use Rattle.std.specs.Prelude.{◌≡◌, ◌-◌, ◌/◌, pos, All, drop};
+ghost use Rattle.mt_base.specs.Bounds.{IsWithin};
 ghost use Rattle.mt_cover.specs.Layer.{IsLayerKept};
 ghost use Rattle.mt_cover.specs.Private.InPlane.{IsBoxInPlane};
 ghost use Rattle.mt_cover.specs.declared.sliced.Slice.{Slice as Cut};
-ghost use Rattle.mt_cover.specs.Sliced.{AreSlices, Have, slice_by};
+ghost use Rattle.mt_cover.specs.Sliced.{AreSlices, Have};
+ghost use Rattle.mt_cover.specs.Private.Parts.{slice_around};
 
-use crate::bounding_box::{BoundingBox, Extent, half, wider};
+use crate::bounding_box::{BoundingBox, Extent, wider};
 use crate::layer::Layer;
-use mt_base::{Rules, Second};
+use mt_base::Second;
 use std::marker::Model;
 
 /// Where a trajectory is in some of its seconds, made wider on each side by its greatest horizontal margin there and half of the horizontal
@@ -84,14 +85,14 @@ impl Slices {
     }
 }
 
-/// The slice of a box.
-pub(crate) fn slice_by(rules: &Rules, bounds: BoundingBox) -> Slice
-    requires rules_kept { AreWithinBounds rules.now }
+/// The slice of a box, with half of the horizontal minimum.
+pub(crate) fn slice_around(half: i64, bounds: BoundingBox) -> Slice
+    requires half_kept { IsWithin (pos 1) (pos 36000) half }
     requires kept { IsBoxInPlane bounds }
-    ensures is { result ≡ slice_by rules.now bounds }
+    ensures is { result ≡ slice_around half bounds }
     ensures kept { IsLayerKept result.layer }
 {
-    let by = bounds.margin + half(rules);
+    let by = bounds.margin + half;
     Slice {
         x: wider(bounds.x, by),
         y: wider(bounds.y, by),

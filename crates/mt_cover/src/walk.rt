@@ -8,8 +8,8 @@ ghost use Rattle.mt_cover.specs.Sliced.{AreFrontUntil, slices_of};
 ghost use Rattle.mt_cover.specs.declared.stays.Stay.{Stay};
 ghost use Rattle.mt_cover.specs.Private.Walk.{IsBoxOver, StandsAtSecond, front_of};
 
-use crate::bounding_box::{BoundingBox, box_of_both, straight_box};
-use crate::sliced::{SLICE, Slices, slice_by};
+use crate::bounding_box::{BoundingBox, box_of_both, half, straight_box};
+use crate::sliced::{SLICE, Slices, slice_around};
 use crate::stays::Cover;
 use mt_base::{Memory, Rules, Second};
 use mt_track::{Segment, Strand, later};
@@ -117,13 +117,14 @@ fn front(alloc: Global, strand: &Strand, rules: &Rules, number: u32) -> Result<S
     let start = strand.start();
     let end = strand.end();
     let segments = strand.segments();
+    let half = half(rules);
     let mut list = Vec::with_capacity(alloc, number as usize)?;
     let mut index = 0;
     for slice in 0..number {
         let begin = start + SLICE * slice;
         let until = end.min(begin + SLICE);
         let gathered = gather(segments, start, end, index, begin, until);
-        list.push(slice_by(rules, gathered.bounds))?;
+        list.push(slice_around(half, gathered.bounds))?;
         index = gathered.index;
     }
     Ok(Slices {

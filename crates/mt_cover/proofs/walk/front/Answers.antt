@@ -7,6 +7,7 @@ use Rattle.mt_cover.specs.declared.sliced.Slice.{Slice}
 use Rattle.mt_cover.specs.Sliced.{slice_in}
 use Rattle.mt_cover.proofs.Cut.{box_is}
 use Rattle.mt_cover.proofs.Fronts.{front_kept}
+use Rattle.mt_cover.proofs.Numbers.{half_is}
 use Rattle.mt_cover.proofs.walk.front.Goals as goal
 
 pub loop-slice-preserved : goal.loop-slice-preserved
@@ -21,14 +22,15 @@ loop-slice-preserved c =
     c.gather-gathered.result.bounds rows end refl (rw start at c.min-until.ensures) (omega (arith, from, some)) whole in
     let next : c.min-until.result ≡ min c.end-end.result (c.start-start.result + 128 * (c.loop-slice.slice + 1)) = omega (arith, c.min-until.ensures) in
     let cut = slice_in c.args.rules.now c.args.strand.now in
-    let own : c.slice_by.result ≡ cut c.loop-slice.slice = c.slice_by.ensures.is ∙ sym box in
-    let items : c.push.new.self.items ≡ c.loop-slice.list.items ++ c.slice_by.result ∷ [] = c.in_ok-push.ensures.items in
+    let made = rw (half_is _ c.half-half.ensures.kept, c.half-half.ensures.is) at c.slice_around.ensures.is in
+    let own : c.slice_around.result ≡ cut c.loop-slice.slice = made ∙ sym box in
+    let items : c.push.new.self.items ≡ c.loop-slice.list.items ++ c.slice_around.result ∷ [] = c.in_ok-push.ensures.items in
     record {
       stands = rw (← next) c.gather-gathered.ensures.stands;
-      is = items ∙ ap (λ (list : List Slice). list ++ c.slice_by.result ∷ []) c.loop-slice.invariant.is
+      is = items ∙ ap (λ (list : List Slice). list ++ c.slice_around.result ∷ []) c.loop-slice.invariant.is
           ∙ ap (λ (slice : Slice). map cut (range_with_len 0 c.loop-slice.slice) ++ slice ∷ []) own
           ∙ sym (map-range_with_len_more cut 0 c.loop-slice.slice c.loop-slice.slice (omega arith));
-      each = rw items (All-push (λ (slice : Slice). IsLayerKept slice.layer) c.loop-slice.list.items c.slice_by.result c.loop-slice.invariant.each c.slice_by.ensures.kept);
+      each = rw items (All-push (λ (slice : Slice). IsLayerKept slice.layer) c.loop-slice.list.items c.slice_around.result c.loop-slice.invariant.each c.slice_around.ensures.kept);
     }
 
 pub invariant_of-result : goal.invariant_of-result
