@@ -17,11 +17,14 @@ use Rattle.mt_write.specs.Private.Numbers.{flight_front, flight_text}
 use Rattle.mt_write.specs.Reply.{advised_members, hit_value, kind_letter, reply_text}
 
 -- a text that began empty, piece by piece from its end to its beginning
-pub made_of_eleven : (a b c d e f g h i j k t0 t1 t2 t3 t4 t5 t6 t7 t8 t9 t10 t11 : List ℕ) → t0 ≡ [] → t1 ≡ k ++ t0 → t2 ≡ j ++ t1 → t3 ≡ i ++ t2 → t4 ≡ h ++ t3 → t5 ≡ g ++ t4 → t6 ≡ f ++ t5 → t7 ≡ e ++ t6 → t8 ≡ d ++ t7 → t9 ≡ c ++ t8 → t10 ≡ b ++ t9 → t11 ≡ a ++ t10
+pub made_of_eleven : (a b c d e f g h i j k t0 t1 t2 t3 t4 t5 t6 t7 t8 t9 t10 t11 : List ℕ) → t0 ≡ [] → t1 ≡ k ++ t0 → t2 ≡ j ++ t1
+    → t3 ≡ i ++ t2 → t4 ≡ h ++ t3 → t5 ≡ g ++ t4 → t6 ≡ f ++ t5 → t7 ≡ e ++ t6 → t8 ≡ d ++ t7 → t9 ≡ c ++ t8 → t10 ≡ b ++ t9 → t11 ≡ a ++ t10
     → t11 ≡ a ++ (b ++ (c ++ (d ++ (e ++ (f ++ (g ++ (h ++ (i ++ (j ++ (k ++ []))))))))))
-made_of_eleven a b c d e f g h i j k t0 t1 t2 t3 t4 t5 t6 t7 t8 t9 t10 t11 e0 e1 e2 e3 e4 e5 e6 e7 e8 e9 e10 e11 = rw (e11, e10, e9, e8, e7, e6, e5, e4, e3, e2, e1, e0) refl
+made_of_eleven a b c d e f g h i j k t0 t1 t2 t3 t4 t5 t6 t7 t8 t9 t10 t11 e0 e1 e2 e3 e4 e5 e6 e7 e8 e9 e10 e11 =
+    rw (e11, e10, e9, e8, e7, e6, e5, e4, e3, e2, e1, e0) refl
 
-pub made_of_seven : (a b c d e f g t0 t1 t2 t3 t4 t5 t6 t7 : List ℕ) → t0 ≡ [] → t1 ≡ g ++ t0 → t2 ≡ f ++ t1 → t3 ≡ e ++ t2 → t4 ≡ d ++ t3 → t5 ≡ c ++ t4 → t6 ≡ b ++ t5 → t7 ≡ a ++ t6
+pub made_of_seven : (a b c d e f g t0 t1 t2 t3 t4 t5 t6 t7 : List ℕ) → t0 ≡ [] → t1 ≡ g ++ t0 → t2 ≡ f ++ t1
+    → t3 ≡ e ++ t2 → t4 ≡ d ++ t3 → t5 ≡ c ++ t4 → t6 ≡ b ++ t5 → t7 ≡ a ++ t6
     → t7 ≡ a ++ (b ++ (c ++ (d ++ (e ++ (f ++ (g ++ []))))))
 made_of_seven a b c d e f g t0 t1 t2 t3 t4 t5 t6 t7 e0 e1 e2 e3 e4 e5 e6 e7 = rw (e7, e6, e5, e4, e3, e2, e1, e0) refl
 

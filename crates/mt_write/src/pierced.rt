@@ -1,9 +1,9 @@
 ghost use Rattle.mt_write.specs.Reply.{pierced_value};
 
 use crate::conflict::letter;
-use crate::write::put_all;
+use crate::short_text::ShortText;
+use crate::write::put;
 use crate::written::Written;
-use itoa::Buffer;
 use mt_base::Pierced;
 use mt_memory::Memory;
 
@@ -11,24 +11,19 @@ impl Written for Pierced {
     ghost value = { pierced_value };
 
     fn put(&self, out: &mut Vec<u8>) -> Result<(), Memory> {
-        let mut first = Buffer::new();
-        let mut last = Buffer::new();
         let kind = [letter(self.kind)];
-        put_all(
-            out,
-            &[
-                b"{\"area\":\"",
-                self.area.bytes(),
-                b"\",\"call\":\"",
-                self.call.bytes(),
-                b"\",\"first\":",
-                first.format(self.first).as_bytes(),
-                b",\"kind\":\"",
-                &kind,
-                b"\",\"last\":",
-                last.format(self.last).as_bytes(),
-                b"}",
-            ],
-        )
+        let mut text = ShortText::new();
+        text.prepend(b"}");
+        text.prepend_number(self.last);
+        text.prepend(b"\",\"last\":");
+        text.prepend(&kind);
+        text.prepend(b",\"kind\":\"");
+        text.prepend_number(self.first);
+        text.prepend(b"\",\"first\":");
+        text.prepend_callsign(&self.call);
+        text.prepend(b"\",\"call\":\"");
+        text.prepend_fix(&self.area);
+        text.prepend(b"{\"area\":\"");
+        put(out, text.bytes())
     }
 }

@@ -1,9 +1,9 @@
 //! A short text, made on the stack from its end to its beginning and put into a room as one piece.
 ghost use Rattle.std.specs.Prelude.{◌≡◌, ◌+◌, ◌≤◌, [], ◌++◌, decimal, length};
-ghost use Rattle.mt_base.specs.Name.{IsCallsign};
+ghost use Rattle.mt_base.specs.Name.{IsCallsign, IsFixName};
 
 use itoa::write_digits;
-use mt_base::Callsign;
+use mt_base::{Callsign, FixName};
 use std::marker::Model;
 
 /// How many bytes it may have.
@@ -75,5 +75,16 @@ impl ShortText {
         ensures named { IsCallsign call.now }
     {
         self.prepend(call.bytes());
+    }
+
+    /// Puts the name of a fix or of an area before it.
+    #[inline(always)]
+    pub(crate) fn prepend_fix(&mut self, name: &FixName)
+        requires { length self.old + 5 ≤ 128 }
+        ensures added { self.new ≡ name.now ++ self.old }
+        ensures size { length self.new ≤ length self.old + 5 }
+        ensures named { IsFixName name.now }
+    {
+        self.prepend(name.bytes());
     }
 }
