@@ -26,9 +26,6 @@ InPlane z = IsWithin (neg_ℤ (pos 3686400)) (pos 3686400) z
 pub plane_is : (z : ℤ) → InPlane z → in_64 z ≡ z
 plane_is z h = as_it_is (neg_ℤ (pos 3686400)) (pos 3686400) z h (omega (arith, ints)) (omega (arith, ints))
 
-pub gain_is : (z : ℤ) → IsWithin (neg_ℤ (pos 1000)) (pos 1000) z → in_64 z ≡ z
-gain_is z h = as_it_is (neg_ℤ (pos 1000)) (pos 1000) z h (omega (arith, ints)) (omega (arith, ints))
-
 pub margin_is : (z : ℤ) → IsWithin (pos 0) (pos 72000) z → in_64 z ≡ z
 margin_is z h = as_it_is (pos 0) (pos 72000) z h (omega (arith, ints)) (omega (arith, ints))
 
