@@ -82,8 +82,8 @@ impl Outgoing {
     }
 
     /// Gives a reply after those that wait: its text, or that of `memory` where a text that isn't brief finds none. Says whether it was the last
-    /// one. What waits is written where the text finds no room after it, and a text that finds none at all is written then. Where something
-    /// follows the reply, all is written then.
+    /// one. What waits is written where the text finds no room after it, or is long; a long text is written then. Where something follows the
+    /// reply, all is written then.
     ///
     /// `WriteFault` comes only where the output's count of faults rose in this call, or stands at its last value; then a front of what waited and
     /// of the text was written. A reply that is brief wants no memory.

@@ -15,6 +15,9 @@ use std::alloc::Global;
 /// How many bytes of replies may wait, and how many a reply that follows a change may have.
 pub(crate) const ROOM: usize = 65_536;
 
+/// The bytes from which on a text doesn't wait: a write of its own costs less than a copy of it.
+const LONG: usize = 8_192;
+
 /// Replies that were given and not yet written, at most 65,536 bytes of them, in the order in which they were given. After a fault none waits: what
 /// was not written is lost.
 #[derive(Drop)]
@@ -37,7 +40,7 @@ impl Waiting {
     }
 
     /// Gives a reply after those that wait: its text, or that of `memory` where a text that isn't brief finds none. Says whether it was the last
-    /// one. What waits is written where the text finds no room after it, and a text that finds none at all is written then.
+    /// one. What waits is written where the text finds no room after it, or is long; a long text is written then.
     ///
     /// `WriteFault` comes only where the output's count of faults rose in this call, or stands at its last value; then a front of what waited and
     /// of the text was written. A reply that is brief is made in the room, which is to have 65,536 bytes: it wants no memory.
@@ -85,12 +88,12 @@ impl Waiting {
         ensures cause { HasCause (K.faults output.old) (K.faults output.new) result }
         ensures kept { K.writes_to output.old output.new }
     {
-        if text.len() <= ROOM - self.bytes.len() {
+        if text.len() < LONG && text.len() <= ROOM - self.bytes.len() {
             self.add(text);
             return Ok(());
         }
         self.flush(output)?;
-        if text.len() <= ROOM {
+        if text.len() < LONG {
             self.add(text);
             return Ok(());
         }
