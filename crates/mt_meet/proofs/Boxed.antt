@@ -1,18 +1,20 @@
 -- Items between their bounds, page by page.
-use Rattle.std.proofs.Common.{◌≡◌, ◌≢◌, ◌<◌, ◌≤◌, ◌+◌, ◌*◌, ◌/◌, ◌%◌, ◌^◌, ⊎_elim, Bool, Bor, false, true≢false, ℕ, List, Option, Some, None, get_or, length, replicate, sym, subst, ap, ◌∙◌, length-set, ◌&&◌, arith}
+use Rattle.std.proofs.Common.{◌≡◌, ◌≢◌, ◌<◌, ◌+◌, ◌*◌, ◌/◌, ◌%◌, ◌^◌, ⊎_elim, Bool, Bor, false, true≢false, ℕ, List, Option, Some, None, get_or, length, replicate, refl, sym, subst, ap, ◌∙◌, length-set, arith}
 use Rattle.std.proofs.Math.ListN.{set}
 use Rattle.std.proofs.lemmas.Bool.{cases_eq}
 use Rattle.std.proofs.lemmas.Int.{ints}
 use Rattle.std.proofs.lemmas.List.{get_or-set_other, get_or-set_same, length-replicate, set-get_or}
 use Rattle.std.proofs.lemmas.List.Elements.{All-replicate, All-set}
 use Rattle.std.specs.Option.{is_some, option_copied}
-use Rattle.std.specs.Int.{div_ceil}
+use Rattle.std.specs.Int.{bit_at, div_ceil}
 use Rattle.mt_base.specs.Bounds.{AreWithinBounds}
 use Rattle.mt_base.specs.declared.rules.Rules.{Rules}
 use Rattle.mt_cover.specs.Sliced.{Sliced, slice_at}
 use Rattle.mt_cover.specs.declared.sliced.Slice.{Slice}
-use Rattle.mt_meet.specs.Meeting.{IsMetAt, MeetAt}
-use Rattle.mt_meet.specs.Private.Boxing.{AreBoxesKept, AreGuarded, AreSlicesIn, IsApartIn, HasAllWindows, IsBoxed, LiesApart, bounds_at, bounds_in, boxes_in, no_window, page_of, place_of}
+use Rattle.mt_meet.specs.Meeting.{Asked, MeetAt}
+use Rattle.mt_meet.specs.Searching.{MeetsOnlyIn, part_at}
+use Rattle.mt_meet.specs.declared.marked_parts.MarkedParts.{MarkedParts}
+use Rattle.mt_meet.specs.Private.Boxing.{AreBoxesKept, AreGuarded, AreSlicesIn, CrossesIn, HasAllWindows, HasNoSecond, IsBoxed, IsCrossedIn, bounds_at, bounds_in, boxes_in, no_window, page_of, place_of, IsPartMarked}
 use Rattle.mt_meet.specs.Private.Stepping.{IsBoxedBy, IsGuardedBy, nowhere}
 use Rattle.mt_meet.specs.declared.boxes.Boxes.{Boxes}
 use Rattle.mt_meet.specs.declared.steps.Bounds.{Bounds}
@@ -95,31 +97,44 @@ module _ (n : ℕ) (table : List (Option Sliced)) (pages : List (Option (List (O
 not_nowhere : (approved : Bool) (s : Slice) → ¬ IsBoxedBy nowhere approved s
 not_nowhere approved s by = omega (arith, ints, by.enclose.east)
 
--- what lies apart in its window doesn't meet
-apart_at : (rules : Rules) (mine theirs : Sliced) (k : ℕ) (own : Bounds) (boxes : Option Boxes) (place : ℕ) → AreWithinBounds rules
-    → IsBoxedBy (bounds_in boxes place) theirs.rvsm (slice_at theirs k) → IsGuardedBy rules own mine.rvsm (slice_at mine k) → LiesApart own boxes place
-    → ¬ MeetAt rules mine theirs k
-apart_at rules mine theirs k own None place rules_kept theirs_in own_in apart meet = not_nowhere theirs.rvsm (slice_at theirs k) theirs_in
-apart_at rules mine theirs k own (Some b) place rules_kept theirs_in own_in apart meet =
-    apart (crossing rules mine.rvsm theirs.rvsm (slice_at mine k) (slice_at theirs k) own (bounds_at b place) rules_kept meet.meet own_in theirs_in)
+-- what meets crosses in its window
+crosses_at : (rules : Rules) (mine theirs : Sliced) (k : ℕ) (own : Bounds) (boxes : Option Boxes) (place : ℕ) → AreWithinBounds rules
+    → IsBoxedBy (bounds_in boxes place) theirs.rvsm (slice_at theirs k) → IsGuardedBy rules own mine.rvsm (slice_at mine k) → MeetAt rules mine theirs k
+    → CrossesIn own boxes place
+crosses_at rules mine theirs k own None place rules_kept theirs_in own_in meet = not_nowhere theirs.rvsm (slice_at theirs k) theirs_in
+crosses_at rules mine theirs k own (Some b) place rules_kept theirs_in own_in meet =
+    crossing rules mine.rvsm theirs.rvsm (slice_at mine k) (slice_at theirs k) own (bounds_at b place) rules_kept meet.meet own_in theirs_in
 
-module _ (rules : Rules) (mine : Sliced) (n : ℕ) (table : List (Option Sliced)) (pages : List (Option (List (Option Boxes))))
-    (kept : AreBoxesKept n table pages) (item number place : ℕ) (page_is : page_of item ≡ number) (place_is : place_of item ≡ place) where
-  boxed : (page : Option (List (Option Boxes))) → get_or pages number None ≡ page → IsBoxed (get_or table item None) (boxes_in page) place
-  boxed page at =
+module _ (n : ℕ) (table : List (Option Sliced)) (pages : List (Option (List (Option Boxes)))) (kept : AreBoxesKept n table pages) where
+  boxed : (item page_no place : ℕ) → page_of item ≡ page_no → place_of item ≡ place → (page : Option (List (Option Boxes))) → get_or pages page_no None ≡ page
+      → IsBoxed (get_or table item None) (boxes_in page) place
+  boxed item page_no place page_is place_is page at =
       subst (λ (p : Option (List (Option Boxes))). IsBoxed (get_or table item None) (boxes_in p) place) at
       (subst (λ (m : ℕ). IsBoxed (get_or table item None) (boxes_in (get_or pages m None)) place) page_is
       (subst (IsBoxed (get_or table item None) (boxes_in (get_or pages (page_of item) None))) place_is (kept.boxed item)))
 
-  -- an item of a page that is absent
-  pub none_on_page : get_or pages number None ≡ None → IsMetAt rules mine table item None
-  none_on_page at theirs k there meet = not_nowhere theirs.rvsm (slice_at theirs k) (boxed None at theirs k there meet.right)
+  -- an item of a page that is absent has no second
+  pub none_on_page : (item page_no place : ℕ) → page_of item ≡ page_no → place_of item ≡ place → get_or pages page_no None ≡ None → HasNoSecond (get_or table item None)
+  none_on_page item page_no place page_is place_is at theirs k there have =
+      not_nowhere theirs.rvsm (slice_at theirs k) (boxed item page_no place page_is place_is None at theirs k there have)
 
-  -- an item that has no step in common with the subject in any window
-  pub apart_everywhere : AreWithinBounds rules → (windows : List Window) → AreGuarded rules mine windows → (page : List (Option Boxes)) → get_or pages number None ≡ Some page
-      → ((w : ℕ) → w < length windows → IsApartIn page (get_or windows w no_window) place) → IsMetAt rules mine table item None
-  apart_everywhere rules_kept windows guarded page at apart theirs k there meet =
+  pub none_in_block : (block : ℕ) → get_or pages (2 * block) None ≡ None → get_or pages (2 * block + 1) None ≡ None → (item : ℕ) → item / 128 ≡ block
+      → HasNoSecond (get_or table item None)
+  none_in_block block even odd item at = ⊎_elim
+      (λ is_even. none_on_page item (2 * block) (place_of item) (omega (arith, at, is_even)) refl even)
+      (λ is_odd. none_on_page item (2 * block + 1) (place_of item) (omega (arith, at, is_odd)) refl odd)
+      (cases_eq (item % 2) 0)
+
+  -- where what crosses in a window is marked, items meet in marked parts alone
+  pub met_in_marked : (asked : Asked) (item page_no place : ℕ) → page_of item ≡ page_no → place_of item ≡ place → AreWithinBounds asked.rules → (windows : List Window)
+      → AreGuarded asked.rules asked.sliced windows → (page : List (Option Boxes)) → get_or pages page_no None ≡ Some page → (marks : MarkedParts)
+      → ((w part : ℕ) → w < length windows → IsCrossedIn page (get_or windows w no_window) place → bit_at (Window.part (get_or windows w no_window)) part ≡ 1
+      → IsPartMarked marks place part) → MeetsOnlyIn asked table item (get_or marks.parts place 0)
+  met_in_marked asked item page_no place page_is place_is rules_kept windows guarded page at marks marked theirs k there meet =
       let mine_at = guarded.each k meet.left in
       let own = Window.bounds (get_or windows mine_at.place no_window) in
-      apart_at rules mine theirs k own (get_or page (k / 256 % 64) None) place rules_kept (boxed (Some page) at theirs k there meet.right) mine_at.guarded
-      (subst (λ (r : ℕ). LiesApart own (get_or page r None) place) mine_at.remainder_is (apart mine_at.place mine_at.within)) meet
+      marked mine_at.place (part_at asked.sliced k) mine_at.within
+      (subst (λ (r : ℕ). CrossesIn own (get_or page r None) place) (sym mine_at.remainder_is)
+      (crosses_at asked.rules asked.sliced theirs k own (get_or page (k / 256 % 64) None) place rules_kept
+      (boxed item page_no place page_is place_is (Some page) at theirs k there meet.right) mine_at.guarded meet))
+      mine_at.part_is

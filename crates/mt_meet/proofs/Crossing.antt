@@ -1,4 +1,4 @@
--- Steps of 1,024 units: what meets crosses.
+-- Steps: what meets crosses.
 use Rattle.std.proofs.Common.{◌≡◌, ◌≤◌, ◌/◌, ◌&&◌, inl, inr, ⊎_elim, Bool, true, ℕ, ℤ, pos, negsuc, neg_ℤ, ◌+ℤ◌, ◌-ℤ◌, ◌≤ℤ◌, refl, arith}
 use Rattle.std.proofs.lemmas.Int.{ints, clamps}
 use Rattle.std.specs.Int.{int_max, int_min}
@@ -12,7 +12,7 @@ use Rattle.mt_cover.specs.Sliced.{Holds}
 use Rattle.mt_pair.specs.High.{level_of}
 use Rattle.mt_meet.specs.Heights.{EndBelow, LieApart}
 use Rattle.mt_meet.specs.Meeting.{SlicesMeet}
-use Rattle.mt_meet.specs.Private.Stepping.{Cross, Enclose, IsBoxedBy, IsGuard, IsGuardedBy, IsBelowTop, IsReach, bounds_of, step, wider_by}
+use Rattle.mt_meet.specs.Private.Stepping.{Cross, Enclose, IsBoxedBy, IsGuard, IsGuardedBy, IsBelowTop, IsReach, bounds_of, height_step, step, wider_by}
 use Rattle.mt_meet.specs.declared.steps.Bounds.{Bounds}
 
 abs_rises : (a b : ℤ) → pos 0 ≤ℤ a → a ≤ℤ b → unsigned_abs a ≤ unsigned_abs b
@@ -23,11 +23,20 @@ abs_rises (negsuc m) b some more = absurd (omega (arith, ints, some))
 quotient_rises : (m n : ℕ) → m ≤ n → m / 1024 ≤ n / 1024
 quotient_rises m n more = omega (arith, more)
 
+thousandth_rises : (m n : ℕ) → m ≤ n → m / 1000 ≤ n / 1000
+thousandth_rises m n more = omega (arith, more)
+
 -- a greater value is in no lesser step
 pub step_rises : (y z : ℤ) → y ≤ℤ z → pos (step y) ≤ℤ pos (step z)
 step_rises y z more =
     let rises = quotient_rises _ _ (abs_rises (int_min (int_max y (neg_ℤ (pos 16777216))) (pos 16777215) +ℤ pos 16777216)
     (int_min (int_max z (neg_ℤ (pos 16777216))) (pos 16777215) +ℤ pos 16777216) (omega (arith, ints, clamps)) (omega (arith, ints, clamps, more))) in
+    omega (arith, ints, rises)
+
+pub height_rises : (y z : ℤ) → y ≤ℤ z → pos (height_step y) ≤ℤ pos (height_step z)
+height_rises y z more =
+    let rises = thousandth_rises _ _ (abs_rises (int_min (int_max y (neg_ℤ (pos 16000000))) (pos 15999999) +ℤ pos 16000000)
+    (int_min (int_max z (neg_ℤ (pos 16000000))) (pos 15999999) +ℤ pos 16000000) (omega (arith, ints, clamps)) (omega (arith, ints, clamps, more))) in
     omega (arith, ints, rises)
 
 on : {a b c : Bounds} → Enclose a b → Enclose b c → Enclose a c
@@ -47,8 +56,8 @@ enclosed wide s holds = record {
   east = step_rises s.x.high wide.x.high holds.x.high;
   south = step_rises wide.y.low s.y.low holds.y.low;
   north = step_rises s.y.high wide.y.high holds.y.high;
-  low = step_rises wide.layer.low s.layer.low holds.low;
-  high = step_rises s.layer.high wide.layer.high holds.high;
+  low = height_rises wide.layer.low s.layer.low holds.low;
+  high = height_rises s.layer.high wide.layer.high holds.high;
 }
 
 -- so it is with other heights
@@ -84,25 +93,25 @@ boxed_within b approved wide s holds by = ⊎_elim
 pub guarded_within : (rules : Rules) (b : Bounds) (approved : Bool) (wide s : Slice) → Holds wide s → IsGuardedBy rules b approved wide → IsGuardedBy rules b approved s
 guarded_within rules b approved wide s holds by = ⊎_elim
     (λ low. record {
-      guard = wider_by rules.sv s.layer;
+      guard = wider_by (rules.sv -ℤ pos 1) s.layer;
       guard_is = inl (low_within approved wide.layer s.layer holds.high low.0, refl);
-      enclose = on by.enclose (enclosed (record wide { layer = by.guard }) (record s { layer = wider_by rules.sv s.layer })
-          (with_layers wide s by.guard (wider_by rules.sv s.layer) holds
-          (rw low.1 (wider_low rules.sv wide.layer.low s.layer.low holds.low)) (rw low.1 (wider_high rules.sv s.layer.high wide.layer.high holds.high))));
+      enclose = on by.enclose (enclosed (record wide { layer = by.guard }) (record s { layer = wider_by (rules.sv -ℤ pos 1) s.layer })
+          (with_layers wide s by.guard (wider_by (rules.sv -ℤ pos 1) s.layer) holds
+          (rw low.1 (wider_low (rules.sv -ℤ pos 1) wide.layer.low s.layer.low holds.low)) (rw low.1 (wider_high (rules.sv -ℤ pos 1) s.layer.high wide.layer.high holds.high))));
     })
     (λ far. record {
-      guard = wider_by rules.sv2 s.layer;
+      guard = wider_by (rules.sv2 -ℤ pos 1) s.layer;
       guard_is = inr refl;
-      enclose = on by.enclose (enclosed (record wide { layer = by.guard }) (record s { layer = wider_by rules.sv2 s.layer })
-          (with_layers wide s by.guard (wider_by rules.sv2 s.layer) holds
-          (rw far (wider_low rules.sv2 wide.layer.low s.layer.low holds.low)) (rw far (wider_high rules.sv2 s.layer.high wide.layer.high holds.high))));
+      enclose = on by.enclose (enclosed (record wide { layer = by.guard }) (record s { layer = wider_by (rules.sv2 -ℤ pos 1) s.layer })
+          (with_layers wide s by.guard (wider_by (rules.sv2 -ℤ pos 1) s.layer) holds
+          (rw far (wider_low (rules.sv2 -ℤ pos 1) wide.layer.low s.layer.low holds.low)) (rw far (wider_high (rules.sv2 -ℤ pos 1) s.layer.high wide.layer.high holds.high))));
     })
     by.guard_is
 
 between : (a b c d : ℤ) → a ≤ℤ b → b ≤ℤ c → c ≤ℤ d → a ≤ℤ d
 between a b c d p q r = omega (arith, ints, p, q, r)
 
-not_far : (least y z : ℤ) → ¬ (least ≤ℤ (y -ℤ z)) → y ≤ℤ (z +ℤ least)
+not_far : (least y z : ℤ) → ¬ (least ≤ℤ (y -ℤ z)) → y ≤ℤ (z +ℤ (least -ℤ pos 1))
 not_far least y z near = ⊎_elim (λ less. omega (arith, ints, less)) (λ far. absurd (near far)) (cases_lt (y -ℤ z) least)
 
 -- the heights by which two are found and looked for have one in common, unless the two lie apart
@@ -126,7 +135,7 @@ in_common rules left right a b guard reach kept near guard_is reach_is =
     record { low = rw (low.1, other.1) (omega (arith, ints, over)); high = rw (low.1, other.1) (omega (arith, ints, under)) })
     (λ wide. let far : reach ≡ wider_by (pos 600000) b = wide in record { low = rw (low.1, far) (omega (arith, ints, above, sv, sv2)); high = rw (low.1, far) (omega (arith, ints, below, sv, sv2)) })
     reach_is)
-    (λ far. let guard_far : guard ≡ wider_by rules.sv2 a = far in ⊎_elim
+    (λ far. let guard_far : guard ≡ wider_by (rules.sv2 -ℤ pos 1) a = far in ⊎_elim
     (λ other. record { low = rw (guard_far, other.1) (omega (arith, ints, above)); high = rw (guard_far, other.1) (omega (arith, ints, below)) })
     (λ wide. let reach_far : reach ≡ wider_by (pos 600000) b = wide in
     record { low = rw (guard_far, reach_far) (omega (arith, ints, above)); high = rw (guard_far, reach_far) (omega (arith, ints, below)) })
@@ -143,6 +152,6 @@ crossing rules left right a b p q kept meet mine theirs =
       east = between _ _ _ _ theirs.enclose.west (step_rises b.x.low a.x.high meet.touch.x.right) mine.enclose.east;
       south = between _ _ _ _ mine.enclose.south (step_rises a.y.low b.y.high meet.touch.y.left) theirs.enclose.north;
       north = between _ _ _ _ theirs.enclose.south (step_rises b.y.low a.y.high meet.touch.y.right) mine.enclose.north;
-      low = between _ _ _ _ mine.enclose.low (step_rises mine.guard.low theirs.reach.high heights.low) theirs.enclose.high;
-      high = between _ _ _ _ theirs.enclose.low (step_rises theirs.reach.low mine.guard.high heights.high) mine.enclose.high;
+      low = between _ _ _ _ mine.enclose.low (height_rises mine.guard.low theirs.reach.high heights.low) theirs.enclose.high;
+      high = between _ _ _ _ theirs.enclose.low (height_rises theirs.reach.low mine.guard.high heights.high) mine.enclose.high;
     }

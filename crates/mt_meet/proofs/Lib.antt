@@ -5,5 +5,8 @@ pub mod Hulls
 pub mod Layers
 pub mod Listing
 pub mod Meetings
+pub mod Parts
+pub mod Putting
 pub mod Same
+pub mod Searching
 pub mod Turns

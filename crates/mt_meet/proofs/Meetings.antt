@@ -1,10 +1,11 @@
 -- What meets is near, and what loses separation meets.
 use Rattle.std.proofs.Common.{◌≡◌, ◌<◌, ◌≤◌, ℕ, zero, suc, length, List, [], ◌∷◌, Option, Some, None, max, min, get_or, arith}
-use Rattle.mt_cover.specs.Sliced.{Sliced}
+use Rattle.std.specs.Int.{bit_at}
+use Rattle.mt_cover.specs.Sliced.{Have, Sliced}
 use Rattle.mt_cover.proofs.Law.{cut_by_loss, touching_is_near}
 use Rattle.mt_meet.proofs.Layers.{lying_apart}
-use Rattle.mt_meet.specs.Meeting.{LosingMeet, MeetAt, MeetingIsNear}
-use Rattle.mt_base.specs.declared.rules.Rules.{Rules}
+use Rattle.mt_meet.specs.Meeting.{Asked, LosingMeet, MeetingIsNear}
+use Rattle.mt_meet.specs.Searching.{MeetsOnlyIn, part_at}
 use Rattle.mt_meet.specs.Private.Meeting.{MeetOnlyIn}
 
 pub losing_meet : LosingMeet
@@ -22,21 +23,20 @@ losing_meet rules a b k rules_kept a_kept b_kept loss =
 pub meeting_is_near : MeetingIsNear
 meeting_is_near rules a b k rules_kept a_kept b_kept meet = touching_is_near rules a b k rules_kept a_kept b_kept meet.left meet.right meet.meet.touch
 
--- the seconds that two trajectories have in common are those in which their slices may meet
-pub in_common : (rules : Rules) (mine theirs : Sliced) → max mine.from theirs.from < min mine.to theirs.to
-    → MeetOnlyIn rules mine theirs (max mine.from theirs.from) (min mine.to theirs.to)
-in_common rules mine theirs some = record {
+-- the seconds that two trajectories have in common, of those between which some parts lie, are those in which their slices may meet
+pub narrowed : (asked : Asked) (table : List (Option Sliced)) (item parts : ℕ) (theirs : Sliced) (from to begin end : ℕ) → get_or table item None ≡ Some theirs
+    → MeetsOnlyIn asked table item parts → ((k : ℕ) → Have asked.sliced k → bit_at parts (part_at asked.sliced k) ≡ 1 → (from ≤ k) × (k < to))
+    → begin ≡ max (max from asked.sliced.from) theirs.from → end ≡ min (min to asked.sliced.to) theirs.to → begin < end
+    → MeetOnlyIn asked.rules asked.sliced theirs begin end
+narrowed asked table item parts theirs from to begin end there only between begin_is end_is some = record {
   some = some;
-  a_begun = omega arith;
-  b_begun = omega arith;
-  a_within = omega arith;
-  b_within = omega arith;
-  all = λ k meet. (omega (arith, meet.left.begun, meet.right.begun), omega (arith, meet.left.within, meet.right.within));
+  a_begun = omega (arith, begin_is);
+  b_begun = omega (arith, begin_is);
+  a_within = omega (arith, end_is);
+  b_within = omega (arith, end_is);
+  all = λ k meet. let in_them = between k meet.left (only theirs k there meet) in
+      (omega (arith, begin_is, in_them.0, meet.left.begun, meet.right.begun), omega (arith, end_is, in_them.1, meet.left.within, meet.right.within));
 }
-
--- without a second in common they never meet
-pub none_in_common : (rules : Rules) (mine theirs : Sliced) (k : ℕ) → min mine.to theirs.to ≤ max mine.from theirs.from → ¬ MeetAt rules mine theirs k
-none_in_common rules mine theirs k none meet = omega (arith, none, meet.left.begun, meet.right.begun, meet.left.within, meet.right.within)
 
 pub within : (all : List (Option Sliced)) (item : ℕ) (theirs : Sliced) → get_or all item None ≡ Some theirs → item < length all
 within [] item theirs there = absurd (cc)

@@ -1,8 +1,10 @@
 //! Where 64 items are in a window of the clock.
-ghost use Rattle.std.specs.Prelude.{◌≡◌, ◌<◌, ◌≢◌, ◌≤ℤ◌, ℕ, IsTrue, get_or, option_copied};
+ghost use Rattle.std.specs.Prelude.{◌≡◌, ◌<◌, ◌≢◌, ◌≤ℤ◌, ℕ, IsTrue, option_copied};
 ghost use Rattle.mt_meet.specs.Private.Stepping.{Cross, nowhere};
-ghost use Rattle.mt_meet.specs.Private.Boxing.{LiesApart, bounds_at};
+ghost use Rattle.std.specs.Int.{bit_at};
+ghost use Rattle.mt_meet.specs.Private.Boxing.{CrossesIn, bounds_at, IsPartMarked};
 
+use crate::marked_parts::MarkedParts;
 use crate::steps::Bounds;
 
 /// How many items have their bounds side by side.
@@ -17,14 +19,6 @@ pub(crate) struct Boxes {
     north: [i16; ITEMS as usize],
     low: [i16; ITEMS as usize],
     high: [i16; ITEMS as usize],
-}
-
-// The mark of an item: 1 where it is to be marked.
-#[inline(always)]
-fn mark_of(marked: bool) -> u8
-    ensures { IsTrue marked → result ≡ 1 }
-{
-    if marked { 1 } else { 0 }
 }
 
 // Whether two ranges of steps have one in common.
@@ -97,21 +91,25 @@ impl Boxes {
             & share(&own.low, &own.high, &self.low[place], &self.high[place])
     }
 
-    /// Marks the items that have a step in common with some bounds, east, north and in height: those without a mark have none.
-    pub(crate) fn mark_crossing(&self, own: &Bounds, marks: &mut [u8; ITEMS as usize])
-        ensures { (place : ℕ) → place < 64 → get_or marks.new place 0 ≡ 0 → (get_or marks.old place 0 ≡ 0) × ¬ Cross own.now (bounds_at self.now place) }
+    /// MarkedParts some parts for the items that have a step in common with some bounds, east, north and in height.
+    pub(crate) fn mark_crossing(&self, own: &Bounds, parts: u16, marks: &mut MarkedParts)
+        ensures kept { (place part : ℕ) → IsPartMarked marks.old place part → IsPartMarked marks.new place part }
+        ensures own { (place part : ℕ) → place < 64 → Cross own.now (bounds_at self.now place) → bit_at parts part ≡ 1
+            → IsPartMarked marks.new place part }
     {
         for place in 0..ITEMS as usize {
-            marks[place] = marks[place].max(mark_of(self.crosses(place, own)));
+            marks.add(place, parts, self.crosses(place, own));
         }
     }
 }
 
-/// Marks the items that have a step in common with some bounds, where there are boxes: those without a mark have none.
-pub(crate) fn mark_in(boxes: Option<&Boxes>, own: &Bounds, marks: &mut [u8; ITEMS as usize])
-    ensures { (place : ℕ) → place < 64 → get_or marks.new place 0 ≡ 0 → (get_or marks.old place 0 ≡ 0) × LiesApart own.now (option_copied boxes.entry) place }
+/// MarkedParts some parts for the items that have a step in common with some bounds, where there are boxes.
+pub(crate) fn mark_in(boxes: Option<&Boxes>, own: &Bounds, parts: u16, marks: &mut MarkedParts)
+    ensures kept { (place part : ℕ) → IsPartMarked marks.old place part → IsPartMarked marks.new place part }
+    ensures own { (place part : ℕ) → place < 64 → CrossesIn own.now (option_copied boxes.entry) place → bit_at parts part ≡ 1
+        → IsPartMarked marks.new place part }
 {
     if let Some(boxes) = boxes {
-        boxes.mark_crossing(own, marks);
+        boxes.mark_crossing(own, parts, marks);
     }
 }

@@ -1,8 +1,8 @@
-//! Where a trajectory is in a window of the clock, in steps of 1,024 units.
+//! Where a trajectory is in a window of the clock, in steps: of 1,024 units east and north, and of 1,000 units in height.
 ghost use Rattle.std.specs.Prelude.{◌≡◌, ◌↔◌, pos, IsTrue};
 ghost use Rattle.mt_base.specs.Bounds.{AreWithinBounds, IsWithin};
 ghost use Rattle.mt_cover.specs.Layer.{IsLayerKept};
-ghost use Rattle.mt_meet.specs.Private.Stepping.{IsBoxedBy, IsGuard, IsGuardedBy, IsBelowTop, IsReach, bounds_of, nowhere, step, wider_by};
+ghost use Rattle.mt_meet.specs.Private.Stepping.{IsBoxedBy, IsGuard, IsGuardedBy, IsBelowTop, IsReach, bounds_of, height_step, nowhere, step, wider_by};
 
 use mt_base::Rules;
 use mt_cover::{Layer, Slice};
@@ -36,6 +36,17 @@ fn step(z: i64) -> i16
     (from_least.unsigned_abs() / 1024) as i16
 }
 
+// What lies farther from 0 in height counts as there.
+const HIGH: i64 = 16_000_000;
+
+// In which of 32,000 steps of 1,000 units a height lies: a flight level begins one.
+fn height_step(z: i64) -> i16
+    ensures { result ≡ pos (height_step z) }
+{
+    let from_least = z.max(-HIGH).min(HIGH - 1) + HIGH;
+    (from_least.unsigned_abs() / 1000) as i16
+}
+
 /// Those of what is nowhere: no step lies between them.
 pub(crate) fn nowhere() -> Bounds
     ensures { result ≡ nowhere }
@@ -59,8 +70,8 @@ fn bounds_of(slice: &Slice) -> Bounds
         east: step(slice.x.high),
         south: step(slice.y.low),
         north: step(slice.y.high),
-        low: step(slice.layer.low),
-        high: step(slice.layer.high),
+        low: height_step(slice.layer.low),
+        high: height_step(slice.layer.high),
     }
 }
 
@@ -74,7 +85,7 @@ fn is_below_top(approved: bool, layer: &Layer) -> bool
 // Heights that reach farther by so much on each side.
 fn wider(layer: &Layer, by: i64) -> Layer
     requires kept { IsLayerKept layer.now }
-    requires by_kept { IsWithin (pos 1) (pos 600000) by }
+    requires by_kept { IsWithin (pos 0) (pos 600000) by }
     ensures { result ≡ wider_by by layer.now }
 {
     Layer {
@@ -94,16 +105,17 @@ fn reach_of(approved: bool, layer: &Layer) -> Layer
     wider(layer, 600_000)
 }
 
-// The heights by which a subject is looked for: wider by the lesser minimum where they end below the top, else by the greater one.
+// The heights by which a subject is looked for: wider by the lesser minimum where they end below the top, else by the greater one; but for a unit,
+// since two that are a minimum apart are apart.
 fn guard_of(rules: &Rules, approved: bool, layer: &Layer) -> Layer
     requires rules { AreWithinBounds rules.now }
     requires kept { IsLayerKept layer.now }
     ensures { IsGuard rules.now approved layer.now result }
 {
     if is_below_top(approved, layer) {
-        return wider(layer, rules.sv);
+        return wider(layer, rules.sv - 1);
     }
-    wider(layer, rules.sv2)
+    wider(layer, rules.sv2 - 1)
 }
 
 /// The steps by which an item with a slice is found.

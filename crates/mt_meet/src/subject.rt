@@ -1,21 +1,28 @@
 //! A trajectory for which others are looked for.
-ghost use Rattle.std.specs.Prelude.{◌≡◌, IfOk};
+ghost use Rattle.std.specs.Prelude.{◌≡◌, ◌≤◌, ◌<◌, ◌-◌, ◌/◌, ℕ, IfOk};
+ghost use Rattle.std.specs.Int.{bit_at};
 ghost use Rattle.mt_base.specs.Bounds.{AreWithinBounds};
-ghost use Rattle.mt_cover.specs.Sliced.{AreSlices};
+ghost use Rattle.mt_cover.specs.Sliced.{AreSlices, Have, HaveWindow};
 ghost use Rattle.mt_meet.specs.Private.Boxing.{AreGuarded};
+ghost use Rattle.mt_meet.specs.Searching.{part_at, windows_a_part};
 
 use crate::steps::{Bounds, guarded};
-use crate::windows::{WINDOW, WINDOWS};
-use mt_base::{Memory, Rules};
+use crate::windows::{WINDOW, WINDOWS, windows_of};
+use mt_base::{Memory, Rules, Second};
 use mt_cover::Slices;
 use std::alloc::Global;
 use std::marker::Model;
+
+/// How many parts the time of a trajectory has for which others are looked for: as many as a mark has bits.
+const PARTS: u32 = 16;
 
 /// In which steps a trajectory is in a window of the clock. Of the window's number the remainder by 64 is kept.
 #[derive(Clone, Copy)]
 pub(crate) struct Window {
     /// The remainder.
     pub(crate) remainder: u32,
+    /// The bit of its part of the trajectory's time.
+    pub(crate) part: u16,
     /// The steps.
     pub(crate) bounds: Bounds,
 }
@@ -41,19 +48,34 @@ impl Model for Subject {
     ghost invariant = { λ s. AreWithinBounds s.rules × AreGuarded s.rules s.slices s.windows.items };
 }
 
+// How many windows each of 16 parts has that have all windows of some slices.
+fn windows_a_part(slices: &Slices) -> u32
+    ensures is { result ≡ windows_a_part slices.now }
+    ensures few { result ≤ 4 }
+{
+    slices.keeps();
+    (slices.to().div_ceil(WINDOW) - slices.from() / WINDOW).div_ceil(PARTS)
+}
+
+// The bit of the part to which a window belongs.
+fn part_of(slices: &Slices, window: u32) -> u16
+    requires { HaveWindow slices.now window }
+    ensures { bit_at result ((window - slices.now.from / 256) / windows_a_part slices.now) ≡ 1 }
+{
+    1 << ((window - slices.from() / WINDOW) / windows_a_part(slices))
+}
+
 // The steps of some slices in each window that has some of their seconds, with heights that reach farther.
 fn guarded_windows(alloc: Global, rules: &Rules, slices: &Slices) -> Result<Vec<Window>, Memory>
     requires { AreWithinBounds rules.now }
     ensures { IfOk result (λ windows. AreGuarded rules.now slices.now windows.items) }
 {
-    slices.keeps();
     let mut windows = Vec::new(alloc);
-    if slices.from() >= slices.to() {
-        return Ok(windows);
-    }
-    for window in slices.from() / WINDOW..slices.to().div_ceil(WINDOW) {
+    let (first, past) = windows_of(slices);
+    for window in first..past {
         windows.push(Window {
             remainder: window % WINDOWS,
+            part: part_of(slices, window),
             bounds: guarded(rules, slices.rvsm(), &slices.over_window(window)),
         })?;
     }
@@ -82,5 +104,16 @@ impl Subject {
     {
         self.slices.keeps();
         &self.slices
+    }
+
+    /// Between which seconds some parts of its time lie: from one on and before another.
+    pub(crate) fn between(&self, parts: u16) -> (Second, Second)
+        ensures { (k : ℕ) → Have self.now.sliced k → bit_at parts (part_at self.now.sliced k) ≡ 1 → (result.0 ≤ k) × (k < result.1) }
+    {
+        let slices = self.slices();
+        let (first, each) = (slices.from() / WINDOW, windows_a_part(slices));
+        let begin = first + each * parts.trailing_zeros();
+        let end = first + each * (PARTS - parts.leading_zeros());
+        (WINDOW * begin, WINDOW * end)
     }
 }

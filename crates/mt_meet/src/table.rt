@@ -1,12 +1,13 @@
 //! The slices of many trajectories.
-ghost use Rattle.std.specs.Prelude.{◌≡◌, ◌≤◌, ◌<◌, ◌+◌, ◌*◌, ◌/◌, ◌%◌, false, ℕ, Some, None, get_or, length, replicate, slice_set, IfOk, IfSome, option_copied};
-ghost use Rattle.std.specs.Int.{div_ceil};
+ghost use Rattle.std.specs.Prelude.{◌≡◌, ◌≤◌, ◌<◌, ◌+◌, ◌-◌, ◌*◌, ◌/◌, ◌%◌, false, ℕ, Some, None, get_or, length, replicate, slice_set, IfOk, IfSome, option_copied};
+ghost use Rattle.std.specs.Int.{bit_at, div_ceil};
 ghost use Rattle.mt_meet.specs.Meeting.{AreMet, IsMetAt, IsNextMet};
-ghost use Rattle.mt_meet.specs.Private.Boxing.{AreSlicesIn, IsApartIn, no_window};
+ghost use Rattle.mt_meet.specs.Private.Boxing.{AreSlicesIn, HasNoSecond, IsCrossedIn, no_window, IsPartMarked};
 ghost use Rattle.mt_meet.specs.Private.Searching.{IsNextBetween};
-ghost use Rattle.mt_meet.specs.Searching.{MeetOnlyMarked, IsSearched};
+ghost use Rattle.mt_meet.specs.Searching.{MeetOnlyMarked, MeetsOnlyIn, IsSearched};
 
 use crate::boxes::{Boxes, ITEMS, mark_in};
+use crate::marked_parts::MarkedParts;
 use crate::meeting::meet_within;
 use crate::search::Search;
 use crate::subject::{Subject, Window};
@@ -90,7 +91,14 @@ impl SliceTable {
         }
         keeps(slices.as_ref());
         let (number, place) = (2 * (item / BLOCK) + item % 2, item % BLOCK / 2);
-        let page = with_item(self.alloc, self.pages.get(number), place, slices.as_ref())?;
+        let before = self.slices.get(item);
+        let page = with_item(
+            self.alloc,
+            self.pages.get(number),
+            place,
+            before,
+            slices.as_ref(),
+        )?;
         Ok(SliceTable {
             alloc: self.alloc,
             count: self.count,
@@ -99,15 +107,18 @@ impl SliceTable {
         })
     }
 
-    // The seconds in which the slices of an item meet some, where there is one.
-    fn met_at(&self, item: u32, subject: &Subject) -> Option<Met>
+    // The seconds in which the slices of an item meet some, where there is one. They meet in no second but those of some parts.
+    fn met_at(&self, item: u32, subject: &Subject, parts: u16) -> Option<Met>
+        requires { MeetsOnlyIn subject.now self.now item parts }
         ensures { IsMetAt subject.now.rules subject.now.sliced self.now item result }
     {
         if item >= self.count {
             return None;
         }
         let (mine, theirs) = (subject.slices(), self.slices.get(item)?);
-        let (begin, end) = (mine.from().max(theirs.from()), mine.to().min(theirs.to()));
+        let (from, to) = subject.between(parts);
+        let begin = from.max(mine.from()).max(theirs.from());
+        let end = to.min(mine.to()).min(theirs.to());
         if begin >= end {
             return None;
         }
@@ -115,12 +126,12 @@ impl SliceTable {
         Some(Met { item, first, last })
     }
 
-    // Marks of the items of a page: those without one don't meet.
-    fn marks_on(&self, number: u32, subject: &Subject) -> [u8; ITEMS as usize]
+    // MarkedParts of the items of a page: they meet in no second but those of the marked parts.
+    fn marks_on(&self, number: u32, subject: &Subject) -> MarkedParts
         requires { number < 2 * div_ceil (length self.now) 128 }
         ensures { MeetOnlyMarked subject.now self.now number result }
     {
-        let mut marks = [0; ITEMS as usize];
+        let mut marks = MarkedParts::none();
         let Some(page) = self.pages.get(number) else {
             return marks;
         };
@@ -128,7 +139,7 @@ impl SliceTable {
         marks
     }
 
-    // Marks 128 items, unless they are marked already.
+    // MarkedParts 128 items, unless they are marked already.
     fn mark(&self, search: &mut Search, block: u32, subject: &Subject)
         requires block { block < div_ceil (length self.now) 128 }
         requires few { block < 33554432 }
@@ -161,8 +172,9 @@ impl SliceTable {
         ensures { IsNextBetween subject.now self.now (128 * block + from) (128 * block + to) result }
     {
         for place in from..to {
-            if is_marked(search, place) {
-                if let Some(met) = self.met_at(block * BLOCK + place, subject) {
+            let parts = parts_of(search, place);
+            if parts != 0 {
+                if let Some(met) = self.met_at(BLOCK * block + place, subject, parts) {
                     return Some(met);
                 }
             }
@@ -170,22 +182,48 @@ impl SliceTable {
         None
     }
 
-    // The first of 128 items, from a place on, whose slices meet some: two by two, and most of these have no mark.
+    // The first of 128 items, from a place on, whose slices meet some: sixteen by sixteen, and most of these have no mark.
     fn next_in(&self, block: u32, from: u32, search: &Search, subject: &Subject) -> Option<Met>
         requires few { block < 33554432 }
         requires even { MeetOnlyMarked subject.now self.now (2 * block) search.now.even }
         requires odd { MeetOnlyMarked subject.now self.now (2 * block + 1) search.now.odd }
         ensures { IsNextBetween subject.now self.now (128 * block + from) (128 * block + 128) result }
     {
-        for pair in from / 2..ITEMS {
-            if are_marked(search, pair) {
-                let place = from.max(2 * pair);
-                if let Some(met) = self.next_between(block, place, 2 * pair + 2, search, subject) {
+        for sixteen in from / 16..BLOCK / 16 {
+            if search.has(sixteen) {
+                let (place, end) = (from.max(16 * sixteen), 16 * sixteen + 16);
+                if let Some(met) = self.next_between(block, place, end, search, subject) {
                     return Some(met);
                 }
             }
         }
         None
+    }
+
+    // Whether 128 items may have slices: else none of them has a second.
+    fn has_some(&self, block: u32) -> bool
+        requires block { block < div_ceil (length self.now) 128 }
+        requires few { block < 33554432 }
+        ensures { result ≡ false → (item : ℕ) → item / 128 ≡ block → HasNoSecond (get_or self.now item None) }
+    {
+        self.pages.get(2 * block).is_some() || self.pages.get(2 * block + 1).is_some()
+    }
+
+    // The next of 128 items, in a search that has come to them, whose slices meet some.
+    fn next_of(&self, block: u32, search: &mut Search, subject: &Subject) -> Option<Met>
+        requires block { block < div_ceil (length self.now) 128 }
+        requires few { block < 33554432 }
+        requires searched { IsSearched subject.now self.now search.old }
+        ensures next { IsNextBetween subject.now self.now (128 * block + (search.old.from - 128 * block)) (128 * block + 128) result }
+        ensures searched { IsSearched subject.now self.now search.new }
+        ensures from { search.new.from ≡ search.old.from }
+    {
+        if !self.has_some(block) {
+            return None;
+        }
+        self.mark(search, block, subject);
+        let from = search.from.saturating_sub(BLOCK * block);
+        self.next_in(block, from, search, subject)
     }
 
     /// The next of the items, in a search through them, whose slices meet some, with the first and the last second in which they do; `None` exactly
@@ -197,9 +235,7 @@ impl SliceTable {
         ensures on { IfSome result (λ met. search.new.from ≡ met.item + 1) }
     {
         for block in search.from / BLOCK..self.count.div_ceil(BLOCK) {
-            self.mark(search, block, subject);
-            let from = search.from.saturating_sub(block * BLOCK);
-            if let Some(met) = self.next_in(block, from, search, subject) {
+            if let Some(met) = self.next_of(block, search, subject) {
                 search.from = met.item + 1;
                 return Some(met);
             }
@@ -242,39 +278,36 @@ fn keeps(slices: Option<&Slices>)
     }
 }
 
-// Whether one of two items, an even one and the next, is marked.
+// The marked parts of the item at a place of 128.
 #[inline(always)]
-fn are_marked(search: &Search, pair: u32) -> bool
-    requires { pair < 64 }
-    ensures even { result ≡ false → get_or search.now.even pair 0 ≡ 0 }
-    ensures odd { result ≡ false → get_or search.now.odd pair 0 ≡ 0 }
-{
-    search.even[pair as usize].max(search.odd[pair as usize]) != 0
-}
-
-// Whether the item at a place of 128 is marked.
-fn is_marked(search: &Search, place: u32) -> bool
+fn parts_of(search: &Search, place: u32) -> u16
     requires { place < 128 }
-    ensures even { result ≡ false → place % 2 ≡ 0 → get_or search.now.even (place / 2) 0 ≡ 0 }
-    ensures odd { result ≡ false → place % 2 ≡ 1 → get_or search.now.odd (place / 2) 0 ≡ 0 }
+    ensures even { place % 2 ≡ 0 → result ≡ get_or search.now.even.parts (place / 2) 0 }
+    ensures odd { place % 2 ≡ 1 → result ≡ get_or search.now.odd.parts (place / 2) 0 }
 {
     let marks = if place % 2 == 0 {
         &search.even
     } else {
         &search.odd
     };
-    marks[(place / 2) as usize] != 0
+    marks.parts[(place / 2) as usize]
 }
 
-// Marks the items of a page that have steps in common with a subject in some window: those without a mark have none.
-fn mark_page(page: &Paged<Boxes>, windows: &[Window], marks: &mut [u8; ITEMS as usize])
+// MarkedParts the parts of a subject's time in which the items of a page have steps in common with it in some window.
+fn mark_page(page: &Paged<Boxes>, windows: &[Window], marks: &mut MarkedParts)
     requires full { length page.now ≡ 64 }
     requires few { (number : ℕ) → number < length windows.now → (get_or windows.now number no_window).remainder < 64 }
-    ensures { (place number : ℕ) → place < 64 → get_or marks.new place 0 ≡ 0 → number < length windows.now → IsApartIn page.now (get_or windows.now number no_window) place }
+    ensures { (place number part : ℕ) → place < 64 → number < length windows.now → IsCrossedIn page.now (get_or windows.now number no_window) place
+        → bit_at (get_or windows.now number no_window).part part ≡ 1 → IsPartMarked marks.new place part }
 {
     for number in 0..windows.len() {
         let window = &windows[number];
-        mark_in(page.get(window.remainder), &window.bounds, marks);
+        mark_in(
+            page.get(window.remainder),
+            &window.bounds,
+            window.part,
+            marks,
+        );
     }
 }
 

@@ -1,8 +1,8 @@
 //! Where items are in the windows of the clock: in which steps their slices lie.
-ghost use Rattle.std.specs.Prelude.{◌≡◌, ◌≢◌, ◌<◌, ◌/◌, ◌%◌, ℕ, Some, get_or, length, unwrap_or, IfOk, IfSome, OnOk, option_copied};
-ghost use Rattle.mt_cover.specs.Sliced.{Have, HaveWindow, Sliced, slice_at};
-ghost use Rattle.mt_meet.specs.Private.Boxing.{AreSlicesIn, IsBoxed, HasAllWindows, bounds_in, boxes_in};
-ghost use Rattle.mt_meet.specs.Private.Stepping.{IsBoxedBy, nowhere};
+ghost use Rattle.std.specs.Prelude.{◌≡◌, ◌≢◌, ◌≤◌, ◌<◌, ◌+◌, ◌/◌, ℕ, None, Some, get_or, length, unwrap_or, IfOk, OnOk, option_copied};
+ghost use Rattle.mt_cover.specs.Sliced.{Have, HaveWindow};
+ghost use Rattle.mt_meet.specs.Private.Boxing.{IsBoxed, HasAllWindows, bounds_in, boxes_in};
+ghost use Rattle.mt_meet.specs.Private.Stepping.{nowhere};
 
 use crate::boxes::Boxes;
 use crate::steps::{Bounds, boxed, nowhere};
@@ -29,30 +29,17 @@ fn bounds_in(boxes: Option<&Boxes>, place: u32) -> Bounds
     }
 }
 
-// The window whose number leaves a remainder and that has seconds of some slices, where there is one.
-fn window_of(slices: &Slices, remainder: u32) -> Option<u32>
-    requires { remainder < 64 }
-    ensures there { IfSome result (HaveWindow slices.now) }
-    ensures is { (k : ℕ) → Have slices.now k → k / 256 % 64 ≡ remainder → result ≡ Some (k / 256) }
+/// The first window that has seconds of some slices, and the one after the last.
+pub(crate) fn windows_of(slices: &Slices) -> (u32, u32)
+    ensures all { (k : ℕ) → Have slices.now k → (result.0 ≤ k / 256) × (k / 256 < result.1) }
+    ensures have { (window : ℕ) → result.0 ≤ window → window < result.1 → HaveWindow slices.now window × (window ≤ 40000) }
+    ensures few { result.1 ≤ result.0 + 64 }
 {
     slices.keeps();
-    let first = slices.from() / WINDOW;
-    let window = first + (remainder + WINDOWS - first % WINDOWS) % WINDOWS;
-    if slices.from() >= slices.to() || window >= slices.to().div_ceil(WINDOW) {
-        return None;
+    if slices.from() >= slices.to() {
+        return (0, 0);
     }
-    Some(window)
-}
-
-// The bounds of some slices in the window whose number leaves a remainder; `None` where they have no second in one.
-fn bounds_for(slices: Option<&Slices>, remainder: u32) -> Option<Bounds>
-    requires { remainder < 64 }
-    ensures { (theirs : Sliced) (k : ℕ) → option_copied slices.entry ≡ Some theirs → Have theirs k → k / 256 % 64 ≡ remainder
-        → IsBoxedBy (unwrap_or result nowhere) theirs.rvsm (slice_at theirs k) }
-{
-    let slices = slices?;
-    let window = window_of(slices, remainder)?;
-    Some(boxed(slices.rvsm(), &slices.over_window(window)))
+    (slices.from() / WINDOW, slices.to().div_ceil(WINDOW))
 }
 
 // Replaces the bounds of the item at a place in a window, or takes them away, where they change.
@@ -86,25 +73,82 @@ fn put_bounds(
     page.replace(window, Some(Arc::new(alloc, boxes)?))
 }
 
-// Puts the bounds of an item's slices in all windows at a place of a page, or those of nothing.
+// Whether a window is none from one on and before another.
+fn is_outside(window: u32, others: (u32, u32)) -> bool {
+    window < others.0 || window >= others.1
+}
+
+// Takes away the bounds at a place of a page in the windows of some slices, but for those from one on and before another.
+fn clear(
+    alloc: Global,
+    page: &mut Paged<Boxes>,
+    place: u32,
+    slices: &Slices,
+    others: (u32, u32),
+) -> Result<(), Memory>
+    requires full { length page.old ≡ 64 }
+    requires place { place < 64 }
+    ensures full { OnOk result (length page.new ≡ 64) }
+    ensures beside { OnOk result ((remainder other : ℕ) → other < 64 → other ≢ place
+        → bounds_in (get_or page.new remainder None) other ≡ bounds_in (get_or page.old remainder None) other) }
+{
+    let (first, past) = windows_of(slices);
+    for window in first..past {
+        if is_outside(window, others) {
+            put_bounds(alloc, page, window % WINDOWS, place, None)?;
+        }
+    }
+    Ok(())
+}
+
+// Puts the bounds of some slices at a place of a page, in their windows.
+fn put_slices(
+    alloc: Global,
+    page: &mut Paged<Boxes>,
+    place: u32,
+    slices: &Slices,
+) -> Result<(), Memory>
+    requires full { length page.old ≡ 64 }
+    requires place { place < 64 }
+    ensures full { OnOk result (length page.new ≡ 64) }
+    ensures own { OnOk result (IsBoxed (Some slices.now) (λ remainder. get_or page.new remainder None) place) }
+    ensures beside { OnOk result ((remainder other : ℕ) → other < 64 → other ≢ place
+        → bounds_in (get_or page.new remainder None) other ≡ bounds_in (get_or page.old remainder None) other) }
+{
+    let (first, past) = windows_of(slices);
+    for window in first..past {
+        let bounds = boxed(slices.rvsm(), &slices.over_window(window));
+        put_bounds(alloc, page, window % WINDOWS, place, Some(bounds))?;
+    }
+    Ok(())
+}
+
+// Takes away the bounds at a place of a page that an item's slices had, and puts those of others, if any.
 fn put_item(
     alloc: Global,
     page: &mut Paged<Boxes>,
     place: u32,
+    before: Option<&Slices>,
     slices: Option<&Slices>,
 ) -> Result<(), Memory>
     requires full { length page.old ≡ 64 }
     requires place { place < 64 }
     ensures full { OnOk result (length page.new ≡ 64) }
     ensures own { OnOk result (IsBoxed (option_copied slices.entry) (λ remainder. get_or page.new remainder None) place) }
-    ensures beside { OnOk result ((remainder other : ℕ) → remainder < 64 → other < 64 → other ≢ place
+    ensures beside { OnOk result ((remainder other : ℕ) → other < 64 → other ≢ place
         → bounds_in (get_or page.new remainder None) other ≡ bounds_in (get_or page.old remainder None) other) }
 {
-    for window in 0..WINDOWS {
-        let bounds = bounds_for(slices, window);
-        put_bounds(alloc, page, window, place, bounds)?;
+    let others = match slices {
+        Some(slices) => windows_of(slices),
+        None => (0, 0),
+    };
+    if let Some(before) = before {
+        clear(alloc, page, place, before, others)?;
     }
-    Ok(())
+    match slices {
+        Some(slices) => put_slices(alloc, page, place, slices),
+        None => Ok(()),
+    }
 }
 
 // A page once more; where it is absent, one without boxes.
@@ -119,11 +163,12 @@ fn share_page(alloc: Global, page: Option<&Paged<Boxes>>) -> Result<Paged<Boxes>
     }
 }
 
-/// A page, which may be absent, with the bounds of an item's slices at a place, or those of nothing. The page itself stays.
+/// A page, which may be absent, with the bounds of other slices of an item at a place, or of none. The page itself stays.
 pub(crate) fn with_item(
     alloc: Global,
     page: Option<&Paged<Boxes>>,
     place: u32,
+    before: Option<&Slices>,
     slices: Option<&Slices>,
 ) -> Result<Paged<Boxes>, Memory>
     requires full { HasAllWindows (option_copied page) }
@@ -134,6 +179,6 @@ pub(crate) fn with_item(
         → bounds_in (get_or after remainder None) other ≡ bounds_in (boxes_in (option_copied page.entry) remainder) other) }
 {
     let mut after = share_page(alloc, page)?;
-    put_item(alloc, &mut after, place, slices)?;
+    put_item(alloc, &mut after, place, before, slices)?;
     Ok(after)
 }

@@ -12,6 +12,7 @@ use Rattle.mt_probe.specs.declared.flight.Flight.{Flight}
 use Rattle.mt_meet.specs.declared.table.Met.{Met}
 use Rattle.mt_meet.specs.Meeting.{AreMet, IsNextMet, MeetAt}
 use Rattle.mt_meet.specs.Searching.{IsSearched, MeetOnlyMarked, item_at}
+use Rattle.mt_meet.specs.declared.marked_parts.MarkedParts.{MarkedParts}
 use Rattle.mt_meet.specs.declared.search.Search.{Search}
 use Rattle.mt_meet.proofs.Meetings.{within}
 use Rattle.mt_probe.specs.Meeting.{AreMetItems, slices_at, slices_by}
@@ -114,13 +115,13 @@ if_some (Some y) P Q on h = on y h
 -- a search through the table is one through the trajectories
 module _ (shot : Shot) (mine : Sliced) (rules : Rules) (rules_is : rules ≡ shot.setup.rules) (table : List (Option Sliced))
     (holds : HoldsSlices shot.setup.rules shot.slots table) where
-  on_table : (page : ℕ) (marks : List ℕ) → MeetOnlyMarkedOn shot mine page marks → MeetOnlyMarked (record { rules = rules; sliced = mine }) table page marks
-  on_table page marks of place within none theirs k there meet =
-      of place within none theirs k (sym (holds.held (item_at page place)) ∙ there) (subst (λ (r : Rules). MeetAt r mine theirs k) rules_is meet)
+  on_table : (page : ℕ) (marks : MarkedParts) → MeetOnlyMarkedOn shot mine page marks → MeetOnlyMarked (record { rules = rules; sliced = mine }) table page marks
+  on_table page marks of place within theirs k there meet =
+      of place within theirs k (sym (holds.held (item_at page place)) ∙ there) (subst (λ (r : Rules). MeetAt r mine theirs k) rules_is meet)
 
-  off_table : (page : ℕ) (marks : List ℕ) → MeetOnlyMarked (record { rules = rules; sliced = mine }) table page marks → MeetOnlyMarkedOn shot mine page marks
-  off_table page marks of place within none theirs k there meet =
-      of place within none theirs k (holds.held (item_at page place) ∙ there) (subst (λ (r : Rules). MeetAt r mine theirs k) (sym rules_is) meet)
+  off_table : (page : ℕ) (marks : MarkedParts) → MeetOnlyMarked (record { rules = rules; sliced = mine }) table page marks → MeetOnlyMarkedOn shot mine page marks
+  off_table page marks of place within theirs k there meet =
+      of place within theirs k (holds.held (item_at page place) ∙ there) (subst (λ (r : Rules). MeetAt r mine theirs k) (sym rules_is) meet)
 
   pub to_table : (search : Search) → IsSearchedIn shot mine search → IsSearched (record { rules = rules; sliced = mine }) table search
   to_table search of = if_some search.block _ _

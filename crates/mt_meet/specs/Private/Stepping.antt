@@ -1,5 +1,5 @@
 -- No public contract names these: they are of private steps and of proofs.
--- Where a trajectory is in a window of the clock, in steps of 1,024 units.
+-- Where a trajectory is in a window of the clock, in steps: of 1,024 units east and north, and of 1,000 units in height.
 use Rattle.std.specs.Prelude.{◌≡◌, ◌⊎◌, Bool, true, ℕ, ℤ, pos, neg_ℤ, ◌+ℤ◌, ◌-ℤ◌, ◌≤ℤ◌, ◌/◌, unsigned_abs}
 use Rattle.std.specs.Int.{int_max, int_min}
 use Rattle.mt_base.specs.declared.rules.Rules.{Rules}
@@ -12,6 +12,10 @@ use Rattle.mt_meet.specs.declared.steps.Bounds.{Bounds}
 abbrev pub step : ℤ → ℕ
 step z = unsigned_abs (int_min (int_max z (neg_ℤ (pos 16777216))) (pos 16777215) +ℤ pos 16777216) / 1024
 
+-- in which of 32,000 steps of 1,000 units a height lies, so that a flight level begins one. What lies beyond counts to the first or the last.
+abbrev pub height_step : ℤ → ℕ
+height_step z = unsigned_abs (int_min (int_max z (neg_ℤ (pos 16000000))) (pos 15999999) +ℤ pos 16000000) / 1000
+
 -- the steps of a slice
 abbrev pub bounds_of : Slice → Bounds
 bounds_of s = record {
@@ -19,8 +23,8 @@ bounds_of s = record {
   east = pos (step s.x.high);
   south = pos (step s.y.low);
   north = pos (step s.y.high);
-  low = pos (step s.layer.low);
-  high = pos (step s.layer.high);
+  low = pos (height_step s.layer.low);
+  high = pos (height_step s.layer.high);
 }
 
 -- heights, wider by so much on each side
@@ -33,12 +37,12 @@ pub record IsBelowTop (approved : Bool) (layer : Layer) : Type 0 where
   pub below : layer.high ≤ℤ level_of true
 
 -- `IsReach`, `IsGuard`: the heights by which an item is found, and by which a subject is looked for. The lesser minimum keeps apart two that end below
--- the top.
+-- the top. Two that are a minimum apart are apart, so a guard is a unit less.
 abbrev pub IsReach : Bool → Layer → Layer → Type 0
 IsReach approved layer reach = (IsBelowTop approved layer × (reach ≡ layer)) ⊎ (reach ≡ wider_by (pos 600000) layer)
 
 abbrev pub IsGuard : Rules → Bool → Layer → Layer → Type 0
-IsGuard rules approved layer guard = (IsBelowTop approved layer × (guard ≡ wider_by rules.sv layer)) ⊎ (guard ≡ wider_by rules.sv2 layer)
+IsGuard rules approved layer guard = (IsBelowTop approved layer × (guard ≡ wider_by (rules.sv -ℤ pos 1) layer)) ⊎ (guard ≡ wider_by (rules.sv2 -ℤ pos 1) layer)
 
 -- steps between which nothing lies
 abbrev pub nowhere : Bounds

@@ -1,13 +1,15 @@
 -- No public contract names these: they are of private steps and of proofs.
 -- How a snapshot keeps the slices of its trajectories.
 use Rattle.std.specs.Prelude.{◌≡◌, ℕ, ◌+◌, ◌*◌, ◌<◌, ◌≤◌, List, Option, Some, None, Contains, get_or, length, slice_set, IfSome}
+use Rattle.std.specs.Int.{bit_at}
 use Rattle.mt_base.specs.declared.conflict.Kind.TheVariants.{Actual, Tentative}
 use Rattle.mt_base.specs.declared.rules.Rules.{Rules}
 use Rattle.mt_base.specs.Picture.{NamedTrajectory}
 use Rattle.mt_cover.specs.Sliced.{Sliced}
 use Rattle.mt_meet.specs.declared.table.Met.{Met}
 use Rattle.mt_meet.specs.Meeting.{MeetAt}
-use Rattle.mt_meet.specs.Searching.{item_at}
+use Rattle.mt_meet.specs.Searching.{item_at, part_at}
+use Rattle.mt_meet.specs.declared.marked_parts.MarkedParts.{MarkedParts}
 use Rattle.mt_meet.specs.declared.search.Search.{Search}
 use Rattle.mt_track.specs.Laid.{IsStrand}
 use Rattle.mt_probe.specs.declared.flight.Flight.{Flight}
@@ -40,9 +42,10 @@ AreLaid f = (t : NamedTrajectory) → Contains (kept_of f) t → IsStrand t.path
 abbrev pub IsNotMet : Shot → Sliced → ℕ → Type 0
 IsNotMet shot mine item = (theirs : Sliced) (k : ℕ) → slices_at shot.setup.rules shot.slots item ≡ Some theirs → ¬ MeetAt shot.setup.rules mine theirs k
 
--- the items of a page that have no mark are not met
-abbrev pub MeetOnlyMarkedOn : Shot → Sliced → ℕ → List ℕ → Type 0
-MeetOnlyMarkedOn shot mine page marks = (place : ℕ) → place < 64 → get_or marks place 0 ≡ 0 → IsNotMet shot mine (item_at page place)
+-- the trajectories that the items of a page name are met in no second but those of their marked parts
+abbrev pub MeetOnlyMarkedOn : Shot → Sliced → ℕ → MarkedParts → Type 0
+MeetOnlyMarkedOn shot mine page marks = (place : ℕ) → place < 64 → (theirs : Sliced) (k : ℕ) → slices_at shot.setup.rules shot.slots (item_at page place) ≡ Some theirs
+    → MeetAt shot.setup.rules mine theirs k → bit_at (get_or marks.parts place 0) (part_at mine k) ≡ 1
 
 -- a search by some slices: the marks of its pages are right
 abbrev pub IsSearchedIn : Shot → Sliced → Search → Type 0

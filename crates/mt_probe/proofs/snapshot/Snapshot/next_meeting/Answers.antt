@@ -1,7 +1,6 @@
-use Rattle.std.proofs.Common.{List, Option, subst, sym, ap}
+use Rattle.std.proofs.Common.{subst, sym}
 use Rattle.std.specs.Arc.{arc_value}
 use Rattle.mt_base.specs.declared.rules.Rules.{Rules}
-use Rattle.mt_cover.specs.Sliced.{Sliced}
 use Rattle.mt_meet.specs.Meeting.{IsNextMet}
 use Rattle.mt_meet.specs.Searching.{IsSearched}
 use Rattle.mt_probe.specs.Private.Boxed.{HoldsSlices}
