@@ -91,7 +91,7 @@ impl Boxes {
             & share(&own.low, &own.high, &self.low[place], &self.high[place])
     }
 
-    /// MarkedParts some parts for the items that have a step in common with some bounds, east, north and in height.
+    /// Marks some parts for the items that have a step in common with some bounds, east, north and in height.
     pub(crate) fn mark_crossing(&self, own: &Bounds, parts: u16, marks: &mut MarkedParts)
         ensures kept { (place part : ℕ) → IsPartMarked marks.old place part → IsPartMarked marks.new place part }
         ensures own { (place part : ℕ) → place < 64 → Cross own.now (bounds_at self.now place) → bit_at parts part ≡ 1
@@ -103,7 +103,7 @@ impl Boxes {
     }
 }
 
-/// MarkedParts some parts for the items that have a step in common with some bounds, where there are boxes.
+/// Marks some parts for the items that have a step in common with some bounds, where there are boxes.
 pub(crate) fn mark_in(boxes: Option<&Boxes>, own: &Bounds, parts: u16, marks: &mut MarkedParts)
     ensures kept { (place part : ℕ) → IsPartMarked marks.old place part → IsPartMarked marks.new place part }
     ensures own { (place part : ℕ) → place < 64 → CrossesIn own.now (option_copied boxes.entry) place → bit_at parts part ≡ 1

@@ -21,7 +21,7 @@ impl MarkedParts {
         }
     }
 
-    /// MarkedParts the parts that have a bit, for the item at a place, where it is to be marked.
+    /// Marks the parts that have a bit, for the item at a place, where it is to be marked.
     #[inline(always)]
     pub(crate) fn add(&mut self, place: usize, parts: u16, marked: bool)
         requires { place < 64 }

@@ -126,7 +126,7 @@ impl SliceTable {
         Some(Met { item, first, last })
     }
 
-    // MarkedParts of the items of a page: they meet in no second but those of the marked parts.
+    // Marks of the items of a page: they meet in no second but those of the marked parts.
     fn marks_on(&self, number: u32, subject: &Subject) -> MarkedParts
         requires { number < 2 * div_ceil (length self.now) 128 }
         ensures { MeetOnlyMarked subject.now self.now number result }
@@ -139,7 +139,7 @@ impl SliceTable {
         marks
     }
 
-    // MarkedParts 128 items, unless they are marked already.
+    // Marks 128 items, unless they are marked already.
     fn mark(&self, search: &mut Search, block: u32, subject: &Subject)
         requires block { block < div_ceil (length self.now) 128 }
         requires few { block < 33554432 }
@@ -293,7 +293,7 @@ fn parts_of(search: &Search, place: u32) -> u16
     marks.parts[(place / 2) as usize]
 }
 
-// MarkedParts the parts of a subject's time in which the items of a page have steps in common with it in some window.
+// Marks the parts of a subject's time in which the items of a page have steps in common with it in some window.
 fn mark_page(page: &Paged<Boxes>, windows: &[Window], marks: &mut MarkedParts)
     requires full { length page.now ≡ 64 }
     requires few { (number : ℕ) → number < length windows.now → (get_or windows.now number no_window).remainder < 64 }
