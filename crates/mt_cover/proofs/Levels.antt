@@ -3,7 +3,7 @@ use Rattle.std.proofs.Common.{◌≡◌, ℕ, ℤ, pos, neg_ℤ, ◌+ℤ◌, ◌
 use Rattle.std.proofs.lemmas.Int.{ints}
 use Rattle.mt_base.specs.Bounds.{IsKeptOver, IsWithin}
 use Rattle.mt_ring.proofs.Ring.{lin, spread}
-use Rattle.mt_cover.proofs.Numbers.{IsHigh, fits_reach, in_64, reach_is}
+use Rattle.mt_cover.proofs.Numbers.{IsHigh, IsNear, fits_reach, high_near, in_64, reach_is}
 
 -- a height less a margin, and with it, after some seconds
 pub less_after : (z w v g n : ℤ) → ((z +ℤ v *ℤ n) -ℤ (w +ℤ g *ℤ n)) ≡ ((z -ℤ w) +ℤ (v -ℤ g) *ℤ n)
@@ -12,9 +12,6 @@ less_after z w v g n = simp spread (omega (arith, lin))
 pub more_after : (z w v g n : ℤ) → ((z +ℤ v *ℤ n) +ℤ (w +ℤ g *ℤ n)) ≡ ((z +ℤ w) +ℤ (v +ℤ g) *ℤ n)
 more_after z w v g n = simp spread (omega (arith, lin))
 
-abbrev Within : ℤ → Type 0
-Within z = IsWithin (neg_ℤ (pos 9000000)) (pos 9000000) z
-
 difference : (z w : ℤ) → IsWithin (pos 0) (pos 3600000) z → IsWithin (pos 0) (pos 600000) w → IsHigh (z -ℤ w)
 difference z w a b = record { least = omega (arith, ints, a.least, b.most); most = omega (arith, ints, a.most, b.least) }
 
@@ -22,11 +19,8 @@ sum : (z w : ℤ) → IsWithin (pos 0) (pos 3600000) z → IsWithin (pos 0) (pos
 sum z w a b = record { least = omega (arith, ints, a.least, b.least); most = omega (arith, ints, a.most, b.most) }
 
 -- what lies between two heights
-between : (a b : ℤ) → IsHigh a → IsHigh (a +ℤ b) → Within b
+between : (a b : ℤ) → IsHigh a → IsHigh (a +ℤ b) → IsNear b
 between a b from to = record { least = omega (arith, ints, from.most, to.least); most = omega (arith, ints, from.least, to.most) }
-
-reaches : (z : ℤ) → IsHigh z → Within z
-reaches z h = record { least = omega (arith, ints, h.least); most = omega (arith, ints, h.most) }
 
 -- a height, its margin and their gains over so many seconds, and their sums and differences, as the code has them
 pub record AreAsCoded (z w v g n : ℤ) : Type 0 where
@@ -65,8 +59,8 @@ as_coded z w v g n a b =
       w_is = reach_is w (record { least = omega (arith, ints, b.value.least); most = omega (arith, ints, b.value.most) });
       v_is = reach_is v (record { least = omega (arith, ints, a.growth.least); most = omega (arith, ints, a.growth.most) });
       g_is = reach_is g (record { least = omega (arith, ints, b.growth.least); most = omega (arith, ints, b.growth.most) });
-      less_is = reach_is (z -ℤ w) (reaches (z -ℤ w) less);
-      more_is = reach_is (z +ℤ w) (reaches (z +ℤ w) more);
+      less_is = reach_is (z -ℤ w) (high_near (z -ℤ w) less);
+      more_is = reach_is (z +ℤ w) (high_near (z +ℤ w) more);
       less_gain = reach_is (v -ℤ g) (record {
         least = omega (arith, ints, a.growth.least, b.growth.most);
         most = omega (arith, ints, a.growth.most, b.growth.least);
@@ -77,12 +71,12 @@ as_coded z w v g n a b =
       });
       less_far = reach_is ((v -ℤ g) *ℤ pos n) down;
       more_far = reach_is ((v +ℤ g) *ℤ pos n) up;
-      less_end = reach_is ((z -ℤ w) +ℤ (v -ℤ g) *ℤ pos n) (reaches ((z -ℤ w) +ℤ (v -ℤ g) *ℤ pos n) least);
-      more_end = reach_is ((z +ℤ w) +ℤ (v +ℤ g) *ℤ pos n) (reaches ((z +ℤ w) +ℤ (v +ℤ g) *ℤ pos n) most);
+      less_end = reach_is ((z -ℤ w) +ℤ (v -ℤ g) *ℤ pos n) (high_near ((z -ℤ w) +ℤ (v -ℤ g) *ℤ pos n) least);
+      more_end = reach_is ((z +ℤ w) +ℤ (v +ℤ g) *ℤ pos n) (high_near ((z +ℤ w) +ℤ (v +ℤ g) *ℤ pos n) most);
       less_fits = fits_reach ((v -ℤ g) *ℤ pos n) down;
       more_fits = fits_reach ((v +ℤ g) *ℤ pos n) up;
-      less_end_fits = fits_reach ((z -ℤ w) +ℤ (v -ℤ g) *ℤ pos n) (reaches ((z -ℤ w) +ℤ (v -ℤ g) *ℤ pos n) least);
-      more_end_fits = fits_reach ((z +ℤ w) +ℤ (v +ℤ g) *ℤ pos n) (reaches ((z +ℤ w) +ℤ (v +ℤ g) *ℤ pos n) most);
+      less_end_fits = fits_reach ((z -ℤ w) +ℤ (v -ℤ g) *ℤ pos n) (high_near ((z -ℤ w) +ℤ (v -ℤ g) *ℤ pos n) least);
+      more_end_fits = fits_reach ((z +ℤ w) +ℤ (v +ℤ g) *ℤ pos n) (high_near ((z +ℤ w) +ℤ (v +ℤ g) *ℤ pos n) most);
       less = less;
       more = more;
       least = least;

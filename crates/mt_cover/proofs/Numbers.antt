@@ -1,18 +1,32 @@
--- Numbers that pass through their bits, and stay within bounds.
-use Rattle.std.proofs.Common.{◌≡◌, ◌∙◌, ℕ, ◌^◌, ◌<◌, ℤ, pos, neg_ℤ, ◌+ℤ◌, ◌*ℤ◌, ◌≤ℤ◌, FitsSigned, to_z, of_z, w64, arith, lit<}
-use Rattle.std.proofs.lemmas.Int.{clamps, ints, to_z-of_z}
+-- Numbers that pass through their bits, 64 or 32 of them, and stay within bounds.
+use Rattle.std.proofs.Common.{◌≡◌, ◌∙◌, ℕ, ◌^◌, ◌<◌, ℤ, pos, neg_ℤ, ◌+ℤ◌, ◌-ℤ◌, ◌*ℤ◌, ◌≤ℤ◌, FitsSigned, to_z, of_z, w32, w64, arith, lit<}
+use Rattle.std.proofs.lemmas.Int.{clamps, fits_signed_from_abs, ints, to_z-of_z}
 use Rattle.std.specs.Int.{int_max, int_min}
 use Rattle.mt_base.specs.Bounds.{IsKeptOver, IsWithin}
-use Rattle.mt_ring.proofs.Sizes.{Abs, fits_64}
-use Rattle.mt_cover.specs.Private.InPlane.{IsExtentInPlane}
+use Rattle.mt_ring.proofs.Sizes.{Abs, abs_to, fits_64}
+use Rattle.mt_cover.specs.declared.bounding_box.Extent.{Extent}
+use Rattle.mt_cover.specs.Private.InPlane.{IsExtentInPlane, IsExtentNearPlane}
 
 abbrev pub in_64 : ℤ → ℤ
 in_64 z = to_z w64 (of_z w64 z)
+
+abbrev pub in_32 : ℤ → ℤ
+in_32 z = to_z w32 (of_z w32 z)
 
 pub as_it_is : (low high : ℤ) (z : ℤ) → IsWithin low high z → neg_ℤ (pos 9000000) ≤ℤ low → high ≤ℤ pos 9000000 → in_64 z ≡ z
 as_it_is low high z h a b =
     let size : Abs 9000000 z = record { low = omega (arith, ints, h.least, a); high = omega (arith, ints, h.most, b) } in
     to_z-of_z w64 z (fits_64 size (lit< tt))
+
+-- what 32 bits hold
+abbrev pub IsNear : ℤ → Type 0
+IsNear z = IsWithin (neg_ℤ (pos 9000000)) (pos 9000000) z
+
+pub fits_32 : (z : ℤ) → IsNear z → FitsSigned w32 z
+fits_32 z h = fits_signed_from_abs w32 z (let k = abs_to 9000000 z (record { low = h.least; high = h.most }) in omega (arith, k))
+
+pub near_32 : (z : ℤ) → IsNear z → in_32 z ≡ z
+near_32 z h = to_z-of_z w32 z (fits_32 z h)
 
 pub IsWithin-min : (low high y z : ℤ) → IsWithin low high y → IsWithin low high z → IsWithin low high (int_min y z)
 IsWithin-min low high y z g h = record { least = omega (arith, ints, clamps, g.least, h.least); most = omega (arith, ints, clamps, g.most, h.most) }
@@ -23,14 +37,14 @@ IsWithin-max low high y z g h = record { least = omega (arith, ints, clamps, g.l
 abbrev pub InPlane : ℤ → Type 0
 InPlane z = IsWithin (neg_ℤ (pos 3686400)) (pos 3686400) z
 
-pub plane_is : (z : ℤ) → InPlane z → in_64 z ≡ z
-plane_is z h = as_it_is (neg_ℤ (pos 3686400)) (pos 3686400) z h (omega (arith, ints)) (omega (arith, ints))
+pub plane_near : (z : ℤ) → InPlane z → IsNear z
+plane_near z h = record { least = omega (arith, ints, h.least); most = omega (arith, ints, h.most) }
+
+pub plane_is : (z : ℤ) → InPlane z → in_32 z ≡ z
+plane_is z h = near_32 z (plane_near z h)
 
 pub margin_is : (z : ℤ) → IsWithin (pos 0) (pos 72000) z → in_64 z ≡ z
 margin_is z h = as_it_is (pos 0) (pos 72000) z h (omega (arith, ints)) (omega (arith, ints))
-
-pub InPlane-64 : (z : ℤ) → InPlane z → InPlane (in_64 z)
-InPlane-64 z h = rw (plane_is z h) h
 
 -- the greater of two margins, as the code has it
 pub margin_max : (y z v : ℤ) → IsWithin (pos 0) (pos 72000) y → IsWithin (pos 0) (pos 72000) z → v ≡ int_max (in_64 y) (in_64 z)
@@ -41,7 +55,7 @@ margin_max y z v y_kept z_kept is =
     let same = margin_is v kept in
     (same ∙ plain, rw same kept)
 
-pub reach_is : (z : ℤ) → IsWithin (neg_ℤ (pos 9000000)) (pos 9000000) z → in_64 z ≡ z
+pub reach_is : (z : ℤ) → IsNear z → in_64 z ≡ z
 reach_is z h = as_it_is (neg_ℤ (pos 9000000)) (pos 9000000) z h (omega (arith, ints)) (omega (arith, ints))
 
 pub half_is : (z : ℤ) → IsWithin (pos 1) (pos 36000) z → in_64 z ≡ z
@@ -56,12 +70,15 @@ sum_is m k m_kept k_kept =
     record { least = omega (arith, ints, m_kept.least, k_kept.least); most = omega (arith, ints, m_kept.most, k_kept.most) } in
     rw (a, b) (as_it_is (pos 1) (pos 108000) (m +ℤ k) s (omega (arith, ints)) (omega (arith, ints)))
 
-pub IsExtentInPlane-64 : (low high : ℤ) → InPlane low → InPlane high → low ≤ℤ high → IsExtentInPlane (record { low = in_64 low; high = in_64 high })
-IsExtentInPlane-64 low high a b c = record {
-  low = InPlane-64 low a;
-  high = InPlane-64 high b;
-  ordered = rw (plane_is low a, plane_is high b) c;
-}
+-- a number that the code makes narrow
+pub narrow_is : (z v : ℤ) → IsNear z → v ≡ in_64 z → in_32 v ≡ z
+narrow_is z v h is = let plain : v ≡ z = is ∙ reach_is z h in rw plain (near_32 z h)
+
+pub narrow_near : (z : ℤ) → IsNear z → IsNear (in_64 z)
+narrow_near z h = rw (reach_is z h) h
+
+pub IsExtentInPlane-32 : (low high : ℤ) → InPlane low → InPlane high → low ≤ℤ high → IsExtentInPlane (record { low = in_32 low; high = in_32 high })
+IsExtentInPlane-32 low high a b c = rw (plane_is low a, plane_is high b) (record { low = a; high = b; ordered = c })
 
 pub min_below_max : (y z : ℤ) → int_min y z ≤ℤ int_max y z
 min_below_max y z = omega (arith, ints, clamps)
@@ -69,12 +86,59 @@ min_below_max y z = omega (arith, ints, clamps)
 pub hull_ordered : (a b c d : ℤ) → a ≤ℤ b → int_min a c ≤ℤ int_max b d
 hull_ordered a b c d h = omega (arith, ints, clamps)
 
-pub fits_reach : (z : ℤ) → IsWithin (neg_ℤ (pos 9000000)) (pos 9000000) z → FitsSigned w64 z
+pub fits_reach : (z : ℤ) → IsNear z → FitsSigned w64 z
 fits_reach z h = let size : Abs 9000000 z = record { low = h.least; high = h.most } in fits_64 size (lit< tt)
 
 -- what lies between two coordinates
-far_off : (z gain : ℤ) → InPlane z → InPlane (z +ℤ gain) → IsWithin (neg_ℤ (pos 9000000)) (pos 9000000) gain
+far_off : (z gain : ℤ) → InPlane z → InPlane (z +ℤ gain) → IsNear gain
 far_off z gain a b = record { least = omega (arith, ints, a.most, b.least); most = omega (arith, ints, a.least, b.most) }
+
+-- the lesser and the greater of a coordinate and what it is after a gain, as the code has them
+pub lesser_is : (z gain v : ℤ) → InPlane z → InPlane (z +ℤ gain) → v ≡ int_min (in_64 z) (in_64 (in_64 z +ℤ in_64 gain))
+    → (v ≡ int_min z (z +ℤ gain)) × InPlane v
+lesser_is z gain v a b is =
+    let plain : v ≡ int_min z (z +ℤ gain) =
+    rw (reach_is z (plane_near z a), reach_is gain (far_off z gain a b), reach_is (z +ℤ gain) (plane_near (z +ℤ gain) b)) at is in
+    (plain, rw plain (IsWithin-min _ _ z (z +ℤ gain) a b))
+
+pub greater_is : (z gain v : ℤ) → InPlane z → InPlane (z +ℤ gain) → v ≡ int_max (in_64 z) (in_64 (in_64 z +ℤ in_64 gain))
+    → (v ≡ int_max z (z +ℤ gain)) × InPlane v
+greater_is z gain v a b is =
+    let plain : v ≡ int_max z (z +ℤ gain) =
+    rw (reach_is z (plane_near z a), reach_is gain (far_off z gain a b), reach_is (z +ℤ gain) (plane_near (z +ℤ gain) b)) at is in
+    (plain, rw plain (IsWithin-max _ _ z (z +ℤ gain) a b))
+
+-- an extent that is made wider, as the code has it
+pub record IsWider (low high by v : ℤ) : Type 0 where
+  pub low_is : in_32 (in_32 low -ℤ in_32 v) ≡ low -ℤ by
+  pub high_is : in_32 (in_32 high +ℤ in_32 v) ≡ high +ℤ by
+  pub low_fits : FitsSigned w32 (in_32 low -ℤ in_32 v)
+  pub high_fits : FitsSigned w32 (in_32 high +ℤ in_32 v)
+  pub kept : IsExtentNearPlane (record { low = low -ℤ by; high = high +ℤ by })
+
+pub by_near : (z : ℤ) → IsWithin (pos 0) (pos 108000) z → IsNear z
+by_near z h = record { least = omega (arith, ints, h.least); most = omega (arith, ints, h.most) }
+
+pub wider_is : (e : Extent) (by v : ℤ) → IsExtentInPlane e → IsWithin (pos 0) (pos 108000) by → v ≡ in_64 by → IsWider e.low e.high by v
+wider_is e by v kept by_kept is =
+    let l = plane_is e.low kept.low in
+    let h = plane_is e.high kept.high in
+    let b = narrow_is by v (by_near by by_kept) is in
+    let low : IsNear (e.low -ℤ by) = record {
+      least = omega (arith, ints, kept.low.least, by_kept.most);
+      most = omega (arith, ints, kept.low.most, by_kept.least);
+    } in
+    let high : IsNear (e.high +ℤ by) = record {
+      least = omega (arith, ints, kept.high.least, by_kept.least);
+      most = omega (arith, ints, kept.high.most, by_kept.most);
+    } in
+    record {
+      low_is = rw (l, b) (near_32 (e.low -ℤ by) low);
+      high_is = rw (h, b) (near_32 (e.high +ℤ by) high);
+      low_fits = rw (l, b) (fits_32 (e.low -ℤ by) low);
+      high_fits = rw (h, b) (fits_32 (e.high +ℤ by) high);
+      kept = record { low = low; high = high; ordered = omega (arith, ints, kept.ordered, by_kept.least) };
+    }
 
 -- a count of seconds, as the code has it
 pub count_is : (n : ℕ) (z : ℤ) → n < 2 ^ 32 → z ≡ pos n → in_64 z ≡ pos n
@@ -99,7 +163,7 @@ gained low high least most z v n above below slow fast kept =
     let end = kept.end in
     let far = far_off z (v *ℤ pos n) (record { least = omega (arith, ints, above, value.least); most = omega (arith, ints, below, value.most) })
     (record { least = omega (arith, ints, above, end.least); most = omega (arith, ints, below, end.most) }) in
-    let after : IsWithin (neg_ℤ (pos 9000000)) (pos 9000000) (z +ℤ v *ℤ pos n) =
+    let after : IsNear (z +ℤ v *ℤ pos n) =
     record { least = omega (arith, ints, above, end.least); most = omega (arith, ints, below, end.most) } in
     record {
       z_is = reach_is z (record { least = omega (arith, ints, above, value.least); most = omega (arith, ints, below, value.most) });
@@ -120,8 +184,11 @@ gained_margin r g n kept = gained _ _ _ _ r g n (omega (arith, ints)) (omega (ar
 abbrev pub IsHigh : ℤ → Type 0
 IsHigh z = IsWithin (neg_ℤ (pos 600000)) (pos 4200000) z
 
-pub high_is : (z : ℤ) → IsHigh z → in_64 z ≡ z
-high_is z h = as_it_is (neg_ℤ (pos 600000)) (pos 4200000) z h (omega (arith, ints)) (omega (arith, ints))
+pub high_near : (z : ℤ) → IsHigh z → IsNear z
+high_near z h = record { least = omega (arith, ints, h.least); most = omega (arith, ints, h.most) }
 
-pub IsHigh-64 : (z : ℤ) → IsHigh z → IsHigh (in_64 z)
-IsHigh-64 z h = rw (high_is z h) h
+pub high_is : (z : ℤ) → IsHigh z → in_32 z ≡ z
+high_is z h = near_32 z (high_near z h)
+
+pub IsHigh-32 : (z : ℤ) → IsHigh z → IsHigh (in_32 z)
+IsHigh-32 z h = rw (high_is z h) h

@@ -8,15 +8,16 @@ ghost use Rattle.mt_cover.specs.Private.Parts.{box_of_both};
 
 use crate::heights::{both, straight_layer};
 use crate::layer::Layer;
+use crate::units::narrow;
 use mt_base::{Row, Rules, Second};
 
 /// Coordinates from a least to a greatest one, in units of the plane.
 #[derive(Clone, Copy)]
 pub struct Extent {
     /// The least.
-    pub low: i64,
+    pub low: i32,
     /// The greatest.
-    pub high: i64,
+    pub high: i32,
 }
 
 /// The box of some rows: where they are at any instant of their seconds, in height with the vertical margin below and above, and their
@@ -42,8 +43,8 @@ fn extent_of(z: i64, gain: i64) -> Extent
 {
     let end = z + gain;
     Extent {
-        low: z.min(end),
-        high: z.max(end),
+        low: narrow(z.min(end)),
+        high: narrow(z.max(end)),
     }
 }
 
@@ -94,7 +95,7 @@ pub(crate) fn box_of_both(a: BoundingBox, b: BoundingBox) -> BoundingBox
 
 /// In which of 64 places of 115,200 units each a coordinate lies, counted from the plane's lower edge; what lies outside counts to the
 /// first or the last.
-pub(crate) fn place(z: i64) -> u32
+pub(crate) fn place(z: i32) -> u32
     requires { IsWithin (neg_ℤ (pos 9000000)) (pos 9000000) z }
     ensures is { result ≡ place z }
     ensures few { result < 64 }
@@ -103,8 +104,7 @@ pub(crate) fn place(z: i64) -> u32
     if from_edge < 0 {
         return 0;
     }
-    let number = from_edge.unsigned_abs() / 115_200;
-    if number < 64 { number as u32 } else { 63 }
+    (from_edge.unsigned_abs() / 115_200).min(63)
 }
 
 /// Half of the horizontal minimum, rounded up.
@@ -123,6 +123,7 @@ pub(crate) fn wider(e: Extent, by: i64) -> Extent
     ensures is { result ≡ wider e by }
     ensures kept { IsExtentNearPlane result }
 {
+    let by = narrow(by);
     Extent {
         low: e.low - by,
         high: e.high + by,

@@ -6,6 +6,7 @@ ghost use Rattle.mt_cover.specs.Box.{both};
 ghost use Rattle.mt_cover.specs.Private.Parts.{straight_layer};
 
 use crate::layer::Layer;
+use crate::units::narrow;
 use mt_base::{Row, Second};
 
 /// The heights of so many seconds with the same gains, of which a row is the first, with the vertical margin below and above. Both are linear, so
@@ -19,8 +20,8 @@ pub(crate) fn straight_layer(first: &Row, seconds: Second) -> Layer
     let low = first.z - first.w;
     let high = first.z + first.w;
     Layer {
-        low: low.min(low + (first.vz - first.gw) * seconds),
-        high: high.max(high + (first.vz + first.gw) * seconds),
+        low: narrow(low.min(low + (first.vz - first.gw) * seconds)),
+        high: narrow(high.max(high + (first.vz + first.gw) * seconds)),
     }
 }
 

@@ -4,7 +4,7 @@
 #[derive(Clone, Copy, PartialEq, Eq)]
 pub struct Layer {
     /// The least.
-    pub low: i64,
+    pub low: i32,
     /// The greatest.
-    pub high: i64,
+    pub high: i32,
 }

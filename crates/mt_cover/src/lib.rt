@@ -8,6 +8,7 @@ mod laws;
 mod layer;
 mod sliced;
 mod stays;
+mod units;
 mod walk;
 mod window;
 

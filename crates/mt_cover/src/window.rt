@@ -11,14 +11,14 @@ use mt_base::Second;
 /// How many seconds of the clock a window has: no more than two slices.
 const WINDOW: Second = 256;
 
-fn lesser(a: i64, b: i64) -> i64
+fn lesser(a: i32, b: i32) -> i32
     ensures left { result ≤ℤ a }
     ensures right { result ≤ℤ b }
 {
     if a <= b { a } else { b }
 }
 
-fn greater(a: i64, b: i64) -> i64
+fn greater(a: i32, b: i32) -> i32
     ensures left { a ≤ℤ result }
     ensures right { b ≤ℤ result }
 {
