@@ -1,9 +1,8 @@
 -- Rows in layers that lie apart by the vertical minimum of these never lose separation.
-use Rattle.std.proofs.Common.{◌≡◌, ◌∙◌, Bool, true, false, true≢false, ◌⊎◌, inl, inr, ⊎_elim, refl, sym, ℤ, pos, ◌+ℤ◌, ◌-ℤ◌, ◌*ℤ◌, ◌≤ℤ◌, ◌<ℤ◌, ◌↔◌, IsTrue, to_z, of_z, w64, lit<, arith}
+use Rattle.std.proofs.Common.{◌≡◌, ◌∙◌, Bool, true, false, true≢false, ◌⊎◌, inl, inr, ⊎_elim, refl, sym, ℤ, pos, ◌+ℤ◌, ◌-ℤ◌, ◌*ℤ◌, ◌≤ℤ◌, ◌<ℤ◌, ◌↔◌, FitsSigned, IsTrue, arith, w32}
 use Rattle.std.specs.Prelude.{◌&&◌}
-use Rattle.std.proofs.lemmas.Int.{ints, to_z-of_z}
+use Rattle.std.proofs.lemmas.Int.{ints}
 use Rattle.std.specs.Int.Signed.{le_z}
-use Rattle.mt_ring.proofs.Sizes.{Abs, fits_64}
 use Rattle.mt_ring.proofs.Ring.{lin, spread}
 use Rattle.mt_ring.proofs.Signs.{mul_nonneg}
 use Rattle.mt_base.specs.declared.row.Row.{Row}
@@ -14,6 +13,7 @@ use Rattle.mt_base.specs.Loss.{IsNearAt, LosesIn, height}
 use Rattle.mt_cover.specs.declared.layer.Layer.{Layer}
 use Rattle.mt_cover.specs.Layer.{IsInLayer, IsLayerKept}
 use Rattle.mt_cover.proofs.Apart.{not_above, not_below}
+use Rattle.mt_cover.proofs.Numbers.{IsNear, fits_32, high_is, in_32, in_64, narrow_is, near_32, reach_is}
 use Rattle.mt_meet.specs.Heights.{EndBelow, LieApart}
 use Rattle.mt_meet.specs.Private.Heights.{IsMinimumIn}
 use Rattle.mt_pair.specs.High.{LosesAbove, level_of}
@@ -93,21 +93,46 @@ lying_apart rules pa pb one other a b greater apart in_one in_other = ⊎_elim
     apart
 
 -- the comparison of two layers, as the code has it
-pub at_least : (least : ℤ) (low high : Layer) → IsWithin (pos 1) (pos 600000) least → IsLayerKept low → IsLayerKept high
-    → IsTrue (le_z (to_z w64 (of_z w64 least)) (to_z w64 (of_z w64 (to_z w64 (of_z w64 high.low) -ℤ to_z w64 (of_z w64 low.high))))) ↔ (least ≤ℤ (high.low -ℤ low.high))
-at_least least low high kept low_kept high_kept =
-    let size : Abs 9000000 least = record { low = omega (arith, ints, kept.least); high = omega (arith, ints, kept.most) } in
-    let one : Abs 9000000 high.low = record { low = omega (arith, ints, high_kept.low.least); high = omega (arith, ints, high_kept.low.most) } in
-    let other : Abs 9000000 low.high = record { low = omega (arith, ints, low_kept.high.least); high = omega (arith, ints, low_kept.high.most) } in
-    let gap : Abs 9000000 (high.low -ℤ low.high) = record {
-      low = omega (arith, ints, high_kept.low.least, low_kept.high.most);
-      high = omega (arith, ints, high_kept.low.most, low_kept.high.least);
+pub at_least : (least : ℤ) (low high : Layer) (gap : ℤ) → IsWithin (pos 1) (pos 600000) least → IsLayerKept low → IsLayerKept high
+    → gap ≡ in_32 (in_32 high.low -ℤ in_32 low.high) → IsTrue (le_z (in_64 least) (in_64 gap)) ↔ (least ≤ℤ (high.low -ℤ low.high))
+at_least least low high gap kept low_kept high_kept is =
+    let between : IsNear (high.low -ℤ low.high) = record {
+      least = omega (arith, ints, high_kept.low.least, low_kept.high.most);
+      most = omega (arith, ints, high_kept.low.most, low_kept.high.least);
     } in
-    let a = to_z-of_z w64 least (fits_64 size (lit< tt)) in
-    let b = to_z-of_z w64 high.low (fits_64 one (lit< tt)) in
-    let c = to_z-of_z w64 low.high (fits_64 other (lit< tt)) in
-    let d = to_z-of_z w64 (high.low -ℤ low.high) (fits_64 gap (lit< tt)) in
-    rw (a, b, c, d) (grind (arith, ints))
+    let plain : gap ≡ high.low -ℤ low.high = rw (high_is high.low high_kept.low, high_is low.high low_kept.high, near_32 (high.low -ℤ low.high) between) at is in
+    let small = reach_is least (record { least = omega (arith, ints, kept.least); most = omega (arith, ints, kept.most) }) in
+    rw (small, plain, reach_is (high.low -ℤ low.high) between) (grind (arith, ints))
+
+-- heights that reach farther, as the code has them
+pub record AreWidened (low high by : ℤ) : Type 0 where
+  pub low_is : in_32 (in_32 low -ℤ in_32 (in_64 by)) ≡ low -ℤ by
+  pub high_is : in_32 (in_32 high +ℤ in_32 (in_64 by)) ≡ high +ℤ by
+  pub by_fits : FitsSigned w32 (in_64 by)
+  pub low_fits : FitsSigned w32 (in_32 low -ℤ in_32 (in_64 by))
+  pub high_fits : FitsSigned w32 (in_32 high +ℤ in_32 (in_64 by))
+
+pub widened : (layer : Layer) (by : ℤ) → IsLayerKept layer → IsWithin (pos 0) (pos 600000) by → AreWidened layer.low layer.high by
+widened layer by kept by_kept =
+    let near : IsNear by = record { least = omega (arith, ints, by_kept.least); most = omega (arith, ints, by_kept.most) } in
+    let b = narrow_is by (in_64 by) near refl in
+    let l = high_is layer.low kept.low in
+    let h = high_is layer.high kept.high in
+    let low : IsNear (layer.low -ℤ by) = record {
+      least = omega (arith, ints, kept.low.least, by_kept.most);
+      most = omega (arith, ints, kept.low.most, by_kept.least);
+    } in
+    let high : IsNear (layer.high +ℤ by) = record {
+      least = omega (arith, ints, kept.high.least, by_kept.least);
+      most = omega (arith, ints, kept.high.most, by_kept.most);
+    } in
+    record {
+      low_is = rw (l, b) (near_32 (layer.low -ℤ by) low);
+      high_is = rw (h, b) (near_32 (layer.high +ℤ by) high);
+      by_fits = rw (reach_is by near) (fits_32 by near);
+      low_fits = rw (l, b) (fits_32 (layer.low -ℤ by) low);
+      high_fits = rw (h, b) (fits_32 (layer.high +ℤ by) high);
+    }
 
 -- neither layer ends above a level
 pub end_below_by : (level : ℤ) (a b : Layer) → le_z a.high level ≡ true → IsTrue (le_z b.high level) ↔ EndBelow level a b

@@ -14,7 +14,7 @@ fn end_below(approved: bool, a: &Layer, b: &Layer) -> bool
     ensures { IsTrue result ↔ EndBelow (level_of approved) a.now b.now }
 {
     let top = level_of(approved);
-    a.high <= top && b.high <= top
+    i64::from(a.high) <= top && i64::from(b.high) <= top
 }
 
 /// Whether one layer lies above another by at least that much.
@@ -24,7 +24,7 @@ fn is_above(least: &i64, low: &Layer, high: &Layer) -> bool
     requires high_kept { IsLayerKept high.now }
     ensures { IsTrue result ↔ (least.now ≤ℤ (high.now.low -ℤ low.now.high)) }
 {
-    high.low - low.high >= *least
+    i64::from(high.low - low.high) >= *least
 }
 
 /// Whether one of two layers lies above the other by at least that much.

@@ -9,7 +9,7 @@ use mt_cover::{Layer, Slice};
 use mt_pair::level_of;
 
 // What lies farther from 0 counts as there.
-const FAR: i64 = 16_777_216;
+const FAR: i32 = 16_777_216;
 
 /// In which steps a trajectory is in a window: positions east and north, and heights with the vertical margin.
 #[derive(Clone, Copy, PartialEq, Eq)]
@@ -29,7 +29,7 @@ pub(crate) struct Bounds {
 }
 
 // In which of 32,768 steps of 1,024 units a position or a height lies. What lies below counts to the first, what lies above to the last.
-fn step(z: i64) -> i16
+fn step(z: i32) -> i16
     ensures { result ≡ pos (step z) }
 {
     let from_least = z.max(-FAR).min(FAR - 1) + FAR;
@@ -37,10 +37,10 @@ fn step(z: i64) -> i16
 }
 
 // What lies farther from 0 in height counts as there.
-const HIGH: i64 = 16_000_000;
+const HIGH: i32 = 16_000_000;
 
 // In which of 32,000 steps of 1,000 units a height lies: a flight level begins one.
-fn height_step(z: i64) -> i16
+fn height_step(z: i32) -> i16
     ensures { result ≡ pos (height_step z) }
 {
     let from_least = z.max(-HIGH).min(HIGH - 1) + HIGH;
@@ -79,7 +79,7 @@ fn bounds_of(slice: &Slice) -> Bounds
 fn is_below_top(approved: bool, layer: &Layer) -> bool
     ensures { IsTrue result ↔ IsBelowTop approved layer.now }
 {
-    approved && layer.high <= level_of(true)
+    approved && i64::from(layer.high) <= level_of(true)
 }
 
 // Heights that reach farther by so much on each side.
@@ -88,6 +88,8 @@ fn wider(layer: &Layer, by: i64) -> Layer
     requires by_kept { IsWithin (pos 0) (pos 600000) by }
     ensures { result ≡ wider_by by layer.now }
 {
+    // no minimum is above 600,000
+    let by = by as i32;
     Layer {
         low: layer.low - by,
         high: layer.high + by,
