@@ -4,9 +4,10 @@ pub mod Equal
 pub mod Hulls
 pub mod Layers
 pub mod Listing
+pub mod Marking
 pub mod Meetings
 pub mod Parts
+pub mod Pieces
 pub mod Putting
 pub mod Same
 pub mod Searching
-pub mod Turns

@@ -1,5 +1,5 @@
 -- Items of 128 in a row by their marks.
-use Rattle.std.proofs.Common.{◌≡◌, ◌<◌, ◌+◌, ◌-◌, ◌*◌, ◌/◌, ◌%◌, ⊎_elim, ℕ, List, None, Option, get_or, refl, subst, sym, arith}
+use Rattle.std.proofs.Common.{◌≡◌, ◌≤◌, ◌<◌, ◌+◌, ◌-◌, ◌*◌, ◌/◌, ◌%◌, ⊎_elim, ℕ, List, None, Option, get_or, min, refl, subst, sym, arith}
 use Rattle.std.proofs.lemmas.Bool.{cases_eq}
 use Rattle.std.specs.Int.{bit_at}
 use Rattle.mt_cover.specs.Sliced.{Sliced}
@@ -31,13 +31,14 @@ module _ (asked : Asked) (table : List (Option Sliced)) (block : ℕ) (even odd 
       rw (odd_is one) (odd_at (place / 2) (128 * block + place) (omega (arith, within)) (omega (arith, one))))
       (cases_eq (place % 2) 0)
 
-  -- none of sixteen items in a row without a mark meets
-  pub none_of_sixteen : (sixteen : ℕ) → sixteen < 8 → ((place : ℕ) → place / 8 ≡ sixteen → get_or even.parts place 0 ≡ 0)
-      → ((place : ℕ) → place / 8 ≡ sixteen → get_or odd.parts place 0 ≡ 0)
-      → MeetNone asked.rules asked.sliced table (128 * block + 16 * sixteen) (128 * block + (16 * sixteen + 16))
-  none_of_sixteen sixteen few even_none odd_none = λ item late below.
+  -- none of the items before the next one with a mark meets
+  pub none_to_mark : (from to : ℕ) → ((place : ℕ) → from ≤ place → place < to → place % 2 ≡ 0 → get_or even.parts (place / 2) 0 ≡ 0)
+      → ((place : ℕ) → from ≤ place → place < to → place % 2 ≡ 1 → get_or odd.parts (place / 2) 0 ≡ 0)
+      → MeetNone asked.rules asked.sliced table (128 * block + from) (128 * block + min to 128)
+  none_to_mark from to even_none odd_none = λ item late below.
       let place = item - 128 * block in
+      let on : from ≤ place = omega (arith, late) in
+      let before : place < to = omega (arith, late, below) in
       let same : 128 * block + place ≡ item = omega (arith, late) in
       unmarked asked table item 0 refl (subst (λ (n : ℕ). MeetsOnlyIn asked table n 0) same
-      (at_place place 0 (omega (arith, late, below, few)) (λ is_even. sym (even_none (place / 2) (omega (arith, late, below))))
-      (λ is_odd. sym (odd_none (place / 2) (omega (arith, late, below))))))
+      (at_place place 0 (omega (arith, late, below)) (λ is_even. sym (even_none place on before is_even)) (λ is_odd. sym (odd_none place on before is_odd))))

@@ -1,6 +1,7 @@
 -- What no public contract names: invariants and relations of private steps.
 pub mod Boxing
 pub mod Heights
+pub mod Marking
 pub mod Meeting
 pub mod Searching
 pub mod Stepping

@@ -7,6 +7,7 @@
 mod boxes;
 mod heights;
 mod laws;
+mod marked_items;
 mod marked_parts;
 mod meeting;
 mod search;

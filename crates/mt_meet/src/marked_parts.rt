@@ -1,6 +1,6 @@
 //! In which parts of a subject's time items may be met.
 ghost use Rattle.mt_meet.specs.Private.Boxing.{IsPartMarked};
-ghost use Rattle.std.specs.Prelude.{◌≡◌, ◌<◌, ◌/◌, ℕ, IsTrue, false, get_or, replicate};
+ghost use Rattle.std.specs.Prelude.{◌≡◌, ◌<◌, ℕ, IsTrue, replicate};
 ghost use Rattle.std.specs.Int.{bit_at};
 
 use crate::boxes::ITEMS;
@@ -29,19 +29,5 @@ impl MarkedParts {
         ensures own { IsTrue marked → (part : ℕ) → bit_at parts part ≡ 1 → IsPartMarked self.new place part }
     {
         self.parts[place] |= if marked { parts } else { 0 };
-    }
-
-    /// Whether one of eight items in a row has a marked part.
-    #[inline(always)]
-    pub(crate) fn has(&self, eight: u32) -> bool
-        requires { eight < 8 }
-        ensures { result ≡ false → (place : ℕ) → place / 8 ≡ eight → get_or self.now.parts place 0 ≡ 0 }
-    {
-        let start = 8 * eight as usize;
-        let mut most = 0;
-        for place in start..start + 8 {
-            most = self.parts[place].max(most);
-        }
-        most != 0
     }
 }

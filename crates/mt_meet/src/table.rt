@@ -7,6 +7,7 @@ ghost use Rattle.mt_meet.specs.Private.Searching.{IsNextBetween};
 ghost use Rattle.mt_meet.specs.Searching.{MeetOnlyMarked, MeetsOnlyIn, IsSearched};
 
 use crate::boxes::{Boxes, ITEMS, mark_in};
+use crate::marked_items::MarkedItems;
 use crate::marked_parts::MarkedParts;
 use crate::meeting::meet_within;
 use crate::search::Search;
@@ -127,16 +128,16 @@ impl SliceTable {
     }
 
     // Marks of the items of a page: they meet in no second but those of the marked parts.
-    fn marks_on(&self, number: u32, subject: &Subject) -> MarkedParts
+    fn marks_on(&self, number: u32, subject: &Subject) -> MarkedItems
         requires { number < 2 * div_ceil (length self.now) 128 }
         ensures { MeetOnlyMarked subject.now self.now number result }
     {
-        let mut marks = MarkedParts::none();
         let Some(page) = self.pages.get(number) else {
-            return marks;
+            return MarkedItems::none();
         };
+        let mut marks = MarkedParts::none();
         mark_page(page, &subject.windows, &mut marks);
-        marks
+        MarkedItems::of(marks)
     }
 
     // Marks 128 items, unless they are marked already.
@@ -156,46 +157,21 @@ impl SliceTable {
         }
     }
 
-    // The first of 128 items, from a place on and before another, whose slices meet some. Only those with a mark may.
-    fn next_between(
-        &self,
-        block: u32,
-        from: u32,
-        to: u32,
-        search: &Search,
-        subject: &Subject,
-    ) -> Option<Met>
-        requires few { block < 33554432 }
-        requires within { to ≤ 128 }
-        requires even { MeetOnlyMarked subject.now self.now (2 * block) search.now.even }
-        requires odd { MeetOnlyMarked subject.now self.now (2 * block + 1) search.now.odd }
-        ensures { IsNextBetween subject.now self.now (128 * block + from) (128 * block + to) result }
-    {
-        for place in from..to {
-            let parts = parts_of(search, place);
-            if parts != 0 {
-                if let Some(met) = self.met_at(BLOCK * block + place, subject, parts) {
-                    return Some(met);
-                }
-            }
-        }
-        None
-    }
-
-    // The first of 128 items, from a place on, whose slices meet some: sixteen by sixteen, and most of these have no mark.
+    // The first of 128 items, from a place on, whose slices meet some: from mark to mark.
     fn next_in(&self, block: u32, from: u32, search: &Search, subject: &Subject) -> Option<Met>
         requires few { block < 33554432 }
+        requires within { from ≤ 128 }
         requires even { MeetOnlyMarked subject.now self.now (2 * block) search.now.even }
         requires odd { MeetOnlyMarked subject.now self.now (2 * block + 1) search.now.odd }
         ensures { IsNextBetween subject.now self.now (128 * block + from) (128 * block + 128) result }
     {
-        for sixteen in from / 16..BLOCK / 16 {
-            if search.has(sixteen) {
-                let (place, end) = (from.max(16 * sixteen), 16 * sixteen + 16);
-                if let Some(met) = self.next_between(block, place, end, search, subject) {
-                    return Some(met);
-                }
+        let mut place = search.next_marked(from);
+        while place < BLOCK {
+            let parts = search.parts(place);
+            if let Some(met) = self.met_at(BLOCK * block + place, subject, parts) {
+                return Some(met);
             }
+            place = search.next_marked(place + 1);
         }
         None
     }
@@ -213,6 +189,7 @@ impl SliceTable {
     fn next_of(&self, block: u32, search: &mut Search, subject: &Subject) -> Option<Met>
         requires block { block < div_ceil (length self.now) 128 }
         requires few { block < 33554432 }
+        requires begun { search.old.from ≤ 128 * block + 128 }
         requires searched { IsSearched subject.now self.now search.old }
         ensures next { IsNextBetween subject.now self.now (128 * block + (search.old.from - 128 * block)) (128 * block + 128) result }
         ensures searched { IsSearched subject.now self.now search.new }
@@ -276,21 +253,6 @@ fn keeps(slices: Option<&Slices>)
     if let Some(slices) = slices {
         slices.keeps();
     }
-}
-
-// The marked parts of the item at a place of 128.
-#[inline(always)]
-fn parts_of(search: &Search, place: u32) -> u16
-    requires { place < 128 }
-    ensures even { place % 2 ≡ 0 → result ≡ get_or search.now.even.parts (place / 2) 0 }
-    ensures odd { place % 2 ≡ 1 → result ≡ get_or search.now.odd.parts (place / 2) 0 }
-{
-    let marks = if place % 2 == 0 {
-        &search.even
-    } else {
-        &search.odd
-    };
-    marks.parts[(place / 2) as usize]
 }
 
 // Marks the parts of a subject's time in which the items of a page have steps in common with it in some window.

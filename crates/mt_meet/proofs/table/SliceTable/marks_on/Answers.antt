@@ -27,8 +27,8 @@ returns c = λ place within.
     let kept = subst (λ (t : List (Option Sliced)). AreBoxesKept c.self.inside.count t c.self.inside.pages) c.self.view_is c.self.invariant in
     let rules_kept = subst (λ (a : Asked). AreWithinBounds a.rules) c.subject.view_is c.subject.invariant.0 in
     let guarded = subst (λ (a : Asked). AreGuarded a.rules a.sliced windows) c.subject.view_is c.subject.invariant.1 in
-    met_in_marked c.self.inside.count c.args.self.now c.self.inside.pages kept c.args.subject.now (item_at c.args.number place) c.args.number place
+    rw c.of.ensures (met_in_marked c.self.inside.count c.args.self.now c.self.inside.pages kept c.args.subject.now (item_at c.args.number place) c.args.number place
     (page_is c.args.number place within) (place_is c.args.number place within) rules_kept windows guarded c.in-Some.page.now (sym c.in-Some.ensures) c.mark_page.new.marks
     (subst (λ (ws : List Window). (w part : ℕ) → w < length ws → IsCrossedIn c.in-Some.page.now (get_or ws w no_window) place
     → bit_at (Window.part (get_or ws w no_window)) part ≡ 1 → IsPartMarked c.mark_page.new.marks place part) c.deref.ensures.value
-    (λ w part below crossed one. c.mark_page.ensures place w part within below crossed one))
+    (λ w part below crossed one. c.mark_page.ensures place w part within below crossed one)))

@@ -1,6 +1,12 @@
-use Rattle.std.proofs.Common.{◌+◌, ◌*◌}
+use Rattle.std.proofs.Common.{◌≤◌, ◌+◌, ◌-◌, ◌*◌, min}
 use Rattle.mt_meet.specs.Meeting.{MeetNone}
 use Rattle.mt_meet.proofs.table.SliceTable.next_in.Given as goal
 
-abbrev pub invariant-loop-sixteen : goal.invariant-loop-sixteen
-invariant-loop-sixteen l = MeetNone l.subject.rules l.subject.sliced l.self (128 * l.block + l.from) (128 * l.block + 16 * l.sixteen)
+abbrev pub invariant-loop-place : goal.invariant-loop-place
+invariant-loop-place l = record {
+  on : l.from ≤ l.place;
+  none : MeetNone l.subject.rules l.subject.sliced l.self (128 * l.block + l.from) (128 * l.block + min l.place 128);
+}
+
+abbrev pub decreases-loop-place : goal.decreases-loop-place
+decreases-loop-place l = 128 - l.place
