@@ -16,6 +16,7 @@ pub use bounding_box::Extent;
 pub use laws::{misses_none_law, touching_is_near_law};
 pub use layer::Layer;
 pub use mt_memory::Memory;
-pub use sliced::{Slice, Slices};
+pub use sliced::{SLICE, Slice, Slices};
 pub use stays::{Cover, Stay};
 pub use walk::{cover, slices, slices_until};
+pub use window::CLOCK_WINDOW;

@@ -24,7 +24,7 @@ pub struct Slice {
 }
 
 /// How many seconds a slice has, but the last one, which may be shorter.
-pub(crate) const SLICE: Second = 128;
+pub const SLICE: Second = 128;
 
 /// The slices of a trajectory, one for each 128 seconds from its start, the last of which may be shorter.
 #[derive(Drop)]

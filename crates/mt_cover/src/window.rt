@@ -9,7 +9,7 @@ use crate::sliced::{SLICE, Slice, Slices};
 use mt_base::Second;
 
 /// How many seconds of the clock a window has: no more than two slices.
-const WINDOW: Second = 256;
+pub const CLOCK_WINDOW: Second = 256;
 
 fn lesser(a: i32, b: i32) -> i32
     ensures left { result ≤ℤ a }
@@ -59,8 +59,8 @@ impl Slices {
         ensures hold { HoldsWindow self.now window result }
         ensures kept { IsLayerKept result.layer }
     {
-        let begin = self.from.max(WINDOW * window);
-        let end = self.to.min(WINDOW * window + WINDOW);
+        let begin = self.from.max(CLOCK_WINDOW * window);
+        let end = self.to.min(CLOCK_WINDOW * window + CLOCK_WINDOW);
         let first = (begin - self.from) / SLICE;
         let last = (end - 1 - self.from) / SLICE;
         let middle = (first + last) / 2;

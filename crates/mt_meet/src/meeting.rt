@@ -9,10 +9,7 @@ ghost use Rattle.mt_meet.specs.Private.Meeting.{Before, IsHull, MeetOnlyIn, Piec
 
 use crate::heights::lie_apart;
 use mt_base::{Rules, Second};
-use mt_cover::{Extent, Slice, Slices};
-
-// How many seconds a slice has.
-const SLICE: Second = 128;
+use mt_cover::{Extent, SLICE, Slice, Slices};
 
 // Whether two extents have a coordinate in common. Their ends belong to them.
 fn touch(a: &Extent, b: &Extent) -> bool

@@ -7,9 +7,9 @@ ghost use Rattle.mt_meet.specs.Private.Boxing.{AreGuarded};
 ghost use Rattle.mt_meet.specs.Searching.{part_at, windows_a_part};
 
 use crate::steps::{Bounds, guarded};
-use crate::windows::{WINDOW, WINDOWS, windows_of};
+use crate::windows::{WINDOWS, windows_of};
 use mt_base::{Memory, Rules, Second};
-use mt_cover::Slices;
+use mt_cover::{CLOCK_WINDOW, Slices};
 use std::alloc::Global;
 use std::marker::Model;
 
@@ -54,7 +54,7 @@ fn windows_a_part(slices: &Slices) -> u32
     ensures few { result ≤ 4 }
 {
     slices.keeps();
-    (slices.to().div_ceil(WINDOW) - slices.from() / WINDOW).div_ceil(PARTS)
+    (slices.to().div_ceil(CLOCK_WINDOW) - slices.from() / CLOCK_WINDOW).div_ceil(PARTS)
 }
 
 // The bit of the part to which a window belongs.
@@ -62,7 +62,7 @@ fn part_of(slices: &Slices, window: u32) -> u16
     requires { HaveWindow slices.now window }
     ensures { bit_at result ((window - slices.now.from / 256) / windows_a_part slices.now) ≡ 1 }
 {
-    1 << ((window - slices.from() / WINDOW) / windows_a_part(slices))
+    1 << ((window - slices.from() / CLOCK_WINDOW) / windows_a_part(slices))
 }
 
 // The steps of some slices in each window that has some of their seconds, with heights that reach farther.
@@ -111,9 +111,9 @@ impl Subject {
         ensures { (k : ℕ) → Have self.now.sliced k → bit_at parts (part_at self.now.sliced k) ≡ 1 → (result.0 ≤ k) × (k < result.1) }
     {
         let slices = self.slices();
-        let (first, each) = (slices.from() / WINDOW, windows_a_part(slices));
+        let (first, each) = (slices.from() / CLOCK_WINDOW, windows_a_part(slices));
         let begin = first + each * parts.trailing_zeros();
         let end = first + each * (PARTS - parts.leading_zeros());
-        (WINDOW * begin, WINDOW * end)
+        (CLOCK_WINDOW * begin, CLOCK_WINDOW * end)
     }
 }

@@ -6,14 +6,11 @@ ghost use Rattle.mt_meet.specs.Private.Stepping.{nowhere};
 
 use crate::boxes::Boxes;
 use crate::steps::{Bounds, boxed, nowhere};
-use mt_base::{Memory, Second};
-use mt_cover::Slices;
+use mt_base::Memory;
+use mt_cover::{CLOCK_WINDOW, Slices};
 use mt_paged::Paged;
 use std::alloc::Global;
 use std::sync::Arc;
-
-/// How many seconds of the clock a window has.
-pub(crate) const WINDOW: Second = 256;
 
 /// By which number the windows are told apart: no trajectory has seconds in as many.
 pub(crate) const WINDOWS: u32 = 64;
@@ -39,7 +36,10 @@ pub(crate) fn windows_of(slices: &Slices) -> (u32, u32)
     if slices.from() >= slices.to() {
         return (0, 0);
     }
-    (slices.from() / WINDOW, slices.to().div_ceil(WINDOW))
+    (
+        slices.from() / CLOCK_WINDOW,
+        slices.to().div_ceil(CLOCK_WINDOW),
+    )
 }
 
 // Replaces the bounds of the item at a place in a window, or takes them away, where they change.
