@@ -11,3 +11,4 @@ pub mod Pieces
 pub mod Putting
 pub mod Same
 pub mod Searching
+pub mod Touching

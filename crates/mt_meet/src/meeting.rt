@@ -15,7 +15,7 @@ use mt_cover::{Extent, SLICE, Slice, Slices};
 fn touch(a: &Extent, b: &Extent) -> bool
     ensures { IsTrue result ↔ Touch a.now b.now }
 {
-    a.low <= b.high && b.low <= a.high
+    (a.low <= b.high) & (b.low <= a.high)
 }
 
 // Whether two slices meet: they have a position in common, and don't lie apart in height by the vertical minimum.
@@ -25,7 +25,7 @@ fn slices_meet(rules: &Rules, approved: bool, a: &Slice, b: &Slice) -> bool
     requires b_kept { IsLayerKept b.now.layer }
     ensures { IsTrue result ↔ SlicesMeet rules.now approved a.now b.now }
 {
-    touch(&a.x, &b.x) && touch(&a.y, &b.y) && !lie_apart(rules, approved, &a.layer, &b.layer)
+    (touch(&a.x, &b.x) & touch(&a.y, &b.y)) && !lie_apart(rules, approved, &a.layer, &b.layer)
 }
 
 // Whether both aircraft are approved for RVSM.

@@ -1,10 +1,5 @@
-use Rattle.std.proofs.Common.{Bool, true, false, IsTrue}
-use Rattle.std.specs.Prelude.{◌&&◌}
+use Rattle.mt_meet.proofs.Touching.{both}
 use Rattle.mt_meet.proofs.boxes.Boxes.crosses.Goals as goal
-
-both : (a b : Bool) → IsTrue a → IsTrue b → IsTrue (a && b)
-both true b x y = y
-both false b x y = x
 
 pub returns : goal.returns
 returns c = λ cross.
