@@ -1,10 +1,11 @@
 -- What the slices of a new trajectory meet in the look-ahead, and the tests of what is flown of it.
-use Rattle.std.proofs.Common.{◌≡◌, ◌≤◌, ◌<◌, ◌+◌, ⊎_elim, Bool, true, false, ℕ, nat_lt, List, [], ◌∷◌, Contains, length, length-append, refl, sym, ap, subst, if◌then◌else◌, arith}
+use Rattle.std.proofs.Common.{◌≡◌, ◌∙◌, ◌≤◌, ◌<◌, ◌+◌, ◌/◌, ⊎_elim, Some, Bool, true, false, ℕ, nat_lt, List, [], ◌∷◌, Contains, length, length-append, refl, sym, ap, subst, if◌then◌else◌, arith}
 use Rattle.std.proofs.lemmas.Bool.{cases_eq}
 use Rattle.std.proofs.lemmas.Bool.Decides.{nat_tests}
 use Rattle.std.specs.List.{flat_map}
+use Rattle.std.specs.Prelude.{option_and_then}
 use Rattle.mt_base.specs.Conflict.{IsLossSecond}
-use Rattle.mt_base.specs.Picture.{NamedTrajectory, window_end}
+use Rattle.mt_base.specs.Picture.{window_end}
 use Rattle.mt_base.specs.Trajectory.{Trajectory, horizon}
 use Rattle.mt_base.proofs.Members.{Contains-cases, Contains-none}
 use Rattle.mt_cover.specs.Cells.{cover_of}
@@ -13,10 +14,10 @@ use Rattle.mt_meet.specs.declared.table.Met.{Met}
 use Rattle.mt_meet.specs.Meeting.{MeetAt}
 use Rattle.mt_meet.proofs.Meetings.{losing_meet}
 use Rattle.mt_track.specs.Laid.{IsStrand}
-use Rattle.mt_probe.specs.Items.{AreNearItems, IsNearItem, other_at}
+use Rattle.mt_probe.specs.Items.{AreNearItems, IsNearItem, kind_at, path_of}
 use Rattle.mt_probe.specs.Private.Ahead.{AreAhead, IsMetAhead, items_below}
 use Rattle.mt_probe.specs.Private.Boxed.{IsFirstMetOf}
-use Rattle.mt_probe.specs.Shot.{Shot}
+use Rattle.mt_probe.specs.Shot.{Shot, flight_at}
 use Rattle.mt_probe.specs.Standing.{IsSoundShot}
 use Rattle.mt_probe.specs.Tests.{WasTriedNear, flown_at}
 use Rattle.mt_probe.proofs.Candidates.{met_path, near_by_meeting}
@@ -36,13 +37,13 @@ module _ (shot : Shot) (t : Trajectory) (mine : Sliced) (ahead : AreAhead shot t
       record { left = left; right = meet.right; meet = rw (← ahead.rvsm_is, ← (ahead.same k left).1) at meet.meet }
 
 -- what an item names loses separation in the look-ahead only in the seconds in which its slices meet
-pub lost_ahead : (shot : Shot) (t : Trajectory) (met : Met) (call : List ℕ) (other : NamedTrajectory) (k : ℕ) → IsSoundShot shot → IsStrand t
-    → IsMetAhead shot t met → Contains (other_at call shot.slots met.item) other → shot.now ≤ k → k < window_end shot.now
-    → IsLossSecond shot.setup.rules t other.path k → (met.first ≤ k) × (k ≤ met.last)
-lost_ahead shot t met call other k sound laid it held low high loss =
+pub lost_ahead : (shot : Shot) (t : Trajectory) (met : Met) (other : Trajectory) (k : ℕ) → IsSoundShot shot → IsStrand t → IsMetAhead shot t met
+    → Some other ≡ option_and_then (path_of (kind_at met.item)) (flight_at shot (met.item / 2)) → shot.now ≤ k → k < window_end shot.now
+    → IsLossSecond shot.setup.rules t other k → (met.first ≤ k) × (k ≤ met.last)
+lost_ahead shot t met other k sound laid it other_is low high loss =
     let rules = shot.setup.rules in
     let theirs = met_path shot met.item it.is.theirs sound it.is.there in
-    let path = theirs.others call other held in
+    let path : other ≡ theirs.path = (let both = other_is ∙ theirs.path_is in cc) in
     let meet = losing_meet rules t theirs.path k sound.rules laid theirs.laid (subst (λ (p : Trajectory). IsLossSecond rules t p k) path loss) in
     it.is.hull.none_outside k (met_ahead shot t it.mine it.ahead it.is.theirs k low high
     (subst (λ (s : Sliced). MeetAt rules (slices_of rules t) s k) (sym theirs.slices) meet))

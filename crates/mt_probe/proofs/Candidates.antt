@@ -5,6 +5,7 @@ use Rattle.std.proofs.lemmas.List.{flat_map_more, take_more}
 use Rattle.std.proofs.lemmas.List.Elements.{All-contains}
 use Rattle.std.proofs.lemmas.List.Kept.{AllPairs-from_increasing}
 use Rattle.std.specs.List.{All, AllPairs, flat_map}
+use Rattle.std.specs.Prelude.{option_and_then}
 use Rattle.std.specs.Str.{bytes_eq}
 use Rattle.mt_base.specs.declared.conflict.Kind.{Kind}
 use Rattle.mt_base.specs.declared.rules.Rules.{Rules}
@@ -61,6 +62,7 @@ others_path call kind f path other is held = by_call (bytes_eq f.card.call call)
 -- what is known of the trajectory that an item names, which has these slices
 pub record IsMetPath (shot : Shot) (item : ℕ) (theirs : Sliced) : Type 0 where
   pub path : Trajectory
+  pub path_is : option_and_then (path_of (kind_at item)) (get_or shot.slots (item / 2) None) ≡ Some path
   pub slices : theirs ≡ slices_of shot.setup.rules path
   pub stays : stays_at shot.setup.rules shot.slots item ≡ cover_of shot.setup.rules path
   pub laid : IsStrand path
@@ -76,6 +78,7 @@ met_path shot item theirs sound is =
     subst (λ (p : Option Trajectory). Contains (made_named it.flight.card.call kind p) named) (sym it.path_is) (Contains-head named []) in
     record {
       path = it.path;
+      path_is = ap (option_and_then (path_of kind)) it.at_is ∙ it.path_is;
       slices = it.slices;
       stays = ap (stays_by rules kind) it.at_is ∙ ap (stays_of_item rules) it.path_is;
       laid = sound.laid (item / 2) it.flight named it.at_is (kept_by it.flight kind named held);

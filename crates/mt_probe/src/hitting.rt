@@ -1,5 +1,5 @@
 //! The hits of a new trajectory: its conflicts in the look-ahead with the trajectories that the other flights fly.
-ghost use Rattle.std.specs.Prelude.{◌≡◌, ◌↔◌, ◌≤◌, ◌<◌, ◌+◌, ◌/◌, ℕ, None, All, length, true, IfOk, IfSome, IsTrue};
+ghost use Rattle.std.specs.Prelude.{◌≡◌, ◌↔◌, ◌≤◌, ◌<◌, ◌+◌, ◌/◌, ℕ, List, None, All, length, true, IfOk, IfSome, IsTrue};
 ghost use Rattle.mt_base.specs.declared.conflict.Kind.TheVariants.{Actual};
 ghost use Rattle.mt_base.specs.declared.hit.Hit.{Hit as Clash};
 ghost use Rattle.mt_base.specs.Bounds.{AreWithinBounds};
@@ -10,7 +10,7 @@ ghost use Rattle.mt_base.specs.Trajectory.{horizon};
 ghost use Rattle.mt_base.specs.WhatIf.{AreHitsOf, HasHit};
 ghost use Rattle.mt_probe.specs.Items.{kind_at};
 ghost use Rattle.mt_probe.specs.Private.Ahead.{IsAskedAhead, IsMetAhead};
-ghost use Rattle.mt_probe.specs.Private.Clear.{IsClearAt, IsHitAt};
+ghost use Rattle.mt_probe.specs.Private.Clear.{IsClearAt, IsHitAt, IsOwnPlace};
 ghost use Rattle.mt_probe.specs.Shot.{state_in_shot};
 ghost use Rattle.mt_probe.specs.Tests.{WasTriedNear, flown_at};
 
@@ -43,19 +43,21 @@ fn met_in_window(
     lose(strand, other, rules, from, to, tests)
 }
 
-// The hit of a new trajectory of a flight with one that its slices meet in the look-ahead, where another flight flies that.
+// The hit of a new trajectory of a flight with one that its slices meet in the look-ahead, where another flight flies that. The flight is told from
+// others by its place, so that a record is read only for a hit.
 fn hit_with(
     snapshot: &Snapshot,
     met: Met,
-    call: Callsign,
+    own: Option<u32>,
     strand: &Strand,
     tests: &mut Tally,
 ) -> Option<Hit>
     requires { IsMetAhead snapshot.now strand.now met }
-    ensures hit { IfSome result (IsHitAt snapshot.now call strand.now (met.item / 2)) }
+    ensures hit { (call : List ℕ) → IsOwnPlace snapshot.now call own → IfSome result (IsHitAt snapshot.now call strand.now (met.item / 2)) }
     ensures flown { IfSome result (λ hit. (kind_at met.item ≡ Actual) × (is_name 1 7 hit.with ≡ true)) }
-    ensures clear { result ≡ None → kind_at met.item ≡ Actual → IsClearAt snapshot.now call strand.now (met.item / 2) }
-    ensures counted { tests.new ≤ tests.old + length (flown_at call snapshot.now.slots met.item) }
+    ensures clear { (call : List ℕ) → IsOwnPlace snapshot.now call own → result ≡ None → kind_at met.item ≡ Actual
+        → IsClearAt snapshot.now call strand.now (met.item / 2) }
+    ensures counted { (call : List ℕ) → IsOwnPlace snapshot.now call own → tests.new ≤ tests.old + length (flown_at call snapshot.now.slots met.item) }
 {
     snapshot.keeps();
     strand.keeps();
@@ -64,14 +66,14 @@ fn hit_with(
         return None;
     };
     let slot = met.item / 2;
-    let card = snapshot.flight(slot)?;
-    if card.call == call {
+    if own == Some(slot) {
         return None;
     }
     let other = snapshot.path(slot, Kind::Actual)?;
     let rules = snapshot.rules();
     let now = snapshot.now();
     let (first, last) = met_in_window(rules, now, strand, other, met, tests)?;
+    let card = snapshot.flight(slot)?;
     card.call.keeps();
     Some(Hit {
         first,
@@ -94,9 +96,10 @@ fn has_hit_among(
 {
     snapshot.keeps();
     strand.keeps();
+    let own = snapshot.find(call);
     let mut search = Search::begin();
     while let Some(met) = snapshot.next_meeting(&mut search, mine) {
-        if hit_with(snapshot, met, call, strand, tests).is_some() {
+        if hit_with(snapshot, met, own, strand, tests).is_some() {
             return true;
         }
     }
@@ -134,10 +137,11 @@ fn hits_among(
 {
     snapshot.keeps();
     strand.keeps();
+    let own = snapshot.find(call);
     let mut list = Hits::make(alloc)?;
     let mut search = Search::begin();
     while let Some(met) = snapshot.next_meeting(&mut search, mine) {
-        if let Some(hit) = hit_with(snapshot, met, call, strand, tests) {
+        if let Some(hit) = hit_with(snapshot, met, own, strand, tests) {
             list.push(hit)?;
         }
     }

@@ -1,12 +1,16 @@
 -- No public contract names these: they are of private steps and of proofs.
 -- Where a new trajectory has a hit, and where it has none.
-use Rattle.std.specs.Prelude.{◌≡◌, ◌≢◌, ◌<◌, ◌*◌, ℕ, List, Some, None}
+use Rattle.std.specs.Prelude.{◌≡◌, ◌≢◌, ◌↔◌, ◌<◌, ◌*◌, ℕ, List, Option, Some, None}
 use Rattle.mt_base.specs.declared.hit.Hit.{Hit}
 use Rattle.mt_base.specs.Conflict.{IsConflict, IsSpanOfLoss}
 use Rattle.mt_base.specs.Picture.{trajectory_of, window_end}
 use Rattle.mt_base.specs.Trajectory.{Trajectory}
 use Rattle.mt_probe.specs.declared.flight.Flight.{Flight}
 use Rattle.mt_probe.specs.Shot.{Shot, flight_at}
+
+-- the place of the flight of that callsign, none where no flight has it
+abbrev pub IsOwnPlace : Shot → List ℕ → Option ℕ → Type 0
+IsOwnPlace shot call own = (slot : ℕ) (f : Flight) → flight_at shot slot ≡ Some f → f.card.call ≡ call ↔ own ≡ Some slot
 
 -- no conflict in the look-ahead with another flight at this place
 abbrev pub IsClearAt : Shot → List ℕ → Trajectory → ℕ → Type 0

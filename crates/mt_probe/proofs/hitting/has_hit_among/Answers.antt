@@ -1,7 +1,7 @@
 use Rattle.std.proofs.Common.{true≢false, ◌+◌, [], refl, sym, ◌∙◌, arith}
-use Rattle.std.proofs.lemmas.Int.{ints}
 use Rattle.mt_probe.proofs.Ahead.{tried_all, tried_more}
 use Rattle.mt_probe.proofs.Candidates.{met_inside}
+use Rattle.mt_probe.proofs.Clearing.{own_place}
 use Rattle.mt_probe.proofs.HitPlaces.{has_one, hit_no_more, no_hit, none_below, not_some}
 use Rattle.mt_probe.proofs.hitting.has_hit_among.Goals as goal
 
@@ -25,29 +25,32 @@ loop-met-preserved c =
     let shot = c.args.snapshot.now in
     let t = c.args.strand.now in
     let sound = c.keeps.ensures.sound in
+    let own = own_place c.args.snapshot.now c.args.call _ c.keeps.ensures.sound c.find-own.ensures.flight in
     record {
       searched = c.next_meeting.ensures.searched;
       clear = rw c.in-Some.ensures.on (hit_no_more shot c.args.call t c.args.mine.now.sliced c.requires.ahead.ahead sound c.keeps-2.ensures c.loop-met.search.from c.in-Some.met [] c.in-Some.ensures.next
-          (c.hit_with.ensures.clear (not_some c.hit_with.result (sym c.is_some.ensures ∙ c.if-is_some.false))) c.loop-met.invariant.clear);
+          (c.hit_with.ensures.clear c.args.call own (not_some c.hit_with.result (sym c.is_some.ensures ∙ c.if-is_some.false))) c.loop-met.invariant.clear);
       counted = rw c.in-Some.ensures.on (tried_more shot c.args.call t sound c.keeps-2.ensures c.args.mine.now.sliced c.loop-met.search.from c.in-Some.met c.args.tests.now _ _ c.requires.ahead.ahead
-          c.in-Some.ensures.next c.loop-met.invariant.counted c.hit_with.ensures.counted);
+          c.in-Some.ensures.next c.loop-met.invariant.counted (c.hit_with.ensures.counted c.args.call own));
     }
 
 pub returns-then-is_some-clause-hit : goal.returns-then-is_some-clause-hit
-returns-then-is_some-clause-hit c = (
-  (λ _. has_one c.args.snapshot.now c.args.call c.args.strand.now _ c.hit_with.result c.keeps.ensures.sound c.hit_with.ensures.hit
-      (sym c.is_some.ensures ∙ c.if-is_some.true)),
-  (λ _. refl),
-)
+returns-then-is_some-clause-hit c =
+    let own = own_place c.args.snapshot.now c.args.call _ c.keeps.ensures.sound c.find-own.ensures.flight in (
+      (λ _. has_one c.args.snapshot.now c.args.call c.args.strand.now _ c.hit_with.result c.keeps.ensures.sound (c.hit_with.ensures.hit c.args.call own)
+          (sym c.is_some.ensures ∙ c.if-is_some.true)),
+      (λ _. refl),
+    )
 
 pub returns-then-is_some-clause-counted : goal.returns-then-is_some-clause-counted
 returns-then-is_some-clause-counted c =
     let shot = c.args.snapshot.now in
     let t = c.args.strand.now in
     let sound = c.keeps.ensures.sound in
+    let own = own_place c.args.snapshot.now c.args.call _ c.keeps.ensures.sound c.find-own.ensures.flight in
     tried_all shot c.args.call t sound c.keeps-2.ensures (c.in-Some.met.item + 1) c.args.tests.now _
     (tried_more shot c.args.call t sound c.keeps-2.ensures c.args.mine.now.sliced c.loop-met.search.from c.in-Some.met c.args.tests.now _ _ c.requires.ahead.ahead c.in-Some.ensures.next
-    c.loop-met.invariant.counted c.hit_with.ensures.counted)
+    c.loop-met.invariant.counted (c.hit_with.ensures.counted c.args.call own))
 
 pub returns-clause-hit : goal.returns-clause-hit
 returns-clause-hit c = (

@@ -1,11 +1,11 @@
 use Rattle.std.proofs.Common.{◌≡◌, ◌∙◌, ◌+◌, [], Ok, Result, true, refl, sym, arith}
-use Rattle.std.proofs.lemmas.Int.{ints}
 use Rattle.std.proofs.lemmas.List.Elements.{All-push}
 use Rattle.mt_base.specs.declared.hit.Hit.{Hit}
 use Rattle.mt_base.specs.Name.{is_name}
 use Rattle.mt_base.proofs.Members.{all_among}
 use Rattle.mt_probe.proofs.Ahead.{tried_all, tried_more}
 use Rattle.mt_probe.proofs.Candidates.{met_inside}
+use Rattle.mt_probe.proofs.Clearing.{own_place}
 use Rattle.mt_probe.proofs.HitPlaces.{all_hits, hit_more, hit_no_more, none_below}
 use Rattle.mt_probe.proofs.hitting.hits_among.Goals as goal
 
@@ -35,14 +35,15 @@ loop-met-preserved-in-Continue-branch-2 c =
     let shot = c.args.snapshot.now in
     let t = c.args.strand.now in
     let sound = c.keeps.ensures.sound in
+    let own = own_place c.args.snapshot.now c.args.call _ c.keeps.ensures.sound c.find-own.ensures.flight in
     rw (c.in_ok-push.ensures.ok, c.in-Some.ensures.on) (record {
       searched = c.next_meeting.ensures.searched;
       members = hit_more shot c.args.call t c.args.mine.now.sliced c.requires.ahead.ahead sound c.keeps-2.ensures c.loop-met.search.from c.in-Some.met c.loop-met.list
-          c.in-Some-hit_with.hit c.in-Some.ensures.next (c.in-Some-hit_with.ensures.flown).0 c.in-Some-hit_with.ensures.hit c.loop-met.invariant.members;
+          c.in-Some-hit_with.hit c.in-Some.ensures.next (c.in-Some-hit_with.ensures.flown).0 (c.in-Some-hit_with.ensures.hit c.args.call own) c.loop-met.invariant.members;
       named = All-push (λ (hit : Hit). is_name 1 7 hit.with ≡ true) c.loop-met.list c.in-Some-hit_with.hit c.loop-met.invariant.named
           (c.in-Some-hit_with.ensures.flown).1;
       counted = tried_more shot c.args.call t sound c.keeps-2.ensures c.args.mine.now.sliced c.loop-met.search.from c.in-Some.met c.args.tests.now _ _
-          c.requires.ahead.ahead c.in-Some.ensures.next c.loop-met.invariant.counted c.hit_with.ensures.counted;
+          c.requires.ahead.ahead c.in-Some.ensures.next c.loop-met.invariant.counted (c.hit_with.ensures.counted c.args.call own);
     })
 
 pub loop-met-preserved : goal.loop-met-preserved
@@ -50,13 +51,14 @@ loop-met-preserved c =
     let shot = c.args.snapshot.now in
     let t = c.args.strand.now in
     let sound = c.keeps.ensures.sound in
+    let own = own_place c.args.snapshot.now c.args.call _ c.keeps.ensures.sound c.find-own.ensures.flight in
     rw c.in-Some.ensures.on (record {
       searched = c.next_meeting.ensures.searched;
       members = hit_no_more shot c.args.call t c.args.mine.now.sliced c.requires.ahead.ahead sound c.keeps-2.ensures c.loop-met.search.from c.in-Some.met c.loop-met.list
-          c.in-Some.ensures.next (c.hit_with.ensures.clear c.in_default-hit_with.is) c.loop-met.invariant.members;
+          c.in-Some.ensures.next (c.hit_with.ensures.clear c.args.call own c.in_default-hit_with.is) c.loop-met.invariant.members;
       named = c.loop-met.invariant.named;
       counted = tried_more shot c.args.call t sound c.keeps-2.ensures c.args.mine.now.sliced c.loop-met.search.from c.in-Some.met c.args.tests.now _ _
-          c.requires.ahead.ahead c.in-Some.ensures.next c.loop-met.invariant.counted c.hit_with.ensures.counted;
+          c.requires.ahead.ahead c.in-Some.ensures.next c.loop-met.invariant.counted (c.hit_with.ensures.counted c.args.call own);
     })
 
 pub returns-in_err-push-clause-counted : goal.returns-in_err-push-clause-counted
@@ -64,9 +66,10 @@ returns-in_err-push-clause-counted c =
     let shot = c.args.snapshot.now in
     let t = c.args.strand.now in
     let sound = c.keeps.ensures.sound in
+    let own = own_place c.args.snapshot.now c.args.call _ c.keeps.ensures.sound c.find-own.ensures.flight in
     tried_all shot c.args.call t sound c.keeps-2.ensures (c.in-Some.met.item + 1) c.args.tests.now _
     (tried_more shot c.args.call t sound c.keeps-2.ensures c.args.mine.now.sliced c.loop-met.search.from c.in-Some.met c.args.tests.now _ _ c.requires.ahead.ahead c.in-Some.ensures.next
-    c.loop-met.invariant.counted c.hit_with.ensures.counted)
+    c.loop-met.invariant.counted (c.hit_with.ensures.counted c.args.call own))
 
 pub returns-clause-hits : goal.returns-clause-hits
 returns-clause-hits c = all_hits c.args.snapshot.now c.args.call c.args.strand.now c.args.mine.now.sliced c.requires.ahead.ahead c.keeps.ensures.sound c.keeps-2.ensures

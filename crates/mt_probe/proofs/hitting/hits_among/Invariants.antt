@@ -9,9 +9,9 @@ use Rattle.mt_probe.proofs.hitting.hits_among.Given as goal
 abbrev pub invariant-loop-met : goal.invariant-loop-met
 invariant-loop-met l = record {
   searched : IsSearchedIn l.snapshot l.mine.sliced l.search;
-  members : AreHitsBelow l.snapshot l.call l.strand l.search.from l.list;
+  members : AreHitsBelow l.snapshot l.fn.call l.strand l.search.from l.list;
   named : All (λ (hit : Hit). is_name 1 7 hit.with ≡ true) l.list;
-  counted : WasTriedBelow l.snapshot l.call l.strand l.search.from l.fn.tests l.tests;
+  counted : WasTriedBelow l.snapshot l.fn.call l.strand l.search.from l.fn.tests l.tests;
 }
 
 abbrev pub decreases-loop-met : goal.decreases-loop-met
