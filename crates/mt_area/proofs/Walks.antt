@@ -12,7 +12,7 @@ use Rattle.mt_track.specs.declared.segment.Segment.{Segment}
 use Rattle.mt_track.specs.Laid.{Adjoin, AreSegmentsOf, CoversSecond, IsLaid, IsStrand, edge}
 use Rattle.mt_track.specs.Rows.{row_after}
 use Rattle.mt_track.proofs.Joined.{IsBoundedOver-segment}
-use Rattle.mt_track.proofs.Places.{at_place, blank, covered, edge_to}
+use Rattle.mt_track.proofs.Places.{covered, edge_to}
 use Rattle.mt_track.proofs.Segments.{edge_from, lies_at}
 use Rattle.mt_track.proofs.Strands.{found}
 use Rattle.mt_base.proofs.Spans.{IsSpan-joined, IsSpan-same}
@@ -33,15 +33,13 @@ pub record Reads (t : Trajectory) (ss : List Segment) (i : ℕ) (s : Segment) : 
   pub holds : (k : ℕ) → s.from ≤ k → k < s.to → CoversSecond t k s
   pub kept : (k : ℕ) → s.from ≤ k → k ≤ s.to → IsBoundedOver s.first (k - s.from)
 
-pub reads : (t : Trajectory) (ss : List Segment) (i : ℕ) → IsStrand t → AreSegmentsOf t ss → i < length ss → Reads t ss i (slice_index_or ss i blank)
-reads t ss i kept are below =
-    let is = at_place ss i blank below in
+pub reads : (t : Trajectory) (ss : List Segment) (i : ℕ) (s : Segment) → IsStrand t → AreSegmentsOf t ss → i < length ss → s ≡ slice_index_or ss i s → Reads t ss i s
+reads t ss i s kept are below is =
     let all : IsLaid t.start (t.start + length t.rows) ss = record { adjoin = are.adjoin; apart = are.apart; kept = rw are.rows kept } in
-    let lies = lies_at t.start (t.start + length t.rows) ss i (slice_index_or ss i blank) are.adjoin below is in
+    let lies = lies_at t.start (t.start + length t.rows) ss i s are.adjoin below is in
     let first = edge_from t.start (t.start + length t.rows) ss i are.adjoin in
     let last = edge_to t.start (t.start + length t.rows) ss (suc i) are.adjoin (omega arith) in
     let one : i + 1 ≡ suc i = omega arith in
-    let s = slice_index_or ss i blank in
     let holds : (k : ℕ) → s.from ≤ k → k < s.to → CoversSecond t k s = λ k later sooner.
     subst (λ (rows : List Row). CoversSecond (record t { rows = rows }) k s) are.rows
     (found t.start (t.start + length t.rows) t.rvsm ss i (suc i) k s all (omega arith) (omega arith) (omega arith)

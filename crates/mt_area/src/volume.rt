@@ -5,7 +5,7 @@ ghost use Rattle.mt_area.specs.Private.Volume.{AreHeightsApart, AreSouthOrNorth,
 
 use crate::levels::height_of;
 use mt_base::{Area, Row, Second};
-use mt_track::{Strand, later};
+use mt_track::Strand;
 
 /// Numbers from a least to a greatest one.
 #[derive(Clone, Copy)]
@@ -81,8 +81,8 @@ pub(crate) fn volume_over(strand: &Strand, from: Second, to: Second) -> Volume
         if end <= begin {
             continue;
         }
-        volume = grown(volume, &later(&segment.first, begin - segment.from));
-        volume = grown(volume, &later(&segment.first, end - segment.from));
+        volume = grown(volume, &segment.first.later(begin - segment.from));
+        volume = grown(volume, &segment.first.later(end - segment.from));
     }
     volume
 }

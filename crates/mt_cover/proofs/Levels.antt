@@ -3,7 +3,8 @@ use Rattle.std.proofs.Common.{◌≡◌, ℕ, ℤ, pos, neg_ℤ, ◌+ℤ◌, ◌
 use Rattle.std.proofs.lemmas.Int.{ints}
 use Rattle.mt_base.specs.Bounds.{IsKeptOver, IsWithin}
 use Rattle.mt_ring.proofs.Ring.{lin, spread}
-use Rattle.mt_cover.proofs.Numbers.{IsHigh, IsNear, fits_reach, high_near, in_64, reach_is}
+use Rattle.mt_track.proofs.Bits.{IsNear, in_64, reach_is}
+use Rattle.mt_cover.proofs.Numbers.{IsHigh, fits_reach, high_near}
 
 -- a height less a margin, and with it, after some seconds
 pub less_after : (z w v g n : ℤ) → ((z +ℤ v *ℤ n) -ℤ (w +ℤ g *ℤ n)) ≡ ((z -ℤ w) +ℤ (v -ℤ g) *ℤ n)

@@ -1,32 +1,12 @@
 -- Numbers that pass through their bits, 64 or 32 of them, and stay within bounds.
-use Rattle.std.proofs.Common.{◌≡◌, ◌∙◌, ℕ, ◌^◌, ◌<◌, ℤ, pos, neg_ℤ, ◌+ℤ◌, ◌-ℤ◌, ◌*ℤ◌, ◌≤ℤ◌, FitsSigned, to_z, of_z, w32, w64, arith, lit<}
-use Rattle.std.proofs.lemmas.Int.{clamps, fits_signed_from_abs, ints, to_z-of_z}
+use Rattle.std.proofs.Common.{◌≡◌, ◌∙◌, ℕ, ◌^◌, ◌<◌, ℤ, pos, neg_ℤ, ◌+ℤ◌, ◌-ℤ◌, ◌*ℤ◌, ◌≤ℤ◌, FitsSigned, w32, w64, arith, lit<}
+use Rattle.std.proofs.lemmas.Int.{clamps, ints, to_z-of_z}
 use Rattle.std.specs.Int.{int_max, int_min}
 use Rattle.mt_base.specs.Bounds.{IsKeptOver, IsWithin}
-use Rattle.mt_ring.proofs.Sizes.{Abs, abs_to, fits_64}
+use Rattle.mt_ring.proofs.Sizes.{Abs, fits_64}
+use Rattle.mt_track.proofs.Bits.{IsNear, as_it_is, fits_32, in_32, in_64, narrow_is, near_32, reach_is}
 use Rattle.mt_cover.specs.declared.bounding_box.Extent.{Extent}
 use Rattle.mt_cover.specs.Private.InPlane.{IsExtentInPlane, IsExtentNearPlane}
-
-abbrev pub in_64 : ℤ → ℤ
-in_64 z = to_z w64 (of_z w64 z)
-
-abbrev pub in_32 : ℤ → ℤ
-in_32 z = to_z w32 (of_z w32 z)
-
-pub as_it_is : (low high : ℤ) (z : ℤ) → IsWithin low high z → neg_ℤ (pos 9000000) ≤ℤ low → high ≤ℤ pos 9000000 → in_64 z ≡ z
-as_it_is low high z h a b =
-    let size : Abs 9000000 z = record { low = omega (arith, ints, h.least, a); high = omega (arith, ints, h.most, b) } in
-    to_z-of_z w64 z (fits_64 size (lit< tt))
-
--- what 32 bits hold
-abbrev pub IsNear : ℤ → Type 0
-IsNear z = IsWithin (neg_ℤ (pos 9000000)) (pos 9000000) z
-
-pub fits_32 : (z : ℤ) → IsNear z → FitsSigned w32 z
-fits_32 z h = fits_signed_from_abs w32 z (let k = abs_to 9000000 z (record { low = h.least; high = h.most }) in omega (arith, k))
-
-pub near_32 : (z : ℤ) → IsNear z → in_32 z ≡ z
-near_32 z h = to_z-of_z w32 z (fits_32 z h)
 
 pub IsWithin-min : (low high y z : ℤ) → IsWithin low high y → IsWithin low high z → IsWithin low high (int_min y z)
 IsWithin-min low high y z g h = record { least = omega (arith, ints, clamps, g.least, h.least); most = omega (arith, ints, clamps, g.most, h.most) }
@@ -55,9 +35,6 @@ margin_max y z v y_kept z_kept is =
     let same = margin_is v kept in
     (same ∙ plain, rw same kept)
 
-pub reach_is : (z : ℤ) → IsNear z → in_64 z ≡ z
-reach_is z h = as_it_is (neg_ℤ (pos 9000000)) (pos 9000000) z h (omega (arith, ints)) (omega (arith, ints))
-
 pub half_is : (z : ℤ) → IsWithin (pos 1) (pos 36000) z → in_64 z ≡ z
 half_is z h = as_it_is (pos 1) (pos 36000) z h (omega (arith, ints)) (omega (arith, ints))
 
@@ -69,13 +46,6 @@ sum_is m k m_kept k_kept =
     let s : IsWithin (pos 1) (pos 108000) (m +ℤ k) =
     record { least = omega (arith, ints, m_kept.least, k_kept.least); most = omega (arith, ints, m_kept.most, k_kept.most) } in
     rw (a, b) (as_it_is (pos 1) (pos 108000) (m +ℤ k) s (omega (arith, ints)) (omega (arith, ints)))
-
--- a number that the code makes narrow
-pub narrow_is : (z v : ℤ) → IsNear z → v ≡ in_64 z → in_32 v ≡ z
-narrow_is z v h is = let plain : v ≡ z = is ∙ reach_is z h in rw plain (near_32 z h)
-
-pub narrow_near : (z : ℤ) → IsNear z → IsNear (in_64 z)
-narrow_near z h = rw (reach_is z h) h
 
 pub IsExtentInPlane-32 : (low high : ℤ) → InPlane low → InPlane high → low ≤ℤ high → IsExtentInPlane (record { low = in_32 low; high = in_32 high })
 IsExtentInPlane-32 low high a b c = rw (plane_is low a, plane_is high b) (record { low = a; high = b; ordered = c })

@@ -148,10 +148,6 @@ stands_next start end ss index at s t laid stands early is =
           (get_or_default ss (suc index) s (get_or ss (suc index) s) next) in omega (arith, more.some, more.from, more.to, lies.to);
     })
 
-pub here_or : (start end : ℕ) (ss : List Segment) (index k : ℕ) (d : Segment) → IsLaid start end ss → StandsAtSecond start ss index k → k < end
-    → Here end ss index k (get_or ss index d)
-here_or start end ss index k d laid stands early = here start end ss index k (get_or ss index d) laid stands early (at_element start end ss index k d laid stands early)
-
 -- at the end of the segment the next one holds; before it, the same one
 pub stands_past : (start end : ℕ) (ss : List Segment) (index at until to : ℕ) (s : Segment) → IsLaid start end ss → StandsAtSecond start ss index at → at < end → s ≡ get_or ss index s
     → until ≡ min s.to to → s.to ≤ to → StandsAtSecond start ss (index + 1) until
@@ -169,8 +165,8 @@ pub record Goes (at until to : ℕ) : Type 0 where
   pub on : at < until
   pub within : until ≤ to
 
-pub goes : (start end : ℕ) (ss : List Segment) (index at until to : ℕ) (d : Segment) → IsLaid start end ss → StandsAtSecond start ss index at → at < end → at < to
-    → until ≡ min (get_or ss index d).to to → Goes at until to
-goes start end ss index at until to d laid stands early more is =
-    let h = here_or start end ss index at d laid stands early in
-    record { on = omega (arith, h.ahead, is); within = omega (arith, is) }
+pub goes : (start end : ℕ) (ss : List Segment) (index at until to : ℕ) (s : Segment) → IsLaid start end ss → StandsAtSecond start ss index at → at < end
+    → s ≡ get_or ss index s → at < to → until ≡ min s.to to → Goes at until to
+goes start end ss index at until to s laid stands early is more until_is =
+    let h = here start end ss index at s laid stands early is in
+    record { on = omega (arith, h.ahead, until_is); within = omega (arith, until_is) }

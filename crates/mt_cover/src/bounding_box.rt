@@ -8,8 +8,8 @@ ghost use Rattle.mt_cover.specs.Private.Parts.{box_of_both};
 
 use crate::heights::{both, straight_layer};
 use crate::layer::Layer;
-use crate::units::narrow;
 use mt_base::{Row, Rules, Second};
+use mt_track::narrow;
 
 /// Coordinates from a least to a greatest one, in units of the plane.
 #[derive(Clone, Copy)]

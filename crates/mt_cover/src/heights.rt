@@ -6,8 +6,8 @@ ghost use Rattle.mt_cover.specs.Box.{both};
 ghost use Rattle.mt_cover.specs.Private.Parts.{straight_layer};
 
 use crate::layer::Layer;
-use crate::units::narrow;
 use mt_base::{Row, Second};
+use mt_track::narrow;
 
 /// The heights of so many seconds with the same gains, of which a row is the first, with the vertical margin below and above. Both are linear, so
 /// they are extreme at the first instant or at the last.

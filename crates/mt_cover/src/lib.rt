@@ -8,7 +8,6 @@ mod laws;
 mod layer;
 mod sliced;
 mod stays;
-mod units;
 mod walk;
 mod window;
 

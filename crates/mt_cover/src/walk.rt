@@ -12,7 +12,7 @@ use crate::bounding_box::{BoundingBox, box_of_both, half, straight_box};
 use crate::sliced::{SLICE, Slices, slice_around};
 use crate::stays::Cover;
 use mt_base::{Memory, Rules, Second};
-use mt_track::{Segment, Strand, later};
+use mt_track::{Segment, Strand};
 use std::alloc::Global;
 
 /// What was gathered of a slice: the box of its rows up to a second, that second, and the number of the segment that holds it.
@@ -45,7 +45,7 @@ fn gather_part(
 {
     let segment = &segments[index];
     let until = segment.to.min(to);
-    let first = later(&segment.first, from - segment.from);
+    let first = segment.first.later(from - segment.from);
     GatheredRows {
         bounds: straight_box(&first, until - from),
         until,

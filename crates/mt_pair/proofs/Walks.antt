@@ -34,13 +34,13 @@ pub record Reads (t : Trajectory) (ss : List Segment) (i k : ℕ) (s : Segment) 
   pub begun : s.from ≤ k
   pub next : s.to ≤ k → edge t.start ss (i + 1) ≤ k
 
-pub reads : (t : Trajectory) (ss : List Segment) (i k : ℕ) → IsStrand t → AreSegmentsOf t ss → edge t.start ss i ≤ k → k < t.start + length t.rows
-    → Reads t ss i k (slice_index_or ss i blank)
-reads t ss i k kept are begun within =
+pub reads : (t : Trajectory) (ss : List Segment) (i k : ℕ) (d : Segment) → IsStrand t → AreSegmentsOf t ss → edge t.start ss i ≤ k
+    → k < t.start + length t.rows → Reads t ss i k (slice_index_or ss i d)
+reads t ss i k d kept are begun within =
     let below = below_length t.start (t.start + length t.rows) ss i k are.adjoin begun within in
-    let is = at_place ss i blank below in
+    let is = at_place ss i d below in
     let few = few_segments t.start (t.start + length t.rows) ss are.adjoin in
-    let lies = lies_at t.start (t.start + length t.rows) ss i (slice_index_or ss i blank) are.adjoin below is in
+    let lies = lies_at t.start (t.start + length t.rows) ss i (slice_index_or ss i d) are.adjoin below is in
     let one : i + 1 ≡ suc i = omega arith in
     record {
       below = below;
@@ -64,18 +64,18 @@ pub record ReadsCover (t : Trajectory) (ss : List Segment) (i from to : ℕ) (s 
   pub short : to ≤ from + 14400
   pub holds : (k : ℕ) → from ≤ k → k < to → CoversSecond t k s
 
-pub reads_cover : (t : Trajectory) (ss : List Segment) (i from to : ℕ) → IsStrand t → AreSegmentsOf t ss → Covers t i from to
-    → ReadsCover t ss i from to (slice_index_or ss i blank)
-reads_cover t ss i from to kept are covers =
+pub reads_cover_one : (t : Trajectory) (ss : List Segment) (i from to : ℕ) (s : Segment) → IsStrand t → AreSegmentsOf t ss → Covers t i from to
+    → (i < length ss → s ≡ get_or ss i s) → ReadsCover t ss i from to s
+reads_cover_one t ss i from to s kept are covers is_read =
     let same = same_segments t covers.segments ss covers.are are in
     let below : i < length ss = subst (λ (us : List Segment). i < length us) same covers.place in
     let is : covers.segment ≡ get_or ss i covers.segment = subst (λ (us : List Segment). covers.segment ≡ get_or us i covers.segment) same covers.is in
-    let read = at_place ss i blank below in
-    let one : covers.segment ≡ slice_index_or ss i blank = one_element ss i covers.segment (slice_index_or ss i blank) below is read in
-    let begun : (slice_index_or ss i blank).from ≤ from = subst (λ (s : Segment). s.from ≤ from) one covers.begun in
-    let ahead : to ≤ (slice_index_or ss i blank).to = subst (λ (s : Segment). to ≤ s.to) one covers.ahead in
+    let read = is_read below in
+    let one : covers.segment ≡ s = one_element ss i covers.segment s below is read in
+    let begun : s.from ≤ from = subst (λ (s : Segment). s.from ≤ from) one covers.begun in
+    let ahead : to ≤ s.to = subst (λ (s : Segment). to ≤ s.to) one covers.ahead in
     let all : IsLaid t.start (t.start + length t.rows) ss = record { adjoin = are.adjoin; apart = are.apart; kept = rw are.rows kept } in
-    let lies = lies_at t.start (t.start + length t.rows) ss i (slice_index_or ss i blank) are.adjoin below read in
+    let lies = lies_at t.start (t.start + length t.rows) ss i s are.adjoin below read in
     let first = edge_from t.start (t.start + length t.rows) ss i are.adjoin in
     let last = edge_to t.start (t.start + length t.rows) ss (suc i) are.adjoin (omega arith) in
     let few = few_segments t.start (t.start + length t.rows) ss are.adjoin in
@@ -84,10 +84,14 @@ reads_cover t ss i from to kept are covers =
       few = omega (arith, below, few, kept.short);
       short = omega (arith, ahead, lies.to, last, kept.short, first, lies.from, begun);
       holds = λ k later sooner.
-          subst (λ (rows : List Row). CoversSecond (record t { rows = rows }) k (slice_index_or ss i blank)) are.rows
-          (found t.start (t.start + length t.rows) t.rvsm ss i (suc i) k (slice_index_or ss i blank) all (omega arith) (omega arith) (omega arith)
+          subst (λ (rows : List Row). CoversSecond (record t { rows = rows }) k s) are.rows
+          (found t.start (t.start + length t.rows) t.rvsm ss i (suc i) k s all (omega arith) (omega arith) (omega arith)
           (omega (arith, first, lies.from, begun)) (omega (arith, lies.from, begun)) (omega (arith, lies.to, ahead)) read);
     }
+
+pub reads_cover : (t : Trajectory) (ss : List Segment) (i from to : ℕ) → IsStrand t → AreSegmentsOf t ss → Covers t i from to
+    → ReadsCover t ss i from to (slice_index_or ss i blank)
+reads_cover t ss i from to kept are covers = reads_cover_one t ss i from to (slice_index_or ss i blank) kept are covers (at_place ss i blank)
 
 -- a segment that holds a second stands at it
 pub StandsAt-covers : (t : Trajectory) (s : Segment) (k : ℕ) → CoversSecond t k s → StandsAt s k

@@ -12,7 +12,7 @@ ghost use Rattle.mt_base.specs.Span.{IsSpan};
 use crate::approach::{Approach, High};
 use crate::vertical::{are_far, are_low, both};
 use mt_base::{Row, Rules, Second, Steps};
-use mt_track::{Segment, Strand, later};
+use mt_track::{Segment, Strand};
 
 /// The first and the last second from `from` up to `to` with a loss, where the time of an approach is counted from `from`. At most 32 steps.
 fn span_after(
@@ -82,8 +82,8 @@ fn overlap(
     ensures span { IsSpan (λ k. LosesIn rules.now s_rvsm t_rvsm (row_after s.now.first (k - s.now.from)) (row_after t.now.first (k - t.now.from))) from to result }
     ensures counted { steps.new ≤ steps.old + 32 }
 {
-    let a = later(&s.first, from - s.from);
-    let b = later(&t.first, from - t.from);
+    let a = s.first.later(from - s.from);
+    let b = t.first.later(from - t.from);
     span_from(rules, s_rvsm, t_rvsm, &a, &b, from, to, steps)
 }
 

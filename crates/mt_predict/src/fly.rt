@@ -9,7 +9,7 @@ use crate::leg::leg_to;
 use crate::second::{place_at, row_on};
 use crate::steady::steady;
 use mt_base::{Band, Base, Leg, Memory, Place, Point, Rules};
-use mt_track::{Segment, Strand};
+use mt_track::{PackedRow, Segment, Strand};
 use std::alloc::Global;
 
 /// The most seconds of a trajectory.
@@ -46,7 +46,7 @@ fn fly_leg(
         strand.push(Segment {
             from: begin,
             to: begin + seconds,
-            first: row,
+            first: PackedRow::of(&row),
         })?;
         place = place_at(&row, seconds);
         left -= seconds;

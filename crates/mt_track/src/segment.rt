@@ -2,6 +2,7 @@ ghost use Rattle.std.specs.Prelude.{◌≡◌, ◌↔◌, ◌-◌, ◌≤◌, po
 ghost use Rattle.mt_base.specs.Bounds.{IsBoundedOver, IsWithin};
 ghost use Rattle.mt_track.specs.Rows.{row_after};
 
+use crate::packed_row::PackedRow;
 use mt_base::{Row, Second};
 
 /// Some seconds with the same gains: `from <= k < to`, each value linear over all of them.
@@ -12,7 +13,7 @@ pub struct Segment {
     /// The second after the last one.
     pub to: Second,
     /// The row of the first second.
-    pub first: Row,
+    pub first: PackedRow,
 }
 
 /// A value that many seconds later, by its gain.
@@ -40,10 +41,10 @@ pub fn later(first: &Row, seconds: u32) -> Row
 }
 
 /// Whether a row is the next one of a segment: its gains and its leg are the same, and each value goes on.
-pub(crate) fn goes_on(segment: &Segment, row: &Row) -> bool
+pub(crate) fn goes_on(segment: &Segment, row: &PackedRow) -> bool
     requires kept { IsBoundedOver segment.now.first (segment.now.to - segment.now.from) }
     requires ordered { segment.now.from ≤ segment.now.to }
     ensures { IsTrue result ↔ (row.now ≡ row_after segment.now.first (segment.now.to - segment.now.from)) }
 {
-    *row == later(&segment.first, segment.to - segment.from)
+    row.row() == segment.first.later(segment.to - segment.from)
 }

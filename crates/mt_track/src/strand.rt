@@ -3,7 +3,8 @@ ghost use Rattle.mt_base.specs.Bounds.{IsBoundedRow, IsBoundedStretch};
 ghost use Rattle.mt_base.specs.Trajectory.{row_at, straight};
 ghost use Rattle.mt_track.specs.Laid.{AreSegmentsOf, CoversSecond, Follows, IsStrand, extended};
 
-use crate::segment::{Segment, goes_on, later};
+use crate::packed_row::PackedRow;
+use crate::segment::{Segment, goes_on};
 use mt_base::{Memory, Row, Second, Straight};
 use std::alloc::Global;
 use std::marker::Model;
@@ -75,7 +76,7 @@ impl Strand {
         strand.push(Segment {
             from: stretch.from,
             to: stretch.to,
-            first: stretch.first,
+            first: PackedRow::of(&stretch.first),
         })?;
         Ok(strand)
     }
@@ -108,7 +109,7 @@ impl Strand {
             return None;
         }
         let segment = self.holding(k);
-        Some(later(&segment.first, k - segment.from))
+        Some(segment.first.later(k - segment.from))
     }
 
     /// Its first second.

@@ -1,5 +1,6 @@
 use Rattle.std.proofs.Common.{◌∙◌, ◌+ℤ◌}
-use Rattle.mt_cover.proofs.Numbers.{greater_is, lesser_is, min_below_max, narrow_is, narrow_near, plane_near}
+use Rattle.mt_track.proofs.Bits.{narrow_is, narrow_near}
+use Rattle.mt_cover.proofs.Numbers.{greater_is, lesser_is, min_below_max, plane_near}
 use Rattle.mt_cover.proofs.bounding_box.extent_of.Goals as goal
 
 pub narrow-requires : goal.narrow-requires

@@ -1,4 +1,5 @@
-use Rattle.mt_cover.proofs.Numbers.{by_near, narrow_near, wider_is}
+use Rattle.mt_track.proofs.Bits.{narrow_near}
+use Rattle.mt_cover.proofs.Numbers.{by_near, wider_is}
 use Rattle.mt_cover.proofs.bounding_box.wider.Goals as goal
 
 pub narrow-by-requires : goal.narrow-by-requires

@@ -1,6 +1,7 @@
 use Rattle.std.proofs.Common.{◌∙◌}
 use Rattle.mt_cover.proofs.Levels.{as_coded}
-use Rattle.mt_cover.proofs.Numbers.{IsHigh, IsWithin-max, IsWithin-min, count_is, high_near, narrow_is, narrow_near}
+use Rattle.mt_track.proofs.Bits.{narrow_is, narrow_near}
+use Rattle.mt_cover.proofs.Numbers.{IsHigh, IsWithin-max, IsWithin-min, count_is, high_near}
 use Rattle.mt_cover.proofs.heights.straight_layer.Goals as goal
 
 pub overflow_mul-first : goal.overflow_mul-first

@@ -1,6 +1,7 @@
 use Rattle.std.proofs.Common.{◌≡◌, ap, ◌∙◌, ◌+ℤ◌}
 use Rattle.mt_cover.specs.Box.{wider}
-use Rattle.mt_cover.proofs.Numbers.{in_64, sum_is}
+use Rattle.mt_track.proofs.Bits.{in_64}
+use Rattle.mt_cover.proofs.Numbers.{sum_is}
 use Rattle.mt_cover.proofs.sliced.slice_around.Goals as goal
 
 pub returns-clause-is : goal.returns-clause-is

@@ -16,6 +16,9 @@ steady-seconds-requires-clause-row_kept c =
     row_flown _ _ _ _ _ c.requires.manner_kept.rules c.row_on-row.ensures
     (first_bounded _ _ _ _ (omega (arith, c.loop-left-test.true)) c.loop-left.invariant.bounded)
 
+pub of-requires : goal.of-requires
+of-requires c = (1, rw c.row_on-row.ensures (first_bounded _ _ _ _ (omega (arith, c.loop-left-test.true)) c.loop-left.invariant.bounded))
+
 pub push-requires : goal.push-requires
 push-requires c =
     let m = manner c.args.rules.now c.args.bands.now c.args.level in
@@ -25,8 +28,8 @@ push-requires c =
       some = c.steady-seconds.ensures.some;
       few = c.steady-seconds.ensures.within;
     } in
-    stretch_follows c.end-begin.result (14400 - length c.args.strand.now.rows) c.loop-left.invariant next c.end-begin.ensures.end c.requires.early
-    (omega (arith, c.end.ensures.kept.short)) (omega (arith, c.min.ensures, c.start.ensures, c.end.ensures.end))
+    rw c.of.ensures (stretch_follows c.end-begin.result (14400 - length c.args.strand.now.rows) c.loop-left.invariant next c.end-begin.ensures.end c.requires.early
+    (omega (arith, c.end.ensures.kept.short)) (omega (arith, c.min.ensures, c.start.ensures, c.end.ensures.end)))
 
 pub place_at-place-requires : goal.place_at-place-requires
 place_at-place-requires c =
@@ -48,7 +51,7 @@ loop-left-preserved c =
       some = c.steady-seconds.ensures.some;
       few = c.steady-seconds.ensures.within;
     } in
-    stretch_flown c.end-begin.result c.loop-left.invariant next c.in_ok-push.ensures.ok c.place_at-place.ensures
+    stretch_flown c.end-begin.result c.loop-left.invariant next (rw c.of.ensures at c.in_ok-push.ensures.ok) c.place_at-place.ensures
 
 pub returns-clause-rows : goal.returns-clause-rows
 returns-clause-rows c =

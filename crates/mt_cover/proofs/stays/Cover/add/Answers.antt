@@ -1,6 +1,7 @@
 use Rattle.std.proofs.Common.{◌≡◌, ap, ◌∙◌, ◌+ℤ◌, ℤ}
 use Rattle.mt_cover.specs.Box.{half, wider}
-use Rattle.mt_cover.proofs.Numbers.{in_64, sum_is}
+use Rattle.mt_track.proofs.Bits.{in_64}
+use Rattle.mt_cover.proofs.Numbers.{sum_is}
 use Rattle.mt_cover.proofs.stays.Cover.add.Goals as goal
 
 pub returns : goal.returns

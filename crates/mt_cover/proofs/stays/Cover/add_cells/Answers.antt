@@ -3,7 +3,7 @@ use Rattle.mt_cover.specs.declared.stays.Stay.{Stay}
 use Rattle.mt_cover.specs.Cells.{cells_in, stays_of}
 use Rattle.mt_cover.proofs.Counted.{cells_is, flat_map_on}
 use Rattle.mt_cover.proofs.Law.{place_rises}
-use Rattle.mt_cover.proofs.Numbers.{near_32}
+use Rattle.mt_track.proofs.Bits.{near_32}
 use Rattle.mt_cover.proofs.stays.Cover.add_cells.Goals as goal
 
 pub loop-line-preserved : goal.loop-line-preserved

@@ -2,7 +2,7 @@ use Rattle.std.proofs.Common.{◌++◌, ◌∷◌, [], List, ap, ◌∙◌, arit
 use Rattle.mt_cover.specs.declared.stays.Stay.{Stay}
 use Rattle.mt_cover.proofs.Counted.{line_is, map_more, stay}
 use Rattle.mt_cover.proofs.Law.{place_rises}
-use Rattle.mt_cover.proofs.Numbers.{near_32}
+use Rattle.mt_track.proofs.Bits.{near_32}
 use Rattle.mt_cover.proofs.stays.Cover.add_line.Goals as goal
 
 pub loop-column-preserved : goal.loop-column-preserved
