@@ -12,7 +12,7 @@ use Rattle.mt_cover.specs.Sliced.{Holds}
 use Rattle.mt_pair.specs.High.{level_of}
 use Rattle.mt_meet.specs.Heights.{EndBelow, LieApart}
 use Rattle.mt_meet.specs.Meeting.{SlicesMeet}
-use Rattle.mt_meet.specs.Private.Stepping.{Cross, Enclose, IsBoxedBy, IsGuard, IsGuardedBy, IsBelowTop, IsReach, bounds_of, height_step, step, wider_by}
+use Rattle.mt_meet.specs.Private.Stepping.{Cross, Enclose, IsBoxedBy, IsGuard, IsGuardedBy, IsBelowTop, IsReach, bounds_of, boxed_bounds, guard_bounds, height_step, step, wider_by}
 use Rattle.mt_meet.specs.declared.steps.Bounds.{Bounds}
 
 abs_rises : (a b : ℤ) → pos 0 ≤ℤ a → a ≤ℤ b → unsigned_abs a ≤ unsigned_abs b
@@ -49,20 +49,16 @@ on h g = record {
   high = omega (arith, ints, h.high, g.high);
 }
 
--- what a slice holds lies between its steps
-enclosed : (wide s : Slice) → Holds wide s → Enclose (bounds_of wide) (bounds_of s)
-enclosed wide s holds = record {
+-- what a slice holds lies between its steps, where the heights do
+enclosed : (wide s : Slice) (low least high most : ℤ) → Holds wide s → low ≤ℤ least → most ≤ℤ high → Enclose (bounds_of wide.x wide.y low high) (bounds_of s.x s.y least most)
+enclosed wide s low least high most holds more less = record {
   west = step_rises wide.x.low s.x.low holds.x.low;
   east = step_rises s.x.high wide.x.high holds.x.high;
   south = step_rises wide.y.low s.y.low holds.y.low;
   north = step_rises s.y.high wide.y.high holds.y.high;
-  low = height_rises wide.layer.low s.layer.low holds.low;
-  high = height_rises s.layer.high wide.layer.high holds.high;
+  low = height_rises low least more;
+  high = height_rises most high less;
 }
-
--- so it is with other heights
-with_layers : (wide s : Slice) (a b : Layer) → Holds wide s → a.low ≤ℤ b.low → b.high ≤ℤ a.high → Holds (record wide { layer = a }) (record s { layer = b })
-with_layers wide s a b holds low high = record { x = holds.x; y = holds.y; low = low; high = high }
 
 low_within : (approved : Bool) (wide s : Layer) → s.high ≤ℤ wide.high → IsBelowTop approved wide → IsBelowTop approved s
 low_within approved wide s high low = record { approved_is = low.approved_is; below = omega (arith, ints, high, low.below) }
@@ -73,38 +69,44 @@ wider_low by y z more = omega (arith, ints, more)
 wider_high : (by y z : ℤ) → y ≤ℤ z → (y +ℤ by) ≤ℤ (z +ℤ by)
 wider_high by y z more = omega (arith, ints, more)
 
+boxed_enclosed : (wide s : Slice) (a b : Layer) → Holds wide s → a.low ≤ℤ b.low → b.high ≤ℤ a.high → Enclose (boxed_bounds wide a) (boxed_bounds s b)
+boxed_enclosed wide s a b holds low high = enclosed wide s a.low b.low (a.high +ℤ pos 999) (b.high +ℤ pos 999) holds low (wider_high (pos 999) b.high a.high high)
+
+guard_enclosed : (wide s : Slice) (a b : Layer) → Holds wide s → a.low ≤ℤ b.low → b.high ≤ℤ a.high → Enclose (guard_bounds wide a) (guard_bounds s b)
+guard_enclosed wide s a b holds low high = enclosed wide s (a.low +ℤ pos 999) (b.low +ℤ pos 999) a.high b.high holds (wider_high (pos 999) a.low b.low low) high
+
+-- heights that reach farther by so much hold those of what a slice holds
+wider_held : (by : ℤ) (wide s : Slice) → Holds wide s → ((wide.layer.low -ℤ by) ≤ℤ (s.layer.low -ℤ by)) × ((s.layer.high +ℤ by) ≤ℤ (wide.layer.high +ℤ by))
+wider_held by wide s holds = (wider_low by wide.layer.low s.layer.low holds.low, wider_high by s.layer.high wide.layer.high holds.high)
+
 pub boxed_within : (b : Bounds) (approved : Bool) (wide s : Slice) → Holds wide s → IsBoxedBy b approved wide → IsBoxedBy b approved s
-boxed_within b approved wide s holds by = ⊎_elim
+boxed_within b approved wide s holds by =
+    let far = wider_held (pos 600000) wide s holds in ⊎_elim
     (λ low. record {
       reach = s.layer;
       reach_is = inl (low_within approved wide.layer s.layer holds.high low.0, refl);
-      enclose = on by.enclose (enclosed (record wide { layer = by.reach }) s
-          (with_layers wide s by.reach s.layer holds (rw low.1 holds.low) (rw low.1 holds.high)));
+      enclose = on by.enclose (boxed_enclosed wide s by.reach s.layer holds (rw low.1 holds.low) (rw low.1 holds.high));
     })
-    (λ far. record {
+    (λ high. record {
       reach = wider_by (pos 600000) s.layer;
       reach_is = inr refl;
-      enclose = on by.enclose (enclosed (record wide { layer = by.reach }) (record s { layer = wider_by (pos 600000) s.layer })
-          (with_layers wide s by.reach (wider_by (pos 600000) s.layer) holds
-          (rw far (wider_low (pos 600000) wide.layer.low s.layer.low holds.low)) (rw far (wider_high (pos 600000) s.layer.high wide.layer.high holds.high))));
+      enclose = on by.enclose (boxed_enclosed wide s by.reach (wider_by (pos 600000) s.layer) holds (rw high far.0) (rw high far.1));
     })
     by.reach_is
 
 pub guarded_within : (rules : Rules) (b : Bounds) (approved : Bool) (wide s : Slice) → Holds wide s → IsGuardedBy rules b approved wide → IsGuardedBy rules b approved s
-guarded_within rules b approved wide s holds by = ⊎_elim
+guarded_within rules b approved wide s holds by =
+    let near = wider_held (rules.sv -ℤ pos 1) wide s holds in
+    let far = wider_held (rules.sv2 -ℤ pos 1) wide s holds in ⊎_elim
     (λ low. record {
       guard = wider_by (rules.sv -ℤ pos 1) s.layer;
       guard_is = inl (low_within approved wide.layer s.layer holds.high low.0, refl);
-      enclose = on by.enclose (enclosed (record wide { layer = by.guard }) (record s { layer = wider_by (rules.sv -ℤ pos 1) s.layer })
-          (with_layers wide s by.guard (wider_by (rules.sv -ℤ pos 1) s.layer) holds
-          (rw low.1 (wider_low (rules.sv -ℤ pos 1) wide.layer.low s.layer.low holds.low)) (rw low.1 (wider_high (rules.sv -ℤ pos 1) s.layer.high wide.layer.high holds.high))));
+      enclose = on by.enclose (guard_enclosed wide s by.guard (wider_by (rules.sv -ℤ pos 1) s.layer) holds (rw low.1 near.0) (rw low.1 near.1));
     })
-    (λ far. record {
+    (λ high. record {
       guard = wider_by (rules.sv2 -ℤ pos 1) s.layer;
       guard_is = inr refl;
-      enclose = on by.enclose (enclosed (record wide { layer = by.guard }) (record s { layer = wider_by (rules.sv2 -ℤ pos 1) s.layer })
-          (with_layers wide s by.guard (wider_by (rules.sv2 -ℤ pos 1) s.layer) holds
-          (rw far (wider_low (rules.sv2 -ℤ pos 1) wide.layer.low s.layer.low holds.low)) (rw far (wider_high (rules.sv2 -ℤ pos 1) s.layer.high wide.layer.high holds.high))));
+      enclose = on by.enclose (guard_enclosed wide s by.guard (wider_by (rules.sv2 -ℤ pos 1) s.layer) holds (rw high far.0) (rw high far.1));
     })
     by.guard_is
 
@@ -152,6 +154,6 @@ crossing rules left right a b p q kept meet mine theirs =
       east = between _ _ _ _ theirs.enclose.west (step_rises b.x.low a.x.high meet.touch.x.right) mine.enclose.east;
       south = between _ _ _ _ mine.enclose.south (step_rises a.y.low b.y.high meet.touch.y.left) theirs.enclose.north;
       north = between _ _ _ _ theirs.enclose.south (step_rises b.y.low a.y.high meet.touch.y.right) mine.enclose.north;
-      low = between _ _ _ _ mine.enclose.low (height_rises mine.guard.low theirs.reach.high heights.low) theirs.enclose.high;
+      low = between _ _ _ _ mine.enclose.low (height_rises (mine.guard.low +ℤ pos 999) (theirs.reach.high +ℤ pos 999) (wider_high (pos 999) mine.guard.low theirs.reach.high heights.low)) theirs.enclose.high;
       high = between _ _ _ _ theirs.enclose.low (height_rises theirs.reach.low mine.guard.high heights.high) mine.enclose.high;
     }

@@ -1,3 +1,4 @@
+pub mod Bounding
 pub mod Boxed
 pub mod Crossing
 pub mod Equal

@@ -5,7 +5,7 @@ ghost use Rattle.mt_cover.specs.Layer.{IsLayerKept};
 ghost use Rattle.mt_meet.specs.Private.Stepping.{IsBoxedBy, IsGuard, IsGuardedBy, IsBelowTop, IsReach, bounds_of, height_step, nowhere, step, wider_by};
 
 use mt_base::Rules;
-use mt_cover::{Layer, Slice};
+use mt_cover::{Extent, Layer, Slice};
 use mt_pair::level_of;
 
 // What lies farther from 0 counts as there.
@@ -47,6 +47,10 @@ fn height_step(z: i32) -> i16
     (from_least.unsigned_abs() / 1000) as i16
 }
 
+// A unit less than a step of heights: a height with so much more is rounded up to a step. An item's greatest height and a subject's least one, which are
+// compared, are rounded up, and the two others down. So two that fly level a minimum apart, where steps begin, have no step in common.
+const NEARLY_A_STEP: i32 = 999;
+
 /// Those of what is nowhere: no step lies between them.
 pub(crate) fn nowhere() -> Bounds
     ensures { result ≡ nowhere }
@@ -61,17 +65,17 @@ pub(crate) fn nowhere() -> Bounds
     }
 }
 
-// Those of a position and heights.
-fn bounds_of(slice: &Slice) -> Bounds
-    ensures { result ≡ bounds_of slice.now }
+// Those of positions east and north, and of a least and a greatest height.
+fn bounds_of(x: &Extent, y: &Extent, low: i32, high: i32) -> Bounds
+    ensures { result ≡ bounds_of x.now y.now low high }
 {
     Bounds {
-        west: step(slice.x.low),
-        east: step(slice.x.high),
-        south: step(slice.y.low),
-        north: step(slice.y.high),
-        low: height_step(slice.layer.low),
-        high: height_step(slice.layer.high),
+        west: step(x.low),
+        east: step(x.high),
+        south: step(y.low),
+        north: step(y.high),
+        low: height_step(low),
+        high: height_step(high),
     }
 }
 
@@ -125,10 +129,8 @@ pub(crate) fn boxed(approved: bool, slice: &Slice) -> Bounds
     requires { IsLayerKept slice.now.layer }
     ensures { IsBoxedBy result approved slice.now }
 {
-    bounds_of(&Slice {
-        layer: reach_of(approved, &slice.layer),
-        ..*slice
-    })
+    let reach = reach_of(approved, &slice.layer);
+    bounds_of(&slice.x, &slice.y, reach.low, reach.high + NEARLY_A_STEP)
 }
 
 /// The steps by which a subject with a slice is looked for.
@@ -137,8 +139,6 @@ pub(crate) fn guarded(rules: &Rules, approved: bool, slice: &Slice) -> Bounds
     requires kept { IsLayerKept slice.now.layer }
     ensures { IsGuardedBy rules.now result approved slice.now }
 {
-    bounds_of(&Slice {
-        layer: guard_of(rules, approved, &slice.layer),
-        ..*slice
-    })
+    let guard = guard_of(rules, approved, &slice.layer);
+    bounds_of(&slice.x, &slice.y, guard.low + NEARLY_A_STEP, guard.high)
 }

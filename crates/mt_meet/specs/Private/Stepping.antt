@@ -3,6 +3,7 @@
 use Rattle.std.specs.Prelude.{◌≡◌, ◌⊎◌, Bool, true, ℕ, ℤ, pos, neg_ℤ, ◌+ℤ◌, ◌-ℤ◌, ◌≤ℤ◌, ◌/◌, unsigned_abs}
 use Rattle.std.specs.Int.{int_max, int_min}
 use Rattle.mt_base.specs.declared.rules.Rules.{Rules}
+use Rattle.mt_cover.specs.declared.bounding_box.Extent.{Extent}
 use Rattle.mt_cover.specs.declared.layer.Layer.{Layer}
 use Rattle.mt_cover.specs.declared.sliced.Slice.{Slice}
 use Rattle.mt_pair.specs.High.{level_of}
@@ -16,16 +17,25 @@ step z = unsigned_abs (int_min (int_max z (neg_ℤ (pos 16777216))) (pos 1677721
 abbrev pub height_step : ℤ → ℕ
 height_step z = unsigned_abs (int_min (int_max z (neg_ℤ (pos 16000000))) (pos 15999999) +ℤ pos 16000000) / 1000
 
--- the steps of a slice
-abbrev pub bounds_of : Slice → Bounds
-bounds_of s = record {
-  west = pos (step s.x.low);
-  east = pos (step s.x.high);
-  south = pos (step s.y.low);
-  north = pos (step s.y.high);
-  low = pos (height_step s.layer.low);
-  high = pos (height_step s.layer.high);
+-- the steps of positions east and north, and of a least and a greatest height
+abbrev pub bounds_of : Extent → Extent → ℤ → ℤ → Bounds
+bounds_of x y low high = record {
+  west = pos (step x.low);
+  east = pos (step x.high);
+  south = pos (step y.low);
+  north = pos (step y.high);
+  low = pos (height_step low);
+  high = pos (height_step high);
 }
+
+-- `boxed_bounds`, `guard_bounds`: the steps of an item's slice and of a subject's, with the heights by which it is found or looked for. A height that ends
+-- a step belongs to that step and not to the next one, so two that fly level at such heights a minimum apart have no step in common, whichever is above:
+-- an item's greatest height and a subject's least one, which are compared, are rounded up, and the two others down.
+abbrev pub boxed_bounds : Slice → Layer → Bounds
+boxed_bounds s reach = bounds_of s.x s.y reach.low (reach.high +ℤ pos 999)
+
+abbrev pub guard_bounds : Slice → Layer → Bounds
+guard_bounds s guard = bounds_of s.x s.y (guard.low +ℤ pos 999) guard.high
 
 -- heights, wider by so much on each side
 abbrev pub wider_by : ℤ → Layer → Layer
@@ -70,10 +80,10 @@ pub record Cross (a b : Bounds) : Type 0 where
 pub record IsBoxedBy (b : Bounds) (approved : Bool) (s : Slice) : Type 0 where
   pub reach : Layer
   pub reach_is : IsReach approved s.layer reach
-  pub enclose : Enclose b (bounds_of (record s { layer = reach }))
+  pub enclose : Enclose b (boxed_bounds s reach)
 
 -- these are steps by which a subject with a slice is looked for
 pub record IsGuardedBy (rules : Rules) (b : Bounds) (approved : Bool) (s : Slice) : Type 0 where
   pub guard : Layer
   pub guard_is : IsGuard rules approved s.layer guard
-  pub enclose : Enclose b (bounds_of (record s { layer = guard }))
+  pub enclose : Enclose b (guard_bounds s guard)
