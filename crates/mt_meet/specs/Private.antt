@@ -3,5 +3,6 @@ pub mod Boxing
 pub mod Heights
 pub mod Marking
 pub mod Meeting
+pub mod Pieces
 pub mod Searching
 pub mod Stepping

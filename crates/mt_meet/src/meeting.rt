@@ -1,11 +1,12 @@
 //! The seconds in which the slices of two trajectories meet.
-ghost use Rattle.std.specs.Prelude.{◌≡◌, ◌↔◌, ◌≤◌, ◌<◌, ◌+◌, ◌*◌, ◌/◌, ◌^◌, ◌&&◌, ℕ, All, IsTrue, length, max, min};
+ghost use Rattle.std.specs.Prelude.{◌≡◌, ◌↔◌, ◌≤◌, ◌<◌, ◌+◌, ◌/◌, ◌^◌, ◌&&◌, ℕ, All, IsTrue, length};
 ghost use Rattle.mt_base.specs.Bounds.{AreWithinBounds};
 ghost use Rattle.mt_cover.specs.Layer.{IsLayerKept};
 ghost use Rattle.mt_cover.specs.declared.sliced.Slice.{Slice as Cut};
 ghost use Rattle.mt_cover.specs.Sliced.{Touch};
 ghost use Rattle.mt_meet.specs.Meeting.{MeetAt, SlicesMeet};
 ghost use Rattle.mt_meet.specs.Private.Meeting.{Before, IsHull, MeetOnlyIn, PieceMeets, span_with};
+ghost use Rattle.mt_meet.specs.Private.Pieces.{ArePieces, BeginEarly, seconds_of};
 
 use crate::heights::lie_apart;
 use mt_base::{Rules, Second};
@@ -35,12 +36,42 @@ fn are_approved(a: &Slices, b: &Slices) -> bool
     a.rvsm() && b.rvsm()
 }
 
+// The pieces of the time of two trajectories, in each of which both have one slice. With the next piece that of them which ended gives way to the one
+// after it, so the two lists take turns.
+#[derive(Clone, Copy)]
+struct Pieces {
+    // The seconds in which the first slices begin.
+    starts: (Second, Second),
+    // 1 for that whose first slice ends earlier, else 0.
+    turn: (usize, usize),
+    // How many pieces there are.
+    number: usize,
+}
+
 // 1 where one of two slices begins earlier than the other one, and so ends earlier, else 0.
 fn is_earlier(a_start: Second, b_start: Second) -> usize
     ensures earlier { a_start < b_start → result ≡ 1 }
     ensures not { b_start ≤ a_start → result ≡ 0 }
 {
     if a_start < b_start { 1 } else { 0 }
+}
+
+// Those of the seconds from one on and before another.
+#[inline(always)]
+fn pieces_of(a: &Slices, b: &Slices, begin: Second, end: Second) -> Pieces
+    requires some { begin < end }
+    requires left { a.now.from ≤ begin }
+    requires right { b.now.from ≤ begin }
+    ensures { ArePieces a.now b.now begin end result }
+{
+    let a_start = begin - (begin - a.from()) % SLICE;
+    let b_start = begin - (begin - b.from()) % SLICE;
+    let number = (end - 1 - a_start) / SLICE + (end - 1 - b_start) / SLICE + 1;
+    Pieces {
+        starts: (a_start, b_start),
+        turn: (is_earlier(a_start, b_start), is_earlier(b_start, a_start)),
+        number: number as usize,
+    }
 }
 
 // The first and the last of some pieces, with one more after them.
@@ -57,40 +88,38 @@ fn with_piece(span: Option<(usize, usize)>, piece: usize, meets: bool) -> Option
     }
 }
 
-// The first and the last of some pieces of the time of two trajectories in which their slices meet. In a piece each has one slice; with the next one
-// that of them which ended gives way to the one after it, so the two lists take turns. `turn` has 1 for that whose first slice ends earlier.
+// The first and the last piece in which the slices of two lists meet.
 #[inline(always)]
 fn pieces_that_meet(
     rules: &Rules,
     approved: bool,
     a: &[Slice],
     b: &[Slice],
-    turn: (usize, usize),
-    number: usize,
+    pieces: &Pieces,
 ) -> Option<(usize, usize)>
     requires rules { AreWithinBounds rules.now }
-    requires a_enough { (piece : ℕ) → piece < number → (piece + turn.0) / 2 < length a.now }
-    requires b_enough { (piece : ℕ) → piece < number → (piece + turn.1) / 2 < length b.now }
+    requires a_enough { (piece : ℕ) → piece < pieces.now.number → (piece + pieces.now.turn.0) / 2 < length a.now }
+    requires b_enough { (piece : ℕ) → piece < pieces.now.number → (piece + pieces.now.turn.1) / 2 < length b.now }
     requires a_kept { All (λ (slice : Cut). IsLayerKept slice.layer) a.now }
     requires b_kept { All (λ (slice : Cut). IsLayerKept slice.layer) b.now }
-    requires few { number + 2 < 2 ^ 64 }
-    ensures { IsHull (Before (PieceMeets rules.now approved a.now b.now turn) number) result }
+    requires few { pieces.now.number + 2 < 2 ^ 64 }
+    ensures { IsHull (Before (PieceMeets rules.now approved a.now b.now pieces.now.turn) pieces.now.number) result }
 {
+    let turn = pieces.turn;
     let mut span = None;
-    for piece in 0..number {
+    for piece in 0..pieces.number {
         let (left, right) = (&a[(piece + turn.0) / 2], &b[(piece + turn.1) / 2]);
         span = with_piece(span, piece, slices_meet(rules, approved, left, right));
     }
     span
 }
 
-// From which second on, and before which one, both slices of a piece stand, where the first slices begin at these seconds.
-fn seconds_of(starts: (Second, Second), turn: (usize, usize), piece: usize) -> (Second, Second)
-    requires left { starts.0 + 128 * ((piece + turn.0) / 2) ≤ 10014400 }
-    requires right { starts.1 + 128 * ((piece + turn.1) / 2) ≤ 10014400 }
-    ensures from { result.0 ≡ max (starts.0 + 128 * ((piece + turn.0) / 2)) (starts.1 + 128 * ((piece + turn.1) / 2)) }
-    ensures past { result.1 ≡ min (starts.0 + 128 * ((piece + turn.0) / 2)) (starts.1 + 128 * ((piece + turn.1) / 2)) + 128 }
+// From which second on, and before which one, both slices of a piece stand.
+fn seconds_of(pieces: &Pieces, piece: usize) -> (Second, Second)
+    requires { BeginEarly pieces.now piece }
+    ensures { result ≡ seconds_of pieces.now piece }
 {
+    let (starts, turn) = (pieces.starts, pieces.turn);
     let left = starts.0 + SLICE * ((piece + turn.0) / 2) as Second;
     let right = starts.1 + SLICE * ((piece + turn.1) / 2) as Second;
     (left.max(right), left.min(right) + SLICE)
@@ -112,14 +141,11 @@ pub(crate) fn meet_within(
 {
     a.keeps();
     b.keeps();
-    let a_start = begin - (begin - a.from()) % SLICE;
-    let b_start = begin - (begin - b.from()) % SLICE;
-    let turn = (is_earlier(a_start, b_start), is_earlier(b_start, a_start));
-    let number = (end - 1 - a_start) / SLICE + (end - 1 - b_start) / SLICE + 1;
+    let pieces = pieces_of(a, b, begin, end);
     let approved = are_approved(a, b);
     let (left, right) = (a.slices_from(begin), b.slices_from(begin));
-    let (first, last) = pieces_that_meet(rules, approved, left, right, turn, number as usize)?;
-    let (from, _) = seconds_of((a_start, b_start), turn, first);
-    let (_, past) = seconds_of((a_start, b_start), turn, last);
+    let (first, last) = pieces_that_meet(rules, approved, left, right, &pieces)?;
+    let (from, _) = seconds_of(&pieces, first);
+    let (_, past) = seconds_of(&pieces, last);
     Some((begin.max(from), end.min(past) - 1))
 }
