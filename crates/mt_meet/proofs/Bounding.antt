@@ -6,7 +6,7 @@ use Rattle.mt_base.specs.Bounds.{AreWithinBounds, IsWithin}
 use Rattle.mt_cover.specs.declared.layer.Layer.{Layer}
 use Rattle.mt_cover.specs.declared.sliced.Slice.{Slice}
 use Rattle.mt_cover.specs.Layer.{IsLayerKept}
-use Rattle.mt_cover.proofs.Numbers.{IsNear, in_32, near_32}
+use Rattle.mt_track.proofs.Bits.{IsNear, in_32, near_32}
 use Rattle.mt_meet.specs.Private.Stepping.{Enclose, IsBoxedBy, IsGuard, IsGuardedBy, IsReach, bounds_of, boxed_bounds, guard_bounds, wider_by}
 use Rattle.mt_meet.specs.declared.steps.Bounds.{Bounds}
 

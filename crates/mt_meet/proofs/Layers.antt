@@ -13,7 +13,8 @@ use Rattle.mt_base.specs.Loss.{IsNearAt, LosesIn, height}
 use Rattle.mt_cover.specs.declared.layer.Layer.{Layer}
 use Rattle.mt_cover.specs.Layer.{IsInLayer, IsLayerKept}
 use Rattle.mt_cover.proofs.Apart.{not_above, not_below}
-use Rattle.mt_cover.proofs.Numbers.{IsNear, fits_32, high_is, in_32, in_64, narrow_is, near_32, reach_is}
+use Rattle.mt_track.proofs.Bits.{IsNear, fits_32, in_32, in_64, narrow_is, near_32, reach_is}
+use Rattle.mt_cover.proofs.Numbers.{high_is}
 use Rattle.mt_meet.specs.Heights.{EndBelow, LieApart}
 use Rattle.mt_meet.specs.Private.Heights.{IsMinimumIn}
 use Rattle.mt_pair.specs.High.{LosesAbove, level_of}

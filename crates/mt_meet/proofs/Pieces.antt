@@ -7,7 +7,7 @@ use Rattle.mt_cover.specs.declared.sliced.Slice.{Slice}
 use Rattle.mt_cover.specs.Sliced.{AreSlices, Sliced, no_slice, slice_at}
 use Rattle.mt_meet.specs.Meeting.{IsHullOf, MeetAt}
 use Rattle.mt_meet.specs.Private.Meeting.{Before, IsHull, MeetOnlyIn, PieceMeets}
-use Rattle.mt_meet.specs.Private.Pieces.{ArePieces, BeginEarly, left_begun, right_begun, seconds_of}
+use Rattle.mt_meet.specs.Private.Pieces.{ArePieces, BeginEarly, left_begun, right_begun, piece_seconds}
 use Rattle.mt_meet.specs.declared.meeting.Pieces.{Pieces}
 
 -- the slice of a second is that of a number, from the slice of an earlier second on, which begins at x
@@ -142,7 +142,7 @@ module _ (a b : Sliced) (begin end : ℕ) (p : Pieces) (them : ArePieces a b beg
         no_piece none k meet = none ((k - p.starts.0) / 128 + (k - p.starts.1) / 128) (piece_of k meet)
 
         -- the first and the last piece give the first and the last second
-        pub pieces_hull : (first last start past : ℕ) → start ≡ max begin (seconds_of p first).0 → past ≡ min end (seconds_of p last).1
+        pub pieces_hull : (first last start past : ℕ) → start ≡ max begin (piece_seconds p first).0 → past ≡ min end (piece_seconds p last).1
             → IsHullOf (Before (PieceMeets minima approved left right p.turn) p.number) first last → IsHullOf (MeetAt minima a b) start (past - 1)
         pieces_hull first last start past start_is past_is hull =
             let begins = in_time first hull.first_is.0 in

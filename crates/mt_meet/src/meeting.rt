@@ -6,7 +6,7 @@ ghost use Rattle.mt_cover.specs.declared.sliced.Slice.{Slice as Cut};
 ghost use Rattle.mt_cover.specs.Sliced.{Touch};
 ghost use Rattle.mt_meet.specs.Meeting.{MeetAt, SlicesMeet};
 ghost use Rattle.mt_meet.specs.Private.Meeting.{Before, IsHull, MeetOnlyIn, PieceMeets, span_with};
-ghost use Rattle.mt_meet.specs.Private.Pieces.{ArePieces, BeginEarly, seconds_of};
+ghost use Rattle.mt_meet.specs.Private.Pieces.{ArePieces, BeginEarly, piece_seconds};
 
 use crate::heights::lie_apart;
 use mt_base::{Rules, Second};
@@ -115,9 +115,9 @@ fn pieces_that_meet(
 }
 
 // From which second on, and before which one, both slices of a piece stand.
-fn seconds_of(pieces: &Pieces, piece: usize) -> (Second, Second)
+fn piece_seconds(pieces: &Pieces, piece: usize) -> (Second, Second)
     requires { BeginEarly pieces.now piece }
-    ensures { result ≡ seconds_of pieces.now piece }
+    ensures { result ≡ piece_seconds pieces.now piece }
 {
     let (starts, turn) = (pieces.starts, pieces.turn);
     let left = starts.0 + SLICE * ((piece + turn.0) / 2) as Second;
@@ -145,7 +145,7 @@ pub(crate) fn meet_within(
     let approved = are_approved(a, b);
     let (left, right) = (a.slices_from(begin), b.slices_from(begin));
     let (first, last) = pieces_that_meet(rules, approved, left, right, &pieces)?;
-    let (from, _) = seconds_of(&pieces, first);
-    let (_, past) = seconds_of(&pieces, last);
+    let (from, _) = piece_seconds(&pieces, first);
+    let (_, past) = piece_seconds(&pieces, last);
     Some((begin.max(from), end.min(past) - 1))
 }

@@ -22,8 +22,8 @@ abbrev pub right_begun : Pieces → ℕ → ℕ
 right_begun p piece = p.starts.1 + 128 * ((piece + p.turn.1) / 2)
 
 -- from which second on and before which one both slices of a piece stand
-abbrev pub seconds_of : Pieces → ℕ → ℕ × ℕ
-seconds_of p piece = (max (left_begun p piece) (right_begun p piece), min (left_begun p piece) (right_begun p piece) + 128)
+abbrev pub piece_seconds : Pieces → ℕ → ℕ × ℕ
+piece_seconds p piece = (max (left_begun p piece) (right_begun p piece), min (left_begun p piece) (right_begun p piece) + 128)
 
 -- the slices of a piece begin by the last second before which slices end
 pub record BeginEarly (p : Pieces) (piece : ℕ) : Type 0 where

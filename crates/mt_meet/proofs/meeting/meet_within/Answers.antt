@@ -15,15 +15,15 @@ returns-in_err-first c = rw c.from_residual.ensures (no_piece c.args.a.now c.arg
     c.args.rules.now c.requires.outside c.slices_from-left.result.now c.slices_from-right.result.now c.slices_from-left.ensures.is c.slices_from-right.ensures.is
     c.are_approved-approved.result c.are_approved-approved.ensures c.in_err-first.ensures)
 
-pub seconds_of-from-requires : goal.seconds_of-from-requires
-seconds_of-from-requires c = begin_early c.args.a.now c.args.b.now c.args.begin c.args.end c.pieces_of-pieces.result c.pieces_of-pieces.ensures
+pub piece_seconds-from-requires : goal.piece_seconds-from-requires
+piece_seconds-from-requires c = begin_early c.args.a.now c.args.b.now c.args.begin c.args.end c.pieces_of-pieces.result c.pieces_of-pieces.ensures
     c.args.rules.now c.requires.outside c.keeps.ensures c.keeps-2.ensures c.in_ok-first.first c.in_ok-first.ensures.first_is.0
 
-pub seconds_of-past-requires : goal.seconds_of-past-requires
-seconds_of-past-requires c = begin_early c.args.a.now c.args.b.now c.args.begin c.args.end c.pieces_of-pieces.result c.pieces_of-pieces.ensures
+pub piece_seconds-past-requires : goal.piece_seconds-past-requires
+piece_seconds-past-requires c = begin_early c.args.a.now c.args.b.now c.args.begin c.args.end c.pieces_of-pieces.result c.pieces_of-pieces.ensures
     c.args.rules.now c.requires.outside c.keeps.ensures c.keeps-2.ensures c.in_ok-first.last c.in_ok-first.ensures.last_is.0
 
 pub returns : goal.returns
-returns c = rw (c.max.ensures, c.min.ensures, c.seconds_of-from.ensures, c.seconds_of-past.ensures) (pieces_hull c.args.a.now c.args.b.now c.args.begin c.args.end
+returns c = rw (c.max.ensures, c.min.ensures, c.piece_seconds-from.ensures, c.piece_seconds-past.ensures) (pieces_hull c.args.a.now c.args.b.now c.args.begin c.args.end
     c.pieces_of-pieces.result c.pieces_of-pieces.ensures c.args.rules.now c.requires.outside c.slices_from-left.result.now c.slices_from-right.result.now
     c.slices_from-left.ensures.is c.slices_from-right.ensures.is c.are_approved-approved.result c.are_approved-approved.ensures _ _ _ _ refl refl c.in_ok-first.ensures)
