@@ -8,21 +8,21 @@ use mt_memory::Memory;
 use std::alloc::Global;
 use std::sync::Arc;
 
-/// The places of a page, each empty or with a shared item.
-pub(crate) type Page<T> = Vec<Option<Arc<T>>>;
-
 /// How many places a page has.
-pub(crate) const PLACES: u32 = 32;
+pub(crate) const PLACES: usize = 32;
 
-/// So many pages, of so many empty places each. They are one page, shared.
+/// The places of a page, each empty or with a shared item. They stand in the page itself, so that a read of an item goes over few addresses.
+pub(crate) type Page<T> = [Option<Arc<T>>; PLACES];
+
+/// So many pages of empty places. They are one page, shared.
 pub(crate) fn empty_pages<T: Drop>(
     alloc: Global,
     number: usize,
-    size: usize,
 ) -> Result<Vec<Arc<Page<T>>>, Memory>
-    ensures { IfOk result (λ pages. rows pages.items ≡ replicate number (replicate size None)) }
+    ensures { IfOk result (λ pages. rows pages.items ≡ replicate number (replicate 32 None)) }
 {
-    let page = Arc::new(alloc, vec![in alloc; None; size]?)?;
+    let empty: Page<T> = Default::default();
+    let page = Arc::new(alloc, empty)?;
     Ok(vec![in alloc; page; number]?)
 }
 
@@ -32,7 +32,7 @@ pub(crate) fn replace_place<T: Drop>(
     place: usize,
     item: Option<Arc<T>>,
 ) -> Result<(), Memory>
-    requires { place < length (row page.old) }
+    requires { place < 32 }
     ensures ok { OnOk result (row page.new ≡ slice_set (row page.old) place (option_map arc_value item)) }
     ensures err { OnErr result (row page.new ≡ row page.old) }
 {
