@@ -1,8 +1,8 @@
 pub mod Bounding
 pub mod Boxed
 pub mod Crossing
+pub mod Ends
 pub mod Equal
-pub mod Hulls
 pub mod Layers
 pub mod Listing
 pub mod Marking

@@ -1,13 +1,14 @@
 -- Pieces of the time of two trajectories, in each of which both have one slice.
-use Rattle.std.proofs.Common.{◌≡◌, ◌≤◌, ◌<◌, ◌+◌, ◌-◌, ◌*◌, ◌/◌, ◌%◌, ◌&&◌, ⊎_elim, Bool, ℕ, List, None, drop, get_or, length, max, min, refl, arith}
+use Rattle.std.proofs.Common.{◌≡◌, ◌≤◌, ◌<◌, ◌+◌, ◌-◌, ◌*◌, ◌/◌, ◌%◌, ◌&&◌, ⊎_elim, Bool, ℕ, List, All, None, drop, get_or, length, max, min, refl, arith}
 use Rattle.std.proofs.lemmas.Bool.{cases_lt}
 use Rattle.std.proofs.lemmas.List.{get_or-drop, length-drop}
 use Rattle.mt_base.specs.declared.rules.Rules.{Rules}
+use Rattle.mt_cover.specs.Layer.{IsLayerKept}
 use Rattle.mt_cover.specs.declared.sliced.Slice.{Slice}
 use Rattle.mt_cover.specs.Sliced.{AreSlices, Sliced, no_slice, slice_at}
 use Rattle.mt_meet.specs.Meeting.{IsHullOf, MeetAt}
-use Rattle.mt_meet.specs.Private.Meeting.{Before, IsHull, MeetOnlyIn, PieceMeets}
-use Rattle.mt_meet.specs.Private.Pieces.{ArePieces, BeginEarly, left_begun, right_begun, piece_seconds}
+use Rattle.mt_meet.specs.Private.Meeting.{Before, IsFirstPiece, MeetOnlyIn, PieceMeets}
+use Rattle.mt_meet.specs.Private.Pieces.{ArePieces, BeginEarly, HaveSlices, left_begun, right_begun, piece_seconds}
 use Rattle.mt_meet.specs.declared.meeting.Pieces.{Pieces}
 
 -- the slice of a second is that of a number, from the slice of an earlier second on, which begins at x
@@ -102,13 +103,16 @@ module _ (a b : Sliced) (begin end : ℕ) (p : Pieces) (them : ArePieces a b beg
         record { left = omega (arith, begun.0, outside.a_within, a_kept.early); right = omega (arith, begun.1, outside.b_within, b_kept.early) }
 
     module _ (left right : List Slice) (left_is : left ≡ drop ((begin - a.from) / 128) a.list) (right_is : right ≡ drop ((begin - b.from) / 128) b.list) where
-      pub left_enough : AreSlices a → (piece : ℕ) → piece < p.number → (piece + p.turn.0) / 2 < length left
+      left_enough : AreSlices a → (piece : ℕ) → piece < p.number → (piece + p.turn.0) / 2 < length left
       left_enough kept piece early =
           long_enough a begin end p.starts.0 ((piece + p.turn.0) / 2) left kept outside.a_begun outside.a_within them.left_start left_is (in_time piece early).0
 
-      pub right_enough : AreSlices b → (piece : ℕ) → piece < p.number → (piece + p.turn.1) / 2 < length right
+      right_enough : AreSlices b → (piece : ℕ) → piece < p.number → (piece + p.turn.1) / 2 < length right
       right_enough kept piece early =
           long_enough b begin end p.starts.1 ((piece + p.turn.1) / 2) right kept outside.b_begun outside.b_within them.right_start right_is (in_time piece early).1
+
+      pub have_slices : AreSlices a → AreSlices b → All (λ (slice : Slice). IsLayerKept slice.layer) left → All (λ (slice : Slice). IsLayerKept slice.layer) right → HaveSlices left right p
+      have_slices a_kept b_kept left_kept right_kept = record { left = left_enough a_kept; right = right_enough b_kept; left_kept = left_kept; right_kept = right_kept }
 
       module _ (approved : Bool) (approved_is : approved ≡ (a.rvsm && b.rvsm)) where
         meet_in : (piece k : ℕ) → begin ≤ k → k < end → (k - p.starts.0) / 128 ≡ (piece + p.turn.0) / 2 → (k - p.starts.1) / 128 ≡ (piece + p.turn.1) / 2
@@ -138,7 +142,7 @@ module _ (a b : Sliced) (begin end : ℕ) (p : Pieces) (them : ArePieces a b beg
               ) meet.meet,
             )
 
-        pub no_piece : IsHull (Before (PieceMeets minima approved left right p.turn) p.number) None → (k : ℕ) → ¬ MeetAt minima a b k
+        pub no_piece : IsFirstPiece (Before (PieceMeets minima approved left right p.turn) p.number) None → (k : ℕ) → ¬ MeetAt minima a b k
         no_piece none k meet = none ((k - p.starts.0) / 128 + (k - p.starts.1) / 128) (piece_of k meet)
 
         -- the first and the last piece give the first and the last second

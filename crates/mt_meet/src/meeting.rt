@@ -5,8 +5,8 @@ ghost use Rattle.mt_cover.specs.Layer.{IsLayerKept};
 ghost use Rattle.mt_cover.specs.declared.sliced.Slice.{Slice as Cut};
 ghost use Rattle.mt_cover.specs.Sliced.{Touch};
 ghost use Rattle.mt_meet.specs.Meeting.{MeetAt, SlicesMeet};
-ghost use Rattle.mt_meet.specs.Private.Meeting.{Before, IsHull, MeetOnlyIn, PieceMeets, span_with};
-ghost use Rattle.mt_meet.specs.Private.Pieces.{ArePieces, BeginEarly, piece_seconds};
+ghost use Rattle.mt_meet.specs.Private.Meeting.{Before, IsFirstPiece, IsHull, IsLastPiece, MeetOnlyIn, PieceMeets};
+ghost use Rattle.mt_meet.specs.Private.Pieces.{ArePieces, BeginEarly, HaveSlices, piece_seconds};
 
 use crate::heights::lie_apart;
 use mt_base::{Rules, Second};
@@ -74,44 +74,70 @@ fn pieces_of(a: &Slices, b: &Slices, begin: Second, end: Second) -> Pieces
     }
 }
 
-// The first and the last of some pieces, with one more after them.
+// Whether the slices of a piece meet.
 #[inline(always)]
-fn with_piece(span: Option<(usize, usize)>, piece: usize, meets: bool) -> Option<(usize, usize)>
-    ensures { result ≡ span_with span piece meets }
-{
-    if !meets {
-        return span;
-    }
-    match span {
-        Some((first, _)) => Some((first, piece)),
-        None => Some((piece, piece)),
-    }
-}
-
-// The first and the last piece in which the slices of two lists meet.
-#[inline(always)]
-fn pieces_that_meet(
+fn piece_meets(
     rules: &Rules,
     approved: bool,
     a: &[Slice],
     b: &[Slice],
     pieces: &Pieces,
-) -> Option<(usize, usize)>
+    piece: usize,
+) -> bool
     requires rules { AreWithinBounds rules.now }
-    requires a_enough { (piece : ℕ) → piece < pieces.now.number → (piece + pieces.now.turn.0) / 2 < length a.now }
-    requires b_enough { (piece : ℕ) → piece < pieces.now.number → (piece + pieces.now.turn.1) / 2 < length b.now }
-    requires a_kept { All (λ (slice : Cut). IsLayerKept slice.layer) a.now }
-    requires b_kept { All (λ (slice : Cut). IsLayerKept slice.layer) b.now }
+    requires slices { HaveSlices a.now b.now pieces.now }
     requires few { pieces.now.number + 2 < 2 ^ 64 }
-    ensures { IsHull (Before (PieceMeets rules.now approved a.now b.now pieces.now.turn) pieces.now.number) result }
+    requires piece { piece < pieces.now.number }
+    ensures { IsTrue result ↔ PieceMeets rules.now approved a.now b.now pieces.now.turn piece }
 {
-    let turn = pieces.turn;
-    let mut span = None;
+    let left = &a[(piece + pieces.turn.0) / 2];
+    let right = &b[(piece + pieces.turn.1) / 2];
+    slices_meet(rules, approved, left, right)
+}
+
+// The first piece in which slices meet.
+#[inline(always)]
+fn first_that_meets(
+    rules: &Rules,
+    approved: bool,
+    a: &[Slice],
+    b: &[Slice],
+    pieces: &Pieces,
+) -> Option<usize>
+    requires rules { AreWithinBounds rules.now }
+    requires slices { HaveSlices a.now b.now pieces.now }
+    requires few { pieces.now.number + 2 < 2 ^ 64 }
+    ensures { IsFirstPiece (Before (PieceMeets rules.now approved a.now b.now pieces.now.turn) pieces.now.number) result }
+{
     for piece in 0..pieces.number {
-        let (left, right) = (&a[(piece + turn.0) / 2], &b[(piece + turn.1) / 2]);
-        span = with_piece(span, piece, slices_meet(rules, approved, left, right));
+        if piece_meets(rules, approved, a, b, pieces, piece) {
+            return Some(piece);
+        }
     }
-    span
+    None
+}
+
+// The last piece in which slices meet, from one on in which they do.
+#[inline(always)]
+fn last_that_meets(
+    rules: &Rules,
+    approved: bool,
+    a: &[Slice],
+    b: &[Slice],
+    pieces: &Pieces,
+    first: usize,
+) -> usize
+    requires rules { AreWithinBounds rules.now }
+    requires slices { HaveSlices a.now b.now pieces.now }
+    requires few { pieces.now.number + 2 < 2 ^ 64 }
+    requires first { Before (PieceMeets rules.now approved a.now b.now pieces.now.turn) pieces.now.number first }
+    ensures { IsLastPiece (Before (PieceMeets rules.now approved a.now b.now pieces.now.turn) pieces.now.number) result }
+{
+    let mut last = pieces.number - 1;
+    while first < last && !piece_meets(rules, approved, a, b, pieces, last) {
+        last -= 1;
+    }
+    last
 }
 
 // From which second on, and before which one, both slices of a piece stand.
@@ -144,7 +170,8 @@ pub(crate) fn meet_within(
     let pieces = pieces_of(a, b, begin, end);
     let approved = are_approved(a, b);
     let (left, right) = (a.slices_from(begin), b.slices_from(begin));
-    let (first, last) = pieces_that_meet(rules, approved, left, right, &pieces)?;
+    let first = first_that_meets(rules, approved, left, right, &pieces)?;
+    let last = last_that_meets(rules, approved, left, right, &pieces, first);
     let (from, _) = piece_seconds(&pieces, first);
     let (_, past) = piece_seconds(&pieces, last);
     Some((begin.max(from), end.min(past) - 1))

@@ -1,5 +1,5 @@
 -- No public contract names these: they are of private steps and of proofs.
-use Rattle.std.specs.Prelude.{◌≤◌, ◌<◌, ◌+◌, ◌/◌, Bool, true, false, ℕ, List, Option, Some, None, get_or}
+use Rattle.std.specs.Prelude.{◌≤◌, ◌<◌, ◌+◌, ◌/◌, Bool, ℕ, List, Option, Some, None, get_or}
 use Rattle.mt_base.specs.declared.rules.Rules.{Rules}
 use Rattle.mt_cover.specs.declared.sliced.Slice.{Slice}
 use Rattle.mt_cover.specs.Sliced.{Sliced, no_slice}
@@ -10,16 +10,16 @@ abbrev pub IsHull : (ℕ → Type 0) → Option (ℕ × ℕ) → Type 0
 IsHull P (Some span) = IsHullOf P span.0 span.1
 IsHull P None = (k : ℕ) → ¬ P k
 
--- `first_with`, `span_with`: the first of some pieces and of a later one; the first and the last one, with a later one that may be one of them
-abbrev pub first_with : Option (ℕ × ℕ) → ℕ → ℕ
-first_with None piece = piece
-first_with (Some span) piece = span.0
+-- the first of the pieces that have P, or none where no piece has it
+abbrev pub IsFirstPiece : (ℕ → Type 0) → Option ℕ → Type 0
+IsFirstPiece P (Some piece) = P piece × ((other : ℕ) → P other → piece ≤ other)
+IsFirstPiece P None = (piece : ℕ) → ¬ P piece
 
-abbrev pub span_with : Option (ℕ × ℕ) → ℕ → Bool → Option (ℕ × ℕ)
-span_with span piece false = span
-span_with span piece true = Some (first_with span piece, piece)
+-- the last of the pieces that have P
+abbrev pub IsLastPiece : (ℕ → Type 0) → ℕ → Type 0
+IsLastPiece P piece = P piece × ((other : ℕ) → P other → other ≤ piece)
 
--- the hull of earlier seconds lies before that of later ones
+-- P, of the numbers before one
 abbrev pub Before : (ℕ → Type 0) → ℕ → ℕ → Type 0
 Before P at k = (k < at) × P k
 

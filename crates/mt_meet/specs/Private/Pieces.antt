@@ -1,7 +1,9 @@
 -- No public contract names these: they are of private steps and of proofs.
 -- Pieces of the time of two trajectories, in each of which both have one slice.
-use Rattle.std.specs.Prelude.{◌≡◌, ◌≤◌, ◌<◌, ◌+◌, ◌-◌, ◌*◌, ◌/◌, ◌%◌, ℕ, max, min}
+use Rattle.std.specs.Prelude.{◌≡◌, ◌≤◌, ◌<◌, ◌+◌, ◌-◌, ◌*◌, ◌/◌, ◌%◌, ℕ, List, All, length, max, min}
+use Rattle.mt_cover.specs.Layer.{IsLayerKept}
 use Rattle.mt_cover.specs.Sliced.{Sliced}
+use Rattle.mt_cover.specs.declared.sliced.Slice.{Slice}
 use Rattle.mt_meet.specs.declared.meeting.Pieces.{Pieces}
 
 -- these are the pieces of the seconds from one on and before another
@@ -29,3 +31,10 @@ piece_seconds p piece = (max (left_begun p piece) (right_begun p piece), min (le
 pub record BeginEarly (p : Pieces) (piece : ℕ) : Type 0 where
   pub left : left_begun p piece ≤ 10014400
   pub right : right_begun p piece ≤ 10014400
+
+-- two lists have a slice for each of some pieces, whose heights are kept
+pub record HaveSlices (a b : List Slice) (p : Pieces) : Type 0 where
+  pub left : (piece : ℕ) → piece < p.number → (piece + p.turn.0) / 2 < length a
+  pub right : (piece : ℕ) → piece < p.number → (piece + p.turn.1) / 2 < length b
+  pub left_kept : All (λ (slice : Slice). IsLayerKept slice.layer) a
+  pub right_kept : All (λ (slice : Slice). IsLayerKept slice.layer) b
