@@ -42,12 +42,23 @@ module _ (marks : MarkedParts) (bytes : List ℕ) (items group byte : ℕ) (earl
       rw (same, bit_at_cat_high items 8 byte (place + 8 * (group + 1) - 64) byte_fits (omega (arith, after)), high) (before place after below some))
       (cases_lt (place + 8 * group) 64)
 
--- without a marked part no bit is asked for
-pub no_marks : (marks : MarkedParts) (items : ℕ) → marks.parts ≡ replicate 64 0 → HaveBits marks items
-no_marks marks items none place some = absurd (some (rw none (⊎_elim
+-- where all are 0, no part is marked
+pub none_of_zeros : (marks : MarkedParts) → marks.parts ≡ replicate 64 0 → (place : ℕ) → get_or marks.parts place 0 ≡ 0
+none_of_zeros marks none place = rw none (⊎_elim
     (λ within. get_or-replicate 64 place 0 0 within)
     (λ past. get_or_past (replicate 64 0) place 0 past)
-    (cases_lt place 64))))
+    (cases_lt place 64))
+
+-- without a marked part no bit is asked for
+pub no_marks : (marks : MarkedParts) (items : ℕ) → marks.parts ≡ replicate 64 0 → HaveBits marks items
+no_marks marks items none place some = absurd (some (none_of_zeros marks none place))
+
+-- where no item has its bit, no part is marked
+pub none_without_bits : (marks : MarkedParts) → HaveBits marks 0 → (place : ℕ) → get_or marks.parts place 0 ≡ 0
+none_without_bits marks have place = ⊎_elim
+    (λ none. none)
+    (λ some. let zero = have place some in absurd (omega (arith, bit_at-zero place, zero)))
+    (cases_eq (get_or marks.parts place 0) 0)
 
 -- the bits of all
 pub all_bits : (marks : MarkedParts) (items : ℕ) → length marks.parts ≡ 64 → ((place : ℕ) → place < 64 → get_or marks.parts place 0 ≢ 0 → bit_at items place ≡ 1)

@@ -1,10 +1,13 @@
 //! Which items of a page are marked.
-ghost use Rattle.std.specs.Prelude.{◌≡◌, ◌≢◌, ◌≤◌, ◌<◌, ◌+◌, ◌%◌, ℕ, get_or, replicate};
+ghost use Rattle.std.specs.Prelude.{◌≡◌, ◌≢◌, ◌≤◌, ◌<◌, ◌+◌, ◌%◌, ℕ, get_or, length, replicate};
 ghost use Rattle.std.specs.Int.{bit_at};
+ghost use Rattle.mt_meet.specs.Private.Boxing.{IsCrossedIn, IsPartMarked, no_window};
 ghost use Rattle.mt_meet.specs.Private.Marking.{HaveBits};
 
-use crate::boxes::ITEMS;
+use crate::boxes::{Boxes, ITEMS, mark_in};
 use crate::marked_parts::MarkedParts;
+use crate::subject::Window;
+use mt_paged::Paged;
 use std::marker::Model;
 
 /// The marked parts of the 64 items of a page, with a bit for each item that has one, so that the next of these is found at once.
@@ -76,14 +79,25 @@ impl MarkedItems {
         }
     }
 
-    /// Those of some marks.
-    pub(crate) fn of(marks: MarkedParts) -> MarkedItems
-        ensures { result ≡ marks }
+    /// None is marked any more.
+    pub(crate) fn clear(&mut self)
+        ensures { (place : ℕ) → get_or self.new.parts place 0 ≡ 0 }
     {
-        MarkedItems {
-            items: bits_of(&marks),
-            marks,
+        if self.items != 0 {
+            *self = MarkedItems::none();
         }
+    }
+
+    /// Those parts of a subject's time are marked in which the items of a page have steps in common with it in some window.
+    pub(crate) fn mark(&mut self, page: &Paged<Boxes>, windows: &[Window])
+        requires full { length page.now ≡ 64 }
+        requires few { (number : ℕ) → number < length windows.now → (get_or windows.now number no_window).remainder < 64 }
+        ensures { (place number part : ℕ) → place < 64 → number < length windows.now → IsCrossedIn page.now (get_or windows.now number no_window) place
+            → bit_at (get_or windows.now number no_window).part part ≡ 1 → IsPartMarked self.new place part }
+    {
+        self.marks = MarkedParts::none();
+        mark_page(page, windows, &mut self.marks);
+        self.items = bits_of(&self.marks);
     }
 
     /// The marked parts of the item at a place.
@@ -107,5 +121,23 @@ impl MarkedItems {
             return ITEMS;
         }
         from + (self.items >> from).trailing_zeros()
+    }
+}
+
+// Marks the parts of a subject's time in which the items of a page have steps in common with it in some window.
+fn mark_page(page: &Paged<Boxes>, windows: &[Window], marks: &mut MarkedParts)
+    requires full { length page.now ≡ 64 }
+    requires few { (number : ℕ) → number < length windows.now → (get_or windows.now number no_window).remainder < 64 }
+    ensures { (place number part : ℕ) → place < 64 → number < length windows.now → IsCrossedIn page.now (get_or windows.now number no_window) place
+        → bit_at (get_or windows.now number no_window).part part ≡ 1 → IsPartMarked marks.new place part }
+{
+    for number in 0..windows.len() {
+        let window = &windows[number];
+        mark_in(
+            page.get(window.remainder),
+            &window.bounds,
+            window.part,
+            marks,
+        );
     }
 }

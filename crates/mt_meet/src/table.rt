@@ -6,12 +6,11 @@ ghost use Rattle.mt_meet.specs.Private.Boxing.{AreSlicesIn, HasNoSecond, IsCross
 ghost use Rattle.mt_meet.specs.Private.Searching.{IsNextBetween};
 ghost use Rattle.mt_meet.specs.Searching.{MeetOnlyMarked, MeetsOnlyIn, IsSearched};
 
-use crate::boxes::{Boxes, ITEMS, mark_in};
+use crate::boxes::{Boxes, ITEMS};
 use crate::marked_items::MarkedItems;
-use crate::marked_parts::MarkedParts;
 use crate::meeting::meet_within;
 use crate::search::Search;
-use crate::subject::{Subject, Window};
+use crate::subject::Subject;
 use crate::windows::with_item;
 use mt_base::{Memory, Second};
 use mt_cover::Slices;
@@ -127,17 +126,15 @@ impl SliceTable {
         Some(Met { item, first, last })
     }
 
-    // Marks of the items of a page: they meet in no second but those of the marked parts.
-    fn marks_on(&self, number: u32, subject: &Subject) -> MarkedItems
+    // Marks the items of a page: they meet in no second but those of the marked parts.
+    fn mark_items(&self, number: u32, subject: &Subject, marks: &mut MarkedItems)
         requires { number < 2 * div_ceil (length self.now) 128 }
-        ensures { MeetOnlyMarked subject.now self.now number result }
+        ensures { MeetOnlyMarked subject.now self.now number marks.new }
     {
-        let Some(page) = self.pages.get(number) else {
-            return MarkedItems::none();
-        };
-        let mut marks = MarkedParts::none();
-        mark_page(page, &subject.windows, &mut marks);
-        MarkedItems::of(marks)
+        match self.pages.get(number) {
+            Some(page) => marks.mark(page, &subject.windows),
+            None => marks.clear(),
+        }
     }
 
     // Marks 128 items, unless they are marked already.
@@ -151,8 +148,8 @@ impl SliceTable {
         ensures from { search.new.from ≡ search.old.from }
     {
         if search.block != Some(block) {
-            search.even = self.marks_on(2 * block, subject);
-            search.odd = self.marks_on(2 * block + 1, subject);
+            self.mark_items(2 * block, subject, &mut search.even);
+            self.mark_items(2 * block + 1, subject, &mut search.odd);
             search.block = Some(block);
         }
     }
@@ -252,24 +249,6 @@ fn keeps(slices: Option<&Slices>)
 {
     if let Some(slices) = slices {
         slices.keeps();
-    }
-}
-
-// Marks the parts of a subject's time in which the items of a page have steps in common with it in some window.
-fn mark_page(page: &Paged<Boxes>, windows: &[Window], marks: &mut MarkedParts)
-    requires full { length page.now ≡ 64 }
-    requires few { (number : ℕ) → number < length windows.now → (get_or windows.now number no_window).remainder < 64 }
-    ensures { (place number part : ℕ) → place < 64 → number < length windows.now → IsCrossedIn page.now (get_or windows.now number no_window) place
-        → bit_at (get_or windows.now number no_window).part part ≡ 1 → IsPartMarked marks.new place part }
-{
-    for number in 0..windows.len() {
-        let window = &windows[number];
-        mark_in(
-            page.get(window.remainder),
-            &window.bounds,
-            window.part,
-            marks,
-        );
     }
 }
 
