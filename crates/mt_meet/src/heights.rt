@@ -1,5 +1,5 @@
 //! Trajectories whose heights keep them apart.
-ghost use Rattle.std.specs.Prelude.{◌≡◌, ◌↔◌, pos, ◌≤ℤ◌, ◌-ℤ◌, IsTrue};
+ghost use Rattle.std.specs.Prelude.{◌↔◌, pos, ◌≤ℤ◌, ◌-ℤ◌, IsTrue};
 ghost use Rattle.mt_base.specs.Bounds.{AreWithinBounds, IsWithin};
 ghost use Rattle.mt_cover.specs.Layer.{IsLayerKept};
 ghost use Rattle.mt_meet.specs.Heights.{AreApartBy, EndBelow, LieApart};

@@ -1,8 +1,7 @@
 //! The seconds in which the slices of two trajectories meet.
-ghost use Rattle.std.specs.Prelude.{◌≡◌, ◌↔◌, ◌≤◌, ◌<◌, ◌+◌, ◌/◌, ◌^◌, ◌&&◌, ℕ, All, IsTrue, length};
+ghost use Rattle.std.specs.Prelude.{◌≡◌, ◌↔◌, ◌≤◌, ◌<◌, ◌+◌, ◌/◌, ◌^◌, ◌&&◌, IsTrue};
 ghost use Rattle.mt_base.specs.Bounds.{AreWithinBounds};
 ghost use Rattle.mt_cover.specs.Layer.{IsLayerKept};
-ghost use Rattle.mt_cover.specs.declared.sliced.Slice.{Slice as Cut};
 ghost use Rattle.mt_cover.specs.Sliced.{Touch};
 ghost use Rattle.mt_meet.specs.Meeting.{MeetAt, SlicesMeet};
 ghost use Rattle.mt_meet.specs.Private.Meeting.{Before, IsFirstPiece, IsHull, IsLastPiece, MeetOnlyIn, PieceMeets};

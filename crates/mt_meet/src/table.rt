@@ -1,8 +1,8 @@
 //! The slices of many trajectories.
 ghost use Rattle.std.specs.Prelude.{◌≡◌, ◌≤◌, ◌<◌, ◌+◌, ◌-◌, ◌*◌, ◌/◌, ◌%◌, false, ℕ, Some, None, get_or, length, replicate, slice_set, IfOk, IfSome, option_copied};
-ghost use Rattle.std.specs.Int.{bit_at, div_ceil};
+ghost use Rattle.std.specs.Int.{div_ceil};
 ghost use Rattle.mt_meet.specs.Meeting.{AreMet, IsMetAt, IsNextMet};
-ghost use Rattle.mt_meet.specs.Private.Boxing.{AreSlicesIn, HasNoSecond, IsCrossedIn, no_window, IsPartMarked};
+ghost use Rattle.mt_meet.specs.Private.Boxing.{AreSlicesIn, HasNoSecond};
 ghost use Rattle.mt_meet.specs.Private.Searching.{IsNextBetween};
 ghost use Rattle.mt_meet.specs.Searching.{MeetOnlyMarked, MeetsOnlyIn, IsSearched};
 
