@@ -6,6 +6,7 @@ pub mod HistoryLemmas
 pub mod HitOrder
 pub mod Members
 pub mod NameLemmas
+pub mod NameOrder
 pub mod OneAdvice
 pub mod OneConflict
 pub mod OneHits

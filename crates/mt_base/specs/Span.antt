@@ -1,4 +1,4 @@
-use Rattle.std.specs.Prelude.{ℕ, ◌<◌, ◌≤◌, Option, Some, None}
+use Rattle.std.specs.Prelude.{ℕ, ◌<◌, ◌≤◌, ⊤, Option, Some, None}
 
 -- the first and the last k in a range that has P
 pub record IsSpanOf (P : ℕ → Type 0) (low high first last : ℕ) : Type 0 where
@@ -11,6 +11,11 @@ pub record IsSpanOf (P : ℕ → Type 0) (low high first last : ℕ) : Type 0 wh
 abbrev pub IsSpan : (ℕ → Type 0) → ℕ → ℕ → Option (ℕ × ℕ) → Type 0
 IsSpan P low high (Some span) = IsSpanOf P low high span.0 span.1
 IsSpan P low high None = (k : ℕ) → low ≤ k → k < high → ¬ P k
+
+-- every k of a span has P, if there is a span
+abbrev pub IsSolid : (ℕ → Type 0) → Option (ℕ × ℕ) → Type 0
+IsSolid P None = ⊤
+IsSolid P (Some span) = (k : ℕ) → span.0 ≤ k → k ≤ span.1 → P k
 
 -- the span of what a span and a later one hold
 abbrev pub joined : Option (ℕ × ℕ) → Option (ℕ × ℕ) → Option (ℕ × ℕ)

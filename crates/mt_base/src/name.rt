@@ -5,37 +5,39 @@ ghost use Rattle.std.specs.Cmp.Lexicographic.{pointwise, slice_cmp, nat_list_eq_
 ghost use Rattle.std.specs.Cmp;
 ghost use Rattle.std.specs.Prelude.{nat_eq, Some};
 ghost use Rattle.std.specs.Ordering.{nat_cmp};
-ghost use Rattle.std.proofs.Common.{refl};
+ghost use Rattle.std.proofs.Common.{refl, rules};
+ghost use Rattle.std.specs.Cmp.Rules.{hashing};
+ghost use Rattle.std.specs.Hash as fed;
 ghost use Rattle.mt_base.specs.Name.{is_letter, is_name, name_of};
+ghost use Rattle.mt_base.specs.Private.Padded.{name_number};
 
 use std::cmp::Ordering;
+use std::hash::{Hash, Hasher};
 use std::marker::Model;
 
 /// The most letters of any name.
 const LONGEST: usize = 7;
 
 /// One to seven capital letters and digits, seen as their list.
-#[derive(Clone, Copy, Hash)]
+#[derive(Clone, Copy)]
 pub struct Name {
-    letters: [u8; LONGEST],
-    len: usize,
+    /// The letters, then zeros, and last how many letters there are. As one number, the first byte the highest, they are in the letters' order.
+    form: [u8; LONGEST + 1],
 }
 
 impl Model for Name {
-    ghost use Rattle.std.specs.Prelude.{◌≡◌, ℕ, ◌-◌, List, ◌++◌, length, take, drop, replicate, true};
-    ghost use Rattle.mt_base.specs.Name.{is_name};
-    ghost use Rattle.mt_base.specs.Private.Padded.{fields_back};
+    ghost use Rattle.std.specs.Prelude.{ℕ, List};
+    ghost use Rattle.mt_base.specs.Private.Padded.{IsPadded, letters_in, padded};
 
     ghost Value = { List ℕ };
 
-    ghost view = { λ n. take n.len n.letters };
+    ghost view = { λ n. letters_in n.form };
 
-    ghost invariant = { λ n. (length (take n.len n.letters) ≡ n.len) × (drop n.len n.letters ≡ replicate (7 - n.len) 0)
-        × (is_name 1 7 (take n.len n.letters) ≡ true) };
+    ghost invariant = { λ n. IsPadded n.form };
 
-    ghost inverse = { λ text. record { letters = text ++ replicate (7 - length text) 0; len = length text } };
+    ghost inverse = { λ text. record { form = padded text } };
 
-    ghost inverse_ok = { λ n kept. fields_back n kept.0 kept.1 };
+    ghost inverse_ok = { λ n kept i. record { form = kept.same i } };
 }
 
 /// Whether each byte is a capital letter or a digit.
@@ -62,12 +64,10 @@ impl Name {
         if !is_name(text, low, high) {
             return None;
         }
-        let mut letters = [0; LONGEST];
-        letters[..text.len()].copy_from_slice(text);
-        Some(Name {
-            letters,
-            len: text.len(),
-        })
+        let mut form = [0; LONGEST + 1];
+        form[..text.len()].copy_from_slice(text);
+        form[LONGEST] = text.len() as u8;
+        Some(Name { form })
     }
 
     /// Its letters.
@@ -75,7 +75,15 @@ impl Name {
         ensures text { result.now ≡ self.now }
         ensures named { is_name 1 7 self.now ≡ true }
     {
-        &self.letters[..self.len]
+        &self.form[..usize::from(self.form[LONGEST])]
+    }
+
+    // Its bytes as one number. Numbers are in the order of the letters.
+    fn number(&self) -> u64
+        ensures number { result ≡ name_number self.now }
+        ensures named { is_name 1 7 self.now ≡ true }
+    {
+        u64::from_be_bytes(self.form)
     }
 }
 
@@ -85,12 +93,22 @@ impl PartialEq for Name {
     ghost laws = { Cmp.partial_equiv_from_equiv nat_list_eq_equiv };
 
     fn eq(&self, other: &Self) -> bool {
-        self.bytes() == other.bytes()
+        self.number() == other.number()
     }
 }
 
 impl Eq for Name {
     ghost laws = { nat_list_eq_equiv };
+}
+
+impl Hash for Name {
+    ghost hash_input = { λ n. fed.u64 (name_number n) };
+
+    ghost respects_eq = { Prim.search (hashing, rules) };
+
+    fn hash<H: Hasher>(&self, state: &mut H) {
+        self.number().hash(state);
+    }
 }
 
 impl PartialOrd for Name {
@@ -113,6 +131,14 @@ impl Ord for Name {
     ghost matches_eq = { texts_ties };
 
     fn cmp(&self, other: &Self) -> Ordering {
-        self.bytes().cmp(other.bytes())
+        // `Less` first, so that `<` of two names is one comparison.
+        let (mine, other) = (self.number(), other.number());
+        if mine < other {
+            Ordering::Less
+        } else if mine == other {
+            Ordering::Equal
+        } else {
+            Ordering::Greater
+        }
     }
 }

@@ -1,9 +1,9 @@
 pub mod BoundedLines
-pub mod CheckedSteps
 pub mod Decoding
 pub mod EachRead
 pub mod EntryReading
 pub mod FeedEntries
 pub mod FeedReading
+pub mod ReadingLemmas
 pub mod StepLemmas
 pub mod TimedEntries

@@ -2,4 +2,5 @@
 pub mod Bands
 pub mod Corners
 pub mod Field
-pub mod Steps
+pub mod FieldReading
+pub mod Row

@@ -7,11 +7,11 @@ ghost use Rattle.mt_json.specs.View.{items_view, view};
 ghost use Rattle.mt_read.specs.Bands.{are_few, are_whole, as_band, as_bands, as_bounded, as_four, as_numbers, band_of, four_of};
 ghost use Rattle.mt_read.specs.Private.Bands.{four_shown};
 ghost use Rattle.mt_read.specs.Field.{as_list_of, each_of, read_at};
-ghost use Rattle.mt_read.specs.Private.Field.{ReadsUnlessMemory, there};
+ghost use Rattle.mt_read.specs.Private.Field.{there};
+ghost use Rattle.mt_read.specs.Private.FieldReading.{IsValueRead};
 ghost use Rattle.mt_read.specs.declared.key.Fault.TheVariants.{Range};
 
 use crate::key::{Fault, Key, key_text};
-use crate::stop::Stop;
 use mt_base::{Band, Bands};
 use mt_json::{Fields, Value};
 use mt_memory::Memory;
@@ -102,17 +102,6 @@ fn are_numbers(values: &[Value]) -> bool
     true
 }
 
-/// A list of lists of exactly four whole numbers must be there.
-#[tactic(auto, unfolding(mt_base::specs::Checks::check_answer))]
-pub(crate) fn bands_kind(fields: &Fields, key: Key) -> Result<(), Fault>
-    ensures { result ≡ check_answer (there key (as_list_of as_numbers) (members fields.now)) }
-{
-    match fields.list(key_text(key)) {
-        Ok(values) if are_numbers(values) => Ok(()),
-        _ => Err(Fault::Form(key)),
-    }
-}
-
 // The band that a value is.
 fn band(value: &Value) -> Option<Band>
     ensures { result ≡ as_band (view value.now) }
@@ -144,15 +133,22 @@ fn are_few(bands: &Bands) -> bool
 
 /// The bands at a key, 1 to 8, each of four numbers within their bounds.
 #[tactic(auto, unfolding(mt_base::specs::Checks::check_answer))]
-pub(crate) fn bands(alloc: Global, fields: &Fields, key: Key) -> Result<Bands, Stop>
-    ensures { ReadsUnlessMemory result (check_answer (Range key, is_some (read_at key as_bands (members fields.now))))
-        (unwrap_or (read_at key as_bands (members fields.now)) []) }
+pub(crate) fn bands(
+    alloc: Global,
+    fields: &Fields,
+    key: Key,
+) -> Result<Result<Bands, Fault>, Memory>
+    ensures { IfOk result (λ found. IsValueRead found (check_answer (there key (as_list_of as_numbers) (members fields.now)))
+        (check_answer (Range key, is_some (read_at key as_bands (members fields.now)))) (unwrap_or (read_at key as_bands (members fields.now)) [])) }
 {
     let Ok(values) = fields.list(key_text(key)) else {
-        return Err(Stop::Fault(Fault::Range(key)));
+        return Ok(Err(Fault::Form(key)));
     };
+    if !are_numbers(values) {
+        return Ok(Err(Fault::Form(key)));
+    }
     match bands_of(alloc, values)? {
-        Some(bands) if are_few(&bands) => Ok(bands),
-        _ => Err(Stop::Fault(Fault::Range(key))),
+        Some(bands) if are_few(&bands) => Ok(Ok(bands)),
+        _ => Ok(Err(Fault::Range(key))),
     }
 }

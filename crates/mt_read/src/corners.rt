@@ -6,12 +6,12 @@ ghost use Rattle.mt_json.specs.View.{items_view, view};
 ghost use Rattle.mt_read.specs.Corners.{are_enough, are_whole, as_corner, as_corners, as_numbers, as_pair, corner_of, pair_of};
 ghost use Rattle.mt_read.specs.Private.Corners.{pair_shown};
 ghost use Rattle.mt_read.specs.Field.{as_list_of, each_of, read_at};
-ghost use Rattle.mt_read.specs.Private.Field.{ReadsUnlessMemory, there};
+ghost use Rattle.mt_read.specs.Private.Field.{there};
+ghost use Rattle.mt_read.specs.Private.FieldReading.{IsValueRead};
 ghost use Rattle.mt_read.specs.declared.key.Fault.TheVariants.{Range};
 
 use crate::bands::{bounded, is_whole};
 use crate::key::{Fault, Key, key_text};
-use crate::stop::Stop;
 use mt_base::Corners;
 use mt_json::{Fields, Value};
 use mt_memory::Memory;
@@ -68,17 +68,6 @@ fn are_numbers(values: &[Value]) -> bool
     true
 }
 
-/// A list of lists of exactly two whole numbers must be there.
-#[tactic(auto, unfolding(mt_base::specs::Checks::check_answer))]
-pub(crate) fn corners_kind(fields: &Fields, key: Key) -> Result<(), Fault>
-    ensures { result ≡ check_answer (there key (as_list_of as_numbers) (members fields.now)) }
-{
-    match fields.list(key_text(key)) {
-        Ok(values) if are_numbers(values) => Ok(()),
-        _ => Err(Fault::Form(key)),
-    }
-}
-
 // The corner that a value is.
 fn corner(value: &Value) -> Option<(i64, i64)>
     ensures { result ≡ as_corner (view value.now) }
@@ -110,15 +99,22 @@ fn are_enough(corners: &Corners) -> bool
 
 /// The corners at a key, 3 to 16, each in the plane.
 #[tactic(auto, unfolding(mt_base::specs::Checks::check_answer))]
-pub(crate) fn corners(alloc: Global, fields: &Fields, key: Key) -> Result<Corners, Stop>
-    ensures { ReadsUnlessMemory result (check_answer (Range key, is_some (read_at key as_corners (members fields.now))))
-        (unwrap_or (read_at key as_corners (members fields.now)) []) }
+pub(crate) fn corners(
+    alloc: Global,
+    fields: &Fields,
+    key: Key,
+) -> Result<Result<Corners, Fault>, Memory>
+    ensures { IfOk result (λ found. IsValueRead found (check_answer (there key (as_list_of as_numbers) (members fields.now)))
+        (check_answer (Range key, is_some (read_at key as_corners (members fields.now)))) (unwrap_or (read_at key as_corners (members fields.now)) [])) }
 {
     let Ok(values) = fields.list(key_text(key)) else {
-        return Err(Stop::Fault(Fault::Range(key)));
+        return Ok(Err(Fault::Form(key)));
     };
+    if !are_numbers(values) {
+        return Ok(Err(Fault::Form(key)));
+    }
     match corners_of(alloc, values)? {
-        Some(corners) if are_enough(&corners) => Ok(corners),
-        _ => Err(Stop::Fault(Fault::Range(key))),
+        Some(corners) if are_enough(&corners) => Ok(Ok(corners)),
+        _ => Ok(Err(Fault::Range(key))),
     }
 }

@@ -6,6 +6,7 @@ ghost use Rattle.mt_base.specs.Decision.{filled};
 ghost use Rattle.mt_json.specs.Shown.{members};
 ghost use Rattle.mt_read.specs.Entry.{entry, held_in};
 ghost use Rattle.mt_read.specs.Private.Field.{IsUnlessMemory};
+ghost use Rattle.mt_read.specs.Private.FieldReading.{ReadsRow};
 ghost use Rattle.mt_read.specs.Line.{GivesReading, checked, decoded, read_value, word_text};
 ghost use Rattle.mt_read.specs.Table.{entry_layout};
 ghost use Rattle.mt_read.specs.Words.{entry_word_of};
@@ -15,11 +16,13 @@ use crate::change::change_of;
 use crate::clearance::accepted_entry;
 use crate::object::{form, named, no_other, value_of};
 use crate::origin::Origin;
+use crate::reading::FieldReading;
 use crate::request::LineNo;
 use crate::stop::Stop;
 use crate::word::{EntryWord, entry_keys, entry_word_of};
 use mt_base::{Command, Entry};
 use mt_json::{Fields, Scratch};
+use mt_memory::Memory;
 use std::alloc::Global;
 
 // The command that the entry names.
@@ -30,14 +33,25 @@ fn word_in(fields: &Fields) -> Option<EntryWord>
     entry_word_of(text)
 }
 
-// What the fields of a command's entry hold.
+// What a command's entry holds.
+fn entered(alloc: Global, reading: &mut FieldReading, word: EntryWord) -> Result<Command, Memory>
+    ensures { IfOk result (ReadsRow reading.old reading.new (entry_layout word)) }
+{
+    match word {
+        EntryWord::Change(change) => change_of(alloc, reading, change),
+        EntryWord::Accepted => Ok(accepted_entry(reading)),
+    }
+}
+
+// What the fields of a command's entry hold, and who asked for it.
 fn checked(alloc: Global, fields: &Fields, word: EntryWord) -> Result<(u32, Command), Stop>
     ensures { IsUnlessMemory result (checked origin.Entry [] (entry_layout word) (members fields.now)) }
 {
-    match word {
-        EntryWord::Change(change) => change_of(alloc, fields, Origin::Entry, change),
-        EntryWord::Accepted => Ok(accepted_entry(fields, Origin::Entry)?),
-    }
+    let mut reading = FieldReading::of(fields, Origin::Entry);
+    let command = entered(alloc, &mut reading, word)?;
+    let who = reading.actor();
+    reading.faults()?;
+    Ok((who, command))
 }
 
 /// The command that an object's fields hold, and who asked for it.

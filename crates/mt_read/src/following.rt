@@ -4,6 +4,7 @@ ghost use Rattle.mt_json.specs.Shown.{members};
 ghost use Rattle.mt_read.specs.Entry.{as_entry, held_in};
 ghost use Rattle.mt_read.specs.Following.{IsReadyLine, as_asked, as_followed, as_line, feed, feed_members, reading_layout, reading_word_of};
 ghost use Rattle.mt_read.specs.Line.{GivesReading, checked, keys_of, read_layout, word_text};
+ghost use Rattle.mt_read.specs.Private.FieldReading.{ReadsRow};
 ghost use Rattle.mt_read.specs.declared.origin.Origin.TheVariants as origin;
 ghost use Rattle.mt_read.specs.declared.request.Sender.TheVariants.{Plain};
 
@@ -11,7 +12,8 @@ use crate::entry::held;
 use crate::key::Fault;
 use crate::object::{form, named, no_other, value_of};
 use crate::origin::Origin;
-use crate::plain::{bare_line, flight_line};
+use crate::plain::flight_line;
+use crate::reading::FieldReading;
 use crate::request::{LineNo, Request, Sender};
 use mt_base::Entry;
 use mt_json::{Fields, Scratch};
@@ -71,18 +73,28 @@ fn keys_of(word: FeedWord) -> &'static str
     }
 }
 
-// What the fields of such a line ask for.
+// What such a line asks for.
+fn answered(reading: &mut FieldReading, word: FeedWord) -> Request
+    ensures { ReadsRow reading.old reading.new (reading_layout word) result }
+{
+    match word {
+        FeedWord::List => Request::List,
+        FeedWord::Check => Request::Check,
+        FeedWord::Flight => flight_line(reading),
+        FeedWord::Due => Request::Due,
+        FeedWord::Bye => Request::Bye,
+    }
+}
+
+// What the fields of such a line ask for, and who asks.
 fn checked(fields: &Fields, word: FeedWord) -> Result<(u32, Request), Fault>
     ensures { result ≡ checked (origin.Line Plain) [] (reading_layout word) (members fields.now) }
 {
-    let origin = Origin::Line(Sender::Plain);
-    match word {
-        FeedWord::List => bare_line(fields, origin, Request::List),
-        FeedWord::Check => bare_line(fields, origin, Request::Check),
-        FeedWord::Flight => flight_line(fields, origin),
-        FeedWord::Due => bare_line(fields, origin, Request::Due),
-        FeedWord::Bye => bare_line(fields, origin, Request::Bye),
-    }
+    let mut reading = FieldReading::of(fields, Origin::Line(Sender::Plain));
+    let asked = answered(&mut reading, word);
+    let who = reading.actor();
+    reading.faults()?;
+    Ok((who, asked))
 }
 
 // What such a line asks for, if it has no other key.

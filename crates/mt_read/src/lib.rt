@@ -4,7 +4,6 @@
 //! `specs/Table.antt`.
 #![tactic(auto)]
 
-mod actor;
 mod areas;
 mod bands;
 mod change;
@@ -21,7 +20,9 @@ mod object;
 mod origin;
 mod plain;
 mod plan;
+mod reading;
 mod request;
+mod route;
 mod setup;
 mod stop;
 mod tables;

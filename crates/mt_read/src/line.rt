@@ -1,10 +1,11 @@
 //! A line read.
-ghost use Rattle.std.specs.Prelude.{◌≡◌, [], IfOk};
+ghost use Rattle.std.specs.Prelude.{◌≡◌, IfOk};
 ghost use Rattle.mt_json.specs.Shown.{members};
 ghost use Rattle.mt_read.specs.Bounded.{IsBounded};
 ghost use Rattle.mt_read.specs.Private.Field.{IsUnlessMemory};
+ghost use Rattle.mt_read.specs.Private.FieldReading.{ReadsRow};
 ghost use Rattle.mt_read.specs.Line.{GivesReading, checked, line, read_members, standing_rules, word_in};
-ghost use Rattle.mt_read.specs.Table.{as_request, change_layout, layout_of};
+ghost use Rattle.mt_read.specs.Table.{layout_of};
 ghost use Rattle.mt_read.specs.declared.origin.Origin.TheVariants.{Line};
 
 use crate::areas::area_line;
@@ -12,14 +13,16 @@ use crate::change::change_of;
 use crate::clearance::{accept_line, probe_line};
 use crate::object::{form, named, no_other, value_of};
 use crate::origin::Origin;
-use crate::plain::{advise_line, bare_line, flight_line, hello_line, history_line};
+use crate::plain::{advise_line, flight_line, hello_line, history_line};
+use crate::reading::FieldReading;
 use crate::request::{LineNo, Request, Sender};
-use crate::setup::rule_line;
+use crate::setup::{rule_line, stand};
 use crate::stop::Stop;
 use crate::tables::{fix_line, type_line};
-use crate::word::{Change, Word, is_allowed, keys_of, word_of};
+use crate::word::{Word, is_allowed, keys_of, word_of};
 use mt_base::Rules;
 use mt_json::{Fields, Scratch};
+use mt_memory::Memory;
 use std::alloc::Global;
 
 // The command that the line names, where the sender has it.
@@ -34,18 +37,31 @@ fn word_in(fields: &Fields, sender: Sender) -> Option<Word>
     None
 }
 
-// The change that a line asks for.
-#[tactic(auto, using(crate::proofs::StepLemmas::asks_change))]
-fn change_line(
-    alloc: Global,
-    fields: &Fields,
-    origin: Origin,
-    change: Change,
-) -> Result<(u32, Request), Stop>
-    ensures { IsUnlessMemory result (checked origin [] (as_request (change_layout change)) (members fields.now)) }
+// What the command's line asks for.
+fn asked(alloc: Global, reading: &mut FieldReading, word: Word) -> Result<Request, Memory>
+    ensures { IfOk result (ReadsRow reading.old reading.new (layout_of word)) }
 {
-    let (who, command) = change_of(alloc, fields, origin, change)?;
-    Ok((who, Request::Change(command)))
+    match word {
+        Word::Fix => Ok(fix_line(reading)),
+        Word::TypeLine => type_line(alloc, reading),
+        Word::Area => area_line(alloc, reading),
+        Word::Rule => Ok(rule_line(reading)),
+        Word::Begin => Ok(Request::Begin),
+        Word::Take => Ok(Request::Take),
+        Word::Areas => Ok(Request::Areas),
+        Word::Change(change) => Ok(Request::Change(change_of(alloc, reading, change)?)),
+        Word::Probe => Ok(probe_line(reading)),
+        Word::Accept => Ok(accept_line(reading)),
+        Word::Advise => Ok(advise_line(reading)),
+        Word::Hello => Ok(hello_line(reading)),
+        Word::List => Ok(Request::List),
+        Word::Check => Ok(Request::Check),
+        Word::Due => Ok(Request::Due),
+        Word::Flight => Ok(flight_line(reading)),
+        Word::History => Ok(history_line(reading)),
+        Word::Settle => Ok(Request::Settle),
+        Word::Bye => Ok(Request::Bye),
+    }
 }
 
 // What the command's line asks for, and who asks.
@@ -58,28 +74,12 @@ fn checked(
 ) -> Result<(u32, Request), Stop>
     ensures { IsUnlessMemory result (checked (Line sender) (standing_rules word rules.now (members fields.now)) (layout_of word) (members fields.now)) }
 {
-    let origin = Origin::Line(sender);
-    match word {
-        Word::Fix => Ok(fix_line(fields, origin)?),
-        Word::TypeLine => type_line(alloc, fields, origin),
-        Word::Area => area_line(alloc, fields, origin),
-        Word::Rule => Ok(rule_line(fields, origin, rules)?),
-        Word::Begin => Ok(bare_line(fields, origin, Request::Begin)?),
-        Word::Take => Ok(bare_line(fields, origin, Request::Take)?),
-        Word::Areas => Ok(bare_line(fields, origin, Request::Areas)?),
-        Word::Change(change) => change_line(alloc, fields, origin, change),
-        Word::Probe => Ok(probe_line(fields, origin)?),
-        Word::Accept => Ok(accept_line(fields, origin)?),
-        Word::Advise => Ok(advise_line(fields, origin)?),
-        Word::Hello => Ok(hello_line(fields, origin)?),
-        Word::List => Ok(bare_line(fields, origin, Request::List)?),
-        Word::Check => Ok(bare_line(fields, origin, Request::Check)?),
-        Word::Due => Ok(bare_line(fields, origin, Request::Due)?),
-        Word::Flight => Ok(flight_line(fields, origin)?),
-        Word::History => Ok(history_line(fields, origin)?),
-        Word::Settle => Ok(bare_line(fields, origin, Request::Settle)?),
-        Word::Bye => Ok(bare_line(fields, origin, Request::Bye)?),
-    }
+    let mut reading = FieldReading::of(fields, Origin::Line(sender));
+    let asked = asked(alloc, &mut reading, word)?;
+    let who = reading.actor();
+    stand(&mut reading, &asked, rules);
+    reading.faults()?;
+    Ok((who, asked))
 }
 
 // What an object's fields are read as.

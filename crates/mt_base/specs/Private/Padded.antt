@@ -1,11 +1,26 @@
 -- No public contract names these: they are of private steps and of proofs.
-use Rattle.std.specs.Prelude.{◌≡◌, ◌-◌, ◌++◌, length, take, drop, replicate}
-use Rattle.std.proofs.Common.{take-append-drop}
-use Rattle.mt_base.specs.declared.name.Name.TheInside.{Inside}
+use Rattle.std.specs.Prelude.{◌≡◌, ℕ, ◌+◌, ◌-◌, ◌*◌, ◌^◌, zero, suc, true, List, [], ◌∷◌, ◌++◌, length, take, get_or, replicate}
+use Rattle.mt_base.specs.Name.{is_name}
 
--- a name's fields are its letters, padded with zeros to the longest name, and their number
-pub fields_back : (n : Inside) → length (take n.len n.letters) ≡ n.len → drop n.len n.letters ≡ replicate (7 - n.len) 0
-    → record { letters = take n.len n.letters ++ replicate (7 - length (take n.len n.letters)) 0; len = length (take n.len n.letters) } ≡ n
-fields_back n len_is padding = λ i. record { letters = letters_back i; len = len_is i } where
-  letters_back : take n.len n.letters ++ replicate (7 - length (take n.len n.letters)) 0 ≡ n.letters
-  letters_back = rw (len_is, ← padding) (take-append-drop n.len n.letters)
+-- the eight bytes of a name: its letters, zeros, and how many letters there are
+abbrev pub padded : List ℕ → List ℕ
+padded text = text ++ replicate (7 - length text) 0 ++ length text ∷ []
+
+-- the letters that stand in eight bytes
+abbrev pub letters_in : List ℕ → List ℕ
+letters_in form = take (get_or form 7 0) form
+
+-- they are the eight bytes of a name
+pub record IsPadded (form : List ℕ) : Type 0 where
+  pub same : padded (letters_in form) ≡ form
+  pub named : is_name 1 7 (letters_in form) ≡ true
+
+-- `left + 1` bytes as one number: letters, zeros, and last how many letters there are with those that stand `before`
+abbrev pub packed : ℕ → ℕ → List ℕ → ℕ
+packed left before [] = before
+packed zero before (x ∷ xs) = before
+packed (suc left) before (x ∷ xs) = x * 256 ^ suc left + packed left (suc before) xs
+
+-- the eight bytes of a name as one number, the first the highest
+abbrev pub name_number : List ℕ → ℕ
+name_number text = packed 7 0 text

@@ -1,62 +1,8 @@
-use Rattle.std.proofs.Common.{inl, pos, neg_ℤ, sym, ◌≡◌, ℕ, ℤ, List, [], ◌∙◌}
-use Rattle.std.specs.Prelude.{unwrap_or}
-use Rattle.serde_json.specs.Data.{Members}
-use Rattle.mt_json.specs.Shown.{members}
-use Rattle.mt_read.specs.declared.key.Key.TheVariants as key
-use Rattle.mt_read.specs.Field.{as_fix, number, read_at}
 use Rattle.mt_read.specs.declared.request.Request.TheVariants as request
-use Rattle.mt_read.proofs.CheckedSteps.{plane_kept, actor_fails, all_pass, bounds_fail, gives, kinds_fail, who_fails, within_fails, within_passes, also, later}
+use Rattle.mt_read.proofs.ReadingLemmas.{asked, kept_in, ◌▹◌}
 use Rattle.mt_read.proofs.tables.fix_line.Goals as goal
-
-asked_is : (ms : Members) (name : List ℕ) (x y : ℤ) → name ≡ unwrap_or (read_at key.Name as_fix ms) [] → x ≡ number key.X ms → y ≡ number key.Y ms
-    → request.Fix (unwrap_or (read_at key.Name as_fix ms) []) (number key.X ms) (number key.Y ms) ≡ request.Fix name x y
-asked_is ms name x y p q r = cc
-
-pub returns-in_err-name : goal.returns-in_err-name
-returns-in_err-name c =
-    gives c.from_residual.result c.in_err-name.field-0.0 _ c.from_residual.ensures.1 (kinds_fail _ _ _ _ _ (inl c.in_err-name.ensures))
-
-pub returns-in_err-whole : goal.returns-in_err-whole
-returns-in_err-whole c =
-    gives c.from_residual-in_err-whole.result c.in_err-whole.field-0.0 _ c.from_residual-in_err-whole.ensures.1 (kinds_fail _ _ _ _ _ (later
-    c.in_ok-name.ensures.0 (inl (sym c.in_err-whole.ensures))))
-
-pub returns-in_err-whole-2 : goal.returns-in_err-whole-2
-returns-in_err-whole-2 c =
-    gives c.from_residual-in_err-whole-2.result c.in_err-whole-2.field-0.0 _ c.from_residual-in_err-whole-2.ensures.1 (kinds_fail _ _ _ _ _ (later
-    c.in_ok-name.ensures.0 (later (sym c.in_ok-whole.ensures) (inl (sym c.in_err-whole-2.ensures)))))
-
-pub returns-in_err-actor_kind : goal.returns-in_err-actor_kind
-returns-in_err-actor_kind c =
-    gives c.from_residual-in_err-actor_kind.result c.in_err-actor_kind.field-0.0 _ c.from_residual-in_err-actor_kind.ensures.1 (who_fails _ _ _ _ _
-    (also c.in_ok-name.ensures.0 (also (sym c.in_ok-whole.ensures) (also (sym c.in_ok-whole-2.ensures) (tt {0})))) c.in_err-actor_kind.ensures)
-
-pub returns-in_err-x : goal.returns-in_err-x
-returns-in_err-x c =
-    gives c.from_residual-in_err-x.result c.in_err-x.field-0.0 _ c.from_residual-in_err-x.ensures.1 (bounds_fail _ _ _ _ _ (also
-    c.in_ok-name.ensures.0 (also (sym c.in_ok-whole.ensures) (also (sym c.in_ok-whole-2.ensures) (tt {0})))) c.in_ok-actor_kind.ensures (inl
-    (within_fails key.X (neg_ℤ (pos 3686400)) (pos 3686400) (members c.args.fields.now) _ c.in_err-x.ensures.exact)))
-
-pub returns-in_err-y : goal.returns-in_err-y
-returns-in_err-y c =
-    gives c.from_residual-in_err-y.result c.in_err-y.field-0.0 _ c.from_residual-in_err-y.ensures.1 (bounds_fail _ _ _ _ _ (also
-    c.in_ok-name.ensures.0 (also (sym c.in_ok-whole.ensures) (also (sym c.in_ok-whole-2.ensures) (tt {0})))) c.in_ok-actor_kind.ensures (later
-    ((within_passes key.X (neg_ℤ (pos 3686400)) (pos 3686400) (members c.args.fields.now) _ c.in_ok-x.ensures.exact).0) (inl (within_fails key.Y
-    (neg_ℤ (pos 3686400)) (pos 3686400) (members c.args.fields.now) _ c.in_err-y.ensures.exact))))
-
-pub returns-in_err-who : goal.returns-in_err-who
-returns-in_err-who c =
-    gives c.from_residual-in_err-who.result c.in_err-who.field-0.0 _ c.from_residual-in_err-who.ensures.1 (actor_fails _ _ _ _ _ (also
-    c.in_ok-name.ensures.0 (also (sym c.in_ok-whole.ensures) (also (sym c.in_ok-whole-2.ensures) (tt {0})))) c.in_ok-actor_kind.ensures (also
-    ((within_passes key.X (neg_ℤ (pos 3686400)) (pos 3686400) (members c.args.fields.now) _ c.in_ok-x.ensures.exact).0) (also ((within_passes key.Y
-    (neg_ℤ (pos 3686400)) (pos 3686400) (members c.args.fields.now) _ c.in_ok-y.ensures.exact).0) (tt {0}))) c.in_err-who.ensures)
 
 pub returns : goal.returns
 returns c =
-    sym (all_pass _ _ _ _ _ (also c.in_ok-name.ensures.0 (also (sym c.in_ok-whole.ensures) (also (sym c.in_ok-whole-2.ensures) (tt {0}))))
-    c.in_ok-actor_kind.ensures (also ((within_passes key.X (neg_ℤ (pos 3686400)) (pos 3686400) (members c.args.fields.now) _
-    c.in_ok-x.ensures.exact).0) (also ((within_passes key.Y (neg_ℤ (pos 3686400)) (pos 3686400) (members c.args.fields.now) _
-    c.in_ok-y.ensures.exact).0) (tt {0}))) c.in_ok-who.ensures (asked_is (members c.args.fields.now) _ _ _ c.in_ok-name.ensures.1 (plane_kept _
-    c.in_ok-x.ensures.bounded ∙ (within_passes key.X (neg_ℤ (pos 3686400)) (pos 3686400) (members c.args.fields.now) _ c.in_ok-x.ensures.exact).1)
-    (plane_kept _ c.in_ok-y.ensures.bounded ∙ (within_passes key.Y (neg_ℤ (pos 3686400)) (pos 3686400) (members c.args.fields.now) _
-    c.in_ok-y.ensures.exact).1)))
+    asked (c.fix_name-name.ensures ▹ c.whole-x.ensures ▹ c.whole-y.ensures) (λ ms e i. request.Fix (e i).0 (kept_in _ _ (record { sfits = c.whole-x.type_inv }) (λ j. (e j).1.0) i)
+    (kept_in _ _ (record { sfits = c.whole-y.type_inv }) (λ j. (e j).1.1) i))

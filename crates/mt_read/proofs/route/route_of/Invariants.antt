@@ -1,7 +1,7 @@
 use Rattle.std.proofs.Common.{◌≡◌, ◌++◌, drop, option_map}
 use Rattle.mt_json.specs.View.{items_view}
 use Rattle.mt_read.specs.Field.{as_fix, each_of}
-use Rattle.mt_read.proofs.plan.route_of.Given as goal
+use Rattle.mt_read.proofs.route.route_of.Given as goal
 
 abbrev pub invariant-loop-value : goal.invariant-loop-value
 invariant-loop-value l =

@@ -1,7 +1,7 @@
 use Rattle.std.proofs.Common.{sym, ◌∙◌}
 use Rattle.mt_read.specs.Field.{as_fix}
 use Rattle.mt_read.proofs.EachRead.{all_read, item_read, item_refused}
-use Rattle.mt_read.proofs.plan.route_of.Goals as goal
+use Rattle.mt_read.proofs.route.route_of.Goals as goal
 
 pub returns-in_default : goal.returns-in_default
 returns-in_default c =
