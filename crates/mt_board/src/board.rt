@@ -1,5 +1,5 @@
 //! The trait of a board.
-ghost use Rattle.std.specs.Prelude.{◌≡◌, ◌≤◌, [], All, map, IfOk, IfErr, IfSome};
+ghost use Rattle.std.specs.Prelude.{◌≡◌, ◌≤◌, Bool, false, [], All, map, IfOk, IfErr, IfSome};
 ghost use Rattle.std.specs.Thread.{IsSync};
 ghost use Rattle.mt_base.specs.Bounds.{IsAskedFor, IsBoundedClearance, IsBoundedCommand};
 ghost use Rattle.mt_board.specs.Asking.{IsRead, IsShortAnswer};
@@ -21,8 +21,9 @@ use std::thread::Threads;
 /// Each answer but want of memory names a version, and the seat has seen the history of that version then, which is legal, begins with
 /// what it had seen, and has no entry of its number but its own. Want of memory changes nothing, but that the seat may have seen more.
 ///
-/// Tries and advice that follow each other may be answered from one look at the picture, until `look_anew` is called or the seat sees more by
-/// another call. So who asks for others calls it once before all that was asked since is answered.
+/// Tries and advice that follow each other may be answered from one look at the picture, which is kept until `look_anew` is called or the seat sees
+/// more by another call. Where no look is kept, the next try is answered from the picture as it stands then. So who asks for others keeps none while
+/// it waits for what they ask.
 pub trait Board {
     /// What a probe answers.
     type Probe: Probed + Drop + Send;
@@ -36,6 +37,9 @@ pub trait Board {
     /// The turn that it is of. No call changes it.
     ghost home: { Self → Self.Home };
 
+    /// Whether a look at the picture is kept, from which the next try may be answered.
+    ghost keeps_look: { Self → Bool };
+
     /// The seat's number.
     fn number(&self) -> u32
         ensures { result ≡ (seat self.now).number };
@@ -43,14 +47,16 @@ pub trait Board {
     /// Lets go of the look at the picture that tries are answered from, so that the next one is answered from the picture as it stands then.
     fn look_anew(&mut self)
         ensures seat { seat self.new ≡ seat self.old }
-        ensures home { home self.new ≡ home self.old };
+        ensures home { home self.new ≡ home self.old }
+        ensures none_kept { keeps_look self.new ≡ false };
 
     /// Reads. It is refused exactly where a flight is asked for and there is none of that callsign.
     fn read<R: Threads + Wait + Sync>(&mut self, rt: &R, ask: &Ask) -> Result<Answer, No>
         requires sync { IsSync R.row }
         ensures read { IsRead (seat self.old) ask.now result (seat self.new) }
         ensures short { IfOk result IsShortAnswer }
-        ensures home { home self.new ≡ home self.old };
+        ensures home { home self.new ≡ home self.old }
+        ensures none_kept { keeps_look self.new ≡ false };
 
     /// Tries a clearance that is to hold from second `eff` on, by default the moment. It asks that a level is at most 600 and `eff` at most
     /// 10,000,000.
@@ -94,7 +100,8 @@ pub trait Board {
         requires bounded { IsBoundedCommand command }
         requires asked_for { IsAskedFor command }
         ensures changed { IsChanged (seat self.old) command result (seat self.new) }
-        ensures home { home self.new ≡ home self.old };
+        ensures home { home self.new ≡ home self.old }
+        ensures none_kept { keeps_look self.new ≡ false };
 
     /// Enters the clearance of a probe, if it is free of conflicts still. It asks that the probe had none, and is one of the history that the
     /// seat has seen.
@@ -108,5 +115,6 @@ pub trait Board {
         requires free { (Self.Probe.told probe.now).hits ≡ [] }
         requires past { IsPast (seat self.old) (Self.Probe.fixed probe.now) (Self.Probe.state probe.now) (Self.Probe.told probe.now).version }
         ensures changed { IsChanged (seat self.old) (acceptance (Self.Probe.told probe.now)) result (seat self.new) }
-        ensures home { home self.new ≡ home self.old };
+        ensures home { home self.new ≡ home self.old }
+        ensures none_kept { keeps_look self.new ≡ false };
 }

@@ -1,5 +1,5 @@
 -- A link in memory of a fixed room.
-use Rattle.std.specs.Prelude.{ℕ}
+use Rattle.std.specs.Prelude.{◌≡◌, ℕ, ◌+◌, ◌-◌, ◌^◌, min, vec_len}
 use Rattle.mt_io.specs.Calls.{FaultPlan}
 use Rattle.mt_io.specs.MemSource as sources
 use Rattle.mt_io.specs.MemSink as sinks
@@ -26,3 +26,11 @@ most_written link = sinks.most_of link.sink
 -- a link holds as many bytes as it can
 abbrev pub IsFull : MemLink → Type 0
 IsFull link = sinks.IsFull link.sink
+
+-- a link was shut once more, and remembers how many bytes it held then. What it has left, what it holds and its calls stay. The count stays at
+-- 2^64 - 1.
+pub record HasShut (old new : MemLink) : Type 0 where
+  pub source : new.source ≡ old.source
+  pub sink : new.sink ≡ old.sink
+  pub once_more : new.shuts ≡ min (old.shuts + 1) (2 ^ 64 - 1)
+  pub held_then : new.held_at_shut ≡ vec_len old.sink.bytes

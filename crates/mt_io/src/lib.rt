@@ -2,6 +2,7 @@
 //! write; and the gate between two turns.
 #![tactic(auto)]
 
+mod admission;
 mod ahead;
 mod calls;
 mod door;
@@ -23,6 +24,7 @@ mod std_streams;
 mod tcp;
 mod whole_write;
 
+pub use admission::{Admission, Arrival, FirstCome, next_arrival};
 pub use door::Door;
 pub use duplex::Duplex;
 pub use gate::{Gate, OpenGate};

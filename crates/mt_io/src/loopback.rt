@@ -3,8 +3,8 @@ ghost use Rattle.std.specs.Prelude.{◌≡◌, ◌<◌, Bool, true, false, None,
 ghost use Rattle.mt_io.specs.Causes.{HasCause};
 ghost use Rattle.mt_io.specs.Door.{GivesLink, listened, took_one};
 
+use crate::admission::Admission;
 use crate::source::Failed;
-use std::io::ErrorKind;
 use std::marker::Model;
 use std::net::{Ipv4Addr, Net, TcpListener, TcpStream};
 
@@ -78,9 +78,13 @@ impl<N: Net<Listener = TcpListener, Stream = TcpStream>> Loopback<N> {
         }
     }
 
-    /// The next connection, which it waits for; none exactly where as many were given as there are sessions, and then it listens no more, so
-    /// that a client that comes later is refused at once. `Failed` comes only where fewer were given and the count of faults rose in this call.
-    pub fn next_stream(&mut self) -> Result<Option<TcpStream>, Failed>
+    /// The next connection that is let in, which it waits for; none exactly where as many were given as there are sessions, and then it listens
+    /// no more, so that a client that comes later is refused at once. `Failed` comes only where fewer were given and the count of faults rose in
+    /// this call.
+    pub fn next_stream<A: Admission>(
+        &mut self,
+        admission: &mut A,
+    ) -> Result<Option<TcpStream>, Failed>
         ensures gives { GivesLink self.old.links self.new.links None None result }
         ensures shut { result ≡ Ok None → self.new.listens ≡ false }
         ensures cause { HasCause self.old.faults self.new.faults result }
@@ -90,7 +94,7 @@ impl<N: Net<Listener = TcpListener, Stream = TcpStream>> Loopback<N> {
             return Ok(None);
         }
         if let Some(listener) = &self.listener {
-            if let Some(stream) = accepted(listener) {
+            if let Some(stream) = admission.next(&self.net, listener) {
                 self.given += 1;
                 return Ok(Some(stream));
             }
@@ -106,19 +110,4 @@ impl<N: Net<Listener = TcpListener, Stream = TcpStream>> Loopback<N> {
     {
         self.back += 1;
     }
-}
-
-// The next connection of a listener, but for interruptions; what it writes is sent at once, as a reply should be, where the system takes that wish.
-fn accepted(listener: &TcpListener) -> Option<TcpStream> {
-    for _ in 0..u64::MAX {
-        match listener.accept() {
-            Ok((stream, _)) => {
-                let _ = stream.set_nodelay(true);
-                return Some(stream);
-            }
-            Err(error) if error.kind() == ErrorKind::Interrupted => {}
-            Err(_) => break,
-        }
-    }
-    None
 }

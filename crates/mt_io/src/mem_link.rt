@@ -16,12 +16,14 @@ use std::sync::Arc;
 use std::sync::atomic::{AtomicU64, Ordering};
 
 /// Bytes in memory to read, and room in memory for the bytes that are written: a source and a sink, each with calls of its own. It counts
-/// the lines that were written, where others can see that.
+/// the lines that were written, where others can see that; and it tells how often it was shut, and how many bytes it held then.
 #[derive(Drop)]
 pub struct MemLink {
     source: MemSource,
     sink: MemSink,
     replies: Arc<AtomicU64, Global>,
+    shuts: u64,
+    held_at_shut: usize,
 }
 
 impl MemLink {
@@ -36,11 +38,14 @@ impl MemLink {
         ensures sound { IfOk result (λ link. (⟦<MemLink as Source>⟧.faults link ≡ 0) × (⟦<MemLink as Sink>⟧.faults link ≡ 0)) }
         ensures calls { IfOk result (λ link. (reads_of link ≡ listing []) × (writes_of link ≡ listing [])) }
         ensures most { IfOk result (λ link. (most_read link ≡ usize.MAX) × (most_written link ≡ usize.MAX)) }
+        ensures open { IfOk result (λ link. link.shuts ≡ 0) }
     {
         Ok(MemLink {
             source: MemSource::of(bytes),
             sink: MemSink::make(alloc, room)?,
             replies: Arc::new(alloc, AtomicU64::new(0))?,
+            shuts: 0,
+            held_at_shut: 0,
         })
     }
 
@@ -54,11 +59,14 @@ impl MemLink {
         ensures room { room_of result ≡ room_of self }
         ensures calls { (reads_of result ≡ listing reads.items) × (writes_of result ≡ listing writes.items) }
         ensures most { (most_read result ≡ most) × (most_written result ≡ most) }
+        ensures shuts { result.shuts ≡ self.shuts }
     {
         MemLink {
             source: self.source.failing(reads, most),
             sink: self.sink.failing(writes, most),
             replies: self.replies,
+            shuts: self.shuts,
+            held_at_shut: self.held_at_shut,
         }
     }
 
@@ -67,6 +75,20 @@ impl MemLink {
         ensures { Some result.now ≡ ⟦<MemLink as Sink>⟧.held self.now }
     {
         self.sink.held()
+    }
+
+    /// How often it was shut. The count stays at `u64::MAX`.
+    pub fn shuts(&self) -> u64
+        ensures { result ≡ self.now.shuts }
+    {
+        self.shuts
+    }
+
+    /// How many bytes it held when it was last shut; 0 where it never was.
+    pub fn held_at_shut(&self) -> usize
+        ensures { result ≡ self.now.held_at_shut }
+    {
+        self.held_at_shut
     }
 
     /// The number of lines written, 0x0A by 0x0A, as a number that goes on rising while the link is used elsewhere.
@@ -165,6 +187,16 @@ impl Sink for MemLink {
 
 impl Duplex for MemLink {
     ghost use Rattle.std.proofs.Common.{ap, arith};
+    ghost use Rattle.mt_io.specs.MemLink.{HasShut};
+
+    ghost shuts_to = { HasShut };
+
+    fn shut(&mut self)
+        ensures { HasShut self.old self.new }
+    {
+        self.shuts = self.shuts.saturating_add(1);
+        self.held_at_shut = self.sink.held().len();
+    }
 
     ghost reading_keeps_held = { λ a b kept. ap (λ s. ⟦<MemSink as Sink>⟧.held s) kept.0 };
 
@@ -173,4 +205,8 @@ impl Duplex for MemLink {
     ghost writing_keeps_left = { λ a b kept. ap (λ s. ⟦<MemSource as Source>⟧.left s) kept.0 };
 
     ghost writing_keeps_count = { λ a b kept. Prim.omega (arith, ap (λ s. ⟦<MemSource as Source>⟧.faults s) kept.0) };
+
+    ghost shutting_keeps_bytes = { λ a b shut. (ap (λ s. ⟦<MemSource as Source>⟧.left s) shut.source, ap (λ s. ⟦<MemSink as Sink>⟧.held s) shut.sink) };
+
+    ghost shutting_keeps_counts = { λ a b shut. (ap (λ s. ⟦<MemSource as Source>⟧.faults s) shut.source, ap (λ s. ⟦<MemSink as Sink>⟧.faults s) shut.sink) };
 }

@@ -2,13 +2,14 @@
 ghost use Rattle.std.specs.Prelude.{◌≡◌, ◌≤◌, None};
 ghost use Rattle.mt_io.specs.Door.{listened};
 
+use crate::admission::FirstCome;
 use crate::door::Door;
 use crate::duplex::Duplex;
 use crate::loopback::Loopback;
 use crate::sink::Sink;
 use crate::source::{Failed, Source};
 use std::io::{ErrorKind, Read, Write};
-use std::net::{Net, TcpListener, TcpStream};
+use std::net::{Net, Shutdown, TcpListener, TcpStream};
 
 /// A connection, with the counts of the errors that it gave at reads and at writes. A write that took nothing counts as one.
 #[derive(Drop)]
@@ -98,6 +99,12 @@ impl Duplex for TcpLink {
     ghost use Rattle.std.specs.Prelude.{refl};
     ghost use Rattle.std.proofs.Common.{arith};
 
+    ghost shuts_to = { λ a b. (b.reads ≡ a.reads) × (b.writes ≡ a.writes) };
+
+    fn shut(&mut self) {
+        let _ = self.stream.shutdown(Shutdown::Write);
+    }
+
     ghost reading_keeps_held = { λ a b same. refl };
 
     ghost reading_keeps_count = { λ a b same. Prim.omega (arith, same) };
@@ -105,6 +112,10 @@ impl Duplex for TcpLink {
     ghost writing_keeps_left = { λ a b same. refl };
 
     ghost writing_keeps_count = { λ a b same. Prim.omega (arith, same) };
+
+    ghost shutting_keeps_bytes = { λ a b same. (refl, refl) };
+
+    ghost shutting_keeps_counts = { λ a b same. same };
 }
 
 /// A door to the ports of loopback. It has the runtime's handle to the network, and a listener from when it has listened until a call of
@@ -147,7 +158,7 @@ impl<N: Net<Listener = TcpListener, Stream = TcpStream>> Door for TcpDoor<N> {
     }
 
     fn next_link(&mut self) -> Result<Option<TcpLink>, Failed> {
-        match self.at.next_stream() {
+        match self.at.next_stream(&mut FirstCome) {
             Ok(Some(stream)) => Ok(Some(TcpLink::of(stream))),
             Ok(None) => Ok(None),
             Err(Failed) => Err(Failed),
