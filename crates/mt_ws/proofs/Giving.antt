@@ -57,3 +57,17 @@ pub takes_some : (n : ℕ) (xs : List ℕ) → (0 < n) × (n ≤ length xs) → 
 takes_some n xs fits =
     let size : length (take n xs) ≡ n = length-take-le n xs fits.1 in
     omega arith
+
+-- the same of bytes that have no ending
+pub gives_left : (xs buf copied : List ℕ) (at n : ℕ) → at ≤ length xs → n ≤ length xs - at → copied ≡ take n (take (length xs - at) (drop at xs))
+    → drop at xs ≡ take n (copied ++ drop n buf) ++ drop (at + n) xs
+gives_left xs buf copied at n le few is =
+    sym (append-nil (drop at xs)) ∙ gives_rest xs buf copied [] at n le few is ∙ ap (λ l. take n (copied ++ drop n buf) ++ l) (append-nil (drop (at + n) xs))
+
+-- all is given where the end is met
+pub all_given : (xs : List ℕ) (at : ℕ) → at ≤ length xs → (at ≡ length xs → drop at xs ≡ []) × (drop at xs ≡ [] → at ≡ length xs)
+all_given xs at le =
+    let size : length (drop at xs) ≡ length xs - at = length-drop at xs in (
+      (λ e. drop_all at xs (omega arith)),
+      (λ e. let none : length (drop at xs) ≡ 0 = ap length e in omega arith),
+    )

@@ -1,7 +1,7 @@
 mod Beats
+mod Cutting
 mod Faults
+mod FirstLines
 mod Giving
 mod Heads
 mod Opened
-mod Texts
-mod Cutting

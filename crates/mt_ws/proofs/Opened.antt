@@ -1,15 +1,27 @@
 -- A stream's first byte, read and put back.
-use Rattle.std.proofs.Common.{◌≡◌, ◌<◌, ℕ, ◌==◌, false, List, [], ◌∷◌, ◌++◌, length, take, set, get_or, remove, Option, None, Some, refl, sym, ◌∙◌, ap, arith, append-nil}
+use Rattle.std.proofs.Common.{◌≡◌, ◌<◌, ℕ, ◌==◌, false, List, [], ◌∷◌, ◌++◌, length, take, Option, None, Some, refl, sym, ◌∙◌, ap, arith, append-nil, Result, Ok, Err, Bool, true}
+use Rattle.std.proofs.lemmas.Bool.{false≢true}
 use Rattle.std.proofs.lemmas.List.{append_assoc}
-use Rattle.std.specs.Io.KnownBytes.{Consumes, Keeps, Appends, IsAtEnd, prepend_known}
+use Rattle.std.specs.Io.KnownBytes.{Consumes, Keeps, Appends, IsAtEnd, ReadConsumes, prepend_known}
 
--- of the bytes that were put back the first is given
-pub gives_first : (left : Option (List ℕ)) (back rest : List ℕ) (first : ℕ) (buf : List ℕ) → 0 < length back → 0 < length buf
-    → first ≡ get_or back 0 first → rest ≡ remove back 0 → Consumes (prepend_known back left) (prepend_known rest left) (take 1 (set buf 0 first))
-gives_first left [] rest first buf some room is gone = absurd (omega arith)
-gives_first left (b ∷ back) rest first [] some room is gone = absurd (omega arith)
-gives_first None (b ∷ back) rest first (c ∷ buf) some room is gone = tt
-gives_first (Some more) (b ∷ back) rest first (c ∷ buf) some room is gone = rw (is, gone) refl
+-- of the bytes that were put back some are given
+pub gives_back : (left : Option (List ℕ)) (back given rest : List ℕ) → back ≡ given ++ rest → Consumes (prepend_known back left) (prepend_known rest left) given
+gives_back None back given rest is = tt
+gives_back (Some more) back given rest is = rw is (append_assoc given rest more)
+
+-- where none are put back, a read of the stream is one
+pub reads_behind : {E : Type 0} (old new : Option (List ℕ)) (back : List ℕ) (result : Result ℕ E) (buf : List ℕ) → back ≡ [] → ReadConsumes old new result buf
+    → ReadConsumes (prepend_known back old) (prepend_known back new) result buf
+reads_behind None None back result buf none read = read
+reads_behind None (Some ys) back result buf none read = rw none read
+reads_behind (Some xs) None back (Ok n) buf none read = absurd read.0
+reads_behind (Some xs) None back (Err e) buf none read = absurd read
+reads_behind (Some xs) (Some ys) back result buf none read = rw none read
+
+-- some bytes are put back
+pub some_left : (back : List ℕ) (none : Bool) → (none ≡ true → back ≡ []) × (back ≡ [] → none ≡ true) → none ≡ false → 0 < length back
+some_left [] none is some = absurd (false≢true (sym some ∙ is.1 refl))
+some_left (b ∷ back) none is some = omega arith
 
 -- a stream that gave nothing at its end had nothing left
 pub ended_before : (old new : Option (List ℕ)) → Consumes old new [] → IsAtEnd new → IsAtEnd old
@@ -25,12 +37,6 @@ none_held (Some xs) (Some ys) none = none ∙ append-nil xs
 -- nothing was taken of a piece
 pub keeps_held : (old new : Option (List ℕ)) (piece : List ℕ) (count : ℕ) → count ≡ 0 → Appends old new (take count piece) → Keeps old new
 keeps_held old new piece count zero none = none_held old new (rw zero at none)
-
--- a buffer of one byte
-pub one_byte : (buf : List ℕ) → length buf ≡ 1 → take 1 buf ≡ get_or buf 0 0 ∷ []
-one_byte [] one = absurd (omega arith)
-one_byte (b ∷ []) one = refl
-one_byte (b ∷ c ∷ buf) one = absurd (omega arith)
 
 -- a call that kept what was left, and then one that read
 pub consumes_later : (a b c : Option (List ℕ)) (bytes : List ℕ) → Keeps a b → Consumes b c bytes → Consumes a c bytes
@@ -57,7 +63,3 @@ consumes_on None b c bytes further read more = tt
 consumes_on (Some xs) None c bytes further read more = absurd read
 consumes_on (Some xs) (Some ys) None bytes further read more = absurd more
 consumes_on (Some xs) (Some ys) (Some zs) bytes further read more = read ∙ (ap (λ l. bytes ++ l) more ∙ sym (append_assoc bytes further zs))
-
--- one byte was read to a buffer of one
-pub one_read : (a b : Option (List ℕ)) (n : ℕ) (buf : List ℕ) → n ≡ 1 → length buf ≡ 1 → Consumes a b (take n buf) → Consumes a b (get_or buf 0 0 ∷ [])
-one_read a b n buf is one read = rw (is, one_byte buf one) at read

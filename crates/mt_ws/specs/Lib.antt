@@ -1,7 +1,7 @@
 pub mod Accepted
+pub mod Beginning
 pub mod Linking
 pub mod Messages
-pub mod Methods
 pub mod Opening
 pub mod Private
 pub mod Pulling

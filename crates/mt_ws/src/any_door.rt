@@ -3,20 +3,24 @@ ghost use Rattle.std.specs.Prelude.{◌≡◌, None};
 ghost use Rattle.mt_io.specs.Door.{listened};
 
 use crate::any_link::AnyLink;
+use crate::foyer::Foyer;
 use mt_io::{Door, Failed, Loopback};
 use std::alloc::Global;
 use std::net::{Net, TcpListener, TcpStream};
 
-/// A door to the ports of loopback, as `TcpDoor` is, whose links say by their first bytes what they are. It has the runtime's handle to the
-/// network, and a listener from when it has listened until a call of `next_link` answers that no link is left: a client that comes later is
-/// refused at once. An error of either is counted. Before `listen` it has no link to give. It reads nothing of a connection: the link's first
-/// read does, in the session's own thread, so that a slow client holds up its own session alone.
+/// A door to the ports of loopback whose links say by their first bytes what they are. It has the runtime's handle to the network, and a listener
+/// from when it has listened until a call of `next_link` answers that no link is left: a client that comes later is refused at once, and those that
+/// came and said nothing are dropped. An error of either is counted. Before `listen` it has no link to give.
 ///
-/// Over a WebSocket that comes back a close is sent, if the connection takes it at once, and then each connection is closed.
+/// A connection is a link once it has spoken: it has sent what begins a line session, or the whole request of a WebSocket that the check of origins
+/// lets in. All others are answered by status 400 or 403 and dropped, and are neither links nor faults. Of those that have said nothing yet, or too
+/// little to tell, 64 are kept, and when one more comes, the one that has waited longest is dropped. The door looks at the bytes and takes none: the
+/// link's first read does, in the session's own thread.
 #[derive(Drop)]
 pub struct AnyDoor<N> {
     alloc: Global,
     at: Loopback<N>,
+    foyer: Foyer,
 }
 
 impl<N: Net<Listener = TcpListener, Stream = TcpStream>> AnyDoor<N> {
@@ -29,6 +33,7 @@ impl<N: Net<Listener = TcpListener, Stream = TcpStream>> AnyDoor<N> {
         AnyDoor {
             alloc,
             at: Loopback::of(net),
+            foyer: Foyer::of(alloc),
         }
     }
 }
@@ -49,19 +54,22 @@ impl<N: Net<Listener = TcpListener, Stream = TcpStream>> Door for AnyDoor<N> {
     }
 
     fn listen(&mut self, port: u16, sessions: u32) -> Result<(), Failed> {
+        self.foyer.close();
         self.at.listen(port, sessions)
     }
 
     fn next_link(&mut self) -> Result<Option<AnyLink<TcpStream>>, Failed> {
-        match self.at.next_stream() {
+        match self.at.next_stream(&mut self.foyer) {
             Ok(Some(stream)) => Ok(Some(AnyLink::of(self.alloc, stream))),
-            Ok(None) => Ok(None),
+            Ok(None) => {
+                self.foyer.close();
+                Ok(None)
+            }
             Err(Failed) => Err(Failed),
         }
     }
 
-    fn back(&mut self, mut link: AnyLink<TcpStream>) {
-        link.close();
+    fn back(&mut self, link: AnyLink<TcpStream>) {
         drop(link);
         self.at.take_back();
     }

@@ -1,25 +1,26 @@
-//! A link whose first bytes say whether it is a line session, a WebSocket or a request that is refused.
+//! A link whose first bytes say whether it is a line session, a WebSocket or neither.
 ghost use Rattle.std.specs.Prelude.{◌≡◌, ◌≤◌, ◌<◌, length, IfOk, None, refl};
 ghost use Rattle.std.specs.Io.{ReadsAtMost};
 ghost use Rattle.std.specs.Io.KnownBytes.{ReadConsumes, WriteAppends};
 ghost use Rattle.std.proofs.Common.{◌∙◌, arith};
 ghost use Rattle.mt_io.specs.Causes.{HasCause};
-ghost use Rattle.mt_ws.specs.Opening.{IsStreamUnread, ReadsOpening, WritesOpening, is_request as is_refused};
+ghost use Rattle.mt_ws.specs.Opening.{IsStreamUnread, ReadsOpening, WritesOpening, is_foreign as is_refused};
 
+use crate::half_close::HalfClose;
 use crate::opening::Opening;
 use mt_io::{Duplex, Failed, Sink, Source};
 use std::alloc::Global;
 use std::io::{Read, Write};
-use std::net::TcpStream;
 
-/// A line session or a WebSocket over a stream of bytes, by the first bytes: `G` begins a WebSocket's request, and a method of HTTP other than
-/// `GET` and a space a request that is refused; everything else is a line. It counts its failed reads and its failed writes. It tells no content.
+/// A line session or a WebSocket over a stream of bytes, by what comes first, as `IsStart` says: `{` begins a line session, and `G` the request of a
+/// WebSocket. Else the first line is read, 8,192 bytes at most. One that ends as the first line of a request of HTTP does, with a blank, `HTTP/` and
+/// a version, whatever its method, is no session; nor is what begins with a control byte, as a greeting of TLS does, or has no 0x0A in that many
+/// bytes. All else is a line session. It counts its failed reads and its failed writes. It tells no content.
 ///
-/// The first read reads these bytes, one of a stream that begins as no method does, and eight at most. They are given as the first bytes of a
-/// line session. For a WebSocket it makes the handshake, in the thread that reads; it takes the link's memory. Where that fails, or the first
-/// bytes are a method and a space, the read fails, and the stream is closed: a page of another site can send such a request through a browser,
-/// with lines as its body, and none of them is read. A stream that ends before its first byte is at its end. A write before the first read
-/// fails.
+/// The first read reads these bytes, and no more than it needs to tell. They are given as the first bytes of a line session. For a WebSocket it
+/// makes the handshake, in the thread that reads; it takes the link's memory. Where that fails, or the first bytes are those of no session, the
+/// read fails, and the stream is closed: a page of another site can send such bytes through a browser, with lines behind them, and none of them is
+/// read. A stream that ends before its first byte is at its end. A write before the first read fails.
 #[derive(Drop)]
 pub struct AnyLink<S> {
     stream: Opening<S>,
@@ -40,18 +41,11 @@ impl<S: Read + Write + Drop> AnyLink<S> {
         }
     }
 
-    /// Whether it was broken since the stream began as a request of HTTP with another method than `GET`. Each read fails then.
-    pub fn is_request(&self) -> bool
+    /// Whether it was broken since the stream began neither as lines nor as a WebSocket. Each read fails then.
+    pub fn is_foreign(&self) -> bool
         ensures { result ≡ is_refused self.now.stream.kind }
     {
-        self.stream.is_request()
-    }
-}
-
-impl AnyLink<TcpStream> {
-    /// Sends a close over a WebSocket, if the connection takes it at once. It waits for no peer, and no more is claimed of it.
-    pub fn close(&mut self) {
-        self.stream.close();
+        self.stream.is_foreign()
     }
 }
 
@@ -121,7 +115,14 @@ impl<S: Read + Write + Drop> Sink for AnyLink<S> {
     ghost writes_on = { λ a b c ab bc. bc ∙ ab };
 }
 
-impl<S: Read + Write + Drop> Duplex for AnyLink<S> {
+impl<S: HalfClose + Drop> Duplex for AnyLink<S> {
+    ghost shuts_to = { λ a b. (b.read_faults ≡ a.read_faults) × (b.write_faults ≡ a.write_faults) };
+
+    /// Over a WebSocket it sends a close first, unless one was sent or answered, if the stream takes it at once.
+    fn shut(&mut self) {
+        self.stream.shut();
+    }
+
     ghost reading_keeps_held = { λ a b same. refl };
 
     ghost reading_keeps_count = { λ a b same. Prim.omega (arith, same) };
@@ -129,4 +130,8 @@ impl<S: Read + Write + Drop> Duplex for AnyLink<S> {
     ghost writing_keeps_left = { λ a b same. refl };
 
     ghost writing_keeps_count = { λ a b same. Prim.omega (arith, same) };
+
+    ghost shutting_keeps_bytes = { λ a b same. (refl, refl) };
+
+    ghost shutting_keeps_counts = { λ a b same. same };
 }

@@ -3,34 +3,38 @@ ghost use Rattle.std.specs.Prelude.{◌≡◌};
 ghost use Rattle.std.specs.Io.{ReadsAtMost, WritesAtMost};
 ghost use Rattle.std.specs.Io.KnownBytes.{ReadConsumes, WriteAppends};
 
-use arrayvec::ArrayVec;
+use crate::half_close::HalfClose;
+use crate::put_back::PutBack;
 use std::io;
 use std::io::{ErrorKind, Read, Write};
-
-/// The bytes that are read of a stream to see what it begins with.
-pub type Head = ArrayVec<u8, 8>;
 
 /// A stream of which some bytes were read, and are given again before those after them. Contracts see as what it has left these bytes and then
 /// what the stream has left, where the stream tells that.
 #[derive(Drop)]
 pub struct Front<S> {
-    back: Head,
+    back: PutBack,
     stream: S,
 }
 
 impl<S> Front<S> {
     /// The stream, with these bytes put back.
-    pub fn of(back: Head, stream: S) -> Front<S>
-        ensures { result ≡ record { back = back; stream = stream } }
+    pub fn of(back: Vec<u8>, stream: S) -> Front<S>
+        ensures { result ≡ record { back = back.items; stream = stream } }
     {
-        Front { back, stream }
+        Front {
+            back: PutBack::of(back),
+            stream,
+        }
+    }
+}
+
+impl<S: HalfClose> HalfClose for Front<S> {
+    fn hurry(&mut self) -> bool {
+        self.stream.hurry()
     }
 
-    /// The stream.
-    pub fn stream(&self) -> &S
-        ensures { result.now ≡ self.now.stream }
-    {
-        &self.stream
+    fn end_writes(&mut self) {
+        self.stream.end_writes();
     }
 }
 
@@ -48,7 +52,7 @@ impl<S: Write> Front<S> {
 impl<S: Read> Read for Front<S> {
     ghost use Rattle.std.specs.Io.KnownBytes.{prepend_known};
 
-    ghost remaining = { λ f. prepend_known f.back.items (S.remaining f.stream) };
+    ghost remaining = { λ f. prepend_known f.back (S.remaining f.stream) };
 
     fn read(&mut self, buf: &mut [u8]) -> io::Result<usize> {
         if buf.is_empty() {
@@ -57,8 +61,7 @@ impl<S: Read> Read for Front<S> {
         if self.back.is_empty() {
             return read_on(&mut self.stream, buf);
         }
-        buf[0] = self.back.remove(0);
-        Ok(1)
+        Ok(self.back.give(buf))
     }
 }
 

@@ -1,19 +1,21 @@
-//! A stream that is opened by its first read: by its first bytes it is a line session, a WebSocket or a request that is refused.
-ghost use Rattle.std.specs.Prelude.{◌≡◌, ◌<◌, ◌≤◌, length, IfOk};
+//! A stream that is opened by its first read: by its first bytes it is a line session, a WebSocket or neither.
+ghost use Rattle.std.specs.Prelude.{◌≡◌, ◌<◌, ◌≤◌, length, take, IfOk};
 ghost use Rattle.std.specs.Io.{ReadsAtMost};
-ghost use Rattle.mt_ws.specs.Methods.{ReadsHead};
-ghost use Rattle.mt_ws.specs.Opening.{BeginsLink, IsStreamUnread, Opens, ReadsKind, ReadsOpening, WritesKind, WritesOpening, is_request as is_refused};
-ghost use Rattle.mt_ws.specs.Private.Opening.{IsKindBy, IsStartOf};
+ghost use Rattle.mt_ws.specs.Beginning.{ReadsHead};
+ghost use Rattle.mt_ws.specs.Opening.{BeginsLink, IsStreamUnread, Opens, ReadsKind, ReadsOpening, WritesKind, WritesOpening, is_foreign as is_refused};
+ghost use Rattle.mt_ws.specs.Private.Opening.{IsKindBy, IsWebOrBroken};
 
-use crate::front::{Front, Head, read_on};
-use crate::methods::{begins_with_method, is_front};
+use crate::beginning::{LONGEST_FIRST_LINE, Start, start_of};
+use crate::front::{Front, read_on};
+use crate::half_close::HalfClose;
+use crate::rehearsal::copy_of;
 use crate::ws_link::WsLink;
-use mt_io::{Failed, Sink, Source};
+use mt_io::{Duplex, Failed, Sink, Source};
+use mt_memory::Memory;
 use std::alloc::Global;
 use std::io;
 use std::io::{Read, Write};
 use std::mem::replace;
-use std::net::TcpStream;
 
 /// What a link is once its first bytes were read.
 #[derive(Drop)]
@@ -24,24 +26,11 @@ pub enum LinkKind<S> {
     Web(WsLink<Front<S>>),
     /// The stream ended before its first byte.
     Over,
-    /// The stream began with a method of HTTP other than `GET` and a space. It is gone, and so closed.
-    Request,
-    /// Nothing was read yet, the first bytes couldn't be read, or no WebSocket could be made. The stream is gone, and so closed, but for one of
-    /// which nothing was read.
+    /// The stream began as none of these does. It is gone, and so closed.
+    Foreign,
+    /// Nothing was read yet, the first bytes couldn't be read, no WebSocket could be made, or memory was wanted. The stream is gone, and so
+    /// closed, but for one of which nothing was read.
     Broken,
-}
-
-/// What the first bytes of a stream say that it is.
-#[derive(Clone, Copy)]
-pub enum Start {
-    /// It ended before its first byte.
-    Nothing,
-    /// The request of a WebSocket.
-    Web,
-    /// A request of HTTP with another method.
-    Request,
-    /// A line.
-    Lines,
 }
 
 /// A stream of which nothing was read, or what its first bytes made of it.
@@ -83,11 +72,11 @@ impl<S: Read + Write + Drop> Opening<S> {
         write_kind(&mut self.kind, piece)
     }
 
-    /// Whether the stream began with a method of HTTP other than `GET` and a space, and is gone.
-    pub fn is_request(&self) -> bool
+    /// Whether the stream began neither as lines nor as a WebSocket, and is gone.
+    pub fn is_foreign(&self) -> bool
         ensures { result ≡ is_refused self.now.kind }
     {
-        matches!(&self.kind, LinkKind::Request)
+        matches!(&self.kind, LinkKind::Foreign)
     }
 
     // Reads the first bytes, where they weren't read yet.
@@ -100,13 +89,16 @@ impl<S: Read + Write + Drop> Opening<S> {
     }
 }
 
-impl Opening<TcpStream> {
-    /// Sends a close over a WebSocket, if the connection takes it at once. It waits for no peer, and no more is claimed of it.
-    pub fn close(&mut self) {
-        if let LinkKind::Web(link) = &mut self.kind {
-            if link.stream().stream().set_nonblocking(true).is_ok() {
-                link.close();
-            }
+impl<S: HalfClose + Drop> Opening<S> {
+    /// Ends the writes of what was opened, and of a stream of which nothing was read.
+    pub fn shut(&mut self) {
+        if let Some(stream) = &mut self.fresh {
+            stream.end_writes();
+        }
+        match &mut self.kind {
+            LinkKind::Lines(stream) => stream.end_writes(),
+            LinkKind::Web(link) => link.shut(),
+            LinkKind::Over | LinkKind::Foreign | LinkKind::Broken => {}
         }
     }
 }
@@ -115,56 +107,80 @@ impl Opening<TcpStream> {
 fn begin<S: Read + Write + Drop>(alloc: Global, mut stream: S) -> LinkKind<S>
     ensures { BeginsLink S.remaining S.contents stream result }
 {
-    match read_head(&mut stream) {
-        Ok(head) => kind_by(alloc, head, stream),
+    let mut head = [0; LONGEST_FIRST_LINE];
+    match read_head(&mut stream, &mut head) {
+        Ok((count, start)) => kind_by(alloc, &head[..count], start, stream),
         Err(_) => LinkKind::Broken,
     }
 }
 
-// Reads on while what was read is the front of a method: one byte of a stream that begins otherwise, eight at most.
-fn read_head<S: Read>(stream: &mut S) -> io::Result<Head>
-    ensures { IfOk result (λ head. ReadsHead (S.remaining stream.old) (S.remaining stream.new) head.items) }
+// Reads until the bytes say what the stream is, or none are left; how many there are, and what they say. It reads no more than lies there once they say
+// it.
+fn read_head<S: Read>(
+    stream: &mut S,
+    head: &mut [u8; LONGEST_FIRST_LINE],
+) -> io::Result<(usize, Option<Start>)>
+    ensures short { IfOk result (λ found. found.0 ≤ 8192) }
+    ensures head { IfOk result (λ found. ReadsHead (S.remaining stream.old) (S.remaining stream.new) (take found.0 head.new) found.1) }
 {
-    let mut head = Head::new();
-    while is_front(head.as_slice()) {
-        let mut next = [0; 1];
-        match read_on(stream, &mut next) {
-            Ok(0) => return Ok(head),
-            Ok(_) => head.push(next[0]),
-            Err(error) => return Err(error),
+    let mut count = 0;
+    while count < LONGEST_FIRST_LINE {
+        let more = read_on(stream, &mut head[count..])?;
+        if more == 0 {
+            return Ok((count, start_of(&head[..count], true)));
+        }
+        count += more;
+        let start = start_of(&head[..count], false);
+        if start.is_some() {
+            return Ok((count, start));
         }
     }
-    Ok(head)
+    unreachable!()
 }
 
-// What the first bytes say. `G` is a WebSocket's request; no line of JSON begins with it, nor with a method.
-fn start_of(head: &[u8]) -> Start
-    ensures { IsStartOf head.now result }
+// A stream with these bytes put back.
+fn front_of<S: Drop>(alloc: Global, head: &[u8], stream: S) -> Result<Front<S>, Memory>
+    ensures { IfOk result (λ front. front ≡ record { back = head.now; stream = stream }) }
 {
-    if head.is_empty() {
-        return Start::Nothing;
+    match copy_of(alloc, head) {
+        Ok(back) => Ok(Front::of(back, stream)),
+        Err(Memory) => {
+            drop(stream);
+            Err(Memory)
+        }
     }
-    if head[0] == b'G' {
-        return Start::Web;
-    }
-    if begins_with_method(head) {
-        return Start::Request;
-    }
-    Start::Lines
 }
 
 // What the first bytes make of the stream.
-fn kind_by<S: Read + Write + Drop>(alloc: Global, head: Head, stream: S) -> LinkKind<S>
-    ensures { IsKindBy head stream result }
+fn kind_by<S: Read + Write + Drop>(
+    alloc: Global,
+    head: &[u8],
+    start: Option<Start>,
+    stream: S,
+) -> LinkKind<S>
+    ensures { IsKindBy head.now start stream result }
 {
-    match start_of(head.as_slice()) {
-        Start::Nothing => LinkKind::Over,
-        Start::Web => match WsLink::accept(alloc, Front::of(head, stream)) {
-            Ok(link) => LinkKind::Web(link),
-            Err(_) => LinkKind::Broken,
+    match start {
+        None => LinkKind::Over,
+        Some(Start::Foreign) => LinkKind::Foreign,
+        Some(Start::Lines) => match front_of(alloc, head, stream) {
+            Ok(front) => LinkKind::Lines(front),
+            Err(Memory) => LinkKind::Broken,
         },
-        Start::Request => LinkKind::Request,
-        Start::Lines => LinkKind::Lines(Front::of(head, stream)),
+        Some(Start::Web) => match front_of(alloc, head, stream) {
+            Ok(front) => web(alloc, front),
+            Err(Memory) => LinkKind::Broken,
+        },
+    }
+}
+
+// Makes the handshake of a WebSocket.
+fn web<S: Read + Write + Drop>(alloc: Global, front: Front<S>) -> LinkKind<S>
+    ensures { IsWebOrBroken result }
+{
+    match WsLink::accept(alloc, front) {
+        Ok(link) => LinkKind::Web(link),
+        Err(_) => LinkKind::Broken,
     }
 }
 
@@ -184,7 +200,7 @@ fn read_kind<S: Read + Write + Drop>(
         },
         LinkKind::Web(link) => link.read_some(buf),
         LinkKind::Over => Ok(0),
-        LinkKind::Request | LinkKind::Broken => Err(Failed),
+        LinkKind::Foreign | LinkKind::Broken => Err(Failed),
     }
 }
 
@@ -201,6 +217,6 @@ fn write_kind<S: Read + Write + Drop>(kind: &mut LinkKind<S>, piece: &[u8]) -> R
             Err(_) => Err(Failed),
         },
         LinkKind::Web(link) => link.write_some(piece),
-        LinkKind::Over | LinkKind::Request | LinkKind::Broken => Err(Failed),
+        LinkKind::Over | LinkKind::Foreign | LinkKind::Broken => Err(Failed),
     }
 }

@@ -8,6 +8,7 @@ ghost use Rattle.mt_ws.specs.Linking.{IsNew, ReadsLink, WritesLink};
 ghost use Rattle.mt_ws.specs.Accepted.{IsFromHandshake};
 
 use crate::cause::{WsCause, WsNo};
+use crate::half_close::HalfClose;
 use crate::origin::LocalPages;
 use crate::pull::{Pulled, pull};
 use crate::sending::{cut, send_line};
@@ -94,13 +95,6 @@ impl<S: Read + Write + Drop> WsLink<S> {
         }
     }
 
-    /// The stream.
-    pub fn stream(&self) -> &S
-        ensures { result.now ≡ self.now.socket.stream }
-    {
-        self.socket.get_ref()
-    }
-
     /// The socket, given back.
     pub fn into_socket(self) -> WebSocket<S, NoMask>
         ensures { result ≡ self.socket }
@@ -116,11 +110,6 @@ impl<S: Read + Write + Drop> WsLink<S> {
         drop(line);
         drop(cause);
         socket
-    }
-
-    /// Sends a close, if the stream takes it. No more is claimed of it.
-    pub fn close(&mut self) {
-        let _sent = self.socket.close(None);
     }
 
     /// Why the last call that failed did so; none where none has failed.
@@ -247,7 +236,17 @@ impl<S: Read + Write + Drop> Sink for WsLink<S> {
     ghost writes_on = { λ a b c ab bc. (bc.0 ∙ ab.0, bc.1 ∙ ab.1, bc.2 ∙ ab.2) };
 }
 
-impl<S: Read + Write + Drop> Duplex for WsLink<S> {
+impl<S: HalfClose + Drop> Duplex for WsLink<S> {
+    ghost shuts_to = { λ a b. (b.read_faults ≡ a.read_faults) × (b.write_faults ≡ a.write_faults) };
+
+    /// Sends a close, unless one was sent or answered, if the stream takes it at once; and ends the stream's writes.
+    fn shut(&mut self) {
+        if self.socket.get_mut().hurry() {
+            let _sent = self.socket.close(None);
+        }
+        self.socket.get_mut().end_writes();
+    }
+
     ghost reading_keeps_held = { λ a b same. refl };
 
     ghost reading_keeps_count = { λ a b same. Prim.omega (arith, same.0) };
@@ -255,4 +254,8 @@ impl<S: Read + Write + Drop> Duplex for WsLink<S> {
     ghost writing_keeps_left = { λ a b same. refl };
 
     ghost writing_keeps_count = { λ a b same. Prim.omega (arith, same.0) };
+
+    ghost shutting_keeps_bytes = { λ a b same. (refl, refl) };
+
+    ghost shutting_keeps_counts = { λ a b same. same };
 }

@@ -1,7 +1,8 @@
 -- No public contract names these: they are of private steps and of proofs.
 -- Which pages may talk to a server on loopback, by the Origin that their browser sends.
-use Rattle.std.specs.Prelude.{◌≡◌, ◌≢◌, ◌≤◌, ◌⊎◌, ℕ, List, [], ◌∷◌, ◌++◌, All, Option, None, Some, codes}
+use Rattle.std.specs.Prelude.{◌≡◌, ◌≢◌, ◌⊎◌, ℕ, List, [], ◌∷◌, ◌++◌, All, Option, None, Some, codes}
 use Rattle.http_header.specs.FieldValue.{FieldValue}
+use Rattle.mt_ws.specs.Beginning.{IsDigit}
 
 -- `IsScheme`, `IsName`: the scheme of a web page; this machine's name
 abbrev pub IsScheme : List ℕ → Type 0
@@ -10,12 +11,9 @@ IsScheme scheme = (scheme ≡ codes "http://") ⊎ (scheme ≡ codes "https://")
 abbrev pub IsName : List ℕ → Type 0
 IsName host = (host ≡ codes "127.0.0.1") ⊎ (host ≡ codes "localhost")
 
--- `IsHost`, `IsDigit`: this machine; an ASCII digit
+-- this machine
 abbrev pub IsHost : List ℕ → Type 0
 IsHost host = IsName host ⊎ (host ≡ codes "[::1]")
-
-abbrev pub IsDigit : ℕ → Type 0
-IsDigit byte = (48 ≤ byte) × (byte ≤ 57)
 
 -- none, or a colon and digits
 abbrev pub IsPort : List ℕ → Type 0

@@ -1,9 +1,0 @@
-use Rattle.std.proofs.Common.{length, drop}
-use Rattle.std.proofs.lemmas.Bool.Decides.{Decides-eqb}
-use Rattle.std.proofs.lemmas.Slice.Eq.{starts_is}
-use Rattle.mt_ws.proofs.methods.begins_with.Goals as goal
-
-pub returns : goal.returns
-returns c =
-    let is = starts_is Decides-eqb c.args.bytes.now c.args.front.now c.starts_with.result c.starts_with.ensures.value in
-    ((λ t. (drop (length c.args.front.now) c.args.bytes.now, is.0 t)), λ w. is.1 w.0 w.1)
