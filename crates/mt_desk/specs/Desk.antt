@@ -1,5 +1,5 @@
 -- A desk, its seats and its hands, as contracts see them.
-use Rattle.std.specs.Prelude.{◌≡◌, Some}
+use Rattle.std.specs.Prelude.{◌≡◌, Bool, Some}
 use Rattle.atomic_table.specs.Seated.{TableId}
 use Rattle.mt_base.specs.declared.command.Entry.{Entry}
 use Rattle.mt_base.specs.Tables.{Setup}
@@ -23,10 +23,11 @@ pub record IsSeatOfDesk (d : Desk) (p : SeatNow Entry Setup) : Type 0 where
 abbrev pub seat_of : Setup → View Entry Setup → BoardSeat
 seat_of fixed v = record { number = v.number; seen = v.seen; mine = v.mine; fixed = fixed }
 
--- a desk, and what its seat knows
+-- a desk, what its seat knows, and whether it keeps a look at the picture
 pub record Hand : Type 0 where
   pub desk : Desk
   pub view : View Entry Setup
+  pub keeps_look : Bool
 
 -- the seat of a hand
 abbrev pub seat_of_hand : Hand → SeatNow Entry Setup

@@ -54,6 +54,8 @@ impl<'a> Board for Hand<'a> {
 
     ghost home = { λ h. record { turn = h.desk.home; gave = h.view.gave; joined = h.view.joined } };
 
+    ghost keeps_look = { λ h. h.keeps_look };
+
     fn number(&self) -> u32 {
         self.seat.number()
     }

@@ -1,5 +1,5 @@
 //! The desk: how it begins, is shared and ends.
-ghost use Rattle.std.specs.Prelude.{◌≡◌, ◌<◌, ◌^◌, [], length, IfOk, IfErr};
+ghost use Rattle.std.specs.Prelude.{◌≡◌, ◌<◌, ◌^◌, false, [], length, IfOk, IfErr};
 ghost use Rattle.mt_base.specs.History.{IsLegal};
 ghost use Rattle.mt_turn.specs.Lending.{AllJoined, ClosesHistory};
 ghost use Rattle.mt_turn.specs.Views.{first_view, giver, newcomer, taker, up_to};
@@ -68,7 +68,7 @@ impl Desk {
     /// A hand with a seat of this desk. It takes no memory.
     pub fn hand(&self, seat: Seat) -> Hand<'_>
         requires ready { IsSeatOfDesk self.now seat }
-        ensures { result ≡ record { desk = self.now; view = seat.view } }
+        ensures { result ≡ record { desk = self.now; view = seat.view; keeps_look = false } }
     {
         Hand {
             desk: self,

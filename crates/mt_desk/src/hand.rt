@@ -12,7 +12,7 @@ use std::marker::Model;
 use std::sync::Wait;
 
 /// A seat of a desk, through which one thread reads and changes the picture: it is a `Board`. Contracts see it as its desk with what the seat
-/// knows.
+/// knows, and whether it keeps a snapshot.
 ///
 /// It may keep the snapshot that it last took, as long as that stands for all that the seat has seen: tries are answered from it.
 #[derive(Drop)]
@@ -23,13 +23,13 @@ pub struct Hand<'a> {
 }
 
 impl<'a> Model for Hand<'a> {
-    ghost use Rattle.std.specs.Prelude.{IfSome};
+    ghost use Rattle.std.specs.Prelude.{IfSome, is_some};
     ghost use Rattle.mt_desk.specs.Desk.{Hand, IsSeatOfDesk, seat_of};
     ghost use Rattle.mt_desk.specs.Private.Taken.{IsLook};
 
     ghost Value = { Hand };
 
-    ghost view = { λ h. record { desk = h.desk.now; view = h.seat.view } };
+    ghost view = { λ h. record { desk = h.desk.now; view = h.seat.view; keeps_look = is_some h.look } };
 
     ghost invariant = { λ h. IsSeatOfDesk h.desk.now h.seat × IfSome h.look (IsLook (seat_of h.desk.now.fixed h.seat.view)) };
 }

@@ -1,5 +1,5 @@
 -- What renewals leave of a seat's own entries.
-use Rattle.std.proofs.Common.{◌≡◌, ℕ, List, [], ◌∷◌, ◌++◌, All, Option, Some, Result, Ok, Err, sym, subst, ap, ◌∙◌, arith}
+use Rattle.std.proofs.Common.{false, ◌≡◌, ℕ, List, [], ◌∷◌, ◌++◌, All, Option, Some, Result, Ok, Err, sym, subst, ap, ◌∙◌, arith}
 use Rattle.std.proofs.lemmas.List.{append_assoc, append-nil}
 use Rattle.std.proofs.lemmas.List.Elements.{All-append, All-push}
 use Rattle.mt_base.proofs.CheckLemmas.{answer_is}
@@ -54,7 +54,7 @@ renews s t (call ∷ calls) [] is = absurd is
 
 -- what a worker's hand did, by its seat
 pub worked_as : (desk : Desk) (before after : SeatNow Entry Setup) (hand back : Hand) (left : Option (List (List ℕ))) → IsSeatOfDesk desk before
-    → hand ≡ record { desk = desk; view = before.view } → after ≡ seat_of_hand back → IsSeatOfDesk back.desk after
+    → hand ≡ record { desk = desk; view = before.view; keeps_look = false } → after ≡ seat_of_hand back → IsSeatOfDesk back.desk after
     → HasWorkedAll left (seat_of hand.desk.fixed hand.view) (seat_of back.desk.fixed back.view)
     → IsSameBoardSeat (seat_of hand.desk.fixed hand.view) (seat_of back.desk.fixed back.view) × GoesOn hand.view.seen back.view.seen
     → home_of back ≡ home_of hand → HasWorkedInSeat before after

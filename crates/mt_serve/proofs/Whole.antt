@@ -3,6 +3,7 @@ use Rattle.std.proofs.Common.{◌≡◌, ◌≤◌, ◌+◌, ◌^◌, ◌<◌, i
 use Rattle.std.specs.Prelude.{MatchBool}
 use Rattle.std.proofs.lemmas.Bool.{false≢true}
 use Rattle.mt_base.specs.Tables.{Setup}
+use Rattle.mt_base.specs.Complete.{IsComplete}
 use Rattle.mt_base.specs.History.{IsLegal}
 use Rattle.mt_picture.specs.Story.{Story}
 use Rattle.mt_serve.specs.declared.counts.Counts.{Counts}
@@ -108,9 +109,9 @@ module _ {L : Type 0} (source : Source.Ghosts L) (sink : Sink.Ghosts L) where
   -- the whole, by the closed picture
   pub whole : (setup fixed : Setup) (port sessions workers : ℕ) (old new : Doorway L) (failed faulted : Bool)
       (picture : Story) (counts : Counts) (runs : List (SessionRun L)) → setup ≡ fixed → faulted ≡ failed → picture.setup ≡ setup → IsLegal setup picture.history
-      → HasServedAll source sink setup port sessions workers old new failed picture.history runs → counts ≡ counted runs
+      → All IsComplete picture.history → HasServedAll source sink setup port sessions workers old new failed picture.history runs → counts ≡ counted runs
       → HasServedWhole source sink fixed port sessions workers old new faulted picture counts
-  whole setup fixed port sessions workers old new failed faulted picture counts runs same told own legal all are =
+  whole setup fixed port sessions workers old new failed faulted picture counts runs same told own legal complete all are =
       subst (λ (s : Setup). HasServedWhole source sink s port sessions workers old new faulted picture counts) same
       (subst (λ (b : Bool). HasServedWhole source sink setup port sessions workers old new b picture counts) (sym told)
-      (record { runs = runs; setup_is = own; legal = legal; all = all; counts_are = are }))
+      (record { runs = runs; setup_is = own; legal = legal; complete = complete; all = all; counts_are = are }))

@@ -1,5 +1,6 @@
 -- Sessions that are over, counted by their outcomes, and the history that ties them.
-use Rattle.std.specs.Prelude.{◌≡◌, ℕ, Bool, true, false, List, length, filter}
+use Rattle.std.specs.Prelude.{◌≡◌, ℕ, Bool, true, false, List, length, filter, All}
+use Rattle.mt_base.specs.Complete.{IsComplete}
 use Rattle.mt_base.specs.History.{IsLegal}
 use Rattle.mt_base.specs.Tables.{Setup}
 use Rattle.mt_io.specs.declared.source.Source as Source
@@ -33,11 +34,12 @@ counted {L} runs = record {
 }
 
 module _ {L : Type 0} (source : Source.Ghosts L) (sink : Sink.Ghosts L) where
-  -- the closed picture's legal history ties all links that the door gave and has back. By the rules and tables of the picture at first. The counts
-  -- are those of their sessions.
+  -- the closed picture's legal history, whose entries are complete, ties all links that the door gave and has back. By the rules and tables of the
+  -- picture at first. The counts are those of their sessions.
   pub record HasServedWhole (setup : Setup) (port sessions workers : ℕ) (old new : Doorway L) (faulted : Bool) (picture : Story) (counts : Counts) : Type 0 where
     pub runs : List (SessionRun L)
     pub setup_is : picture.setup ≡ setup
     pub legal : IsLegal setup picture.history
+    pub complete : All IsComplete picture.history
     pub all : HasServedAll source sink setup port sessions workers old new faulted picture.history runs
     pub counts_are : counts ≡ counted runs

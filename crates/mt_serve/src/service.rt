@@ -2,6 +2,7 @@
 ghost use Rattle.std.specs.Prelude.{◌≡◌, ◌≤◌, ◌+◌, ◌-◌, ◌^◌, [], ◌++◌, All, length, IfErr, IfOk};
 ghost use Rattle.std.specs.Thread.{IsSync};
 ghost use Rattle.std.specs.VecDeque.{deque_len, deque_capacity};
+ghost use Rattle.mt_base.specs.Complete.{IsComplete};
 ghost use Rattle.mt_base.specs.History.{IsLegal};
 ghost use Rattle.mt_desk.specs.Desk.{IsSeatOfDesk};
 ghost use Rattle.mt_serve.specs.Private.Seating.{AllSplit};
@@ -146,6 +147,7 @@ fn settle<D: Door>(desk: Desk, door: &mut D, first: Seat, left: Left<D::Link>) -
     ensures tied { IsTied D.Link.Source D.Link.Sink desk.fixed result.picture.history left.dones.items }
     ensures setup { result.picture.setup ≡ desk.fixed }
     ensures legal { IsLegal desk.fixed result.picture.history }
+    ensures complete { All IsComplete result.picture.history }
     ensures counted { result.counts ≡ counted left.dones.items }
     ensures faulted { result.faulted ≡ left.faulted }
     ensures door { HasTakenBack (doorway_of D.count D.still D.returned D.faults door.old)
@@ -164,8 +166,10 @@ fn settle<D: Door>(desk: Desk, door: &mut D, first: Seat, left: Left<D::Link>) -
     join_seats(&desk, &mut first, seats);
     join_workers(&desk, &mut first, resteds);
     join_seats(&desk, &mut first, hands);
+    let picture = desk.close(first);
+    picture.keeps();
     Served {
-        picture: desk.close(first),
+        picture,
         counts,
         faulted,
     }

@@ -1,5 +1,5 @@
 -- A seat stays on at every call of its board.
-use Rattle.std.proofs.Common.{◌∙◌, ℕ, List, Option, Result, Ok, Err, refl}
+use Rattle.std.proofs.Common.{◌≡◌, ◌∙◌, ℕ, List, Option, Result, Ok, Err, refl}
 use Rattle.std.specs.Prelude.{IfOk, IfErr}
 use Rattle.mt_base.specs.declared.clearance.Clearance.{Clearance}
 use Rattle.mt_board.specs.declared.no.No.{No}
@@ -18,6 +18,14 @@ stays_on a b c ab bc = record {
   same = same_on a.session.seat b.session.seat c.session.seat ab.same bc.same;
   begins = goes_on a.session.seat.seen b.session.seat.seen c.session.seat.seen ab.begins bc.begins;
   home = bc.home ∙ ab.home;
+}
+
+-- a call that looks at nothing
+pub stays_same : {H : Type 0} (a b : ServingNow H) → (b.session ≡ a.session) × (b.home ≡ a.home) → StaysOn a b
+stays_same a b same = record {
+  same = rw same.0 (same_itself a.session.seat);
+  begins = rw same.0 (goes_on_itself a.session.seat.seen);
+  home = same.1;
 }
 
 -- what was past stays past

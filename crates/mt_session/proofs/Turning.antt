@@ -1,6 +1,8 @@
 -- What a session's lines mean as they end.
-use Rattle.std.proofs.Common.{◌≡◌, ◌<◌, ◌≤◌, ◌||◌, inl, inr, ℕ, Bool, true, false, List, length, Option, Some, None, refl}
-use Rattle.std.specs.Prelude.{MatchOption}
+use Rattle.std.proofs.Common.{◌≡◌, ◌<◌, ◌≤◌, ◌||◌, inl, inr, ℕ, Bool, true, false, List, length, Option, Some, None, Result, Ok, Err, refl}
+use Rattle.std.specs.Prelude.{MatchOption, OnOk}
+use Rattle.mt_io.specs.declared.whole_write.WriteFault.{WriteFault}
+use Rattle.mt_lines.specs.Ending.{ending_after}
 use Rattle.mt_write.specs.declared.reply.Reply.{Reply}
 use Rattle.mt_write.specs.declared.reply.Reply.TheVariants as replies
 use Rattle.mt_lines.specs.Answering.{Explains}
@@ -49,6 +51,12 @@ write_ends endings.Last is = cc
 write_ends endings.ReadFault is = cc
 write_ends endings.WriteFault is = refl
 write_ends endings.Spent is = cc
+
+-- where the session goes on, a reply was given
+pub given_on : (given : Result Bool WriteFault) (P : Type 0) → ending_after given false ≡ None → OnOk given P → P
+given_on (Ok true) P goes_on is = cc
+given_on (Ok false) P goes_on is = is
+given_on (Err fault) P goes_on is = cc
 
 no_more : (farewell : Bool) → farewell ≡ farewell || false
 no_more true = refl

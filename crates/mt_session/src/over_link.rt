@@ -1,5 +1,5 @@
 //! A session, from its first line to its last.
-ghost use Rattle.std.specs.Prelude.{◌≡◌, ◌≤◌, ◌^◌, ◌+◌, ◌++◌, ℕ, List, [], None, Some, Contains, IfNone, IfOk};
+ghost use Rattle.std.specs.Prelude.{◌≡◌, ◌≤◌, ◌^◌, ◌+◌, ◌++◌, ℕ, List, [], None, Some, Contains, IfNone, IfOk, is_some, true, false};
 ghost use Rattle.std.specs.declared.option.Option.{Option};
 ghost use Rattle.mt_io.specs.Causes.{Rose};
 ghost use Rattle.mt_io.specs.Reading.{fresh};
@@ -39,7 +39,10 @@ use std::thread::Threads;
 /// Once the reply to a report with a flag is written, the flight's job is handed to the outbox; where there is none, or the job comes back,
 /// the session renews the flight itself.
 ///
-/// `session` is the whole promise, by the outcome; `complete`: an outcome that is a fault comes only where a count of the link rose.
+/// However it ends, the link is shut then, once all that is written to it was.
+///
+/// `session` is the whole promise, by the outcome; `complete`: an outcome that is a fault comes only where a count of the link rose; `shut`: to
+/// shut it was the last that was done to the link.
 pub fn session<R: Threads + Wait + Sync, B: Board, L: Duplex, O: Outbox, G: Gate>(
     rt: &R,
     alloc: Global,
@@ -56,6 +59,7 @@ pub fn session<R: Threads + Wait + Sync, B: Board, L: Duplex, O: Outbox, G: Gate
     ensures complete { ¬ Rose (L.Source.faults link.old) (L.Source.faults link.new) → ¬ Rose (L.Sink.faults link.old) (L.Sink.faults link.new)
         → IsNoLinkFault result.1 }
     ensures home { B.home result.0 ≡ B.home board }
+    ensures shut { (last : L) × L.shuts_to last link.new }
 {
     match jobs {
         Some(outbox) => serve_link(rt, alloc, board, link, outbox, gate),
@@ -65,6 +69,28 @@ pub fn session<R: Threads + Wait + Sync, B: Board, L: Duplex, O: Outbox, G: Gate
 
 // The same over an outbox.
 fn serve_link<R: Threads + Wait + Sync, B: Board, L: Duplex, O: Outbox, G: Gate>(
+    rt: &R,
+    alloc: Global,
+    board: B,
+    link: &mut L,
+    jobs: &mut O,
+    gate: &G,
+) -> (B, Outcome)
+    requires sync { IsSync R.row }
+    ensures session { IsSession (B.seat board) (B.seat result.0)
+        (record { left = L.left link.old; held = L.held link.old; read_faults = L.Source.faults link.old; write_faults = L.Sink.faults link.old })
+        (record { left = L.left link.new; held = L.held link.new; read_faults = L.Source.faults link.new; write_faults = L.Sink.faults link.new })
+        (Some (O.jobs jobs.old)) (Some (O.jobs jobs.new)) result.1 }
+    ensures home { B.home result.0 ≡ B.home board }
+    ensures shut { (last : L) × L.shuts_to last link.new }
+{
+    let (board, outcome) = answer_link(rt, alloc, board, link, jobs, gate);
+    link.shut();
+    (board, outcome)
+}
+
+// Answers the lines of a link over an outbox.
+fn answer_link<R: Threads + Wait + Sync, B: Board, L: Duplex, O: Outbox, G: Gate>(
     rt: &R,
     alloc: Global,
     board: B,
@@ -186,8 +212,9 @@ impl<B: Board> Lines<B> {
         }
     }
 
-    // Reads one line and answers it; an ending where the session ends with it. No peer waits for a reply while it is waited for: where no whole line
-    // is ahead, so that the read may block, no reply waits.
+    // Reads one line and answers it; an ending where the session ends with it. Where no whole line is ahead, so that the read may block, no reply
+    // waits, so that no peer waits for one meanwhile; and no look at the picture is kept, so that what comes is answered from a version that is no
+    // older than it.
     fn answer_next<R: Threads + Wait + Sync, L: Duplex, O: Outbox, G: Gate>(
         &mut self,
         rt: &R,
@@ -199,6 +226,7 @@ impl<B: Board> Lines<B> {
         requires sync { IsSync R.row }
         requires sound { self.old.reader.fault ≡ None }
         requires idle { ¬ Contains self.old.reader.store.ahead 10 → self.old.outgoing ≡ [] }
+        requires anew { ¬ Contains self.old.reader.store.ahead 10 → self.old.serving.keeps_look ≡ false }
         ensures turned { (start : Standing) (before : Option (List ℕ)) (sent : List ℕ)
             → SessionRuns start before (L.left link.old) (sent ++ self.old.outgoing) self.old.reader (record { session = self.old.serving.session; jobs = O.jobs jobs.old })
             → SessionTurned start result before (L.left link.new) sent (L.held link.old) (L.held link.new) self.new.outgoing
@@ -221,7 +249,7 @@ impl<B: Board> Lines<B> {
         }
     }
 
-    // Gives a reply, and does what follows once it is written; an ending where the session ends with it.
+    // Gives a reply, and does what follows once it is written; an ending where the session ends with it. Where a job follows, no reply waits.
     fn finish<R: Threads + Wait + Sync, K: Sink, O: Outbox, G: Gate>(
         &mut self,
         rt: &R,
@@ -239,6 +267,7 @@ impl<B: Board> Lines<B> {
             (record { session = self.new.serving.session; jobs = O.jobs jobs.new }) }
         ensures on { StaysOn self.old.serving self.new.serving }
         ensures output { LeavesStream (result ≡ Some endings.WriteFault) (K.faults output.old) (K.faults output.new) (K.writes_to output.old output.new) }
+        ensures written { IfNone result (is_some job ≡ true → self.new.outgoing ≡ []) }
         ensures reader { self.new.reader ≡ self.old.reader }
     {
         let given = self.outgoing.give(alloc, &reply, job.is_some(), output);

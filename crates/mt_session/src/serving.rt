@@ -1,5 +1,5 @@
 //! A session at work: its role, its book and its board, seen as one.
-ghost use Rattle.std.specs.Prelude.{◌≡◌, IfOk};
+ghost use Rattle.std.specs.Prelude.{◌≡◌, false, IfOk};
 ghost use Rattle.std.specs.Thread.{IsSync};
 ghost use Rattle.mt_base.specs.Bounds.{IsAskedFor, IsBoundedCommand};
 ghost use Rattle.mt_base.specs.Tally.{raised};
@@ -20,7 +20,7 @@ use std::sync::Wait;
 use std::thread::Threads;
 
 /// A session: its role, its book of probes, and its board. It is seen as a session of the definitions, beside what tells the turn that the
-/// board's seat is of.
+/// board's seat is of, and whether the board keeps a look.
 pub struct Serving<B: Board> {
     pub(crate) role: Option<Role>,
     pub(crate) book: Book<B::Probe>,
@@ -33,7 +33,7 @@ impl<B: Board> Model for Serving<B> {
 
     ghost Value = { ServingNow B.Home };
 
-    ghost view = { λ s. record { session = record { role = s.role; book = told_book B.Probe.told s.book; seat = B.seat s.board }; home = B.home s.board } };
+    ghost view = { λ s. record { session = record { role = s.role; book = told_book B.Probe.told s.book; seat = B.seat s.board }; home = B.home s.board; keeps_look = B.keeps_look s.board } };
 
     ghost invariant = { λ s. ArePast B.Probe.told B.Probe.fixed B.Probe.state (B.seat s.board) s.book.last };
 }
@@ -68,7 +68,8 @@ impl<B: Board> Serving<B> {
     // Where no whole line is ahead, lets go of the look at the picture that tries are answered from: what is read next may have been asked for later
     // than that.
     pub(crate) fn before_read(&mut self, ahead: bool)
-        ensures { self.new ≡ self.old }
+        ensures same { (self.new.session ≡ self.old.session) × (self.new.home ≡ self.old.home) }
+        ensures anew { ahead ≡ false → self.new.keeps_look ≡ false }
     {
         if !ahead {
             self.board.look_anew();

@@ -1,16 +1,17 @@
 -- No public contract names these: they are of private steps and of proofs.
 -- A session, with the turn that its seat is of.
-use Rattle.std.specs.Prelude.{◌≡◌, List, All}
+use Rattle.std.specs.Prelude.{◌≡◌, Bool, List, All}
 use Rattle.mt_base.specs.Picture.{State}
 use Rattle.mt_base.specs.Tables.{Setup}
 use Rattle.mt_board.specs.Probing.{IsPast, ToldProbe}
 use Rattle.mt_board.specs.BoardSeat.{BoardSeat, GoesOn, IsSameSeat}
 use Rattle.mt_session.specs.Session.{Session}
 
--- a session, and the turn that its seat is of
+-- a session, the turn that its seat is of, and whether its board keeps a look at the picture
 pub record ServingNow (H : Type 0) : Type 0 where
   pub session : Session
   pub home : H
+  pub keeps_look : Bool
 
 -- each probe that is kept was tried on the state of the first entries that the seat has seen, as many as its version says
 abbrev pub ArePast : {P : Type 0} → (P → ToldProbe) → (P → Setup) → (P → State) → BoardSeat → List P → Type 0

@@ -24,7 +24,7 @@ pub returns-in_default-listen-clause-served : goal.returns-in_default-listen-cla
 returns-in_default-listen-clause-served g c =
     let door = doorway_of g.D.Door.count g.D.Door.still g.D.Door.returned g.D.Door.faults in
     whole g.D.Link.Source g.D.Link.Sink c.in-Ok.desk.fixed c.args.picture.setup _ _ _ _ _ _ _ c.settle.result.picture c.settle.result.counts
-    c.in_ok-room.room.dones.items c.in-Ok.ensures.fixed c.settle.ensures.faulted c.settle.ensures.setup c.settle.ensures.legal
+    c.in_ok-room.room.dones.items c.in-Ok.ensures.fixed c.settle.ensures.faulted c.settle.ensures.setup c.settle.ensures.legal c.settle.ensures.complete
     (not_listened g.D.Link.Source g.D.Link.Sink c.in-Ok.desk.fixed c.args.port c.args.sessions c.args.workers (door c.args.door.now) (door c.listen.new.self) (door c.settle.new.door)
     _ c.in_ok-room.room.dones.items c.in_default-listen.ensures.count c.in_default-listen.ensures.links.0
     c.in_default-listen.ensures.links.1 c.in_default-listen.ensures.cause.failed c.in_ok-room.ensures.empty.1
@@ -64,7 +64,7 @@ pub returns-clause-served : goal.returns-clause-served
 returns-clause-served g c =
     let door = doorway_of g.D.Door.count g.D.Door.still g.D.Door.returned g.D.Door.faults in
     whole g.D.Link.Source g.D.Link.Sink c.in-Ok.desk.fixed c.args.picture.setup _ _ _ _ _ _ _ c.settle-2.result.picture c.settle-2.result.counts
-    c.serve_beside-left.result.dones.items c.in-Ok.ensures.fixed c.settle-2.ensures.faulted c.settle-2.ensures.setup c.settle-2.ensures.legal
+    c.serve_beside-left.result.dones.items c.in-Ok.ensures.fixed c.settle-2.ensures.faulted c.settle-2.ensures.setup c.settle-2.ensures.legal c.settle-2.ensures.complete
     (served_all g.D.Link.Source g.D.Link.Sink c.in-Ok.desk.fixed c.args.port c.args.sessions c.args.workers c.serve_beside-left.result.staff (door c.args.door.now) (door c.listen.new.self)
     (door c.serve_beside-left.new.door) (door c.settle-2.new.door) c.in-Ok.desk _ _ c.serve_beside-left.result.dones.items c.split_all.new.seats.items
     c.serve_beside-left.result.seats.items c.in-Ok-listen.ensures.count c.in-Ok-listen.ensures.links.0 c.in-Ok-listen.ensures.links.1 c.in-Ok-listen.ensures.cause.later

@@ -2,6 +2,7 @@ use Rattle.std.proofs.Common.{sym, ◌∙◌}
 use Rattle.mt_lines.proofs.Endings.{failed}
 use Rattle.mt_lines.proofs.Streams.{untold}
 use Rattle.mt_session.proofs.Stays.{stays_itself}
+use Rattle.mt_session.proofs.Turning.{given_on}
 use Rattle.mt_session.proofs.over_link.Lines.finish.Goals as goal
 
 -- the session ends
@@ -29,3 +30,6 @@ returns-clause-on g c = c.follow.ensures.on
 
 pub returns-clause-output : goal.returns-clause-output
 returns-clause-output g c = record { fault = untold c.give-given.ensures.cause.later (λ is. cc); kept = c.give-given.ensures.kept }
+
+pub returns-clause-written : goal.returns-clause-written
+returns-clause-written g c = λ follows. given_on c.give-given.result _ (sym c.after.ensures ∙ c.in_default.is) c.give-given.ensures.written (c.is_some.ensures ∙ follows)
