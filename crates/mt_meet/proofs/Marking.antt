@@ -53,13 +53,6 @@ none_of_zeros marks none place = rw none (⊎_elim
 pub no_marks : (marks : MarkedParts) (items : ℕ) → marks.parts ≡ replicate 64 0 → HaveBits marks items
 no_marks marks items none place some = absurd (some (none_of_zeros marks none place))
 
--- where no item has its bit, no part is marked
-pub none_without_bits : (marks : MarkedParts) → HaveBits marks 0 → (place : ℕ) → get_or marks.parts place 0 ≡ 0
-none_without_bits marks have place = ⊎_elim
-    (λ none. none)
-    (λ some. let zero = have place some in absurd (omega (arith, bit_at-zero place, zero)))
-    (cases_eq (get_or marks.parts place 0) 0)
-
 -- the bits of all
 pub all_bits : (marks : MarkedParts) (items : ℕ) → length marks.parts ≡ 64 → ((place : ℕ) → place < 64 → get_or marks.parts place 0 ≢ 0 → bit_at items place ≡ 1)
     → HaveBits marks items

@@ -4,8 +4,8 @@ ghost use Rattle.std.specs.Int.{bit_at};
 ghost use Rattle.mt_meet.specs.Private.Boxing.{IsCrossedIn, IsPartMarked, no_window};
 ghost use Rattle.mt_meet.specs.Private.Marking.{HaveBits};
 
-use crate::boxes::{Boxes, ITEMS, mark_in};
-use crate::marked_parts::MarkedParts;
+use crate::boxes::{Boxes, ITEMS};
+use crate::marked_parts::{MarkedParts, mark_page};
 use crate::subject::Window;
 use mt_paged::Paged;
 use std::marker::Model;
@@ -121,23 +121,5 @@ impl MarkedItems {
             return ITEMS;
         }
         from + (self.items >> from).trailing_zeros()
-    }
-}
-
-// Marks the parts of a subject's time in which the items of a page have steps in common with it in some window.
-fn mark_page(page: &Paged<Boxes>, windows: &[Window], marks: &mut MarkedParts)
-    requires full { length page.now ≡ 64 }
-    requires few { (number : ℕ) → number < length windows.now → (get_or windows.now number no_window).remainder < 64 }
-    ensures { (place number part : ℕ) → place < 64 → number < length windows.now → IsCrossedIn page.now (get_or windows.now number no_window) place
-        → bit_at (get_or windows.now number no_window).part part ≡ 1 → IsPartMarked marks.new place part }
-{
-    for number in 0..windows.len() {
-        let window = &windows[number];
-        mark_in(
-            page.get(window.remainder),
-            &window.bounds,
-            window.part,
-            marks,
-        );
     }
 }

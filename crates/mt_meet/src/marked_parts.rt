@@ -1,9 +1,11 @@
 //! In which parts of a subject's time items may be met.
-ghost use Rattle.mt_meet.specs.Private.Boxing.{IsPartMarked};
-ghost use Rattle.std.specs.Prelude.{◌≡◌, ◌<◌, ℕ, IsTrue, replicate};
+ghost use Rattle.mt_meet.specs.Private.Boxing.{IsCrossedIn, IsPartMarked, no_window};
+ghost use Rattle.std.specs.Prelude.{◌≡◌, ◌<◌, ℕ, IsTrue, get_or, length, replicate};
 ghost use Rattle.std.specs.Int.{bit_at};
 
-use crate::boxes::ITEMS;
+use crate::boxes::{Boxes, ITEMS, mark_in};
+use crate::subject::Window;
+use mt_paged::Paged;
 
 /// For each of 64 items in which of 16 parts of a subject's time it may be met: a bit for each part.
 #[derive(Clone, Copy)]
@@ -29,5 +31,23 @@ impl MarkedParts {
         ensures own { IsTrue marked → (part : ℕ) → bit_at parts part ≡ 1 → IsPartMarked self.new place part }
     {
         self.parts[place] |= if marked { parts } else { 0 };
+    }
+}
+
+/// Marks the parts of a subject's time in which the items of a page have steps in common with it in some window.
+pub(crate) fn mark_page(page: &Paged<Boxes>, windows: &[Window], marks: &mut MarkedParts)
+    requires full { length page.now ≡ 64 }
+    requires few { (number : ℕ) → number < length windows.now → (get_or windows.now number no_window).remainder < 64 }
+    ensures { (place number part : ℕ) → place < 64 → number < length windows.now → IsCrossedIn page.now (get_or windows.now number no_window) place
+        → bit_at (get_or windows.now number no_window).part part ≡ 1 → IsPartMarked marks.new place part }
+{
+    for number in 0..windows.len() {
+        let window = &windows[number];
+        mark_in(
+            page.get(window.remainder),
+            &window.bounds,
+            window.part,
+            marks,
+        );
     }
 }

@@ -238,14 +238,14 @@ during_of seconds k n d below begun within =
     record { positive = d+; begun = omega (arith, lin, p); ahead = omega (arith, lin, simp spread at q) }
 
 -- In a second after two rows with the same gains: they lose separation there exactly where the cases say so at an instant of it.
-pub loses_in : (rules : Rules) (pa pb : Bool) (a b : Row) (seconds : ℕ) (x : Approach) → 0 < seconds → x.gap ≡ gap_of rules a b
-    → x.over ≡ excess_of rules.sv a b → x.under ≡ excess_of rules.sv b a → IsHighOf rules (level_of (pa && pb)) a b seconds (option_copied x.high)
-    → (k : ℕ) → k < seconds → HoldsIn (IsLoss x) k ↔ LosesIn rules pa pb (row_after a k) (row_after b k)
-loses_in rules pa pb a b seconds x some g o u high k below = (
+loses_in_cases : (rules : Rules) (pa pb : Bool) (a b : Row) (seconds : ℕ) (gap : Quad) (over under : Linear) (high : Option High) → 0 < seconds → gap ≡ gap_of rules a b
+    → over ≡ excess_of rules.sv a b → under ≡ excess_of rules.sv b a → IsHighOf rules (level_of (pa && pb)) a b seconds high
+    → (k : ℕ) → k < seconds → HoldsIn (λ n d. AreBelowAt gap over under n d ⊎ IsHighLoss gap high n d) k ↔ LosesIn rules pa pb (row_after a k) (row_after b k)
+loses_in_cases rules pa pb a b seconds gap over under of_high some g o u high k below = (
   (λ at.
       let at_k = at.n +ℤ pos k *ℤ at.d in
       let during = during_of seconds k at.n at.d below at.begun at.within in
-      let by = loses_by rules (level_of (pa && pb)) a b seconds x.gap x.over x.under (option_copied x.high) at_k at.d some g o u high during in
+      let by = loses_by rules (level_of (pa && pb)) a b seconds gap over under of_high at_k at.d some g o u high during in
       record {
         n = at.n;
         d = at.d;
@@ -257,7 +257,7 @@ loses_in rules pa pb a b seconds x some g o u high k below = (
   (λ at.
       let at_k = at.n +ℤ pos k *ℤ at.d in
       let during = during_of seconds k at.n at.d below at.begun at.within in
-      let by = loses_by rules (level_of (pa && pb)) a b seconds x.gap x.over x.under (option_copied x.high) at_k at.d some g o u high during in
+      let by = loses_by rules (level_of (pa && pb)) a b seconds gap over under of_high at_k at.d some g o u high during in
       record {
         n = at.n;
         d = at.d;
@@ -267,6 +267,22 @@ loses_in rules pa pb a b seconds x some g o u high k below = (
             ((loses_above rules pa pb (row_after a k) (row_after b k) at.n at.d during.positive).0 at.loss));
       }),
 )
+
+pub loses_in : (rules : Rules) (pa pb : Bool) (a b : Row) (seconds : ℕ) (x : Approach) → 0 < seconds → x.gap ≡ gap_of rules a b
+    → x.over ≡ excess_of rules.sv a b → x.under ≡ excess_of rules.sv b a → IsHighOf rules (level_of (pa && pb)) a b seconds (option_copied x.high)
+    → (k : ℕ) → k < seconds → HoldsIn (IsLoss x) k ↔ LosesIn rules pa pb (row_after a k) (row_after b k)
+loses_in rules pa pb a b seconds x some g o u high k below = loses_in_cases rules pa pb a b seconds x.gap x.over x.under (option_copied x.high) some g o u high k below
+
+-- the same by the lesser minimum alone, where neither is high
+pub loses_low : (rules : Rules) (pa pb : Bool) (a b : Row) (seconds : ℕ) → 0 < seconds → AreLow (level_of (pa && pb)) a b seconds → (k : ℕ) → k < seconds
+    → HoldsIn (AreBelowAt (gap_of rules a b) (excess_of rules.sv a b) (excess_of rules.sv b a)) k ↔ LosesIn rules pa pb (row_after a k) (row_after b k)
+loses_low rules pa pb a b seconds some low k below =
+    let same = loses_in_cases rules pa pb a b seconds (gap_of rules a b) (excess_of rules.sv a b) (excess_of rules.sv b a) None some refl refl refl low k below in (
+      (λ at. same.0 (record { n = at.n; d = at.d; begun = at.begun; within = at.within; holds = inl at.holds })),
+      (λ loss.
+          let at = same.1 loss in
+          record { n = at.n; d = at.d; begun = at.begun; within = at.within; holds = ⊎_elim (λ near. near) absurd at.holds }),
+    )
 
 -- ---- rows that are too far apart vertically
 

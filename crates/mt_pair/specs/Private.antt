@@ -5,4 +5,5 @@ pub mod Gap
 pub mod Held
 pub mod High
 pub mod Span
+pub mod Together
 pub mod Turning

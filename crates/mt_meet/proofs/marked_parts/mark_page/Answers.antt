@@ -4,7 +4,7 @@ use Rattle.std.specs.Int.{bit_at}
 use Rattle.mt_meet.specs.Private.Boxing.{CrossesIn, IsCrossedIn, no_window}
 use Rattle.mt_meet.specs.declared.boxes.Boxes.{Boxes}
 use Rattle.mt_meet.specs.declared.subject.Window.{Window}
-use Rattle.mt_meet.proofs.marked_items.mark_page.Goals as goal
+use Rattle.mt_meet.proofs.marked_parts.mark_page.Goals as goal
 
 pub loop-number-preserved : goal.loop-number-preserved
 loop-number-preserved c = λ place number part within below crossed one. ⊎_elim

@@ -1,6 +1,6 @@
 use Rattle.std.proofs.Common.{arith, le_refl}
 use Rattle.mt_pair.proofs.Walks.{StandsAt-covers, overlap_is, reads_cover, reads_cover_one}
-use Rattle.mt_pair.proofs.overlap.stretch.Goals as goal
+use Rattle.mt_pair.proofs.overlap.span_in.Goals as goal
 
 pub offset_bounds-left-i : goal.offset_bounds-left-i
 offset_bounds-left-i c =
