@@ -16,60 +16,61 @@ use Rattle.mt_kept.specs.Places.{at}
 use Rattle.mt_base.specs.Trajectory.{horizon}
 use Rattle.mt_kept.specs.Losing.{IsPair, LoseSeparation, Touches}
 use Rattle.mt_kept.specs.Private.Losing.{AreKept}
-use Rattle.mt_kept.specs.Window.{IsOpen, edge_of, straddles}
+use Rattle.mt_kept.specs.Window.{IsOpen, edge_of}
 use Rattle.mt_kept.specs.Private.Window.{AreInnerAdded, AreOpen, ShowsWhole}
-use Rattle.mt_kept.specs.Private.Made.{is_inner, is_straddler, touches_place}
+use Rattle.mt_kept.specs.Private.Made.{borders, is_at_border, is_inner, touches_place}
 use Rattle.mt_kept.specs.Finds.{Agree, AreFindsAt}
 use Rattle.mt_kept.proofs.Keeping.{touches_is}
 use Rattle.mt_base.proofs.Members.{Contains-filter, Contains-map, Contains-map_cases, distinct_append, distinct_held, distinct_of}
-use Rattle.mt_kept.proofs.Moving.{apart_distinct}
+use Rattle.mt_kept.proofs.Moving.{apart_distinct, one_kept}
 use Rattle.mt_kept.proofs.Publishing.{whole_shown}
-use Rattle.mt_kept.proofs.Windows.{straddles_open}
+use Rattle.mt_kept.proofs.Windows.{borders_open, inner_straddles}
 
--- two pairs of the same places are one
-pub same_pair : (rules : Rules) (places : List (Option NamedTrajectory)) (e f : Edge) → IsPair rules places e → IsPair rules places f → HaveSameEnds e f → e ≡ f
-same_pair rules places e f p q ends =
+-- two pairs of the same places have one span
+pub same_span : (rules : Rules) (places : List (Option NamedTrajectory)) (e f : Edge) → IsPair rules places e → IsPair rules places f → HaveSameEnds e f
+    → (e.first ≡ f.first) × (e.last ≡ f.last)
+same_span rules places e f p q ends =
     let l : q.left ≡ p.left = let x = p.left_is in let y = ap (at places) ends.0 ∙ q.left_is in cc in
     let r : q.right ≡ p.right = let x = p.right_is in let y = ap (at places) ends.1 ∙ q.right_is in cc in
     let span : IsSpanOfLoss rules p.left.path p.right.path 0 horizon f.first f.last =
     subst (λ (y : NamedTrajectory). IsSpanOfLoss rules p.left.path y.path 0 horizon f.first f.last) r
     (subst (λ (x : NamedTrajectory). IsSpanOfLoss rules x.path q.right.path 0 horizon f.first f.last) l q.span) in
-    let one = one_span rules p.left.path p.right.path 0 horizon e.first e.last f.first f.last p.span span in
-    λ i. record { a = ends.0 i; b = ends.1 i; first = one.0 i; last = one.1 i }
+    one_span rules p.left.path p.right.path 0 horizon e.first e.last f.first f.last p.span span
 
 inverse : (b : Bool) → not b ≡ true → b ≡ false
 inverse true e = sym e
 inverse false e = refl
 
-pub finds_again : (rules : Rules) (places : List (Option NamedTrajectory)) (now place : ℕ) (edges near : List Edge) (pairs straddling finds : List OpenPair)
-    → now ≤ 10000000 → AreKept rules places edges → AreOpen rules places now edges pairs → straddling ≡ filter (is_straddler now) pairs
-    → IsEach (λ e. touches place e ≡ true) edges near → AreInnerAdded places now near (filter (touches_place place) straddling) finds
+pub finds_again : (rules : Rules) (places : List (Option NamedTrajectory)) (now place : ℕ) (edges near : List Edge) (pairs bordering finds : List OpenPair)
+    → now ≤ 10000000 → AreKept rules places edges → AreOpen rules places now edges pairs → bordering ≡ filter (is_at_border now) pairs
+    → IsEach (λ e. touches place e ≡ true) edges near → AreInnerAdded places now near (filter (touches_place place) bordering) finds
     → AreFindsAt rules places now place finds
-finds_again rules places now place edges near pairs straddling finds early kept opened straddlers each inner =
-    let first = filter (touches_place place) straddling in
+finds_again rules places now place edges near pairs bordering finds early kept opened borderers each inner =
+    let first = filter (touches_place place) bordering in
     let second = inner.added in
-    let from_first : (o : OpenPair) → Contains first o → Contains pairs o × (straddles now o.edge ≡ true) × Touches place o.edge = λ o held.
-    let h = (Contains-filter (touches_place place) straddling o).0 held in
-    let g = (Contains-filter (is_straddler now) pairs o).0 (subst (λ (os : List OpenPair). Contains os o) straddlers h.0) in
+    let from_first : (o : OpenPair) → Contains first o → Contains pairs o × (borders now o.edge ≡ true) × Touches place o.edge = λ o held.
+    let h = (Contains-filter (touches_place place) bordering o).0 held in
+    let g = (Contains-filter (is_at_border now) pairs o).0 (subst (λ (os : List OpenPair). Contains os o) borderers h.0) in
     (g.0, g.1, (touches_is place o.edge).0 h.1) in
-    let from_second : (o : OpenPair) → Contains second o → Contains edges o.edge × (straddles now o.edge ≡ false) × Touches place o.edge
+    let from_second : (o : OpenPair) → Contains second o → Contains edges o.edge × (borders now o.edge ≡ false) × Touches place o.edge
     × (IsOpen now o.edge → ShowsWhole places o.edge o.conflict) = λ o held.
     let listed : Contains (filter (is_inner now) near) o.edge = subst (λ (es : List Edge). Contains es o.edge) inner.same (Contains-map edge_of second o held) in
     let s = (Contains-filter (is_inner now) near o.edge).0 listed in
     let n = (each.exact o.edge).0 s.0 in (
       n.0,
-      inverse (straddles now o.edge) s.1,
+      inverse (borders now o.edge) s.1,
       (touches_is place o.edge).0 n.1,
       All-contains (λ (p : OpenPair). IsOpen now p.edge → ShowsWhole places p.edge p.conflict) second o inner.shown held,
     ) in
-    let pair_of : (o : OpenPair) → Contains (first ++ second) o → IsPair rules places o.edge = λ o held. ⊎_elim
-    (λ old. kept.sound o.edge (opened.sound o (from_first o old).0).0)
-    (λ come. kept.sound o.edge (from_second o come).0) (Contains-append_cases first second o held) in
+    let kept_of : (o : OpenPair) → Contains (first ++ second) o → Contains edges o.edge = λ o held. ⊎_elim
+    (λ old. (opened.sound o (from_first o old).0).0)
+    (λ come. (from_second o come).0) (Contains-append_cases first second o held) in
+    let pair_of : (o : OpenPair) → Contains (first ++ second) o → IsPair rules places o.edge = λ o held. kept.sound o.edge (kept_of o held) in
     subst (AreFindsAt rules places now place) (sym inner.is) (record {
       sound = λ o held. ⊎_elim
           (λ old. let h = from_first o old in (h.2, pair_of o held, λ meets. (opened.sound o h.0).2))
           (λ come. let h = from_second o come in
-          (h.2, pair_of o held, λ meets. whole_shown rules places now o.edge o.conflict early (pair_of o held) meets h.1 (h.3 meets)))
+          (h.2, pair_of o held, λ meets. whole_shown rules places now o.edge o.conflict early (pair_of o held) meets (inner_straddles now o.edge meets h.1) (h.3 meets)))
           (Contains-append_cases first second o held);
       complete = λ a b k before here loses.
           let j = kept.complete a b k before loses in
@@ -78,26 +79,26 @@ finds_again rules places now place edges near pairs straddling finds early kept 
           record {
             edge = j.edge;
             held = subst (λ (es : List Edge). Contains es j.edge) (sym (map-append edge_of first second)) (⊎_elim
-                (λ straddling_here.
-                let x = Contains-map_cases edge_of pairs j.edge (opened.complete j.edge j.held (straddles_open now j.edge straddling_here)) in
-                let s = (Contains-filter (is_straddler now) pairs x.of).1 (x.held, ap (straddles now) x.is ∙ straddling_here) in
+                (λ at_border.
+                let x = Contains-map_cases edge_of pairs j.edge (opened.complete j.edge j.held (borders_open now j.edge at_border)) in
+                let s = (Contains-filter (is_at_border now) pairs x.of).1 (x.held, ap (borders now) x.is ∙ at_border) in
                 let t : touches_place place x.of ≡ true = (touches_is place x.of.edge).1 (subst (Touches place) (sym x.is) touching) in
-                let in_first = Contains-map edge_of first x.of ((Contains-filter (touches_place place) straddling x.of).1
-                (subst (λ (os : List OpenPair). Contains os x.of) (sym straddlers) s, t)) in
+                let in_first = Contains-map edge_of first x.of ((Contains-filter (touches_place place) bordering x.of).1
+                (subst (λ (os : List OpenPair). Contains os x.of) (sym borderers) s, t)) in
                 Contains-append_left (map edge_of first) (map edge_of second) j.edge (subst (Contains (map edge_of first)) x.is in_first))
                 (λ none. Contains-append_right (map edge_of first) (map edge_of second) j.edge (subst (λ (es : List Edge). Contains es j.edge) (sym inner.same)
                 ((Contains-filter (is_inner now) near j.edge).1 (near_e, ap not none))))
-                (cases_Bool (straddles now j.edge)));
+                (cases_Bool (borders now j.edge)));
             ends = j.ends;
           };
       distinct = distinct_held (λ o p. o.edge ≢ p.edge) (λ o p. ¬ HaveSameEnds o.edge p.edge) (first ++ second)
-          (λ o p in_o in_p differ. λ ends. differ (same_pair rules places o.edge p.edge (pair_of o in_o) (pair_of p in_p) ends))
+          (λ o p in_o in_p differ. λ ends. differ (one_kept edges o.edge p.edge kept.once (kept_of o in_o) (kept_of p in_p) ends))
           (distinct_append (λ o p. o.edge ≢ p.edge) first second
-          (AllPairs-filter (λ o p. o.edge ≢ p.edge) (touches_place place) straddling (subst (AllPairs (λ o p. o.edge ≢ p.edge)) (sym straddlers)
-          (AllPairs-filter (λ o p. o.edge ≢ p.edge) (is_straddler now) pairs opened.distinct)))
+          (AllPairs-filter (λ o p. o.edge ≢ p.edge) (touches_place place) bordering (subst (AllPairs (λ o p. o.edge ≢ p.edge)) (sym borderers)
+          (AllPairs-filter (λ o p. o.edge ≢ p.edge) (is_at_border now) pairs opened.distinct)))
           (distinct_of (λ e f. e ≢ f) edge_of second (subst (AllPairs (λ e f. e ≢ f)) (sym inner.same)
           (AllPairs-filter (λ e f. e ≢ f) (is_inner now) near (apart_distinct near each.apart))))
-          (λ o p old come. λ same. true≢false (sym (from_first o old).1 ∙ ap (straddles now) same ∙ (from_second p come).1)));
+          (λ o p old come. λ same. true≢false (sym (from_first o old).1 ∙ ap (borders now) same ∙ (from_second p come).1)));
     })
 
 -- they stay its finds where places change, as far as other flights go, in no other way
@@ -160,6 +161,7 @@ finds_agree rules places after now place mine finds was agree found = record {
           before = h.1.before;
           apart = h.1.apart;
           span = h.1.span;
+          solid = h.1.solid;
         },
         λ meets. let s = h.2 meets in record { left = s.left; right = s.right; left_is = ends.0 ∙ s.left_is; right_is = ends.1 ∙ s.right_is; found = s.found },
       );

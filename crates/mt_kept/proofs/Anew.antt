@@ -1,11 +1,14 @@
 -- A list of conflicts made anew, conflict by conflict of the shown ones.
-use Rattle.std.proofs.Common.{◌≡◌, ℕ, ◌+◌, ◌<◌, ◌⊎◌, inl, inr, ⊎_elim, ◌↔◌, List, [], ◌∷◌, ◌++◌, length, take, get_or, Contains, subst, arith}
+use Rattle.std.proofs.Common.{◌≡◌, ℕ, ◌+◌, ◌<◌, ◌⊎◌, inl, inr, ⊎_elim, ◌↔◌, true, List, [], ◌∷◌, ◌++◌, length, take, get_or, Contains, subst, arith}
+use Rattle.std.specs.List.{filter}
 use Rattle.std.specs.List.Sorted.{IsStrictlySortedBy}
 use Rattle.std.proofs.lemmas.List.Elements.{Contains-append_cases, Contains-append_left, Contains-append_right, Contains-push, Contains-push_cases}
 use Rattle.mt_base.specs.declared.conflict.Conflict.{Conflict}
 use Rattle.mt_base.specs.Picture.{conflict_cmp}
 use Rattle.mt_base.proofs.ConflictOrder.{total}
-use Rattle.mt_base.proofs.Members.{Contains-cases, Contains-none, distinct_append, take_push}
+use Rattle.mt_base.proofs.Members.{Contains-cases, Contains-filter, Contains-none, distinct_append, take_push}
+use Rattle.mt_kept.specs.declared.stale.Stale.{Stale}
+use Rattle.mt_kept.specs.Private.Stale.{stays}
 use Rattle.mt_kept.specs.Private.Merging.{AreMerging, AreOthersAdded, ComesBefore, IsParted, Rise}
 use Rattle.mt_kept.proofs.InOrder.{not_before}
 use Rattle.mt_kept.proofs.Leaving.{before_is_other, behind_is_other}
@@ -138,4 +141,17 @@ merged_all list hidden shown merged rest gone new n all m come = (
         (λ old. Contains-append_left merged come.added c old)
         (λ h. Contains-append_right merged come.added c ((come.exact c).1 h)) ((rw all at (m.exact c)).1 either))),
   )),
+)
+
+-- the conflicts that stay, with those that come
+pub renewed_list : (stale : Stale) (old kept come new : List Conflict) → kept ≡ filter (stays stale) old
+    → ((c : Conflict) → Contains new c ↔ ((Contains kept c × (¬ Contains [] c)) ⊎ Contains come c))
+    → (c : Conflict) → Contains new c ↔ ((Contains old c × (stays stale c ≡ true)) ⊎ Contains come c)
+renewed_list stale old kept come new is exact c = (
+  (λ held. ⊎_elim
+      (λ h. inl ((Contains-filter (stays stale) old c).0 (rw is at h.0)))
+      (λ some. inr some) ((exact c).0 held)),
+  (λ either. (exact c).1 (⊎_elim
+      (λ h. inl (rw is ((Contains-filter (stays stale) old c).1 h), Contains-none c))
+      (λ some. inr some) either)),
 )

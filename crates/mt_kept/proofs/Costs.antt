@@ -1,8 +1,8 @@
 -- How many tests finds cost.
-use Rattle.std.proofs.Common.{◌≡◌, ◌≢◌, ℕ, ◌+◌, ◌*◌, ◌<◌, ◌≤◌, Bool, true, false, cond, not, ◌==◌, ◌&&◌, List, [], ◌∷◌, length, take, get_or, Option, Some, None, refl, sym, ◌∙◌, ap, subst, arith}
+use Rattle.std.proofs.Common.{◌≡◌, ◌≢◌, ℕ, ◌+◌, ◌*◌, ◌<◌, ◌≤◌, Bool, true, false, cond, not, ◌==◌, ◌&&◌, List, [], ◌∷◌, length, take, get_or, Option, Some, None, refl, sym, true≢false, ◌∙◌, ap, subst, arith}
 use Rattle.std.specs.List.{filter, sum_by}
 use Rattle.std.specs.Str.{bytes_eq}
-use Rattle.std.proofs.lemmas.Bool.{and_from, ne_eqb}
+use Rattle.std.proofs.lemmas.Bool.{and_from, and_left, ne_eqb}
 use Rattle.std.proofs.lemmas.Slice.Eq.{bytes_eq-Decides}
 use Rattle.std.proofs.lemmas.List.Sums.{sum_by-cons, sum_by-take-le}
 use Rattle.mt_base.specs.Picture.{NamedTrajectory}
@@ -13,7 +13,7 @@ use Rattle.mt_kept.specs.declared.finds.Knowledge.{Knowledge}
 use Rattle.mt_kept.specs.declared.finds.Knowledge.TheVariants.{Known, Within}
 use Rattle.mt_kept.specs.Places.{at}
 use Rattle.mt_kept.specs.Window.{straddles}
-use Rattle.mt_kept.specs.Private.Made.{IsKnownAs, tests_if_unknown}
+use Rattle.mt_kept.specs.Private.Made.{IsKnownAs, is_tested, tests_if_unknown}
 use Rattle.mt_kept.specs.Finds.{IsOfOtherFlight, asks_one, asks_two, cost, cost_known, cost_of, is_crossing, is_listed, is_other, is_unknown}
 use Rattle.mt_base.specs.Tally.{RoseUpTo, raised_by}
 use Rattle.mt_base.proofs.Members.{take_push}
@@ -33,14 +33,34 @@ cost_both now (Within from to) span e old mid new first last known before after 
   within = let one = at_most_one (straddles now e) in let w = after.within in omega arith;
   is = after.is ∙ ap (raised_by after.more) before ∙ raised_by-add 1 after.more old;
 }
-cost_both now (Known None) span e old mid new first last known before after = absurd (let e : Some span ≡ None = known in cc)
-cost_both now (Known (Some s)) span e old mid new first last known before after =
+cost_both now (Known None solid) span e old mid new first last known before after = absurd (let e : Some span ≡ None = known in cc)
+cost_both now (Known (Some s) solid) span e old mid new first last known before after =
     let same : span ≡ s = let e : Some span ≡ Some s = known in cc in
     record {
       more = after.more;
       within = subst (λ (p : ℕ × ℕ). after.more ≤ cost_known now (Some p)) same (rw (← first, ← last) after.within);
       is = after.is ∙ ap (raised_by after.more) before;
     }
+
+-- a pair is tested only where it straddles an edge of the window
+at_most : (p q : Bool) → cond (p && q) 1 0 ≤ cond p 1 0
+at_most true q = at_most_one q
+at_most false q = omega arith
+
+pub tested_rose : (now : ℕ) (e : Edge) (old new : ℕ) → new ≡ raised_by (cond (is_tested now e) 1 0) old → RoseUpTo (cond (straddles now e) 1 0) old new
+tested_rose now e old new is = record { more = cond (is_tested now e) 1 0; within = at_most (straddles now e) (not e.solid); is = is }
+
+tests_cut : (p q : Bool) → p ≡ true → ◌≡◌ {A = ℕ} (cond q 0 1) (cond (p && not q) 1 0)
+tests_cut true true some = refl
+tests_cut true false some = refl
+tests_cut false q some = absurd (true≢false (sym some))
+
+pub cut_counted : (now : ℕ) (e : Edge) (old new : ℕ) → straddles now e ≡ true → new ≡ raised_by (cond e.solid 0 1) old
+    → new ≡ raised_by (cond (is_tested now e) 1 0) old
+cut_counted now e old new some is = is ∙ ap (λ (n : ℕ). raised_by n old) (tests_cut (straddles now e) e.solid some)
+
+pub inner_counted : (now : ℕ) (e : Edge) (old : ℕ) → straddles now e ≡ false → old ≡ raised_by (cond (is_tested now e) 1 0) old
+inner_counted now e old none = rw (and_left (straddles now e) (not e.solid) none) refl
 
 -- a candidate that is passed over costs nothing; another one what it asks for
 is_other_is : (o : Option NamedTrajectory) (call : List ℕ) (t : NamedTrajectory) → o ≡ Some t → call ≢ t.call → is_other o call ≡ true
@@ -78,8 +98,8 @@ cost_part f xs i old new h = record { more = h.more; within = let part = sum_by-
 -- the cost of all candidates
 cost_one_is : (now : ℕ) (v : Knowledge) → cost_of now v ≡ 2 * cond (is_unknown v) 1 0 + cond (is_crossing now v) 1 0
 cost_one_is now (Within from to) = refl
-cost_one_is now (Known None) = refl
-cost_one_is now (Known (Some span)) = let none : 2 * 0 ≡ 0 = omega arith in omega arith
+cost_one_is now (Known None solid) = refl
+cost_one_is now (Known (Some span) solid) = let none : 2 * 0 ≡ 0 = omega arith in omega arith
 
 cost_if : (listed : Bool) (now : ℕ) (v : Knowledge) → cond listed (cost_of now v) 0 ≡ 2 * cond (listed && is_unknown v) 1 0 + cond (listed && is_crossing now v) 1 0
 cost_if true now v = cost_one_is now v

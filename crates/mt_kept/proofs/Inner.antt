@@ -1,4 +1,4 @@
--- Pairs put after others, each that straddles no edge of the window with its whole span.
+-- Pairs put after others, each that isn't at the border of the window with its whole span.
 use Rattle.std.proofs.Common.{◌≡◌, ℕ, true, false, List, [], ◌∷◌, ◌++◌, Option, refl, sym, ◌∙◌, ap, arith}
 use Rattle.std.specs.List.{filter}
 use Rattle.std.proofs.lemmas.List.{append-nil, append_assoc, map-append}
@@ -25,7 +25,7 @@ inner_more places now edges o old mid so_far inner shown = record {
   shown = All-push (λ (p : OpenPair). IsOpen now p.edge → ShowsWhole places p.edge p.conflict) so_far.added o so_far.shown shown;
 }
 
--- or that straddles an edge of the window
+-- or that is at the border
 pub inner_same : (places : List (Option NamedTrajectory)) (now : ℕ) (edges : List Edge) (e : Edge) (old mid : List OpenPair)
     → AreInnerAdded places now edges old mid → is_inner now e ≡ false → AreInnerAdded places now (edges ++ e ∷ []) old mid
 inner_same places now edges e old mid so_far inner = record {

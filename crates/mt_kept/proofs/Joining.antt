@@ -18,7 +18,7 @@ use Rattle.mt_kept.specs.Finds.{Agree, AreCandidates, AreFindsOfSlot, AreFindsAt
 use Rattle.mt_base.proofs.Members.{Contains-map, Contains-map_cases, Contains-none, distinct_append}
 use Rattle.mt_kept.proofs.Gathering.{AreGathered}
 use Rattle.mt_kept.proofs.Keeping.{even_half, halves, odd_half}
-use Rattle.mt_kept.proofs.Windows.{IsLossSecond-sym, IsSpanOfLoss-sym}
+use Rattle.mt_kept.proofs.Windows.{IsSolidAsSaid-sym, IsLossSecond-sym, IsSpanOfLoss-sym}
 
 -- what was found among all candidates
 found_swap : (rules : Rules) (now : ℕ) (mine other : NamedTrajectory) (c : Option Conflict) → IsFoundOf rules now mine other c → IsFoundOf rules now other mine c
@@ -40,7 +40,16 @@ finds_are rules places after now place mine xs finds agree candidates gathered =
           let left_is : at after o.edge.a ≡ Some mine = ap (at after) e.0 ∙ here in
           let right_is : at after o.edge.b ≡ Some h.other = ap (at after) e.1 ∙ other_is in (
             inl e.0,
-            record { left = mine; right = h.other; left_is = left_is; right_is = right_is; before = (let p = e.0 in let q = e.1 in let r = e.2 in omega arith); apart = apart; span = h.find.span },
+            record {
+              left = mine;
+              right = h.other;
+              left_is = left_is;
+              right_is = right_is;
+              before = (let p = e.0 in let q = e.1 in let r = e.2 in omega arith);
+              apart = apart;
+              span = h.find.span;
+              solid = h.find.solid;
+            },
             λ meets. record { left = mine; right = h.other; left_is = left_is; right_is = right_is; found = h.find.shown meets },
           ))
           (λ e.
@@ -55,6 +64,7 @@ finds_are rules places after now place mine xs finds agree candidates gathered =
               before = (let p = e.0 in let q = e.1 in let r = e.2 in omega arith);
               apart = λ eq. apart (sym eq);
               span = IsSpanOfLoss-sym rules mine.path h.other.path 0 horizon o.edge.first o.edge.last h.find.span;
+              solid = IsSolidAsSaid-sym rules mine.path h.other.path o.edge h.find.solid;
             },
             λ meets. record {
               left = h.other;

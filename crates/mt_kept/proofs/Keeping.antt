@@ -21,11 +21,11 @@ use Rattle.mt_kept.specs.Private.Losing.{AreKept, AvoidsSlot}
 use Rattle.mt_kept.specs.Window.{IsOpen, ShowsInWindow, edge_of}
 use Rattle.mt_kept.specs.Private.Window.{AreOpen, Shows}
 use Rattle.mt_kept.specs.Made.{is_open_pair}
-use Rattle.mt_kept.specs.Private.Made.{AreReplaced, avoids, is_straddler, opens}
+use Rattle.mt_kept.specs.Private.Made.{AreReplaced, avoids, is_at_border, opens}
 use Rattle.mt_kept.specs.Private.Kept.{ArePairsKept}
 use Rattle.mt_kept.specs.Finds.{AreFindsOfSlot}
 use Rattle.mt_base.proofs.Members.{Contains-filter, Contains-map, Contains-map_cases, Contains-none, distinct_append}
-use Rattle.mt_kept.proofs.Windows.{straddles_open}
+use Rattle.mt_kept.proofs.Windows.{borders_open}
 
 -- the places of a slot
 pub even_half : (slot : ℕ) → slot_of (2 * slot) ≡ slot
@@ -81,6 +81,7 @@ IsPair-other rules places slot first second e other h = record {
   before = h.before;
   apart = h.apart;
   span = h.span;
+  solid = h.solid;
 }
 
 IsShown-other : (rules : Rules) (places : List (Option NamedTrajectory)) (slot now : ℕ) (first second : Option NamedTrajectory) (e : Edge)
@@ -171,7 +172,7 @@ open_put rules places now slot first second edges after finds pairs opened found
           not_both_ends slot o.edge p.edge ((avoids_is slot o).0 h.1) (found.sound p g.0).0);
     }
 
--- and those of them that straddle an edge of the window
+-- and those of them at the border of the window
 filter_swap : (p q : OpenPair → Bool) (xs : List OpenPair) → filter p (filter q xs) ≡ filter q (filter p xs)
 filter_swap p q [] = refl
 filter_swap p q (x ∷ xs) = step (filter_swap p q xs) (cases_Bool (p x)) (cases_Bool (q x)) where
@@ -191,18 +192,18 @@ filter_within p q (x ∷ xs) within = step (filter_within p q xs within) (cases_
   step rest (inr none) (inl there) = rw (none, there) (rw (none, rest) refl)
   step rest (inr none) (inr away) = rw (none, away) rest
 
-straddler_opens : (now : ℕ) (o : OpenPair) → is_straddler now o ≡ true → opens now o ≡ true
-straddler_opens now o some = (is_open_is now o.edge).1 (straddles_open now o.edge some)
+borderer_opens : (now : ℕ) (o : OpenPair) → is_at_border now o ≡ true → opens now o ≡ true
+borderer_opens now o some = (is_open_is now o.edge).1 (borders_open now o.edge some)
 
-pub straddlers_put : (now slot : ℕ) (pairs finds straddling new : List OpenPair) → straddling ≡ filter (is_straddler now) pairs
-    → new ≡ filter (avoids slot) straddling ++ filter (is_straddler now) finds
-    → new ≡ filter (is_straddler now) (filter (avoids slot) pairs ++ filter (opens now) finds)
-straddlers_put now slot pairs finds straddling new are is =
-    is ∙ ap (λ (os : List OpenPair). filter (avoids slot) os ++ filter (is_straddler now) finds) are
-    ∙ ap (λ (os : List OpenPair). os ++ filter (is_straddler now) finds) (filter_swap (avoids slot) (is_straddler now) pairs)
-    ∙ ap (λ (os : List OpenPair). filter (is_straddler now) (filter (avoids slot) pairs) ++ os)
-    (sym (filter_within (is_straddler now) (opens now) finds (straddler_opens now)))
-    ∙ sym (filter-append (is_straddler now) (filter (avoids slot) pairs) (filter (opens now) finds))
+pub borderers_put : (now slot : ℕ) (pairs finds bordering new : List OpenPair) → bordering ≡ filter (is_at_border now) pairs
+    → new ≡ filter (avoids slot) bordering ++ filter (is_at_border now) finds
+    → new ≡ filter (is_at_border now) (filter (avoids slot) pairs ++ filter (opens now) finds)
+borderers_put now slot pairs finds bordering new are is =
+    is ∙ ap (λ (os : List OpenPair). filter (avoids slot) os ++ filter (is_at_border now) finds) are
+    ∙ ap (λ (os : List OpenPair). os ++ filter (is_at_border now) finds) (filter_swap (avoids slot) (is_at_border now) pairs)
+    ∙ ap (λ (os : List OpenPair). filter (is_at_border now) (filter (avoids slot) pairs) ++ os)
+    (sym (filter_within (is_at_border now) (opens now) finds (borderer_opens now)))
+    ∙ sym (filter-append (is_at_border now) (filter (avoids slot) pairs) (filter (opens now) finds))
 
 -- a write, seen
 pub map_set : (places : List (Option Item)) (i : ℕ) (item : Option Item) → map seen (set places i item) ≡ set (map seen places) i (seen item)
@@ -272,7 +273,7 @@ kept_made rules places n edges ends pairs list bounds few e f all g h = rw (e, f
   kept = kept_none rules n;
   open_pairs = [];
   opened = open_none rules n 0;
-  straddlers = refl;
+  borderers = refl;
   exact = λ c. ((λ held. absurd (Contains-none c held)), (λ shown. absurd (Shows-nothing c shown)));
   own = λ i j s t s_is t_is same. absurd (at_replicate n i s s_is);
 })

@@ -18,3 +18,6 @@ pub mod Slots
 pub mod Inner
 pub mod Marks
 pub mod Renewed
+pub mod Permuted
+pub mod Looking
+pub mod Due

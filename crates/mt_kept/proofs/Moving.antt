@@ -1,162 +1,119 @@
--- The open pairs of a later moment, and the tests made for them.
-use Rattle.std.proofs.Common.{◌≡◌, ◌≢◌, ℕ, cond, get_or, ◌+◌, ◌<◌, ◌≤◌, ⊎_elim, ◌↔◌, true, false, refl, List, ◌++◌, map, length, take, Contains, Option, sym, ◌∙◌, ap, subst, arith}
-use Rattle.std.specs.List.{All, AllPairs, count_by, filter}
-use Rattle.std.proofs.lemmas.Bool.{cases_lt, or_parts}
-use Rattle.std.proofs.lemmas.Bool.Decides.{nat_tests}
-use Rattle.std.proofs.lemmas.List.Elements.{All-contains, Contains-append_cases, Contains-append_left, Contains-append_right}
+-- The tests made for a move.
+use Rattle.std.proofs.Common.{◌≡◌, ◌≢◌, ℕ, cond, get_or, ◌+◌, ◌<◌, ⊎_elim, true, false, Bool, not, ◌&&◌, refl, List, [], ◌++◌, map, length, length-append, take, Contains, Option, sym, ◌∙◌, ap, arith}
+use Rattle.std.specs.List.{AllPairs, count_by, filter}
+use Rattle.std.proofs.lemmas.Bool.{and_parts, cases_eq, cases_lt}
+use Rattle.std.proofs.lemmas.List.{get_or_default, get_or-map, length-map}
+use Rattle.std.proofs.lemmas.List.Elements.{Contains-append_cases}
 use Rattle.std.proofs.lemmas.List.Kept.{AllPairs-filter}
 use Rattle.std.proofs.lemmas.List.Sums.{length-filter}
 use Rattle.std.proofs.lemmas.List.Filters.{length-filter_more}
 use Rattle.mt_base.specs.Tally.{raised_by}
 use Rattle.mt_base.specs.declared.rules.Rules.{Rules}
-use Rattle.mt_base.specs.Picture.{NamedTrajectory, window_end}
+use Rattle.mt_base.specs.Picture.{NamedTrajectory}
 use Rattle.mt_edges.specs.declared.edge.Edge.{Edge}
-use Rattle.mt_edges.specs.Pairs.{AreDistinctPairs, IsEach}
+use Rattle.mt_edges.specs.Pairs.{AreDistinctPairs, HaveSameEnds}
 use Rattle.mt_base.proofs.Tallies.{raised_by-add}
-use Rattle.mt_kept.specs.declared.open_pair.OpenPair.{OpenPair}
 use Rattle.mt_kept.specs.Losing.{IsPair}
 use Rattle.mt_kept.specs.Private.Losing.{AreKept}
-use Rattle.mt_kept.specs.Window.{IsOpen, ShowsInWindow, WasTestedOnce, edge_of, straddles}
-use Rattle.mt_kept.specs.Private.Window.{AreOpen}
-use Rattle.mt_kept.specs.declared.stale.Stale.{Stale}
-use Rattle.mt_kept.specs.Private.Stale.{is_renewed, is_stale}
-use Rattle.mt_kept.specs.Private.Made.{WereTested, has_begun, is_lasting, is_straddler}
-use Rattle.mt_kept.proofs.Windows.{straddles_begun, straddles_open}
-use Rattle.mt_base.proofs.Members.{All-from_held, Contains-filter, Contains-map, Contains-map_cases, distinct_append, distinct_map, distinct_of, distinct_take, Contains-take}
+use Rattle.mt_kept.specs.declared.open_pair.OpenPair.{OpenPair}
+use Rattle.mt_kept.specs.Window.{WasTestedOnce, edge_of, straddles}
+use Rattle.mt_kept.specs.Private.Made.{WereTested, goes_on, is_tested, is_tested_on}
+use Rattle.mt_base.proofs.Members.{All-from_held, Contains-filter, Contains-take, distinct_append, distinct_held, distinct_take}
 
 -- pairs with different ends are different
 pub apart_distinct : (edges : List Edge) → AreDistinctPairs edges → AllPairs (λ e f. e ≢ f) edges
 apart_distinct edges apart = λ i j d before below. λ same. apart i j d before below (ap (λ (e : Edge). e.a) same, ap (λ (e : Edge). e.b) same)
 
--- the kept pairs that begin between the earlier moment and the end of the later window
-abbrev pub AreDue : ℕ → ℕ → List Edge → List Edge → Type 0
-AreDue old now edges due = IsEach (λ e. (old ≤ e.first) × (e.first < window_end now)) edges due
-
--- those that are open at the later moment: of those that straddled an edge of the earlier window the ones that had begun before it, and of those due
-abbrev pub reaching : ℕ → ℕ → List OpenPair → List Edge → List Edge
-reaching old now straddling due = filter (has_begun old now) (map edge_of straddling) ++ filter (is_lasting now) due
-
-lasts : (now : ℕ) (e : Edge) → (is_lasting now e ≡ true) ↔ (now ≤ e.last)
-lasts now e = ((λ t. grind (arith, nat_tests)), (λ h. grind (arith, nat_tests)))
-
-began : (old now : ℕ) (e : Edge) → (has_begun old now e ≡ true) ↔ ((e.first < old) × (now ≤ e.last))
-began old now e = ((λ t. grind (arith, nat_tests)), (λ h. grind (arith, nat_tests)))
-
--- one that straddled, of those that are open
-module _ (rules : Rules) (places : List (Option NamedTrajectory)) (old : ℕ) (edges : List Edge) (pairs straddling : List OpenPair)
-    (opened : AreOpen rules places old edges pairs) (are : straddling ≡ filter (is_straddler old) pairs) where
-  straddler_is : (e : Edge) → Contains (map edge_of straddling) e → Contains edges e × IsOpen old e
-  straddler_is e held =
-      let x = Contains-map_cases edge_of straddling e held in
-      let h = (Contains-filter (is_straddler old) pairs x.of).0 (subst (λ (os : List OpenPair). Contains os x.of) are x.held) in
-      let o = opened.sound x.of h.0 in
-      (subst (Contains edges) x.is o.0, subst (IsOpen old) x.is o.1)
-
-  straddler_of : (e : Edge) → Contains edges e → straddles old e ≡ true → Contains (map edge_of straddling) e
-  straddler_of e held some =
-      let x = Contains-map_cases edge_of pairs e (opened.complete e held (straddles_open old e some)) in
-      let h = (Contains-filter (is_straddler old) pairs x.of).1 (x.held, ap (straddles old) x.is ∙ some) in
-      subst (Contains (map edge_of straddling)) x.is (Contains-map edge_of straddling x.of (subst (λ (os : List OpenPair). Contains os x.of) (sym are) h))
-
-  straddlers_distinct : AllPairs (λ e f. e ≢ f) (map edge_of straddling)
-  straddlers_distinct = distinct_map (λ e f. e ≢ f) edge_of straddling (subst (AllPairs (λ o p. o.edge ≢ p.edge)) (sym are)
-      (AllPairs-filter (λ o p. o.edge ≢ p.edge) (is_straddler old) pairs opened.distinct))
-
-  pub reaching_is : (now : ℕ) (due : List Edge) → old ≤ now → AreDue old now edges due
-      → (e : Edge) → Contains (reaching old now straddling due) e ↔ (Contains edges e × IsOpen now e)
-  reaching_is now due later is_due e =
-      let stay = filter (has_begun old now) (map edge_of straddling) in
-      let come = filter (is_lasting now) due in (
-        (λ held. ⊎_elim
-            (λ first.
-            let h = (Contains-filter (has_begun old now) (map edge_of straddling) e).0 first in
-            let span = (began old now e).0 h.1 in
-            let begun = span.0 in
-            ((straddler_is e h.0).0, (omega arith, span.1)))
-            (λ second.
-            let h = (Contains-filter (is_lasting now) due e).0 second in
-            let d = (is_due.exact e).0 h.0 in
-            (d.0, (d.1.1, (lasts now e).0 h.1))) (Contains-append_cases stay come e held)),
-        (λ h.
-            let meets = h.1 in
-            ⊎_elim
-            (λ begun. Contains-append_left stay come e ((Contains-filter (has_begun old now) (map edge_of straddling) e).1
-            (straddler_of e h.0 (straddles_begun old e begun (let last = meets.1 in omega arith)), (began old now e).1 (begun, meets.1))))
-            (λ ahead. Contains-append_right stay come e ((Contains-filter (is_lasting now) due e).1
-            ((is_due.exact e).1 (h.0, (ahead, meets.0)), (lasts now e).1 meets.1)))
-            (cases_lt e.first old)),
-      )
-
-  pub reaching_distinct : (now : ℕ) (due : List Edge) → AreDue old now edges due → AllPairs (λ e f. e ≢ f) (reaching old now straddling due)
-  reaching_distinct now due is_due =
-      distinct_append (λ e f. e ≢ f) (filter (has_begun old now) (map edge_of straddling)) (filter (is_lasting now) due)
-      (AllPairs-filter (λ e f. e ≢ f) (has_begun old now) (map edge_of straddling) straddlers_distinct)
-      (AllPairs-filter (λ e f. e ≢ f) (is_lasting now) due (apart_distinct due is_due.apart))
-      (λ e f first second same.
-      let begun = ((began old now e).0 ((Contains-filter (has_begun old now) (map edge_of straddling) e).0 first).1).0 in
-      let d = (is_due.exact f).0 ((Contains-filter (is_lasting now) due f).0 second).0 in
-      let equal : e.first ≡ f.first = ap (λ (g : Edge). g.first) same in
-      absurd (omega (arith, d.1.0)))
-
-  -- what the test of these needs
-  pub reaching_pairs : (now : ℕ) (due : List Edge) → old ≤ now → AreKept rules places edges → AreDue old now edges due
-      → All (λ e. IsPair rules places e × IsOpen now e) (reaching old now straddling due)
-  reaching_pairs now due later kept is_due =
-      All-from_held (λ e. IsPair rules places e × IsOpen now e) (reaching old now straddling due) (λ e held.
-      let h = (reaching_is now due later is_due e).0 held in (kept.sound e h.0, h.1))
-
-  -- the open pairs at the later moment
-  pub open_moved : (now : ℕ) (due : List Edge) (after : List OpenPair) → old ≤ now → AreDue old now edges due
-      → map edge_of after ≡ reaching old now straddling due → All (λ o. ShowsInWindow rules places now o.edge o.conflict) after
-      → AreOpen rules places now edges after
-  open_moved now due after later is_due same shown = record {
-    sound = λ o held.
-        let listed : Contains (reaching old now straddling due) o.edge = subst (λ (es : List Edge). Contains es o.edge) same (Contains-map edge_of after o held) in
-        let h = (reaching_is now due later is_due o.edge).0 listed in
-        (h.0, h.1, All-contains (λ p. ShowsInWindow rules places now p.edge p.conflict) after o shown held);
-    complete = λ e held meets. subst (λ (es : List Edge). Contains es e) (sym same) ((reaching_is now due later is_due e).1 (held, meets));
-    distinct = distinct_of (λ e f. e ≢ f) edge_of after (subst (λ (es : List Edge). AllPairs (λ e f. e ≢ f) es) (sym same) (reaching_distinct now due is_due));
-  }
-
-  -- at most one test for each pair that straddles an edge of the window
-  pub tested_once : (now : ℕ) (due : List Edge) (before after : ℕ) → old ≤ now → AreKept rules places edges → AreDue old now edges due
-      → WereTested now (reaching old now straddling due) before after → WasTestedOnce rules places now before after
-  tested_once now due before after later kept is_due tested =
-      let all = reaching old now straddling due in
-      let first = take tested.first all in
-      record {
-        edges = filter (straddles now) first;
-        distinct = AllPairs-filter (λ e f. e ≢ f) (straddles now) first (distinct_take (λ e f. e ≢ f) tested.first all (reaching_distinct now due is_due));
-        each = All-from_held (λ e. IsPair rules places e × (straddles now e ≡ true)) (filter (straddles now) first) (λ e held.
-            let h = (Contains-filter (straddles now) first e).0 held in
-            let listed = Contains-take tested.first all e h.0 in
-            (kept.sound e ((reaching_is now due later is_due e).0 listed).0, h.1));
-        is = tested.is ∙ ap (λ (n : ℕ). raised_by n before) (sym (length-filter (straddles now) first));
-      }
+-- two of these with the same ends are one
+pub one_kept : (edges : List Edge) (e f : Edge) → AreDistinctPairs edges → Contains edges e → Contains edges f → HaveSameEnds e f → e ≡ f
+one_kept edges e f once e_in f_in same =
+    let there : (d : Edge) → get_or edges e_in.0 d ≡ e = λ d. sym (get_or_default edges e_in.0 e d e_in.1) ∙ e_in.2 in
+    let here : (d : Edge) → get_or edges f_in.0 d ≡ f = λ d. sym (get_or_default edges f_in.0 f d f_in.1) ∙ f_in.2 in
+    let ends : (x y : Edge) → x ≡ e → y ≡ f → HaveSameEnds x y = λ x y p q. (
+      ap (λ (g : Edge). g.a) p ∙ same.0 ∙ sym (ap (λ (g : Edge). g.a) q),
+      ap (λ (g : Edge). g.b) p ∙ same.1 ∙ sym (ap (λ (g : Edge). g.b) q),
+    ) in
+    ⊎_elim
+    (λ one. sym (there e) ∙ ap (λ (k : ℕ). get_or edges k e) one ∙ here e)
+    (λ away. absurd (⊎_elim
+    (λ before. once e_in.0 f_in.0 e before f_in.1 (ends _ _ (there e) (here e)))
+    (λ behind. once f_in.0 e_in.0 e (let differ = away in omega arith) e_in.1 (let back = ends _ _ (there e) (here e) in (sym back.0, sym back.1)))
+    (cases_lt e_in.0 f_in.0)))
+    (cases_eq e_in.0 f_in.0)
 
 -- the tests so far, and that of one more edge
-pub tested_more : (now : ℕ) (edges : List Edge) (i : ℕ) (old mid new : ℕ) → (d : Edge) → i < length edges
-    → mid ≡ raised_by (count_by (straddles now) (take i edges)) old → new ≡ raised_by (cond (straddles now (get_or edges i d)) 1 0) mid
-    → new ≡ raised_by (count_by (straddles now) (take (i + 1) edges)) old
-tested_more now edges i old mid new d below so_far one =
-    let more = count_by_more now edges i d below in
-    rw more (rw (one, so_far) (raised_by-add (count_by (straddles now) (take i edges)) (cond (straddles now (get_or edges i d)) 1 0) old)) where
-      count_by_more : (now : ℕ) (edges : List Edge) (i : ℕ) (d : Edge) → i < length edges
-          → count_by (straddles now) (take (i + 1) edges) ≡ count_by (straddles now) (take i edges) + cond (straddles now (get_or edges i d)) 1 0
-      count_by_more now edges i d below =
-          let a = length-filter (straddles now) (take (i + 1) edges) in
-          let b = length-filter (straddles now) (take i edges) in
-          sym a ∙ length-filter_more (straddles now) edges i d below ∙ ap (λ (n : ℕ). n + cond (straddles now (get_or edges i d)) 1 0) b
+pub tested_more : (p : Edge → Bool) (edges : List Edge) (i : ℕ) (old mid new : ℕ) → (d : Edge) → i < length edges
+    → mid ≡ raised_by (count_by p (take i edges)) old → new ≡ raised_by (cond (p (get_or edges i d)) 1 0) mid
+    → new ≡ raised_by (count_by p (take (i + 1) edges)) old
+tested_more p edges i old mid new d below so_far one =
+    let more = count_by_more p edges i d below in
+    rw more (rw (one, so_far) (raised_by-add (count_by p (take i edges)) (cond (p (get_or edges i d)) 1 0) old)) where
+      count_by_more : (p : Edge → Bool) (edges : List Edge) (i : ℕ) (d : Edge) → i < length edges
+          → count_by p (take (i + 1) edges) ≡ count_by p (take i edges) + cond (p (get_or edges i d)) 1 0
+      count_by_more p edges i d below =
+          let a = length-filter p (take (i + 1) edges) in
+          let b = length-filter p (take i edges) in
+          sym a ∙ length-filter_more p edges i d below ∙ ap (λ (n : ℕ). n + cond (p (get_or edges i d)) 1 0) b
 
--- or none, where it straddles no edge of the window
-pub tested_past : (now : ℕ) (stale : Stale) (edges : List Edge) (i : ℕ) (old new : ℕ) → (d : Edge) → i < length edges
-    → new ≡ raised_by (count_by (straddles now) (take i edges)) old → is_renewed now stale (get_or edges i d) ≡ false
-    → new ≡ raised_by (count_by (straddles now) (take (i + 1) edges)) old
-tested_past now stale edges i old new d below so_far past =
-    let none = (or_parts (straddles now (get_or edges i d)) (is_stale stale (get_or edges i d).first) past).0 in
-    tested_more now edges i old new new d below so_far (rw none refl)
+-- of pairs with what they show, one more that goes on, or that doesn't
+pub tested_on : (now : ℕ) (pairs : List OpenPair) (i : ℕ) (o : OpenPair) (old mid new : ℕ) → i < length pairs → o ≡ get_or pairs i o → goes_on now o.edge ≡ true
+    → mid ≡ raised_by (count_by (is_tested_on now) (take i (map edge_of pairs))) old → new ≡ raised_by (cond (is_tested now o.edge) 1 0) mid
+    → new ≡ raised_by (count_by (is_tested_on now) (take (i + 1) (map edge_of pairs))) old
+tested_on now pairs i o old mid new below is on so_far one =
+    let all = length-map pairs edge_of in
+    let here : get_or (map edge_of pairs) i o.edge ≡ o.edge = get_or-map edge_of pairs i o o.edge below ∙ ap edge_of (sym is) in
+    let both : is_tested_on now o.edge ≡ is_tested now o.edge = ap (λ (b : Bool). b && is_tested now o.edge) on in
+    tested_more (is_tested_on now) (map edge_of pairs) i old mid new o.edge (omega arith) so_far
+    (rw here (one ∙ ap (λ (b : Bool). raised_by (cond b 1 0) mid) (sym both)))
 
--- the list of edges, as the code makes it
-pub listed : (old now : ℕ) (pairs seen_pairs : List OpenPair) (due seen_due first all : List Edge) → seen_pairs ≡ pairs → seen_due ≡ due
-    → first ≡ filter (has_begun old now) (map edge_of seen_pairs) → all ≡ first ++ filter (is_lasting now) seen_due → all ≡ reaching old now pairs due
-listed old now pairs seen_pairs due seen_due first all e f g h = rw (← e, ← f, ← g) h
+pub tested_past : (now : ℕ) (pairs : List OpenPair) (i : ℕ) (o : OpenPair) (old new : ℕ) → i < length pairs → o ≡ get_or pairs i o → goes_on now o.edge ≡ false
+    → new ≡ raised_by (count_by (is_tested_on now) (take i (map edge_of pairs))) old
+    → new ≡ raised_by (count_by (is_tested_on now) (take (i + 1) (map edge_of pairs))) old
+tested_past now pairs i o old new below is past so_far =
+    let all = length-map pairs edge_of in
+    let here : get_or (map edge_of pairs) i o.edge ≡ o.edge = get_or-map edge_of pairs i o o.edge below ∙ ap edge_of (sym is) in
+    tested_more (is_tested_on now) (map edge_of pairs) i old new new o.edge (omega arith) so_far (rw (here, past) refl)
+
+-- where nothing was gone over
+pub none_gone : (p : Edge → Bool) (count : ℕ) → WereTested p [] count count
+none_gone p count = record { first = 0; is = refl }
+
+-- at most one test for each pair that straddles an edge of the look-ahead, where two lists of kept pairs were gone over
+pub tested_once : (rules : Rules) (places : List (Option NamedTrajectory)) (now : ℕ) (edges first second : List Edge) (before mid after : ℕ)
+    → AreKept rules places edges → ((e : Edge) → Contains first e → Contains edges e) → ((e : Edge) → Contains second e → Contains edges e)
+    → AllPairs (λ e f. e ≢ f) first → AllPairs (λ e f. e ≢ f) second → ((e f : Edge) → Contains first e → Contains second f → e ≢ f)
+    → WereTested (is_tested_on now) first before mid → WereTested (is_tested now) second mid after → WasTestedOnce rules places now before after
+tested_once rules places now edges first second before mid after kept from_first from_second first_apart second_apart across one two = record {
+  edges = fresh ++ late;
+  distinct = distinct_held (λ e f. e ≢ f) (λ e f. ¬ HaveSameEnds e f) (fresh ++ late)
+      (λ e f e_in f_in differ. λ ends. differ (one_kept edges e f kept.once (listed e e_in).0 (listed f f_in).0 ends))
+      (distinct_append (λ e f. e ≢ f) fresh late
+      (AllPairs-filter (λ e f. e ≢ f) (is_tested_on now) (take one.first first) (distinct_take (λ e f. e ≢ f) one.first first first_apart))
+      (AllPairs-filter (λ e f. e ≢ f) (is_tested now) (take two.first second) (distinct_take (λ e f. e ≢ f) two.first second second_apart))
+      (λ e f e_in f_in. across e f (of_first e e_in).0 (of_second f f_in).0));
+  each = All-from_held (λ e. IsPair rules places e × (straddles now e ≡ true)) (fresh ++ late) (λ e held. let h = listed e held in (kept.sound e h.0, h.1));
+  is = two.is ∙ ap (raised_by (count_by (is_tested now) (take two.first second))) one.is
+      ∙ raised_by-add (count_by (is_tested_on now) (take one.first first)) (count_by (is_tested now) (take two.first second)) before
+      ∙ ap (λ (n : ℕ). raised_by n before) (let a = length-filter (is_tested_on now) (take one.first first) in
+      let b = length-filter (is_tested now) (take two.first second) in let both = length-append fresh late in omega arith);
+} where
+  fresh : List Edge
+  fresh = filter (is_tested_on now) (take one.first first)
+
+  late : List Edge
+  late = filter (is_tested now) (take two.first second)
+
+  of_first : (e : Edge) → Contains fresh e → Contains first e × (straddles now e ≡ true)
+  of_first e held =
+      let h = (Contains-filter (is_tested_on now) (take one.first first) e).0 held in
+      (Contains-take one.first first e h.0, (and_parts (straddles now e) (not e.solid) (and_parts (goes_on now e) (is_tested now e) h.1).1).0)
+
+  of_second : (e : Edge) → Contains late e → Contains second e × (straddles now e ≡ true)
+  of_second e held =
+      let h = (Contains-filter (is_tested now) (take two.first second) e).0 held in
+      (Contains-take two.first second e h.0, (and_parts (straddles now e) (not e.solid) h.1).0)
+
+  listed : (e : Edge) → Contains (fresh ++ late) e → Contains edges e × (straddles now e ≡ true)
+  listed e held = ⊎_elim
+      (λ one_in. let h = of_first e one_in in (from_first e h.0, h.1))
+      (λ two_in. let h = of_second e two_in in (from_second e h.0, h.1)) (Contains-append_cases fresh late e held)

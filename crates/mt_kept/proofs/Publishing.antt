@@ -1,15 +1,14 @@
 -- What is published of the open pairs.
 use Rattle.std.proofs.Common.{◌≡◌, ◌≢◌, ℕ, zero, suc, ◌<◌, ◌≤◌, ◌⊎◌, inl, inr, ⊎_elim, ◌↔◌, false, true≢false, List, [], ◌∷◌, ◌++◌, map, get_or, length, Contains, Option, Some, None, refl, sym, ◌∙◌, ap, subst, arith}
-use Rattle.std.proofs.lemmas.Bool.{cases_order, or_parts}
+use Rattle.std.proofs.lemmas.Bool.{cases_order}
 use Rattle.std.proofs.lemmas.Cmp.{nat_list_cmp_total}
 use Rattle.std.specs.FinMap.{slice_cmp-IsAntisymmetric, nat_cmp-IsAntisymmetric}
 use Rattle.std.specs.Cmp.Lexicographic.{slice_cmp}
 use Rattle.std.specs.List.Sorted.{IsStrictlySortedBy}
 use Rattle.std.specs.Ordering.{nat_cmp, is_lt, ordering_reverse}
-use Rattle.std.specs.List.{filter}
 use Rattle.std.specs.Option.{option_to_list}
-use Rattle.std.proofs.lemmas.List.{append-nil, map-append}
-use Rattle.std.proofs.lemmas.List.Elements.{All-push, Contains-append_cases, Contains-append_left, Contains-append_right, Contains-push, Contains-push_cases, filter-append}
+use Rattle.std.proofs.lemmas.List.{append-nil}
+use Rattle.std.proofs.lemmas.List.Elements.{Contains-append_left, Contains-push, Contains-push_cases}
 use Rattle.mt_track.specs.declared.roster.Item.{Item}
 use Rattle.mt_track.specs.Named.{named}
 use Rattle.std.specs.declared.cmp.Ordering.{Ordering}
@@ -23,13 +22,11 @@ use Rattle.mt_base.proofs.OneConflict.{one_conflict}
 use Rattle.mt_kept.specs.declared.open_pair.OpenPair.{OpenPair}
 use Rattle.mt_kept.specs.Places.{at, held, seen}
 use Rattle.mt_base.specs.Trajectory.{horizon}
-use Rattle.mt_kept.specs.Losing.{IsPair, LoseSeparation}
+use Rattle.mt_kept.specs.Losing.{IsPair, IsSolidAsSaid, LoseSeparation}
 use Rattle.mt_kept.specs.Private.Losing.{AreKept}
 use Rattle.mt_kept.specs.Window.{IsFoundOf, IsOpen, ShowsInWindow, edge_of, straddles}
-use Rattle.mt_kept.specs.Private.Window.{AreOpen, AreOpened, Shows, ShowsWhole}
-use Rattle.mt_kept.specs.declared.stale.Stale.{Stale}
-use Rattle.mt_kept.specs.Private.Made.{IsInOrder, conflict_of, is_straddler}
-use Rattle.mt_kept.specs.Private.Stale.{is_renewed, is_stale}
+use Rattle.mt_kept.specs.Private.Window.{AreOpen, Shows, ShowsWhole}
+use Rattle.mt_kept.specs.Private.Made.{IsInOrder}
 use Rattle.mt_base.proofs.Members.{Contains-cases, Contains-head, Contains-later, Contains-map_cases, Contains-none, IsSeen}
 use Rattle.mt_kept.proofs.Windows.{IsLossSecond-sym, IsSpanOfLoss-sym, is_open_at, span_in_window}
 
@@ -259,6 +256,13 @@ span_of rules places e pair left right l r =
     subst (λ (y : NamedTrajectory). IsSpanOfLoss rules left.path y.path 0 horizon e.first e.last) r
     (subst (λ (x : NamedTrajectory). IsSpanOfLoss rules x.path pair.right.path 0 horizon e.first e.last) l pair.span)
 
+-- and what it says of its being solid
+pub said_of : (rules : Rules) (places : List (Option NamedTrajectory)) (e : Edge) (pair : IsPair rules places e) (left right : NamedTrajectory)
+    → pair.left ≡ left → pair.right ≡ right → IsSolidAsSaid rules left.path right.path e
+said_of rules places e pair left right l r =
+    subst (λ (y : NamedTrajectory). IsSolidAsSaid rules left.path y.path e) r
+    (subst (λ (x : NamedTrajectory). IsSolidAsSaid rules x.path pair.right.path e) l pair.solid)
+
 -- of some open pairs, one more
 Shows-none : (pairs : List OpenPair) (o : OpenPair) → o.conflict ≡ None → (c : Conflict) → Shows (pairs ++ o ∷ []) c ↔ Shows pairs c
 Shows-none pairs o none c = (
@@ -298,90 +302,3 @@ shows_more pairs o list so_far = step o.conflict refl where
   step : (x : Option Conflict) → o.conflict ≡ x → (c : Conflict) → Contains (list ++ option_to_list x) c ↔ Shows (pairs ++ o ∷ []) c
   step None none = list_same pairs o list (list ++ []) so_far none (append-nil list)
   step (Some d) some = list_more pairs o list (list ++ d ∷ []) d so_far some refl
-
--- every pair has a conflict over its whole span
-record HasWhole (places : List (Option NamedTrajectory)) (e : Edge) : Type 0 where
-  conflict : Conflict
-  shows : ShowsWhole places e (Some conflict)
-
-whole_of : (rules : Rules) (places : List (Option NamedTrajectory)) (e : Edge) → IsPair rules places e → HasWhole places e
-whole_of rules places e pair = ⊎_elim
-    (λ before. whole (conflict_of pair.left pair.right e.first e.last) (inl (before, refl)))
-    (λ after. whole (conflict_of pair.right pair.left e.first e.last) (inr (after, refl)))
-    (before_or_after pair.left.call pair.right.call pair.apart) where
-      whole : (c : Conflict) → IsInOrder pair.left pair.right (e.first, e.last) c ⊎ IsInOrder pair.right pair.left (e.first, e.last) c → HasWhole places e
-      whole c order = record {
-        conflict = c;
-        shows = record {
-          left = pair.left;
-          right = pair.right;
-          left_is = pair.left_is;
-          right_is = pair.right_is;
-          conflict = c;
-          is = refl;
-          order = order;
-        };
-      }
-
--- of some pairs that were opened, one more
-pub opened_none : (rules : Rules) (places : List (Option NamedTrajectory)) (now : ℕ) (stale : Stale) → AreOpened rules places now stale [] [] []
-opened_none rules places now stale = record {
-  pairs = [];
-  same = refl;
-  shown = λ k d below. absurd (omega arith);
-  straddlers = refl;
-  sound = λ c held. absurd (Contains-none c held);
-  complete = λ o c held shown renewed. absurd (Contains-none o held);
-}
-
-shows_later : (pairs : List OpenPair) (o : OpenPair) (c : Conflict) → Shows pairs c → Shows (pairs ++ o ∷ []) c
-shows_later pairs o c s = record { pair = s.pair; held = Contains-append_left pairs (o ∷ []) s.pair s.held; shown = s.shown }
-
-pub opened_more : (rules : Rules) (places : List (Option NamedTrajectory)) (now : ℕ) (stale : Stale) (edges : List Edge) (o : OpenPair)
-    (straddling after : List OpenPair) (list new : List Conflict) → AreOpened rules places now stale edges straddling list
-    → ShowsInWindow rules places now o.edge o.conflict → after ≡ straddling ++ filter (is_straddler now) (o ∷ []) → new ≡ list ++ option_to_list o.conflict
-    → AreOpened rules places now stale (edges ++ o.edge ∷ []) after new
-opened_more rules places now stale edges o straddling after list new so_far shows here there = record {
-  pairs = so_far.pairs ++ o ∷ [];
-  same = map-append edge_of so_far.pairs (o ∷ []) ∙ ap (λ (es : List Edge). es ++ o.edge ∷ []) so_far.same;
-  shown = All-push (λ (p : OpenPair). ShowsInWindow rules places now p.edge p.conflict) so_far.pairs o so_far.shown shows;
-  straddlers = here ∙ ap (λ (os : List OpenPair). os ++ filter (is_straddler now) (o ∷ [])) so_far.straddlers
-      ∙ sym (filter-append (is_straddler now) so_far.pairs (o ∷ []));
-  sound = λ c held. ⊎_elim
-      (λ before. shows_later so_far.pairs o c (so_far.sound c before))
-      (λ come. record { pair = o; held = Contains-push so_far.pairs o; shown = option_holds o.conflict c come })
-      (Contains-append_cases list (option_to_list o.conflict) c (subst (λ (cs : List Conflict). Contains cs c) there held));
-  complete = λ p c held shown renewed. subst (λ (cs : List Conflict). Contains cs c) (sym there) (⊎_elim
-      (λ before. Contains-append_left list (option_to_list o.conflict) c (so_far.complete p c before shown renewed))
-      (λ same. Contains-append_right list (option_to_list o.conflict) c
-      (option_held o.conflict c (ap (λ (q : OpenPair). q.conflict) same ∙ shown)))
-      (Contains-push_cases so_far.pairs o p held));
-} where
-  option_holds : (x : Option Conflict) (c : Conflict) → Contains (option_to_list x) c → x ≡ Some c
-  option_holds None c held = absurd (Contains-none c held)
-  option_holds (Some d) c held = ⊎_elim (λ same. ap Some same) (λ later. absurd (Contains-none c later)) (Contains-cases d [] c held)
-
-  option_held : (x : Option Conflict) (c : Conflict) → x ≡ Some c → Contains (option_to_list x) c
-  option_held x c is = rw is (Contains-head c [])
-
--- one more that is passed over: it straddles no edge of the look-ahead and begins in no stale second
-pub opened_past : (rules : Rules) (places : List (Option NamedTrajectory)) (now : ℕ) (stale : Stale) (edges : List Edge) (e : Edge)
-    (straddling : List OpenPair) (list : List Conflict) → now ≤ 10000000 → AreOpened rules places now stale edges straddling list → IsPair rules places e
-    → IsOpen now e → is_renewed now stale e ≡ false → AreOpened rules places now stale (edges ++ e ∷ []) straddling list
-opened_past rules places now stale edges e straddling list early so_far pair meets past =
-    let none = (or_parts (straddles now e) (is_stale stale e.first) past).0 in
-    let whole = whole_of rules places e pair in
-    let o : OpenPair = record { edge = e; conflict = Some whole.conflict } in
-    record {
-      pairs = so_far.pairs ++ o ∷ [];
-      same = map-append edge_of so_far.pairs (o ∷ []) ∙ ap (λ (es : List Edge). es ++ e ∷ []) so_far.same;
-      shown = All-push (λ (p : OpenPair). ShowsInWindow rules places now p.edge p.conflict) so_far.pairs o so_far.shown
-          (whole_shown rules places now e (Some whole.conflict) early pair meets none whole.shows);
-      straddlers = so_far.straddlers ∙ sym (filter-append (is_straddler now) so_far.pairs (o ∷ [])
-          ∙ (rw none (append-nil (filter (is_straddler now) so_far.pairs))));
-      sound = λ c held. shows_later so_far.pairs o c (so_far.sound c held);
-      complete = λ p c held shown renewed. ⊎_elim
-          (λ before. so_far.complete p c before shown renewed)
-          (λ same. absurd (true≢false (sym renewed ∙ ap (λ (q : OpenPair). is_renewed now stale q.edge) (sym same) ∙ past)))
-          (Contains-push_cases so_far.pairs o p held);
-    }

@@ -147,8 +147,7 @@ pub were_steps : (rules : Rules) (places : List (Option NamedTrajectory)) (slot 
     → WereDropped slot edges old new → WereStepsOf rules places slot old new
 were_steps rules places slot edges old new kept dropped = record {
   edges = filter (touches_slot slot) edges;
-  distinct = AllPairs-filter (λ e f. e ≢ f) (touches_slot slot) edges
-      (λ i j d before below. λ same. kept.once i j d before below (ap (λ (e : Edge). e.a) same, ap (λ (e : Edge). e.b) same));
+  distinct = AllPairs-filter (λ e f. ¬ HaveSameEnds e f) (touches_slot slot) edges kept.once;
   each = All-from_held (λ (e : Edge). IsPair rules places e × TouchesSlot slot e) (filter (touches_slot slot) edges) (λ e held.
       let h = (Contains-filter (touches_slot slot) edges e).0 held in (kept.sound e h.0, (touches_slot_is slot e h.1)));
   within = dropped;

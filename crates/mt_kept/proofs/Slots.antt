@@ -1,5 +1,5 @@
 -- What the pairs of a slot show.
-use Rattle.std.proofs.Common.{◌≡◌, ℕ, ◌+◌, ◌*◌, ◌≤◌, inl, inr, ⊎_elim, ◌↔◌, not, List, ◌++◌, map, Contains, Option, Some, sym, ◌∙◌, ap, subst, arith}
+use Rattle.std.proofs.Common.{◌≡◌, ℕ, ◌+◌, ◌*◌, ◌≤◌, inl, inr, ⊎_elim, ◌↔◌, not, List, ◌++◌, map, Contains, Option, Some, ◌∙◌, ap, subst, arith}
 use Rattle.std.specs.List.{filter}
 use Rattle.std.proofs.lemmas.Bool.{cases_Bool}
 use Rattle.std.proofs.lemmas.List.Elements.{Contains-append_cases, Contains-append_left, Contains-append_right}
@@ -8,15 +8,16 @@ use Rattle.mt_base.specs.declared.rules.Rules.{Rules}
 use Rattle.mt_base.specs.Picture.{NamedTrajectory}
 use Rattle.mt_base.proofs.Members.{Contains-filter, Contains-map_cases}
 use Rattle.mt_edges.specs.declared.edge.Edge.{Edge}
+use Rattle.mt_edges.specs.Pairs.{HaveSameEnds}
 use Rattle.mt_kept.specs.declared.open_pair.OpenPair.{OpenPair}
 use Rattle.mt_kept.specs.Finds.{AreFindsAt}
 use Rattle.mt_kept.specs.Losing.{IsPair, Joins, Touches, TouchesSlot}
-use Rattle.mt_kept.specs.Places.{HaveOwnSlots, slot_of}
+use Rattle.mt_kept.specs.Places.{at, HaveOwnSlots, slot_of}
 use Rattle.mt_kept.specs.Window.{IsOpen, ShowsInWindow, edge_of}
 use Rattle.mt_kept.specs.Private.Losing.{AreKept, AvoidsSlot}
 use Rattle.mt_kept.specs.Private.Made.{avoids, meets, opens}
 use Rattle.mt_kept.specs.Private.Window.{AreOpen, AreShownAt, Shows}
-use Rattle.mt_kept.proofs.Again.{same_pair}
+use Rattle.mt_kept.proofs.Again.{same_span}
 use Rattle.mt_kept.proofs.Keeping.{avoids_is, even_half, halves, is_open_is, odd_half}
 use Rattle.mt_kept.proofs.Publishing.{one_shown, shown_is, shows}
 use Rattle.mt_kept.proofs.Shown.{meets_is, one_slot}
@@ -50,14 +51,19 @@ shows_there rules places now place finds e c found pair meets shown touching =
     let x = Contains-map_cases edge_of finds joined.edge joined.held in
     let o = x.of in
     let h = found.sound o x.held in
-    let same : o.edge ≡ e = same_pair rules places o.edge e h.1 pair
-    (ap (λ (f : Edge). f.a) x.is ∙ joined.ends.0, ap (λ (f : Edge). f.b) x.is ∙ joined.ends.1) in
-    let meets_here : IsOpen now o.edge = subst (IsOpen now) (sym same) meets in
+    let ends : HaveSameEnds o.edge e = (ap (λ (f : Edge). f.a) x.is ∙ joined.ends.0, ap (λ (f : Edge). f.b) x.is ∙ joined.ends.1) in
+    let same = same_span rules places o.edge e h.1 pair ends in
+    let meets_here : IsOpen now o.edge = (omega (arith, same.0, meets.0), omega (arith, same.1, meets.1)) in
     record {
       pair = o;
       held = (Contains-filter (opens now) finds o).1 (x.held, (is_open_is now o.edge).1 meets_here);
-      shown = one_shown rules places now o.edge o.conflict c (h.2 meets_here)
-          (subst (λ (f : Edge). ShowsInWindow rules places now f (Some c)) (sym same) shown);
+      shown = one_shown rules places now o.edge o.conflict c (h.2 meets_here) (record {
+        left = shown.left;
+        right = shown.right;
+        left_is = ap (at places) ends.0 ∙ shown.left_is;
+        right_is = ap (at places) ends.1 ∙ shown.right_is;
+        found = shown.found;
+      });
     }
 
 -- what is found for the two places of a slot shows exactly what the open pairs of the slot do

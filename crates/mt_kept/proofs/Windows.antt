@@ -1,5 +1,5 @@
 -- A conflict over all seconds, and the one in a window; and that a loss doesn't tell which of the two comes first.
-use Rattle.std.proofs.Common.{◌≡◌, max, min, Option, Some, None, ◌&&◌, ◌⊎◌, inl, inr, ⊎_elim, refl, Bool, true, ℕ, ◌+◌, ◌<◌, ◌≤◌, ℤ, ◌+ℤ◌, ◌-ℤ◌, ◌*ℤ◌, ◌<ℤ◌, neg_ℤ, false, arith}
+use Rattle.std.proofs.Common.{◌≡◌, max, min, Option, Some, None, ◌&&◌, ◌⊎◌, inl, inr, ⊎_elim, refl, Bool, true, ℕ, ◌+◌, ◌-◌, ◌<◌, ◌≤◌, ℤ, ◌+ℤ◌, ◌-ℤ◌, ◌*ℤ◌, ◌<ℤ◌, neg_ℤ, false, arith}
 use Rattle.std.proofs.lemmas.Bool.Decides.{nat_tests}
 use Rattle.mt_ring.proofs.Ring.{lin, spread}
 use Rattle.mt_base.specs.declared.row.Row.{Row}
@@ -11,7 +11,10 @@ use Rattle.mt_base.specs.Picture.{window_end}
 use Rattle.mt_base.specs.Trajectory.{Trajectory}
 use Rattle.mt_edges.specs.declared.edge.Edge.{Edge}
 use Rattle.mt_base.specs.Trajectory.{horizon}
+use Rattle.mt_base.specs.Span.{IsSolid}
+use Rattle.mt_kept.specs.Losing.{IsSolidAsSaid}
 use Rattle.mt_kept.specs.Window.{IsOpen, straddles}
+use Rattle.mt_kept.specs.Private.Made.{borders, window_last}
 
 -- the loss of two rows at an instant, over plain numbers
 across : (p q r s w v z : ℤ) → ((q -ℤ p) *ℤ (q -ℤ p) +ℤ (s -ℤ r) *ℤ (s -ℤ r)) <ℤ ((w +ℤ v +ℤ z) *ℤ (w +ℤ v +ℤ z))
@@ -97,12 +100,42 @@ window_within rules a b now first last from to (Some span) early from_is to_is w
       let h = whole.none_outside k (omega arith) (omega arith) loss in some.none_outside k (omega arith) (omega arith) loss;
 }
 
--- a pair that straddles an edge of the window is open, and one that begins before the window and goes on in it does
-pub straddles_open : (now : ℕ) (e : Edge) → straddles now e ≡ true → IsOpen now e
-straddles_open now e some = grind (arith, nat_tests)
+-- where the whole conflict is solid, that is what of it lies within the window
+pub solid_in_window : (rules : Rules) (a b : Trajectory) (now first last from to : ℕ) → now ≤ 10000000 → first < window_end now → now ≤ last
+    → from ≡ max now first → to ≡ min (window_end now) (last + 1) → IsSpanOfLoss rules a b 0 horizon first last
+    → IsSolid (IsLossSecond rules a b) (Some (first, last)) → IsSpanOfLoss rules a b now (window_end now) from (to - 1)
+solid_in_window rules a b now first last from to early ahead lasting from_is to_is whole solid =
+    let some = whole.inside.1 in
+    record {
+      inside = (omega arith, omega arith, omega arith);
+      first_is = solid from (omega arith) (omega arith);
+      last_is = solid (to - 1) (omega arith) (omega arith);
+      none_outside = λ k low high loss. let h = whole.none_outside k (omega arith) (omega arith) loss in (omega arith, omega arith);
+    }
 
-pub straddles_begun : (now : ℕ) (e : Edge) → e.first < now → now ≤ e.last → straddles now e ≡ true
-straddles_begun now e begun lasting = grind (arith, nat_tests)
+-- what a pair says of its being solid, with the two the other way round
+pub IsSolidAsSaid-sym : (rules : Rules) (a b : Trajectory) (e : Edge) → IsSolidAsSaid rules a b e → IsSolidAsSaid rules b a e
+IsSolidAsSaid-sym rules a b e said = λ yes k begun ends. IsLossSecond-sym rules a b k (said yes k begun ends)
+
+-- a pair at the border of the window is open; an open one that isn't lies inside it, and straddles no edge of it
+pub borders_open : (now : ℕ) (e : Edge) → borders now e ≡ true → IsOpen now e
+borders_open now e some = grind (arith, nat_tests)
+
+pub within_border : (now : ℕ) (e : Edge) → IsOpen now e → borders now e ≡ false → (now ≤ e.first) × (e.last < window_last now)
+within_border now e is_open none = grind (arith, nat_tests)
+
+pub inner_straddles : (now : ℕ) (e : Edge) → IsOpen now e → borders now e ≡ false → straddles now e ≡ false
+inner_straddles now e is_open none = grind (arith, nat_tests)
+
+-- one that begins before the window and goes on in it, or ends after its last second but one, is at its border, and one that lies inside isn't
+pub borders_begun : (now : ℕ) (e : Edge) → e.first < now → now ≤ e.last → borders now e ≡ true
+borders_begun now e begun lasting = grind (arith, nat_tests)
+
+pub borders_end : (now : ℕ) (e : Edge) → e.first < window_end now → window_last now ≤ e.last → borders now e ≡ true
+borders_end now e ahead lasting = grind (arith, nat_tests)
+
+pub borders_not : (now : ℕ) (e : Edge) → now ≤ e.first → e.last < window_last now → borders now e ≡ false
+borders_not now e late early = grind (arith, nat_tests)
 
 -- a pair with a loss second in the window is open
 pub is_open_at : (rules : Rules) (a b : Trajectory) (now k : ℕ) (e : Edge) → now ≤ 10000000 → IsSpanOfLoss rules a b 0 horizon e.first e.last

@@ -6,6 +6,7 @@ use Rattle.mt_base.specs.Conflict.{IsConflict, IsLossSecond}
 use Rattle.mt_base.specs.Picture.{NamedTrajectory}
 use Rattle.mt_base.specs.Trajectory.{Trajectory, horizon}
 use Rattle.mt_edges.specs.Pairs.{HaveSameEnds}
+use Rattle.mt_base.specs.Span.{IsSolid}
 use Rattle.mt_kept.specs.declared.finds.Candidate.{Candidate}
 use Rattle.mt_kept.specs.declared.finds.Knowledge.{Knowledge}
 use Rattle.mt_kept.specs.declared.finds.Knowledge.TheVariants.{Known, Within}
@@ -19,10 +20,11 @@ pub record LoseWithin (rules : Rules) (a b : Trajectory) (first last : ℕ) : Ty
   pub inside : (k : ℕ) → IsLossSecond rules a b k → (first ≤ k) × (k ≤ last)
   pub early : last < horizon
 
--- what is known of two trajectories is right: where they may lose separation, or their conflict over all seconds
+-- what is known of two trajectories is right: where they may lose separation, or their conflict over all seconds, solid where it is said to be so
 abbrev pub IsRight : Rules → NamedTrajectory → NamedTrajectory → Knowledge → Type 0
 IsRight rules mine other (Within first last) = LoseWithin rules mine.path other.path first last
-IsRight rules mine other (Known span) = IsConflict rules mine.path other.path 0 horizon span
+IsRight rules mine other (Known span solid) = IsConflict rules mine.path other.path 0 horizon span
+    × (solid ≡ true → IsSolid (IsLossSecond rules mine.path other.path) span)
 
 -- at another place stands this trajectory of another flight
 pub record IsOfOtherFlight (places : List (Option NamedTrajectory)) (place : ℕ) (mine : NamedTrajectory) (j : ℕ) (other : NamedTrajectory) : Type 0 where
@@ -79,7 +81,7 @@ cost_known now (Some span) = if is_straddling now span.0 span.1 then 1 else 0
 -- two tests where the conflict isn't known
 abbrev pub cost_of : ℕ → Knowledge → ℕ
 cost_of now (Within first last) = 2
-cost_of now (Known span) = cost_known now span
+cost_of now (Known span solid) = cost_known now span
 
 -- the tests that a candidate needs
 abbrev pub cost : List (Option NamedTrajectory) → ℕ → List ℕ → ℕ → Candidate → ℕ
@@ -88,12 +90,12 @@ cost places place call now x = if is_listed places place call x then cost_of now
 -- `is_unknown`, `is_crossing`: the conflict isn't known; the one that is known straddles an edge of the window
 abbrev pub is_unknown : Knowledge → Bool
 is_unknown (Within first last) = true
-is_unknown (Known span) = false
+is_unknown (Known span solid) = false
 
 abbrev pub is_crossing : ℕ → Knowledge → Bool
 is_crossing now (Within first last) = false
-is_crossing now (Known None) = false
-is_crossing now (Known (Some span)) = is_straddling now span.0 span.1
+is_crossing now (Known None solid) = false
+is_crossing now (Known (Some span) solid) = is_straddling now span.0 span.1
 
 -- `asks_two`, `asks_one`: the candidates that need two tests, and one
 abbrev pub asks_two : List (Option NamedTrajectory) → ℕ → List ℕ → Candidate → Bool

@@ -1,11 +1,12 @@
 -- The pairs that are open in the look-ahead from a moment, and what they show in it.
-use Rattle.std.specs.Prelude.{◌≡◌, ◌≢◌, ℕ, ◌<◌, ◌≤◌, ◌⊎◌, List, length, All, AllPairs, Option, Some, None, Bool, true}
+use Rattle.std.specs.Prelude.{◌≡◌, ℕ, ◌<◌, ◌≤◌, ◌⊎◌, List, length, All, Option, Some, None, Bool, true}
 use Rattle.mt_base.specs.declared.conflict.Conflict.{Conflict}
 use Rattle.mt_base.specs.declared.rules.Rules.{Rules}
 use Rattle.mt_base.specs.Conflict.{IsLossSecond}
 use Rattle.mt_base.specs.Picture.{NamedTrajectory, IsConflictOf, window_end}
 use Rattle.mt_pair.specs.Crossing.{crosses_one}
 use Rattle.mt_edges.specs.declared.edge.Edge.{Edge}
+use Rattle.mt_edges.specs.Pairs.{AreDistinctPairs}
 use Rattle.mt_kept.specs.declared.open_pair.OpenPair.{OpenPair}
 use Rattle.mt_kept.specs.Losing.{IsPair}
 use Rattle.mt_kept.specs.Places.{at}
@@ -39,9 +40,9 @@ pub record ShowsInWindow (rules : Rules) (places : List (Option NamedTrajectory)
 abbrev pub edge_of : OpenPair → Edge
 edge_of o = o.edge
 
--- at most one test per straddling pair, no other
+-- at most one test per straddling pair, no other. A pair that is known to be solid needs none.
 pub record WasTestedOnce (rules : Rules) (places : List (Option NamedTrajectory)) (now old new : ℕ) : Type 0 where
   pub edges : List Edge
-  pub distinct : AllPairs (λ e f. e ≢ f) edges
+  pub distinct : AreDistinctPairs edges
   pub each : All (λ e. IsPair rules places e × (straddles now e ≡ true)) edges
   pub is : new ≡ raised_by (length edges) old

@@ -1,9 +1,9 @@
 //! Conflicts in the order of publishing.
-ghost use Rattle.std.specs.Prelude.{◌≡◌, ◌+◌, ◌≤◌, ◌↔◌, ◌⊎◌, [], Contains, IfOk, OnOk, length, true};
+ghost use Rattle.std.specs.Prelude.{◌≡◌, ◌+◌, ◌≤◌, ◌↔◌, ◌⊎◌, [], Contains, OnOk, length, true};
 ghost use Rattle.std.specs.List.Sorted.{IsStrictlySortedBy};
 ghost use Rattle.mt_base.specs.declared.conflict.Conflict.{Conflict};
 ghost use Rattle.mt_base.specs.Picture.{conflict_cmp};
-ghost use Rattle.mt_kept.specs.Private.Stale.{begins_stale};
+ghost use Rattle.mt_kept.specs.Private.Stale.{stays};
 
 use crate::merging::merge;
 use crate::stale::Stale;
@@ -64,17 +64,6 @@ impl ConflictList {
         &self.values
     }
 
-    /// Those of the conflicts that begin in a stale second.
-    pub(crate) fn stale(&self, alloc: Global, stale: &Stale) -> Result<ConflictList, Memory>
-        ensures { IfOk result (λ list. (c : Conflict) → Contains list.conflicts c
-            ↔ (Contains self.now.conflicts c × (begins_stale stale.now c ≡ true))) }
-    {
-        Ok(ConflictList {
-            values: stale.beginning(alloc, &self.values)?,
-            aside: Vec::new(alloc),
-        })
-    }
-
     /// Takes memory, so that there is room for at least n conflicts more. The conflicts stay.
     pub(crate) fn reserve(&mut self, n: usize) -> Result<(), Memory>
         ensures room { OnOk result (length self.new.conflicts + n ≤ self.new.room) }
@@ -94,6 +83,17 @@ impl ConflictList {
             ↔ ((Contains self.old.conflicts c × (¬ Contains hidden.now.conflicts c)) ⊎ Contains shown.now.conflicts c) }
     {
         merge(&mut self.aside, &self.values, &hidden.values, &shown.values);
+        swap(&mut self.values, &mut self.aside);
+    }
+
+    /// Keeps those of the conflicts that stay, and puts those of another list in. It takes no memory.
+    pub(crate) fn renew(&mut self, stale: &Stale, come: &ConflictList)
+        requires { length self.old.conflicts + length come.now.conflicts ≤ self.old.room }
+        ensures { (c : Conflict) → Contains self.new.conflicts c
+            ↔ ((Contains self.old.conflicts c × (stays stale.now c ≡ true)) ⊎ Contains come.now.conflicts c) }
+    {
+        self.values.retain(|conflict| stale.keeps(conflict));
+        merge(&mut self.aside, &self.values, &[], &come.values);
         swap(&mut self.values, &mut self.aside);
     }
 }

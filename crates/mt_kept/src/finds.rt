@@ -1,10 +1,12 @@
 //! The pairs of a trajectory with those of other flights.
-ghost use Rattle.std.specs.Prelude.{◌≡◌, ◌≢◌, ◌≤◌, List, Option, map, IfOk, OnOk, if◌then◌else◌};
+ghost use Rattle.std.specs.Prelude.{◌≡◌, ◌≢◌, ◌≤◌, true, List, Option, map, IfOk, OnOk, if◌then◌else◌};
 ghost use Rattle.std.specs.List.{sum_by};
 ghost use Rattle.mt_base.specs.Bounds.{AreWithinBounds};
-ghost use Rattle.mt_base.specs.Conflict.{IsConflict, IsSpanOfLoss};
+ghost use Rattle.mt_base.specs.Conflict.{IsConflict, IsLossSecond, IsSpanOfLoss};
 ghost use Rattle.mt_base.specs.Picture.{NamedTrajectory};
 ghost use Rattle.mt_track.specs.Named.{named};
+ghost use Rattle.mt_kept.specs.Losing.{IsSolidAsSaid};
+ghost use Rattle.mt_base.specs.Span.{IsSolid};
 ghost use Rattle.mt_kept.specs.Finds.{Agree, AreCandidates, AreFindsAt, IsOfOtherFlight, IsRight, cost, cost_of};
 ghost use Rattle.mt_kept.specs.Private.Made.{IsFindAdded, IsAddedAt, IsEdgeOf, IsKnownAs, tests_if_unknown};
 ghost use Rattle.mt_kept.specs.Places.{seen};
@@ -16,7 +18,7 @@ use crate::open_pair::{OpenPair, is_open, push_pair};
 use crate::showing::shown_pair;
 use mt_base::{Conflict, Memory, Rules, Second, Tally};
 use mt_edges::Edge;
-use mt_pair::lose;
+use mt_pair::{Loss, loss_of};
 use mt_track::Item;
 use std::alloc::Global;
 
@@ -24,9 +26,15 @@ use std::alloc::Global;
 #[derive(Clone, Copy)]
 pub enum Knowledge {
     /// They don't lose separation before the first or after the last of these seconds; in these they have to be tested.
-    Within { first: Second, last: Second },
-    /// They have this conflict, its first and its last second, or none.
-    Known(Option<(Second, Second)>),
+    Within {
+        first: Second,
+        last: Second,
+    },
+    /// They have this conflict, its first and its last second, or none; and whether it is known to be solid.
+    Known {
+        span: Option<(Second, Second)>,
+        solid: bool,
+    },
 }
 
 /// A place whose trajectory a new one may lose separation from, and what is known of the two.
@@ -38,38 +46,35 @@ pub struct Candidate {
     pub knowledge: Knowledge,
 }
 
-/// The conflict over all seconds of a new item and another, by a test where it isn't known.
-fn whole(
-    item: &Item,
-    other: &Item,
-    knowledge: Knowledge,
-    rules: &Rules,
-    tests: &mut Tally,
-) -> Option<(Second, Second)>
+/// The conflict over all seconds of a new item and another, by a test where it isn't known, and whether it is known to be solid.
+fn whole(item: &Item, other: &Item, knowledge: Knowledge, rules: &Rules, tests: &mut Tally) -> Loss
     requires rules_kept { AreWithinBounds rules.now }
     requires known { IsRight rules.now (named item.now) (named other.now) knowledge }
-    ensures is { IsConflict rules.now (named item.now).path (named other.now).path 0 horizon result }
-    ensures same { IsKnownAs knowledge result }
+    ensures is { IsConflict rules.now (named item.now).path (named other.now).path 0 horizon result.span }
+    ensures solid { result.solid ≡ true → IsSolid (IsLossSecond rules.now (named item.now).path (named other.now).path) result.span }
+    ensures same { IsKnownAs knowledge result.span }
     ensures counted { tests.new ≡ raised_by (tests_if_unknown knowledge) tests.old }
 {
     match knowledge {
         Knowledge::Within { first, last } => {
-            lose(&item.strand, &other.strand, rules, first, last + 1, tests)
+            loss_of(&item.strand, &other.strand, rules, first, last + 1, tests)
         }
-        Knowledge::Known(span) => span,
+        Knowledge::Known { span, solid } => Loss { span, solid },
     }
 }
 
-/// The pair of two places with that span.
-fn edge_between(place: u32, other: u32, span: (Second, Second)) -> Edge
+/// The pair of two places with that span, which is known to be solid or not.
+fn edge_between(place: u32, other: u32, span: (Second, Second), solid: bool) -> Edge
     requires { place ≢ other }
-    ensures { IsEdgeOf place other span result }
+    ensures is { IsEdgeOf place other span result }
+    ensures solid { result.solid ≡ solid }
 {
     Edge {
         a: place.min(other),
         b: place.max(other),
         first: span.0,
         last: span.1,
+        solid,
     }
 }
 
@@ -86,6 +91,7 @@ fn shown_if_open(
     requires early { now ≤ 10000000 }
     requires apart { item.now.call ≢ other.now.call }
     requires span { IsSpanOfLoss rules.now (named item.now).path (named other.now).path 0 horizon edge.now.first edge.now.last }
+    requires solid { IsSolidAsSaid rules.now (named item.now).path (named other.now).path edge.now }
     ensures found { IsOpen now edge.now → IsFoundOf rules.now now (named item.now) (named other.now) result }
     ensures counted { RoseUpTo (if straddles now edge.now then 1 else 0) tests.old tests.new }
 {
@@ -115,10 +121,11 @@ fn add_find(
     ensures added { OnOk result (IsFindAdded rules.now now place candidate.place (named item.now) (named other.now) finds.old.items finds.new.items) }
     ensures counted { RoseUpTo (cost_of now candidate.knowledge) tests.old tests.new }
 {
-    let Some(span) = whole(item, other, candidate.knowledge, rules, tests) else {
+    let loss = whole(item, other, candidate.knowledge, rules, tests);
+    let Some(span) = loss.span else {
         return Ok(());
     };
-    let edge = edge_between(place, candidate.place, span);
+    let edge = edge_between(place, candidate.place, span, loss.solid);
     let conflict = shown_if_open(item, other, &edge, rules, now, tests);
     push_pair(finds, edge, conflict)
 }

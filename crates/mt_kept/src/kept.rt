@@ -8,7 +8,7 @@ ghost use Rattle.mt_track.specs.Named.{named};
 ghost use Rattle.mt_kept.specs.Dropped.{WereStepsOf};
 ghost use Rattle.mt_kept.specs.Finds.{Agree, AreCandidates, AreFindsOfSlot, AreFindsAt, cost};
 ghost use Rattle.mt_kept.specs.Losing.{TouchesSlot};
-ghost use Rattle.mt_kept.specs.Private.Made.{AreReplaced, WereDropped, is_straddler, opens};
+ghost use Rattle.mt_kept.specs.Private.Made.{AreReplaced, WereDropped, is_at_border, opens};
 ghost use Rattle.mt_kept.specs.Private.Window.{AreShownAt, Shows};
 ghost use Rattle.mt_kept.specs.Places.{HaveOwnSlots, held, seen, with_slot};
 ghost use Rattle.mt_base.specs.Tally.{RoseUpTo};
@@ -16,26 +16,28 @@ ghost use Rattle.mt_kept.specs.Window.{WasTestedOnce};
 
 use crate::conflict_list::ConflictList;
 use crate::finds::{Candidate, gather};
-use crate::lists::{add_lasting, at_place, begun, drop_slot, straddling_of};
+use crate::lists::{at_place, bordering_of, drop_slot, due_pairs};
 use crate::open_pair::OpenPair;
-use crate::showing::{add_inner, opened, shown_of};
+use crate::renewing::{in_order_of_publishing, renew, renew_bordering};
+use crate::showing::{add_inner, shown_of};
 use crate::stale::Stale;
-use mt_base::{Conflict, Memory, Rules, Second, Steps, Tally, WINDOW};
+use mt_base::{Conflict, Memory, Rules, Second, Steps, Tally};
 use mt_edges::Edges;
 use mt_track::Item;
 use std::alloc::Global;
 use std::marker::Model;
 
 /// The conflicts of the trajectories in some places, kept while these change: the pairs of places that lose separation over all
-/// seconds, those of them that straddle an edge of the window, and what is published. Slot s has the places 2 s and 2 s + 1.
+/// seconds, those of them at the border of the window, and what is published. Slot s has the places 2 s and 2 s + 1.
 #[derive(Drop)]
 pub struct Kept {
     rules: Rules,
     moment: Second,
     places: Vec<Option<Item>>,
     pairs: Edges,
-    /// The open pairs whose span straddles an edge of the window. What the others show follows from their span.
-    straddling: Vec<OpenPair>,
+    /// The open pairs at the border of the window: they begin before it, or don't end before its last second. What the others show is their
+    /// span.
+    bordering: Vec<OpenPair>,
     published: ConflictList,
 }
 
@@ -49,7 +51,7 @@ impl Model for Kept {
 
     ghost view = { λ k. record { rules = k.rules; moment = k.moment; places = map seen k.places.items; published = k.published.conflicts } };
 
-    ghost invariant = { λ k. ArePairsKept k.rules k.moment (map seen k.places.items) k.pairs.edges k.pairs.ends k.straddling.items k.published.conflicts };
+    ghost invariant = { λ k. ArePairsKept k.rules k.moment (map seen k.places.items) k.pairs.edges k.pairs.ends k.bordering.items k.published.conflicts };
 }
 
 /// Takes the pairs of a slot out and puts the found ones in. It takes no memory.
@@ -89,7 +91,7 @@ impl Kept {
             moment: 0,
             places,
             pairs: Edges::make(alloc, count)?,
-            straddling: Vec::new(alloc),
+            bordering: Vec::new(alloc),
             published: ConflictList::make(alloc),
         })
     }
@@ -154,7 +156,7 @@ impl Kept {
         requires { place < length self.now.places }
         ensures { IfOk result (λ finds. AreFindsAt self.now.rules self.now.places self.now.moment place finds.items) }
     {
-        let mut finds = at_place(alloc, &self.straddling, place)?;
+        let mut finds = at_place(alloc, &self.bordering, place)?;
         let edges = self.pairs.of(place)?;
         add_inner(&mut finds, &self.places, &edges, self.moment)?;
         Ok(finds)
@@ -172,7 +174,7 @@ impl Kept {
         shown_of(alloc, &finds, now)
     }
 
-    /// What the pairs of a slot show, what those show that were found for it, and which of these straddle an edge of the window.
+    /// What the pairs of a slot show, what those show that were found for it, and which of these are at the border of the window.
     fn prepare(
         &self,
         alloc: Global,
@@ -182,19 +184,19 @@ impl Kept {
         requires { 2 * slot + 1 < length self.now.places }
         ensures hidden { IfOk result (λ it. AreShownAt self.now.rules self.now.places self.now.moment slot it.0.conflicts) }
         ensures shown { IfOk result (λ it. (c : Conflict) → Contains it.1.conflicts c ↔ Shows (filter (opens self.now.moment) finds.now) c) }
-        ensures straddling { IfOk result (λ it. it.2.items ≡ filter (is_straddler self.now.moment) finds.now) }
+        ensures bordering { IfOk result (λ it. it.2.items ≡ filter (is_at_border self.now.moment) finds.now) }
     {
         let hidden = self.shown_at(alloc, slot)?;
         let shown = shown_of(alloc, finds, self.moment)?;
-        let straddling = straddling_of(alloc, finds, self.moment)?;
-        Ok((hidden, shown, straddling))
+        let bordering = bordering_of(alloc, finds, self.moment)?;
+        Ok((hidden, shown, bordering))
     }
 
     /// Puts two items, or nothing, into the places of a slot, with the pairs that were found for them. It makes no test, and takes all
     /// its memory before it changes anything, so on an error all stays as it was.
     ///
     /// It makes at most six steps for each pair that the slot had, and two; a step is one link written or one node of a pair visited.
-    /// Besides it looks at the slot's pairs and at the finds, and at the pairs that straddle an edge of the window, and copies what is
+    /// Besides it looks at the slot's pairs and at the finds, and at the pairs at the border of the window, and copies what is
     /// published. A caller that bounds no steps hands in a `Steps::new()` and forgets it.
     pub fn change(
         &mut self,
@@ -216,14 +218,14 @@ impl Kept {
         let Ok(count) = u32::try_from(finds.len()) else {
             return Err(Memory);
         };
-        let alloc = *self.straddling.allocator();
-        let (hidden, shown, straddling) = self.prepare(alloc, slot, finds)?;
+        let alloc = *self.bordering.allocator();
+        let (hidden, shown, bordering) = self.prepare(alloc, slot, finds)?;
         self.pairs.reserve(count)?;
-        self.straddling.reserve(straddling.len())?;
+        self.bordering.reserve(bordering.len())?;
         self.published.reserve(shown.items().len())?;
         replace_pairs(&mut self.pairs, slot, finds, steps);
-        drop_slot(&mut self.straddling, slot);
-        let _ = self.straddling.extend_from_slice(&straddling);
+        drop_slot(&mut self.bordering, slot);
+        let _ = self.bordering.extend_from_slice(&bordering);
         self.published.replace(&hidden, &shown);
         self.places[2 * slot as usize] = first;
         self.places[2 * slot as usize + 1] = second;
@@ -250,9 +252,10 @@ impl Kept {
         self.change(slot, None, None, &[], steps)
     }
 
-    /// Moves the window to a later moment, or to the same. Of the pairs it tests only those that straddle an edge of the new window, each
-    /// once. Of what is published it sorts only what begins in seconds where something may have changed, and copies the rest. It takes all
-    /// its memory before it changes anything, so on an error all stays as it was.
+    /// Moves the window to a later moment, or to the same. It makes at most as many tests as pairs straddle an edge of the new window; one
+    /// that is known to be solid needs none. Besides these it looks at the pairs at the border of the earlier window and at those that begin
+    /// between the moments or between the ends of the windows. Of what is published it sorts only what these show, and keeps the rest in
+    /// order. It takes all its memory before it changes anything, so on an error all stays as it was.
     pub fn move_to(&mut self, alloc: Global, now: Second, tests: &mut Tally) -> Result<(), Memory>
         requires later { self.old.moment ≤ now }
         requires early { now ≤ 10000000 }
@@ -262,24 +265,24 @@ impl Kept {
         ensures err { OnErr result (self.new ≡ self.old) }
         ensures counted { WasTestedOnce self.old.rules self.old.places now tests.old tests.new }
     {
-        let mut edges = begun(alloc, &self.straddling, self.moment, now)?;
-        let due = self.pairs.due(self.moment, now + WINDOW)?;
-        add_lasting(&mut edges, &due, now)?;
-        let stale = Stale::of(alloc, &self.straddling, self.moment, now)?;
-        let gone = self.published.stale(alloc, &stale)?;
-        let (straddling, come) = opened(
-            alloc,
+        let mut stale = Stale::make(alloc, self.moment, now)?;
+        let mut renewed = Vec::new(alloc);
+        renew_bordering(
             &self.places,
-            &edges,
-            &stale,
+            &self.bordering,
+            &mut stale,
             &self.rules,
             now,
             tests,
+            &mut renewed,
         )?;
+        let due = due_pairs(alloc, &self.pairs, &stale, self.moment, now)?;
+        renew(&self.places, &due, &self.rules, now, tests, &mut renewed)?;
+        let (bordering, come) = in_order_of_publishing(alloc, renewed, now)?;
         self.published.reserve(come.items().len())?;
         self.moment = now;
-        self.straddling = straddling;
-        self.published.replace(&gone, &come);
+        self.bordering = bordering;
+        self.published.renew(&stale, &come);
         Ok(())
     }
 }

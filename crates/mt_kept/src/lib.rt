@@ -1,5 +1,5 @@
 //! The conflicts of some trajectories, kept while these change: what stands in places, the pairs of places that lose separation over all
-//! seconds, those that are open, and what is published. It knows nothing of commands.
+//! seconds, what those of them show whose span straddles an edge of the window, and what is published. It knows nothing of commands.
 #![tactic(auto)]
 
 mod conflict_list;
@@ -9,6 +9,7 @@ mod laws;
 mod lists;
 mod merging;
 mod open_pair;
+mod renewing;
 mod showing;
 mod stale;
 

@@ -1,48 +1,88 @@
-//! Which pairs a change and a move keep.
-ghost use Rattle.std.specs.Prelude.{◌≡◌, ◌++◌, ◌≤◌, map, filter, IfOk, OnOk, vec_len, vec_capacity};
-ghost use Rattle.mt_kept.specs.Private.Made.{avoids, has_begun, is_lasting, is_straddler, touches_place};
-ghost use Rattle.mt_kept.specs.Window.{edge_of};
+//! Which pairs a change keeps, and which a move looks at.
+ghost use Rattle.std.specs.Prelude.{◌≡◌, ◌++◌, ◌≤◌, filter, IfOk, OnOk, vec_len, vec_capacity};
+ghost use Rattle.mt_edges.specs.Pairs.{AreDistinctPairs};
+ghost use Rattle.mt_kept.specs.Private.Made.{avoids, is_at_border, touches_place};
+ghost use Rattle.mt_kept.specs.Private.Stale.{AreDue, AreDueAdded, AreStale, comes_due};
 
-use crate::open_pair::{OpenPair, is_straddling};
-use mt_base::{Memory, Second};
-use mt_edges::Edge;
+use crate::open_pair::{OpenPair, is_bordering};
+use crate::stale::Stale;
+use mt_base::{Memory, Second, WINDOW};
+use mt_edges::{Edge, Edges};
 use std::alloc::Global;
 
-/// Whether a pair begins before `moment` and doesn't end before `now`.
-fn has_begun(edge: &Edge, moment: Second, now: Second) -> bool
-    ensures { result ≡ has_begun moment now edge.now }
+/// Whether a pair has to be looked at anew at a later moment `now`: it goes on then, begins in a stale second, and wasn't at the border of
+/// the window from `moment`.
+fn comes_due(edge: &Edge, stale: &Stale, moment: Second, now: Second) -> bool
+    requires { moment ≤ 10000000 }
+    ensures { result ≡ comes_due moment now stale.now edge.now }
 {
-    edge.first < moment && now <= edge.last
+    now <= edge.last && stale.has(edge.first) && !is_bordering(edge, moment)
 }
 
-/// The open pairs that begin before `moment` and don't end before `now`.
-pub(crate) fn begun(
-    alloc: Global,
-    pairs: &[OpenPair],
+/// Puts after some pairs those of others that have to be looked at anew.
+fn add_due(
+    edges: &mut Vec<Edge>,
+    others: &[Edge],
+    stale: &Stale,
     moment: Second,
     now: Second,
-) -> Result<Vec<Edge>, Memory>
-    ensures { IfOk result (λ edges. edges.items ≡ filter (has_begun moment now) (map edge_of pairs.now)) }
-{
-    let mut edges = Vec::new(alloc);
-    for pair in pairs {
-        if has_begun(&pair.edge, moment, now) {
-            edges.push(pair.edge)?;
-        }
-    }
-    Ok(edges)
-}
-
-/// Puts after some pairs those of others that don't end before `now`.
-pub(crate) fn add_lasting(edges: &mut Vec<Edge>, others: &[Edge], now: Second) -> Result<(), Memory>
-    ensures { OnOk result (edges.new.items ≡ edges.old.items ++ filter (is_lasting now) others.now) }
+) -> Result<(), Memory>
+    requires { moment ≤ 10000000 }
+    ensures { OnOk result (edges.new.items ≡ edges.old.items ++ filter (comes_due moment now stale.now) others.now) }
 {
     for edge in others {
-        if now <= edge.last {
+        if comes_due(edge, stale, moment, now) {
             edges.push(*edge)?;
         }
     }
     Ok(())
+}
+
+/// Puts after some pairs those of all that begin in some seconds and have to be looked at anew.
+fn add_from(
+    edges: &mut Vec<Edge>,
+    pairs: &Edges,
+    seconds: (Second, Second),
+    stale: &Stale,
+    moment: Second,
+    now: Second,
+) -> Result<(), Memory>
+    requires { moment ≤ 10000000 }
+    ensures { OnOk result (AreDueAdded pairs.now.edges seconds.0 seconds.1 (comes_due moment now stale.now) edges.old.items edges.new.items) }
+{
+    let others = pairs.due(seconds.0, seconds.1)?;
+    add_due(edges, &others, stale, moment, now)
+}
+
+/// The pairs that have to be looked at anew at a later moment, but for those at the border of the window from `moment`.
+pub(crate) fn due_pairs(
+    alloc: Global,
+    pairs: &Edges,
+    stale: &Stale,
+    moment: Second,
+    now: Second,
+) -> Result<Vec<Edge>, Memory>
+    requires later { moment ≤ now }
+    requires early { now ≤ 10000000 }
+    requires stale { AreStale moment now stale.now }
+    requires distinct { AreDistinctPairs pairs.now.edges }
+    ensures { IfOk result (λ due. AreDue moment now stale.now pairs.now.edges due.items) }
+{
+    let end = moment + WINDOW;
+    let mut edges = Vec::new(alloc);
+    add_from(&mut edges, pairs, (moment, now), stale, moment, now)?;
+    add_from(
+        &mut edges,
+        pairs,
+        (end.max(now), now + WINDOW),
+        stale,
+        moment,
+        now,
+    )?;
+    if stale.is_marked() {
+        add_from(&mut edges, pairs, (now, end), stale, moment, now)?;
+    }
+    Ok(edges)
 }
 
 /// Whether no end of an open pair is a place of that slot.
@@ -61,18 +101,19 @@ pub(crate) fn drop_slot(pairs: &mut Vec<OpenPair>, slot: u32)
     pairs.retain(|pair| is_elsewhere(pair, slot));
 }
 
-/// Those of these pairs whose span straddles an edge of the window.
-pub(crate) fn straddling_of(
+/// Those of these pairs that are at the border of the window.
+pub(crate) fn bordering_of(
     alloc: Global,
     pairs: &[OpenPair],
     now: Second,
 ) -> Result<Vec<OpenPair>, Memory>
     requires { now ≤ 10000000 }
-    ensures { IfOk result (λ list. list.items ≡ filter (is_straddler now) pairs.now) }
+    ensures { IfOk result (λ list. list.items ≡ filter (is_at_border now) pairs.now) }
 {
     let mut list = Vec::new(alloc);
+    list.reserve(pairs.len())?;
     for pair in pairs {
-        if is_straddling(&pair.edge, now) {
+        if is_bordering(&pair.edge, now) {
             list.push(*pair)?;
         }
     }

@@ -7,8 +7,9 @@ ghost use Rattle.mt_kept.specs.Private.Merging.{AreOthersAdded, IsParted};
 
 use mt_base::Conflict;
 
-/// How many conflicts at the head of a list are searched first.
-const HEAD: usize = 8;
+/// How many conflicts at the head of a list are searched first. Of those that a tick merges half stand before all others, and the rest far
+/// apart.
+const HEAD: usize = 1;
 
 /// Where a conflict stands in a list, or else where it would stand. It searches the head first, since conflicts that are merged often stand
 /// close together.

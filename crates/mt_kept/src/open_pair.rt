@@ -1,6 +1,7 @@
 //! A pair of places, and whether it is open.
 ghost use Rattle.std.specs.Prelude.{◌≡◌, ◌++◌, ◌∷◌, [], ◌≤◌, OnOk};
 ghost use Rattle.mt_kept.specs.Made.{is_open_pair};
+ghost use Rattle.mt_kept.specs.Private.Made.{borders};
 ghost use Rattle.mt_kept.specs.Window.{straddles};
 
 use mt_base::{Conflict, Memory, Second, WINDOW};
@@ -30,6 +31,14 @@ pub(crate) fn is_straddling(edge: &Edge, now: Second) -> bool
     ensures { result ≡ straddles now edge.now }
 {
     crosses_one(edge.first, edge.last, now, now + WINDOW)
+}
+
+/// Whether the pair's span meets the window from `now` and reaches its border: it begins before it, or doesn't end before its last second.
+pub(crate) fn is_bordering(edge: &Edge, now: Second) -> bool
+    requires { now ≤ 10000000 }
+    ensures { result ≡ borders now edge.now }
+{
+    is_open(edge, now) && (edge.first < now || now + WINDOW - 1 <= edge.last)
 }
 
 /// Puts a pair after the others.

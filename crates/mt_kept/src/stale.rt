@@ -1,51 +1,68 @@
 //! Which of the published conflicts have to be made anew when the window moves.
-ghost use Rattle.std.specs.Prelude.{◌≡◌, ◌≤◌, IfOk, filter};
-ghost use Rattle.mt_kept.specs.Private.Stale.{AreStale, IsBeginMarked, IsSecondMarked, begins_stale, is_stale};
+ghost use Rattle.std.specs.Prelude.{◌≡◌, ◌≤◌, IfOk, Some, true};
+ghost use Rattle.mt_kept.specs.Private.Stale.{AreStale, IsChangeMarked, IsSecondMarked, is_stale, stays};
 
-use crate::open_pair::OpenPair;
 use mt_base::{Conflict, Memory, Second, WINDOW};
 use std::alloc::Global;
 
-/// Seconds, each stale or not: those before the first mark are, those past the last mark are, and those that are marked.
+/// Seconds, each stale or not, when the window moves from an earlier moment to a later one: those that aren't in both windows are, and those
+/// that are marked.
 ///
-/// A published conflict that begins in a second that isn't stale stays when the window moves.
+/// A published conflict that begins in no stale second and ends before the last one of the earlier window stays.
 #[derive(Drop)]
 pub(crate) struct Stale {
-    /// The second of the first mark.
+    /// The later moment.
     from: Second,
-    /// Whether a second is stale, for one second after another.
+    /// The last second of the earlier window.
+    last: Second,
+    /// Whether a second of both windows is stale, one after another.
     marks: Vec<bool>,
+    /// Whether one of these is.
+    marked: bool,
+}
+
+/// Whether that conflict is shown.
+fn is_shown(shown: &Option<Conflict>, conflict: &Conflict) -> bool
+    ensures { result ≡ true → shown.now ≡ Some conflict.now }
+{
+    match shown {
+        Some(other) => other == conflict,
+        None => false,
+    }
 }
 
 impl Stale {
-    /// The seconds of the window from `moment`, seen from `now` on. Stale are those in which one of these pairs shows a conflict's begin.
-    pub(crate) fn of(
-        alloc: Global,
-        pairs: &[OpenPair],
-        moment: Second,
-        now: Second,
-    ) -> Result<Stale, Memory>
+    /// The seconds when the window moves from `moment` to `now`, none marked.
+    pub(crate) fn make(alloc: Global, moment: Second, now: Second) -> Result<Stale, Memory>
         requires later { moment ≤ now }
         requires early { now ≤ 10000000 }
-        ensures { IfOk result (λ stale. AreStale moment now pairs.now stale) }
+        ensures { IfOk result (AreStale moment now) }
     {
-        let count = (moment + WINDOW).saturating_sub(now);
-        let mut stale = Stale {
+        let end = moment + WINDOW;
+        let count = end.saturating_sub(now);
+        Ok(Stale {
             from: now,
+            last: end - 1,
             marks: vec![in alloc; false; count as usize]?,
-        };
-        for pair in pairs {
-            stale.mark_begin(&pair.conflict);
-        }
-        Ok(stale)
+            marked: false,
+        })
     }
 
-    /// Marks the second in which a conflict begins.
-    fn mark_begin(&mut self, conflict: &Option<Conflict>)
-        ensures { IsBeginMarked conflict.now self.old self.new }
+    /// Whether a second of both windows may be stale.
+    pub(crate) fn is_marked(&self) -> bool
+        ensures { result ≡ self.now.marked }
     {
-        if let Some(conflict) = conflict {
-            self.mark(conflict.first);
+        self.marked
+    }
+
+    /// Marks the second in which a conflict begins that a pair showed, where the pair shows it no more and it would stay.
+    pub(crate) fn mark_change(&mut self, old: &Option<Conflict>, new: &Option<Conflict>)
+        ensures { IsChangeMarked old.now new.now self.old self.new }
+    {
+        if let Some(conflict) = old {
+            if self.keeps(conflict) && !is_shown(new, conflict) {
+                self.mark(conflict.first);
+            }
         }
     }
 
@@ -53,6 +70,7 @@ impl Stale {
     fn mark(&mut self, second: Second)
         ensures { IsSecondMarked second self.old self.new }
     {
+        self.marked = true;
         if second < self.from {
             return;
         }
@@ -73,20 +91,10 @@ impl Stale {
         place >= self.marks.len() || self.marks[place]
     }
 
-    /// The conflicts of a list that begin in a stale second.
-    pub(crate) fn beginning(
-        &self,
-        alloc: Global,
-        list: &[Conflict],
-    ) -> Result<Vec<Conflict>, Memory>
-        ensures { IfOk result (λ found. found.items ≡ filter (begins_stale self.now) list.now) }
+    /// Whether a published conflict stays.
+    pub(crate) fn keeps(&self, conflict: &Conflict) -> bool
+        ensures { result ≡ stays self.now conflict.now }
     {
-        let mut found = Vec::new(alloc);
-        for conflict in list {
-            if self.has(conflict.first) {
-                found.push(*conflict)?;
-            }
-        }
-        Ok(found)
+        conflict.last < self.last && !self.has(conflict.first)
     }
 }

@@ -10,6 +10,7 @@ pub mod Filing
 pub mod Gathered
 pub mod HitPlaces
 pub mod Indexing
+pub mod Least
 pub mod Left
 pub mod Looking
 pub mod Nearby

@@ -5,14 +5,16 @@ use Rattle.mt_base.specs.Conflict.{IsConflict, IsLossSecond}
 use Rattle.mt_base.specs.Picture.{NamedTrajectory, State, trajectories, window_end}
 use Rattle.mt_base.specs.Tables.{Setup}
 use Rattle.mt_base.specs.Trajectory.{Trajectory}
+use Rattle.mt_base.specs.Span.{IsSolid}
 use Rattle.mt_probe.specs.declared.finding.Found.{Found}
 use Rattle.mt_base.specs.Trajectory.{horizon}
 
--- another trajectory's conflict, over all seconds and the look-ahead
+-- another trajectory's conflict, over all seconds and the look-ahead. The former is solid where it is said to be so.
 pub record IsFound (rules : Rules) (now : ℕ) (t : Trajectory) (other : NamedTrajectory) (found : Found) : Type 0 where
   pub call_is : found.call ≡ other.call
   pub kind_is : found.kind ≡ other.kind
   pub whole : IsConflict rules t other.path 0 horizon found.whole
+  pub solid : found.solid ≡ true → IsSolid (IsLossSecond rules t other.path) found.whole
   pub window : IsConflict rules t other.path now (window_end now) found.window
 
 -- a trajectory of another flight

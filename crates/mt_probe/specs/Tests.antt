@@ -1,5 +1,5 @@
 -- How many tests a try and a refusal take.
-use Rattle.std.specs.Prelude.{◌≡◌, ◌≤◌, ℕ, ◌+◌, List, [], Option, Some, None, length, unwrap_or, ⊤}
+use Rattle.std.specs.Prelude.{◌≡◌, ◌≤◌, ℕ, ◌+◌, ◌-◌, ◌^◌, min, List, [], Option, Some, None, length, unwrap_or, ⊤}
 use Rattle.std.specs.List.{flat_map}
 use Rattle.mt_base.specs.declared.clearance.Clearance.{Clearance}
 use Rattle.mt_base.specs.declared.command.Command.TheVariants.{Accept}
@@ -19,6 +19,10 @@ use Rattle.mt_probe.specs.Shot.{Shot, state_in_shot}
 abbrev pub IsUntested : ℕ → ℕ → No → Type 0
 IsUntested old new (nos.Refused refusal version) = new ≡ old
 IsUntested old new nos.Memory = ⊤
+
+-- at least so many tests were made, as far as a count goes
+abbrev pub WereAtLeast : ℕ → ℕ → ℕ → Type 0
+WereAtLeast least old new = min (old + least) (2 ^ 64 - 1) ≤ new
 
 -- `flown_of_kind`, `flown_at`, `flown_among`: trajectories of a kind that are flown; those of other flights that an item names, and that items name
 abbrev pub flown_of_kind : Kind → List NamedTrajectory → List NamedTrajectory

@@ -15,7 +15,7 @@ use crate::narrow::narrowed;
 use crate::snapshot::Snapshot;
 use mt_base::{Callsign, Kind, Listed, Memory, Rules, Second, Tally, WINDOW};
 use mt_meet::Met;
-use mt_pair::lose;
+use mt_pair::{lose, loss_of};
 use mt_track::Strand;
 use std::alloc::Global;
 
@@ -28,6 +28,8 @@ pub struct Found {
     pub kind: Kind,
     /// Its conflict with the new trajectory over all seconds.
     pub whole: Option<(Second, Second)>,
+    /// Whether it is known that this is solid: each second from the first to the last has a loss.
+    pub solid: bool,
     /// Its conflict with the new trajectory in the window.
     pub window: Option<(Second, Second)>,
 }
@@ -74,12 +76,13 @@ fn find_one(
     ensures found { IsFound rules.now now strand.now (record { call = call; kind = kind; path = other.now }) result }
     ensures counted { tests.new ≤ tests.old + 2 }
 {
-    let whole = lose(strand, other, rules, met.first, met.last + 1, tests);
-    let window = in_window(rules, now, strand, other, whole, tests);
+    let loss = loss_of(strand, other, rules, met.first, met.last + 1, tests);
+    let window = in_window(rules, now, strand, other, loss.span, tests);
     Found {
         call,
         kind,
-        whole,
+        whole: loss.span,
+        solid: loss.solid,
         window,
     }
 }

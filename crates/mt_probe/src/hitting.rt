@@ -1,5 +1,6 @@
 //! The hits of a new trajectory: its conflicts in the look-ahead with the trajectories that the other flights fly.
 ghost use Rattle.std.specs.Prelude.{◌≡◌, ◌↔◌, ◌≤◌, ◌<◌, ◌+◌, ◌/◌, ℕ, List, None, All, length, true, IfOk, IfSome, IsTrue};
+ghost use Rattle.std.specs.Option.{option_to_list};
 ghost use Rattle.mt_base.specs.declared.conflict.Kind.TheVariants.{Actual};
 ghost use Rattle.mt_base.specs.declared.hit.Hit.{Hit as Clash};
 ghost use Rattle.mt_base.specs.Bounds.{AreWithinBounds};
@@ -12,7 +13,7 @@ ghost use Rattle.mt_probe.specs.Items.{kind_at};
 ghost use Rattle.mt_probe.specs.Private.Ahead.{IsAskedAhead, IsMetAhead};
 ghost use Rattle.mt_probe.specs.Private.Clear.{IsClearAt, IsHitAt, IsOwnPlace};
 ghost use Rattle.mt_probe.specs.Shot.{state_in_shot};
-ghost use Rattle.mt_probe.specs.Tests.{WasTriedNear, flown_at};
+ghost use Rattle.mt_probe.specs.Tests.{WasTriedNear, WereAtLeast, flown_at};
 
 use crate::finding::kind_of;
 use crate::snapshot::Snapshot;
@@ -37,6 +38,7 @@ fn met_in_window(
     requires within { (k : ℕ) → now ≤ k → k < window_end now → IsLossSecond rules.now strand.now other.now k → (met.first ≤ k) × (k ≤ met.last) }
     ensures conflict { IsConflict rules.now strand.now other.now now (window_end now) result }
     ensures counted { tests.new ≤ tests.old + 1 }
+    ensures tested { WereAtLeast 1 tests.old tests.new }
 {
     let from = now.max(met.first);
     let to = (now + WINDOW).min(met.last + 1);
@@ -58,6 +60,7 @@ fn hit_with(
     ensures clear { (call : List ℕ) → IsOwnPlace snapshot.now call own → result ≡ None → kind_at met.item ≡ Actual
         → IsClearAt snapshot.now call strand.now (met.item / 2) }
     ensures counted { (call : List ℕ) → IsOwnPlace snapshot.now call own → tests.new ≤ tests.old + length (flown_at call snapshot.now.slots met.item) }
+    ensures tested { WereAtLeast (length (option_to_list result)) tests.old tests.new }
 {
     snapshot.keeps();
     strand.keeps();
@@ -134,6 +137,7 @@ fn hits_among(
     ensures hits { IfOk result (AreHitsOf snapshot.now.setup (state_in_shot snapshot.now) call strand.now) }
     ensures named { IfOk result (All (λ (hit : Clash). is_name 1 7 hit.with ≡ true)) }
     ensures counted { WasTriedNear snapshot.now call strand.now tests.old tests.new }
+    ensures tested { IfOk result (λ hits. WereAtLeast (length hits) tests.old tests.new) }
 {
     snapshot.keeps();
     strand.keeps();
@@ -161,6 +165,7 @@ pub(crate) fn hits(
     ensures hits { IfOk result (AreHitsOf snapshot.now.setup (state_in_shot snapshot.now) call strand.now) }
     ensures named { IfOk result (All (λ (hit : Clash). is_name 1 7 hit.with ≡ true)) }
     ensures counted { WasTriedNear snapshot.now call strand.now tests.old tests.new }
+    ensures tested { IfOk result (λ hits. WereAtLeast (length hits) tests.old tests.new) }
 {
     let mine = snapshot.ahead(strand)?;
     hits_among(alloc, snapshot, call, strand, &mine, tests)

@@ -184,6 +184,13 @@ impl Snapshot {
         Some(self.at_place(slot)?.filed)
     }
 
+    /// The version of the last entry that names the flight at a place.
+    pub fn named(&self, slot: u32) -> Option<u64>
+        ensures { result ≡ option_map (λ f. f.named) (flight_at self.now slot) }
+    {
+        Some(self.at_place(slot)?.named)
+    }
+
     // What the flight at a place has of a kind.
     fn made(&self, slot: u32, kind: Kind) -> Option<&Made>
         ensures { option_copied result ≡ option_and_then (λ f. made_of f kind) (flight_at self.now slot) }

@@ -1,5 +1,5 @@
 //! What would follow from a clearance.
-ghost use Rattle.std.specs.Prelude.{◌≡◌, ◌≤◌, Some, Ok, IfOk, IfErr, IfSome, unwrap_or};
+ghost use Rattle.std.specs.Prelude.{◌≡◌, ◌≤◌, length, Some, Ok, IfOk, IfErr, IfSome, unwrap_or};
 ghost use Rattle.mt_base.specs.declared.command.Command.TheVariants.{Accept};
 ghost use Rattle.mt_base.specs.declared.conflict.Kind.TheVariants.{Actual};
 ghost use Rattle.mt_base.specs.Bounds.{IsBoundedClearance};
@@ -10,7 +10,7 @@ ghost use Rattle.mt_board.specs.Short.{AreShortHits};
 ghost use Rattle.mt_probe.specs.Hits.{IsFreeOrConflicting, IsProbe, IsUnprobed};
 ghost use Rattle.mt_probe.specs.Prepared.{IsLeftByEntry, IsRefusedOn, path_made};
 ghost use Rattle.mt_probe.specs.Shot.{state_in_shot};
-ghost use Rattle.mt_probe.specs.Tests.{IsUntested, WasTriedFor, WasTriedNear};
+ghost use Rattle.mt_probe.specs.Tests.{IsUntested, WasTriedFor, WasTriedNear, WereAtLeast};
 
 use crate::hitting::{has_hit, hits};
 use crate::preparing::{left_of, strand_of};
@@ -87,6 +87,7 @@ fn probe_of(
     ensures probe { IfOk result (IsProbe snapshot.now call clearance (Some eff)) }
     ensures counted { (t : Trajectory) → path_made snapshot.now.setup card.now Actual ≡ Some t
         → WasTriedNear snapshot.now card.now.call t tests.old tests.new }
+    ensures tested { IfOk result (λ p. WereAtLeast (length p.hits) tests.old tests.new) }
 {
     snapshot.keeps();
     let strand = strand_of(alloc, snapshot, card, Kind::Actual)?;
@@ -126,7 +127,8 @@ fn free_probe(
 /// refusal, at the snapshot's version. Tentative trajectories don't count.
 ///
 /// It asks that the rules and tables are those of the snapshot, that a level is at most 600, and `eff` at most 10,000,000. At most one test is
-/// made for each trajectory that another flight flies near the one that the clearance would leave, and none where the clearance is refused.
+/// made for each trajectory that another flight flies near the one that the clearance would leave, and none where the clearance is refused. At least
+/// one is made for each conflict that is found.
 pub fn what_if(
     alloc: Global,
     snapshot: &Snapshot,
@@ -143,6 +145,7 @@ pub fn what_if(
     ensures probe { IfOk result (IsProbe snapshot.now call clearance eff) }
     ensures refused { IfErr result (IsUnprobed snapshot.now call clearance eff) }
     ensures counted { WasTriedFor snapshot.now call clearance eff tests.old tests.new }
+    ensures tested { IfOk result (λ p. WereAtLeast (length p.hits) tests.old tests.new) }
     ensures untested { IfErr result (IsUntested tests.old tests.new) }
 {
     snapshot.keeps();

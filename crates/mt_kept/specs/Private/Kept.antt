@@ -7,14 +7,14 @@ use Rattle.mt_base.specs.Picture.{NamedTrajectory}
 use Rattle.mt_edges.specs.declared.edge.Edge.{Edge}
 use Rattle.mt_kept.specs.declared.open_pair.OpenPair.{OpenPair}
 use Rattle.mt_kept.specs.Private.Losing.{AreKept}
-use Rattle.mt_kept.specs.Private.Made.{is_straddler}
+use Rattle.mt_kept.specs.Private.Made.{is_at_border}
 use Rattle.mt_kept.specs.Places.{HaveOwnSlots}
 use Rattle.mt_kept.specs.Private.Window.{AreOpen, Shows}
 
--- the pairs of the places are kept, and what the open ones show is published. Of these only those that straddle an edge of the look-ahead are kept with
--- what they show. Each flight has one slot.
+-- the pairs of the places are kept, and what the open ones show is published. Of these only those at the border of the look-ahead are kept with what
+-- they show. Each flight has one slot.
 pub record ArePairsKept (rules : Rules) (now : ℕ) (places : List (Option NamedTrajectory)) (edges : List Edge) (ends : ℕ)
-    (straddling : List OpenPair) (published : List Conflict) : Type 0 where
+    (bordering : List OpenPair) (published : List Conflict) : Type 0 where
   pub bounds : AreWithinBounds rules
   pub early : now ≤ 10000000
   pub few : length places < 2 ^ 32
@@ -22,6 +22,6 @@ pub record ArePairsKept (rules : Rules) (now : ℕ) (places : List (Option Named
   pub kept : AreKept rules places edges
   pub open_pairs : List OpenPair
   pub opened : AreOpen rules places now edges open_pairs
-  pub straddlers : straddling ≡ filter (is_straddler now) open_pairs
+  pub borderers : bordering ≡ filter (is_at_border now) open_pairs
   pub exact : (c : Conflict) → Contains published c ↔ Shows open_pairs c
   pub own : HaveOwnSlots places

@@ -15,6 +15,7 @@ use Rattle.mt_kept.specs.declared.finds.Knowledge.{Knowledge}
 use Rattle.mt_kept.specs.declared.finds.Knowledge.TheVariants.{Known, Within}
 use Rattle.mt_kept.specs.declared.open_pair.OpenPair.{OpenPair}
 use Rattle.mt_kept.specs.Finds.{IsOfOtherFlight}
+use Rattle.mt_kept.specs.Losing.{IsSolidAsSaid}
 use Rattle.mt_kept.specs.Private.Losing.{AvoidsSlot}
 use Rattle.mt_kept.specs.Places.{slot_of}
 use Rattle.mt_base.specs.Trajectory.{horizon}
@@ -22,24 +23,27 @@ use Rattle.mt_base.specs.Tally.{raised_by}
 use Rattle.mt_kept.specs.Window.{IsFoundOf, IsOpen, edge_of, straddles}
 use Rattle.mt_kept.specs.Made.{is_open_pair}
 
--- `is_lasting`, `has_begun`, `is_inner`: a pair doesn't end before the moment; it begins before an earlier one too; it straddles no edge of the
--- look-ahead
-abbrev pub is_lasting : ℕ → Edge → Bool
-is_lasting now e = nat_le now e.last
+-- `window_last`, `goes_on`, `borders`, `is_inner`: the last second of the look-ahead; a pair doesn't end before the moment; an open pair is at the border
+-- of the look-ahead, as it begins before it, or doesn't end before its last second; a pair isn't
+abbrev pub window_last : ℕ → ℕ
+window_last now = now + 1199
 
-abbrev pub has_begun : ℕ → ℕ → Edge → Bool
-has_begun moment now e = nat_lt e.first moment && nat_le now e.last
+abbrev pub goes_on : ℕ → Edge → Bool
+goes_on now e = nat_le now e.last
+
+abbrev pub borders : ℕ → Edge → Bool
+borders now e = is_open_pair now e && (nat_lt e.first now || nat_le (window_last now) e.last)
 
 abbrev pub is_inner : ℕ → Edge → Bool
-is_inner now e = not (straddles now e)
+is_inner now e = not (borders now e)
 
--- `opens`, `is_straddler`, `avoids`, `meets`, `touches_place`: of a pair with what it shows: it is open; it straddles an edge of the look-ahead; no end
+-- `opens`, `is_at_border`, `avoids`, `meets`, `touches_place`: of a pair with what it shows: it is open; it is at the border of the look-ahead; no end
 -- is in that slot; some end is; one end is that place
 abbrev pub opens : ℕ → OpenPair → Bool
 opens now o = is_open_pair now o.edge
 
-abbrev pub is_straddler : ℕ → OpenPair → Bool
-is_straddler now o = straddles now o.edge
+abbrev pub is_at_border : ℕ → OpenPair → Bool
+is_at_border now o = borders now o.edge
 
 abbrev pub avoids : ℕ → OpenPair → Bool
 avoids slot o = not (slot_of o.edge.a == slot) && not (slot_of o.edge.b == slot)
@@ -58,10 +62,17 @@ conflict_of left right first last =
 abbrev pub IsInOrder : NamedTrajectory → NamedTrajectory → ℕ × ℕ → Conflict → Type 0
 IsInOrder left right span c = (slice_cmp nat_cmp left.call right.call ≡ Less) × (c ≡ conflict_of left right span.0 span.1)
 
--- some first ones of these pairs were tested, each once if it straddles an edge of the look-ahead
-pub record WereTested (now : ℕ) (edges : List Edge) (old new : ℕ) : Type 0 where
+-- `is_tested`, `is_tested_on`: a pair that straddles an edge of the look-ahead is tested where it isn't known to be solid; where it goes on, too
+abbrev pub is_tested : ℕ → Edge → Bool
+is_tested now e = straddles now e && not e.solid
+
+abbrev pub is_tested_on : ℕ → Edge → Bool
+is_tested_on now e = goes_on now e && is_tested now e
+
+-- some first ones of these pairs were gone over, and those that are to be tested were so once
+pub record WereTested (p : Edge → Bool) (edges : List Edge) (old new : ℕ) : Type 0 where
   pub first : ℕ
-  pub is : new ≡ raised_by (count_by (straddles now) (take first edges)) old
+  pub is : new ≡ raised_by (count_by p (take first edges)) old
 
 -- the pairs of a slot were taken out, and the found ones put in
 abbrev pub AreReplaced : ℕ → List OpenPair → List Edge → List Edge → Type 0
@@ -77,12 +88,12 @@ WereDropped slot edges old new = new ≤ old + 6 * length (filter (touches_slot 
 -- this is the conflict that is known
 abbrev pub IsKnownAs : Knowledge → Option (ℕ × ℕ) → Type 0
 IsKnownAs (Within first last) span = ⊤
-IsKnownAs (Known known) span = span ≡ known
+IsKnownAs (Known known solid) span = span ≡ known
 
 -- one test where none is known
 abbrev pub tests_if_unknown : Knowledge → ℕ
 tests_if_unknown (Within first last) = 1
-tests_if_unknown (Known span) = 0
+tests_if_unknown (Known span solid) = 0
 
 -- `IsEdgeBetween`, `IsEdgeOf`: the pair between two places, the lesser first, with that span
 abbrev pub IsEdgeBetween : ℕ → ℕ → Edge → Type 0
@@ -95,6 +106,7 @@ IsEdgeOf place other span e = IsEdgeBetween place other e × (e.first ≡ span.0
 pub record IsFind (rules : Rules) (now place other_place : ℕ) (mine other : NamedTrajectory) (o : OpenPair) : Type 0 where
   pub ends : IsEdgeBetween place other_place o.edge
   pub span : IsSpanOfLoss rules mine.path other.path 0 horizon o.edge.first o.edge.last
+  pub solid : IsSolidAsSaid rules mine.path other.path o.edge
   pub shown : IsOpen now o.edge → IsFoundOf rules now mine other o.conflict
 
 -- what one candidate adds to the finds: nothing, where it never loses separation, or one find

@@ -1,5 +1,6 @@
 -- No public contract names these: they are of private steps and of proofs.
 use Rattle.std.specs.Prelude.{◌≡◌, ◌≢◌, ℕ, ◌+◌, ◌*◌, ◌⊎◌, ◌↔◌, List, ◌++◌, map, filter, All, Contains, AllPairs, Option, Some, true}
+use Rattle.std.specs.List.Sorted.{IsPermutation}
 use Rattle.mt_base.specs.declared.conflict.Conflict.{Conflict}
 use Rattle.mt_base.specs.declared.rules.Rules.{Rules}
 use Rattle.mt_base.specs.Picture.{NamedTrajectory}
@@ -8,8 +9,8 @@ use Rattle.mt_kept.specs.declared.open_pair.OpenPair.{OpenPair}
 use Rattle.mt_kept.specs.Finds.{AreFindsAt}
 use Rattle.mt_kept.specs.Places.{at}
 use Rattle.mt_kept.specs.declared.stale.Stale.{Stale}
-use Rattle.mt_kept.specs.Private.Stale.{is_renewed}
-use Rattle.mt_kept.specs.Private.Made.{IsInOrder, is_inner, is_straddler, opens}
+use Rattle.mt_kept.specs.Private.Stale.{stays}
+use Rattle.mt_kept.specs.Private.Made.{IsInOrder, goes_on, is_at_border, is_inner, opens}
 use Rattle.mt_kept.specs.Window.{IsOpen, ShowsInWindow, edge_of}
 
 -- exactly the kept pairs that are open, each once, with what it shows
@@ -36,23 +37,33 @@ pub record ShowsWhole (places : List (Option NamedTrajectory)) (e : Edge) (shown
   pub is : shown ≡ Some conflict
   pub order : IsInOrder left right (e.first, e.last) conflict ⊎ IsInOrder right left (e.first, e.last) conflict
 
--- those of some pairs that straddle no edge of the look-ahead were put after others. Each that is open shows its whole span.
+-- those of some pairs that aren't at the border of the look-ahead were put after others. Each that is open shows its whole span.
 pub record AreInnerAdded (places : List (Option NamedTrajectory)) (now : ℕ) (edges : List Edge) (old new : List OpenPair) : Type 0 where
   pub added : List OpenPair
   pub is : new ≡ old ++ added
   pub same : map edge_of added ≡ filter (is_inner now) edges
   pub shown : All (λ o. IsOpen now o.edge → ShowsWhole places o.edge o.conflict) added
 
--- these pairs were opened: those of them that straddle an edge of the look-ahead, with what they show, and conflicts that they show. Among these are all
--- of the pairs that straddle an edge or begin in a stale second.
-pub record AreOpened (rules : Rules) (places : List (Option NamedTrajectory)) (now : ℕ) (stale : Stale) (edges : List Edge)
-    (straddling : List OpenPair) (conflicts : List Conflict) : Type 0 where
+-- these pairs were looked at, and put after others with what they show
+pub record AreAdded (rules : Rules) (places : List (Option NamedTrajectory)) (now : ℕ) (edges : List Edge) (old new : List OpenPair) : Type 0 where
   pub pairs : List OpenPair
+  pub is : new ≡ old ++ pairs
   pub same : map edge_of pairs ≡ edges
   pub shown : All (λ o. ShowsInWindow rules places now o.edge o.conflict) pairs
-  pub straddlers : straddling ≡ filter (is_straddler now) pairs
-  pub sound : (c : Conflict) → Contains conflicts c → Shows pairs c
-  pub complete : (o : OpenPair) (c : Conflict) → Contains pairs o → o.conflict ≡ Some c → is_renewed now stale o.edge ≡ true → Contains conflicts c
+
+-- so were those of some pairs that go on, and each shows what of its earlier conflict stays
+pub record AreLookedAt (rules : Rules) (places : List (Option NamedTrajectory)) (now : ℕ) (earlier : List OpenPair) (stale : Stale)
+    (old new : List OpenPair) : Type 0 where
+  pub added : AreAdded rules places now (filter (goes_on now) (map edge_of earlier)) old new
+  pub kept : (o : OpenPair) (c : Conflict) → Contains earlier o → goes_on now o.edge ≡ true → o.conflict ≡ Some c → stays stale c ≡ true
+      → Contains added.pairs (record { edge = o.edge; conflict = Some c })
+
+-- of some pairs, in another order, those at the border of the look-ahead, and what the open ones show
+pub record AreListed (now : ℕ) (renewed bordering : List OpenPair) (conflicts : List Conflict) : Type 0 where
+  pub pairs : List OpenPair
+  pub order : IsPermutation renewed pairs
+  pub at_border : bordering ≡ filter (is_at_border now) pairs
+  pub exact : (c : Conflict) → Contains conflicts c ↔ Shows (filter (opens now) pairs) c
 
 -- exactly what the open pairs of a slot's two places show
 pub record AreShownAt (rules : Rules) (places : List (Option NamedTrajectory)) (now slot : ℕ) (conflicts : List Conflict) : Type 0 where

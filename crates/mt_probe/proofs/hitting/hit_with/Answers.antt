@@ -59,3 +59,6 @@ returns-then-eq-clause-clear c = λ _ place _ _ f at apart. absurd (apart ((plac
 
 pub returns-in_err-other-clause-clear : goal.returns-in_err-other-clause-clear
 returns-in_err-other-clause-clear c = λ _ _ _ _ f at. absurd (no_path _ f c.in_err-other.ensures at)
+
+pub returns-clause-tested : goal.returns-clause-tested
+returns-clause-tested c = c.in_ok-first.ensures.tested

@@ -1,4 +1,4 @@
-use Rattle.std.proofs.Common.{◌≡◌, ◌∙◌, ◌+◌, [], Ok, Result, true, refl, sym, arith}
+use Rattle.std.proofs.Common.{◌≡◌, ◌∙◌, ◌+◌, [], length, Ok, Result, true, refl, sym, arith}
 use Rattle.std.proofs.lemmas.List.Elements.{All-push}
 use Rattle.mt_base.specs.declared.hit.Hit.{Hit}
 use Rattle.mt_base.specs.Name.{is_name}
@@ -6,6 +6,7 @@ use Rattle.mt_base.proofs.Members.{all_among}
 use Rattle.mt_probe.proofs.Ahead.{tried_all, tried_more}
 use Rattle.mt_probe.proofs.Candidates.{met_inside}
 use Rattle.mt_probe.proofs.Clearing.{own_place}
+use Rattle.mt_probe.proofs.Least.{fewer_least, more_least, none_least, same_least}
 use Rattle.mt_probe.proofs.HitPlaces.{all_hits, hit_more, hit_no_more, none_below}
 use Rattle.mt_probe.proofs.hitting.hits_among.Goals as goal
 
@@ -28,6 +29,7 @@ loop-met-init c =
       members = rw c.begin-search.ensures.from (none_below c.args.snapshot.now c.args.call c.args.strand.now);
       named = λ k d below. absurd (omega (arith, below));
       counted = λ items near. omega arith;
+      tested = none_least c.args.tests.now;
     })
 
 pub loop-met-preserved-in-Continue-branch-2 : goal.loop-met-preserved-in-Continue-branch-2
@@ -44,6 +46,7 @@ loop-met-preserved-in-Continue-branch-2 c =
           (c.in-Some-hit_with.ensures.flown).1;
       counted = tried_more shot c.args.call t sound c.keeps-2.ensures c.args.mine.now.sliced c.loop-met.search.from c.in-Some.met c.args.tests.now _ _
           c.requires.ahead.ahead c.in-Some.ensures.next c.loop-met.invariant.counted (c.hit_with.ensures.counted c.args.call own);
+      tested = more_least c.args.tests.now _ _ c.loop-met.list c.in-Some-hit_with.hit c.loop-met.invariant.tested c.in-Some-hit_with.ensures.tested;
     })
 
 pub loop-met-preserved : goal.loop-met-preserved
@@ -59,6 +62,7 @@ loop-met-preserved c =
       named = c.loop-met.invariant.named;
       counted = tried_more shot c.args.call t sound c.keeps-2.ensures c.args.mine.now.sliced c.loop-met.search.from c.in-Some.met c.args.tests.now _ _
           c.requires.ahead.ahead c.in-Some.ensures.next c.loop-met.invariant.counted (c.hit_with.ensures.counted c.args.call own);
+      tested = same_least (length c.loop-met.list) c.args.tests.now _ _ c.loop-met.invariant.tested (rw c.in_default-hit_with.is at c.hit_with.ensures.tested);
     })
 
 pub returns-in_err-push-clause-counted : goal.returns-in_err-push-clause-counted
@@ -82,3 +86,6 @@ returns-clause-named c = all_among (λ (hit : Hit). is_name 1 7 hit.with ≡ tru
 pub returns-clause-counted : goal.returns-clause-counted
 returns-clause-counted c = tried_all c.args.snapshot.now c.args.call c.args.strand.now c.keeps.ensures.sound c.keeps-2.ensures c.loop-met.search.from c.args.tests.now _
     c.loop-met.invariant.counted
+
+pub returns-clause-tested : goal.returns-clause-tested
+returns-clause-tested c = fewer_least (length c.order.new.self) (length c.loop-met.list) c.args.tests.now _ c.order.ensures.fewer c.loop-met.invariant.tested

@@ -1,3 +1,4 @@
+use Rattle.std.proofs.lemmas.Result.{IfOk-weaker}
 use Rattle.mt_probe.proofs.Tried.{few, follows}
 use Rattle.mt_probe.proofs.Whole.{few_flights, own_calls}
 use Rattle.mt_probe.proofs.trying.probe_of.Goals as goal
@@ -16,3 +17,6 @@ probe_with-requires-clause-short c =
           c.requires.left c.in_ok-found.ensures.hits;
       named = c.in_ok-found.ensures.named;
     }
+
+pub returns-clause-tested : goal.returns-clause-tested
+returns-clause-tested c = IfOk-weaker c.probe_with.result _ _ (λ p is. rw is.1 c.in_ok-found.ensures.tested) c.probe_with.ensures

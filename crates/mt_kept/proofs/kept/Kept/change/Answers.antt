@@ -3,10 +3,10 @@ use Rattle.std.specs.List.{filter}
 use Rattle.std.specs.Result.{is_ok}
 use Rattle.mt_base.specs.declared.conflict.Conflict.{Conflict}
 use Rattle.mt_kept.specs.Finds.{AreFindsOfSlot}
-use Rattle.mt_kept.specs.Private.Made.{AreReplaced, WereDropped, avoids, is_straddler, opens}
+use Rattle.mt_kept.specs.Private.Made.{AreReplaced, WereDropped, avoids, is_at_border, opens}
 use Rattle.mt_kept.specs.Places.{HaveOwnSlots, seen, with_slot}
 use Rattle.mt_kept.specs.Private.Window.{AreShownAt, Shows}
-use Rattle.mt_kept.proofs.Keeping.{kept_put, length_slot, map_slot, open_put, straddlers_put}
+use Rattle.mt_kept.proofs.Keeping.{kept_put, length_slot, map_slot, open_put, borderers_put}
 use Rattle.mt_kept.proofs.Replacing.{finds_sound, were_steps}
 use Rattle.mt_kept.proofs.Shown.{shown_put}
 use Rattle.mt_kept.proofs.Slots.{shown_slot}
@@ -47,8 +47,8 @@ invariant_of-self-2 c =
     let fresh : (d : Conflict) → Contains c.in_ok-hidden.shown.conflicts d ↔ Shows (filter (opens now) finds_now) d = rw (← c.self.view_is) at c.in_ok-hidden.ensures.shown in
     let published : (d : Conflict) → Contains c.replace.new.self.conflicts d ↔ ((Contains list d × (¬ Contains hidden d)) ⊎ Contains c.in_ok-hidden.shown.conflicts d) =
     rw c.in_ok-reserve-3.ensures.same at c.replace.ensures in
-    let listed : c.extend_from_slice.new.self.items ≡ filter (avoids slot) c.self.inside.straddling.items ++ filter (is_straddler now) finds_now =
-    let came : c.in_ok-hidden.straddling.items ≡ filter (is_straddler now) finds_now = rw (← c.self.view_is) at c.in_ok-hidden.ensures.straddling in
+    let listed : c.extend_from_slice.new.self.items ≡ filter (avoids slot) c.self.inside.bordering.items ++ filter (is_at_border now) finds_now =
+    let came : c.in_ok-hidden.bordering.items ≡ filter (is_at_border now) finds_now = rw (← c.self.view_is) at c.in_ok-hidden.ensures.bordering in
     let reserved = c.in_ok-reserve-2.ensures.ok in
     let same = c.in_ok-reserve-2.ensures.len in
     let shorter = c.drop_slot.ensures.len in
@@ -66,7 +66,7 @@ invariant_of-self-2 c =
           c.replace_pairs.ensures.once;
       open_pairs = filter (avoids slot) k.open_pairs ++ filter (opens now) finds_now;
       opened = open_put c.self.inside.rules places now slot first second edges c.replace_pairs.new.pairs.edges finds_now k.open_pairs k.opened finds replaced;
-      straddlers = straddlers_put now slot k.open_pairs finds_now c.self.inside.straddling.items c.extend_from_slice.new.self.items k.straddlers listed;
+      borderers = borderers_put now slot k.open_pairs finds_now c.self.inside.bordering.items c.extend_from_slice.new.self.items k.borderers listed;
       exact = shown_put c.self.inside.rules places now slot edges k.open_pairs finds_now list hidden c.in_ok-hidden.shown.conflicts
           c.replace.new.self.conflicts k.own k.opened k.exact gone fresh published;
       own = own;

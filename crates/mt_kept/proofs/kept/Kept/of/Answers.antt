@@ -24,9 +24,9 @@ returns c =
     let k = c.self.invariant in
     let places = map seen c.self.inside.places.items in
     let now = c.self.inside.moment in
-    let straddling = c.self.inside.straddling.items in
+    let bordering = c.self.inside.bordering.items in
     let near = c.in_ok-edges.edges.items in
-    let inner : AreInnerAdded places now near (filter (touches_place c.args.place) straddling) c.add_inner.new.pairs.items =
+    let inner : AreInnerAdded places now near (filter (touches_place c.args.place) bordering) c.add_inner.new.pairs.items =
     rw (c.in_ok-finds.ensures, c.deref.ensures.value, c.deref-2.ensures.value, c.deref-3.ensures.value) at c.in_ok-add_inner.ensures in
-    rw (← c.self.view_is) (finds_again c.self.inside.rules places now c.args.place c.self.inside.pairs.edges near k.open_pairs straddling c.add_inner.new.pairs.items
-    k.early k.kept k.opened k.straddlers c.in_ok-edges.ensures inner)
+    rw (← c.self.view_is) (finds_again c.self.inside.rules places now c.args.place c.self.inside.pairs.edges near k.open_pairs bordering c.add_inner.new.pairs.items
+    k.early k.kept k.opened k.borderers c.in_ok-edges.ensures inner)
