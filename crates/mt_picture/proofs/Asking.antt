@@ -29,8 +29,8 @@ use Rattle.mt_probe.specs.Standing.{IsSoundShot}
 use Rattle.mt_probe.proofs.Gathered.{at_kept}
 use Rattle.mt_picture.specs.Asked.{AreNearby, IsCrossingNow, IsLaterNow, IsNearNow, WasTestedAgain, WasTestedAnew}
 use Rattle.mt_picture.specs.Private.Places.{all_places, made_of_kind}
-use Rattle.mt_picture.specs.Stamps.{IsMadeAt}
-use Rattle.mt_picture.specs.Private.Stamps.{AreStamped, HaveStood}
+use Rattle.mt_picture.specs.Stamps.{AreStamped, IsMadeAt}
+use Rattle.mt_picture.specs.Private.Stamps.{HaveStood}
 use Rattle.mt_picture.specs.Story.{Story}
 use Rattle.mt_picture.specs.Private.Known.{AreNearCandidates}
 use Rattle.mt_picture.proofs.HitsHere.{both_true}
@@ -140,21 +140,21 @@ module _ (story : Story) (shot : Shot) (p : Prepared) (known : Bool) (place : �
         now_is = ap (λ (q : State). q.now) stands
 
         -- it was there when the prep was made
-        was_there : (span : Option (ℕ × ℕ)) → x.knowledge ≡ Known span → Contains (trajectories p.setup p.state) t
-        was_there span known_is =
+        was_there : (span : Option (ℕ × ℕ)) (solid : Bool) → x.knowledge ≡ Known span solid → Contains (trajectories p.setup p.state) t
+        was_there span solid known_is =
             let s = stands_at shot.slots x.place t is in
             subst (Contains (trajectories p.setup p.state)) s.is (stood (x.place / 2) s.flight (kind_at x.place) s.made s.at_is s.made_is
-            ((near.known_is x held).earlier span known_is s.flight s.made s.at_is s.made_is))
+            ((near.known_is x held).earlier span solid known_is s.flight s.made s.at_is s.made_is))
 
         by_knowledge : (v : Knowledge) → x.knowledge ≡ v → IsRight story.setup.rules mine t v → is_crossing shot.now v ≡ true → IsCrossingNow story p mine t
         by_knowledge (Within first last) v_is r c = absurd (cc)
-        by_knowledge (Known None) v_is r c = absurd (cc)
-        by_knowledge (Known (Some span)) v_is r c = record {
+        by_knowledge (Known None solid) v_is r c = absurd (cc)
+        by_knowledge (Known (Some span) solid) v_is r c = record {
           now = near_one x t held is apart;
-          prepared = was_there (Some span) v_is;
+          prepared = was_there (Some span) solid v_is;
           first = span.0;
           last = span.1;
-          conflict = r;
+          conflict = r.0;
           straddling = subst (λ (n : ℕ). is_straddling n span.0 span.1 ≡ true) now_is c;
         }
 
@@ -184,7 +184,7 @@ module _ (story : Story) (shot : Shot) (p : Prepared) (known : Bool) (place : �
   -- what isn't known straddles no edge
   unknown_is : (v : Knowledge) → is_unknown v ≡ true → is_crossing shot.now v ≡ false
   unknown_is (Within first last) e = refl
-  unknown_is (Known span) e = absurd (cc)
+  unknown_is (Known span solid) e = absurd (cc)
 
   abbrev two : Candidate → Bool
   two = asks_two places place mine.call
@@ -246,8 +246,8 @@ module _ (story : Story) (shot : Shot) (p : Prepared) (known : Bool) (place : �
         → 2 * length (filter two (y ∷ ys)) + length (filter one (y ∷ ys)) ≤ 2 * length (filter some (y ∷ ys))
     by_test false e v v_is rest = rw e rest
     by_test true e (Within first last) v_is rest = rw (e, v_is) (omega (arith, rest))
-    by_test true e (Known None) v_is rest = rw (e, v_is) (omega (arith, rest))
-    by_test true e (Known (Some span)) v_is rest = by_span (is_straddling shot.now span.0 span.1) refl where
+    by_test true e (Known None solid) v_is rest = rw (e, v_is) (omega (arith, rest))
+    by_test true e (Known (Some span) solid) v_is rest = by_span (is_straddling shot.now span.0 span.1) refl where
       by_span : (c : Bool) → is_straddling shot.now span.0 span.1 ≡ c → 2 * length (filter two (y ∷ ys)) + length (filter one (y ∷ ys)) ≤ 2 * length (filter some (y ∷ ys))
       by_span true c_is = rw (e, v_is, c_is) (omega (arith, rest))
       by_span false c_is = rw (e, v_is, c_is) (omega (arith, rest))

@@ -14,7 +14,8 @@ use Rattle.mt_probe.specs.Shot.{state_in_shot as state_in}
 use Rattle.mt_probe.specs.Standing.{IsSoundShot}
 use Rattle.mt_picture.specs.Asked.{IsWithinBoth, IsWithinBound, IsWithinPrep, IsWithinPreps, WasTestedAgain, WasTestedAnew, WasTestedForTick, state_now}
 use Rattle.mt_picture.specs.Private.Asking.{AreCandidatesAsked, WasAskedOf}
-use Rattle.mt_picture.specs.Private.Stamps.{AreStamped, HaveStood}
+use Rattle.mt_picture.specs.Private.Stamps.{HaveStood}
+use Rattle.mt_picture.specs.Stamps.{AreStamped}
 use Rattle.mt_picture.specs.Story.{IsPrepFor, IsUsable, Story}
 use Rattle.mt_picture.proofs.Asking.{again, anew}
 

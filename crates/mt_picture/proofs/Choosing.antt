@@ -29,7 +29,8 @@ use Rattle.mt_probe.proofs.Nearby.{near_by_loss}
 use Rattle.mt_track.specs.Laid.{IsStrand}
 use Rattle.mt_picture.specs.Private.Candidates.{AreMetSince, AreStill, IsStillOne, is_made_since}
 use Rattle.mt_picture.specs.Private.Places.{all_places, made_of_kind}
-use Rattle.mt_picture.specs.Private.Stamps.{AreStamped, HaveStood}
+use Rattle.mt_picture.specs.Private.Stamps.{HaveStood}
+use Rattle.mt_picture.specs.Stamps.{AreStamped}
 use Rattle.mt_picture.specs.Private.Known.{AreNearCandidates, IsKnown, IsPreps}
 use Rattle.mt_picture.proofs.Knowing.{StandsAt, earlier_there, found_right, kept_made, stands_at, stays_there}
 use Rattle.mt_picture.proofs.Newer.{AreNewer, newer, since_later, stamp_there}
@@ -49,7 +50,7 @@ newer_known shot t p known version xs x setup_is version_is new held = record {
   right = λ f made mine at_is made_is apart same.
       subst (λ (u : Setup). IsRight u.rules mine (made_of_kind f (kind_at x.place) made) x.knowledge) (sym setup_is)
       (new.right x held f made mine at_is made_is same);
-  earlier = λ span is. absurd (let unknown = rw is at (new.unknown x held) in true≢false (sym unknown));
+  earlier = λ span solid is. absurd (let unknown = rw is at (new.unknown x held) in true≢false (sym unknown));
   later = λ is_known unknown f made at_is made_is.
       subst (λ (v : ℕ). v < made.stamp) (sym (version_is is_known)) (since_later shot.slots version x.place f made at_is made_is (new.since x held));
 }
@@ -91,7 +92,7 @@ module _ (shot : Shot) (t : Trajectory) (p : Prepared) (known : Bool) (xs later 
             (stamp_is x s) (sym (ap (option_map (λ (g : Flight). g.card)) st.at_is)) s.is.early is_known
             (λ other of call_is kind_is. says x s other of (call_is ∙ st.call_is) (kind_is ∙ st.kind_is)) f made mine at_is made_is apart
             (λ here. uses ∙ preps here);
-        earlier = λ span is. earlier_there p (get_or shot.slots (x.place / 2) None) (kind_at x.place) s.is.stamp (stamp_is x s) s.is.early;
+        earlier = λ span solid is. earlier_there p (get_or shot.slots (x.place / 2) None) (kind_at x.place) s.is.stamp (stamp_is x s) s.is.early;
         later = λ here is. absurd (true≢false (sym is));
       })
 

@@ -35,10 +35,10 @@ use Rattle.mt_probe.proofs.Left.{found_changed, passes}
 use Rattle.mt_probe.proofs.Placed.{filled_inside, found_there}
 use Rattle.mt_probe.proofs.Whole.{own_calls, replaced_alike}
 use Rattle.mt_base.proofs.Cases.{is_none}
-use Rattle.mt_picture.specs.Private.Entries.{IsFiling}
+use Rattle.mt_picture.specs.Stamps.{IsFiling}
 use Rattle.mt_picture.specs.Private.Places.{IsNewOrStays}
 use Rattle.mt_picture.specs.Private.Putting.{IsFlightPut}
-use Rattle.mt_picture.proofs.Making.{filing_kind, filing_makes, filled_kind, filled_makes}
+use Rattle.mt_picture.proofs.Making.{filing_kind, filing_makes, filled_files, filled_kind, filled_makes}
 
 -- the flight in a slot, by its callsign
 pub record IsThere (at : Option Flight) (call : List ℕ) : Type 0 where
@@ -166,8 +166,8 @@ both_kinds P actual tentative kinds.Tentative = tentative
 pub put_filed : (shot : Shot) (slot : ℕ) (f : Flight) (who : ℕ) (c : Command) → IsSoundShot shot → slot < length shot.slots → flight_at shot slot ≡ None
     → IsFiling c → IsLeftByEntry shot.setup (state_in shot) who c f.card → f.mark ≡ None
     → path_made shot.setup f.card kinds.Actual ≡ path_of kinds.Actual f → f.actual.stamp ≡ shot.version + 1 → f.filed ≡ shot.version + 1
-    → ((i : ℕ) (g : Flight) → flight_at shot i ≡ Some g → g.filed ≤ shot.version) → IsFlightPut shot slot f (record { who = who; command = filled shot.now c })
-put_filed shot slot f who c sound inside free filing left unmarked made stamp filed earlier =
+    → f.named ≡ shot.version + 1 → ((i : ℕ) (g : Flight) → flight_at shot i ≡ Some g → g.filed ≤ shot.version) → IsFlightPut shot slot f (record { who = who; command = filled shot.now c })
+put_filed shot slot f who c sound inside free filing left unmarked made stamp filed named earlier =
     let last = filed_last shot.setup (state_in shot) who c f.card filing left in
     record {
       inside = inside;
@@ -182,7 +182,8 @@ put_filed shot slot f who c sound inside free filing left unmarked made stamp fi
       made = both_kinds (IsNewOrStays (flight_at shot slot) (shot.version + 1) (filled shot.now c) f)
           (actual_new f (shot.version + 1) shot.now c (flight_at shot slot) stamp filing)
           (none_new f (shot.version + 1) (filled shot.now c) (flight_at shot slot) unmarked);
-      filed = omega (arith, filed);
+      filed = λ none. (filed, filled_files shot.now c filing);
+      named = named;
       names = filled_call shot.now c ∙ left.call_is;
       still = last.still;
       records = ap (λ (at : Option Flight). records_put at (Some f) (records_in shot.slots)) free ∙ sym last.records;
@@ -232,11 +233,11 @@ still_altered now c alters = refl
 
 -- a flight that is altered is put into its slot
 pub put_altered : (shot : Shot) (slot : ℕ) (old f : Flight) (who : ℕ) (c : Command) → IsSoundShot shot → flight_at shot slot ≡ Some old
-    → old.card.call ≡ f.card.call → Alters c → IsLeftByEntry shot.setup (state_in shot) who c f.card → f.filed ≡ old.filed → old.filed ≤ shot.version
+    → old.card.call ≡ f.card.call → Alters c → IsLeftByEntry shot.setup (state_in shot) who c f.card → f.filed ≡ old.filed → f.named ≡ shot.version + 1
     → path_of kinds.Actual f ≡ path_made shot.setup f.card kinds.Actual → path_of kinds.Tentative f ≡ path_made shot.setup f.card kinds.Tentative
     → ((kind : Kind) → IsNewOrStays (flight_at shot slot) (shot.version + 1) (filled shot.now c) f kind)
     → IsFlightPut shot slot f (record { who = who; command = filled shot.now c })
-put_altered shot slot old f who c sound at_is own alters left filed earlier actual mark made =
+put_altered shot slot old f who c sound at_is own alters left filed named actual mark made =
     let by = altered_by shot slot old who c f.card sound at_is own alters left in
     record {
       inside = filled_inside shot.slots slot old at_is;
@@ -247,7 +248,8 @@ put_altered shot slot old f who c sound at_is own alters left filed earlier actu
       };
       was = λ g g_is. (let both : Some old ≡ Some g = sym at_is ∙ g_is in let one : old ≡ g = cc in ap (λ (q : Flight). q.card.call) (sym one) ∙ own);
       made = made;
-      filed = omega (arith, filed, earlier);
+      filed = λ none. absurd (let both : None ≡ Some old = sym none ∙ at_is in cc);
+      named = named;
       names = filled_call shot.now c ∙ left.call_is;
       still = still_altered shot.now c alters;
       records = ap (λ (at : Option Flight). records_put at (Some f) (records_in shot.slots)) at_is ∙ by.records;

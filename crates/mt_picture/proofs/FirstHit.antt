@@ -26,7 +26,8 @@ use Rattle.mt_probe.specs.Shot.{Shot, flight_at, records_in}
 use Rattle.mt_probe.specs.Shot.{state_in_shot as state_in}
 use Rattle.mt_probe.specs.Standing.{IsSoundEntry, IsSoundShot}
 use Rattle.mt_probe.proofs.Placed.{filled_inside, found_there}
-use Rattle.mt_picture.specs.Private.Entries.{IsFiling, is_probed}
+use Rattle.mt_picture.specs.Private.Entries.{is_probed}
+use Rattle.mt_picture.specs.Stamps.{IsFiling}
 use Rattle.mt_picture.specs.Private.Hits.{IsFirstAmong}
 use Rattle.mt_picture.specs.Private.Holding.{AddsOrStops, EntersOrStops, Holding, entry_now, held_story, story_after}
 use Rattle.mt_picture.specs.Private.Places.{all_places}

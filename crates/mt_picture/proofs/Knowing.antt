@@ -6,7 +6,8 @@ use Rattle.mt_base.specs.declared.conflict.Kind.{Kind}
 use Rattle.mt_base.specs.declared.conflict.Kind.TheVariants.{Actual, Tentative}
 use Rattle.mt_base.specs.declared.flight.Record.{Record}
 use Rattle.mt_base.specs.declared.rules.Rules.{Rules}
-use Rattle.mt_base.specs.Conflict.{IsConflict}
+use Rattle.mt_base.specs.Conflict.{IsConflict, IsLossSecond}
+use Rattle.mt_base.specs.Span.{IsSolid}
 use Rattle.mt_base.specs.Picture.{NamedTrajectory}
 use Rattle.mt_base.specs.Trajectory.{Trajectory}
 use Rattle.mt_cover.specs.Cells.{cover_of}
@@ -39,6 +40,7 @@ pub found_right : (shot : Shot) (slot : ℕ) (kind : Kind) (p : Prepared) (known
     → IsFound p.setup.rules p.state.now p.strand other found)
     → (f : Flight) (made : Made) (mine : NamedTrajectory) → flight_at shot slot ≡ Some f → made_of f kind ≡ Some made → f.card.call ≢ p.card.call
     → IsPreps p known mine.path → IsConflict p.setup.rules mine.path (arc_value made.strand) 0 horizon found.whole
+    × (found.solid ≡ true → IsSolid (IsLossSecond p.setup.rules mine.path (arc_value made.strand)) found.whole)
 found_right shot slot kind p known stamp card found stood stamp_is card_is early is_known says f made mine at_is made_is apart preps =
     let s : Some stamp ≡ Some made.stamp = rw (at_is, made_is) at stamp_is in
     let e : stamp ≡ made.stamp = cc in
@@ -46,7 +48,8 @@ found_right shot slot kind p known stamp card found stood stamp_is card_is early
     let d : card ≡ f.card = cc in
     let there = stood slot f kind made at_is made_is (omega (arith, e, early)) in
     let is = says (made_of_kind f kind made) (record { there = there; apart = apart }) (ap (λ (r : Record). r.call) (sym d)) refl in
-    subst (λ (t : Trajectory). IsConflict p.setup.rules t (arc_value made.strand) 0 horizon found.whole) (sym (preps is_known)) is.whole
+    subst (λ (t : Trajectory). IsConflict p.setup.rules t (arc_value made.strand) 0 horizon found.whole
+    × (found.solid ≡ true → IsSolid (IsLossSecond p.setup.rules t (arc_value made.strand)) found.whole)) (sym (preps is_known)) (is.whole, is.solid)
 
 -- what a prep knows of was made before it
 pub earlier_there : (p : Prepared) (slot : Option Flight) (kind : Kind) (stamp : ℕ)

@@ -17,6 +17,7 @@ pub mod Leaving
 pub mod Looked
 pub mod Making
 pub mod Moved
+pub mod Named
 pub mod Newer
 pub mod Opening
 pub mod Owning

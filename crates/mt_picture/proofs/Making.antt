@@ -6,7 +6,8 @@ use Rattle.mt_base.specs.declared.command.Command.TheVariants as commands
 use Rattle.mt_base.specs.declared.conflict.Kind.TheVariants.{Actual}
 use Rattle.mt_base.specs.Decision.{filled}
 use Rattle.mt_probe.specs.Prepared.{MakesStrand, kind_made}
-use Rattle.mt_picture.specs.Private.Entries.{IsFiling, IsRemaking}
+use Rattle.mt_picture.specs.Private.Entries.{IsRemaking}
+use Rattle.mt_picture.specs.Stamps.{IsFiling}
 
 pub filing_kind : (c : Command) → IsFiling c → kind_made c ≡ Actual
 filing_kind (Plan call kind route at from level rvsm) filing = refl
@@ -37,3 +38,8 @@ pub filled_kind : (now : ℕ) (c : Command) → kind_made (filled now c) ≡ kin
 filled_kind now (Clear call clearance eff) = refl
 filled_kind now (Tentative call clearance eff) = refl
 filled_kind now c = refl
+
+pub filled_files : (now : ℕ) (c : Command) → IsFiling c → IsFiling (filled now c)
+filled_files now (Plan call kind route at from level rvsm) filing = tt
+filled_files now (External call straight) filing = tt
+filled_files now c filing = absurd filing

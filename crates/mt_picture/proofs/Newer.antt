@@ -30,7 +30,7 @@ use Rattle.mt_probe.proofs.Candidates.{early, near_by_meeting}
 use Rattle.mt_probe.proofs.Placed.{filled_inside}
 use Rattle.mt_picture.specs.Private.Candidates.{AreMetSince, IsNoneMade, IsNoneSince, StandsInPlace, candidate_met, is_after, is_made_since, stamp_at}
 use Rattle.mt_picture.specs.Private.Places.{made_of_kind}
-use Rattle.mt_picture.specs.Private.Stamps.{AreStamped}
+use Rattle.mt_picture.specs.Stamps.{AreStamped}
 use Rattle.mt_picture.proofs.Knowing.{StandsAt, kept_made, slices_there}
 
 -- the stamp of what stands in a place

@@ -22,6 +22,7 @@ picture_opening setup shot kept n shot_is state_is kept_is =
       stamped = λ i f kind made at_is made_is. absurd (nothing_at n i f (rw slots_are at at_is));
       complete = λ k d below. absurd (omega arith);
       filed = λ i f at_is. absurd (nothing_at n i f (rw slots_are at at_is));
+      named = λ i f at_is. absurd (nothing_at n i f (rw slots_are at at_is));
       rules_are = ap (λ (k : Watched). k.rules) kept_is ∙ ap (λ (s : Shot). s.setup.rules) (sym shot_is);
       moment_is = ap (λ (k : Watched). k.moment) kept_is ∙ ap (λ (s : Shot). s.now) (sym shot_is);
       places_are = ap (λ (k : Watched). k.places) kept_is ∙ empty_places n ∙ ap all_places (sym slots_are);

@@ -25,7 +25,8 @@ use Rattle.mt_probe.specs.Prepared.{MakesStrand, judged_aside, roomy}
 use Rattle.mt_probe.proofs.Left.{found_call}
 use Rattle.mt_machine.specs.Deciding.{IsFirstHit}
 use Rattle.mt_base.proofs.Cases.{room_for_one}
-use Rattle.mt_picture.specs.Private.Entries.{IsFiling, IsReport, IsWithdrawal}
+use Rattle.mt_picture.specs.Private.Entries.{IsReport, IsWithdrawal}
+use Rattle.mt_picture.specs.Stamps.{IsFiling}
 
 abbrev Holds : Refusal × Bool → Type 0
 Holds c = c.1 ≡ true

@@ -12,7 +12,7 @@ use Rattle.mt_picture.specs.declared.entering.Entering.{Entering}
 use Rattle.mt_picture.specs.Asked.{IsWithinPreps}
 use Rattle.mt_picture.specs.Private.Asking.{WasAskedFor}
 use Rattle.mt_picture.specs.Private.Brought.{IsPreparedNow}
-use Rattle.mt_picture.specs.Private.Stamps.{AreStamped}
+use Rattle.mt_picture.specs.Stamps.{AreStamped}
 use Rattle.mt_picture.specs.Story.{IsPrepFor, IsUsable, Story}
 use Rattle.mt_picture.proofs.Bounding.{within_both, within_preps}
 use Rattle.mt_picture.proofs.Stale.{prep_call, usable_card}

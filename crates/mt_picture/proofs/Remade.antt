@@ -226,9 +226,9 @@ other_there old version c card t f kinds.Tentative m e is there = sym (same_firs
 -- a flight that is remade is put into its slot
 pub put_remade : (shot : Shot) (slot : ℕ) (f : Flight) (who : ℕ) (c : Command) (card : Record) (t : Trajectory) → IsSoundShot shot
     → option_map (λ (g : Flight). g.card.call) (flight_at shot slot) ≡ Some card.call → IsRemaking c → IsLeftByEntry shot.setup (state_in shot) who c card
-    → ((i : ℕ) (g : Flight) → flight_at shot i ≡ Some g → g.filed ≤ shot.version) → path_made shot.setup card (kind_made c) ≡ Some t
+    → path_made shot.setup card (kind_made c) ≡ Some t
     → IsRemade (flight_at shot slot) (shot.version + 1) c card t f → IsFlightPut shot slot f (record { who = who; command = filled shot.now c })
-put_remade shot slot f who c card t sound there_is remaking left earlier made is =
+put_remade shot slot f who c card t sound there_is remaking left made is =
     let it = there (flight_at shot slot) card.call there_is in
     let old = it.flight in
     let at_is = it.at_is in
@@ -238,7 +238,7 @@ put_remade shot slot f who c card t sound there_is remaking left earlier made is
     let one : IsRemade (Some old) (shot.version + 1) c card t f = subst (λ (at : Option Flight). IsRemade at (shot.version + 1) c card t f) at_is is in
     let filed : f.filed ≡ old.filed = let e = one.filed_is in cc in
     let left_f : IsLeftByEntry shot.setup (state_in shot) who c f.card = subst (IsLeftByEntry shot.setup (state_in shot) who c) (sym is.card_is) left in
-    put_altered shot slot old f who c sound at_is (it.own ∙ ap (λ (r : Record). r.call) (sym is.card_is)) alters left_f filed (earlier slot old at_is)
+    put_altered shot slot old f who c sound at_is (it.own ∙ ap (λ (r : Record). r.call) (sym is.card_is)) alters left_f filed is.named_is
     (remade_actual shot.setup who shot.now (shot.version + 1) c old f card t remaking one entry by.path made (kind_made c) refl
     ∙ ap (λ (r : Record). path_made shot.setup r kinds.Actual) (sym is.card_is))
     (remade_mark shot.setup who shot.now (shot.version + 1) c old f card t remaking one entry by.path made (kind_made c) refl
@@ -248,16 +248,16 @@ put_remade shot slot f who c card t sound there_is remaking left earlier made is
 
 -- and one that a report or a withdrawal leaves
 pub put_kept : (shot : Shot) (slot : ℕ) (old f : Flight) (who : ℕ) (c : Command) → IsSoundShot shot → flight_at shot slot ≡ Some old → old.card.call ≡ f.card.call
-    → IsReport c ⊎ IsWithdrawal c → IsLeftByEntry shot.setup (state_in shot) who c f.card → f.filed ≡ old.filed → old.filed ≤ shot.version
+    → IsReport c ⊎ IsWithdrawal c → IsLeftByEntry shot.setup (state_in shot) who c f.card → f.filed ≡ old.filed → f.named ≡ shot.version + 1
     → stamped_at kinds.Actual (Some f) ≡ stamped_at kinds.Actual (flight_at shot slot)
     → (IsReport c → stamped_at kinds.Tentative (Some f) ≡ stamped_at kinds.Tentative (flight_at shot slot)) → (IsWithdrawal c → f.mark ≡ None)
     → IsFlightPut shot slot f (record { who = who; command = filled shot.now c })
-put_kept shot slot old f who c sound at_is own which left filed earlier actual mark bare =
+put_kept shot slot old f who c sound at_is own which left filed named actual mark bare =
     let alters = report_alters c which in
     let by = altered_by shot slot old who c f.card sound at_is own alters left in
     let entry = sound.sound slot old at_is in
     let first = actual ∙ ap (stamped_at kinds.Actual) at_is in
-    put_altered shot slot old f who c sound at_is own alters left filed earlier
+    put_altered shot slot old f who c sound at_is own alters left filed named
     (same_path f old kinds.Actual first ∙ own_actual shot.setup old entry ∙ ap Some (sym (⊎_elim
     (report_actual shot.setup who shot.now c old.card.path)
     (bare_actual shot.setup who shot.now c old.card.path) which)) ∙ ap (λ (p : Path). Some (trajectory_of shot.setup p)) (sym by.path))
@@ -275,7 +275,7 @@ put_kept shot slot old f who c sound at_is own which left filed earlier actual m
 
 -- ---- the flight of a slot with a new trajectory
 
-module _ (old : Option Flight) (version : ℕ) (card : Record) (f : Flight) (kept : IsKeptFlight old card f) (made : Made) (stamp : made.stamp ≡ version) where
+module _ (old : Option Flight) (version : ℕ) (card : Record) (f : Flight) (kept : IsKeptFlight old version card f) (made : Made) (stamp : made.stamp ≡ version) where
   abbrev with_stamp : Kind → List ℕ → ℕ → Option (NamedTrajectory × ℕ)
   with_stamp kind call n = Some (record { call = call; kind = kind; path = arc_value made.strand }, n)
 
@@ -283,16 +283,16 @@ module _ (old : Option Flight) (version : ℕ) (card : Record) (f : Flight) (kep
   stamp_is kind = ap₂ (with_stamp kind) (ap (λ (r : Record). r.call) kept.card_is) stamp
 
   pub as_mark : (call : List ℕ) (clearance : Clearance) (eff : Option ℕ) → IsRemade old version (Tentative call clearance eff) card (arc_value made.strand) (record f { mark = Some made })
-  as_mark call clearance eff = record { card_is = kept.card_is; filed_is = kept.filed_is; new = refl; stamp = stamp_is kinds.Tentative; rest = kept.actual }
+  as_mark call clearance eff = record { card_is = kept.card_is; filed_is = kept.filed_is; named_is = kept.named_is; new = refl; stamp = stamp_is kinds.Tentative; rest = kept.actual }
 
   pub as_commit : (call : List ℕ) → IsRemade old version (Commit call) card (arc_value made.strand) (record f { actual = made; mark = None })
-  as_commit call = record { card_is = kept.card_is; filed_is = kept.filed_is; new = refl; stamp = stamp_is kinds.Actual; rest = refl }
+  as_commit call = record { card_is = kept.card_is; filed_is = kept.filed_is; named_is = kept.named_is; new = refl; stamp = stamp_is kinds.Actual; rest = refl }
 
   pub as_other : (c : Command) → ((call : List ℕ) (clearance : Clearance) (eff : Option ℕ) → c ≡ Tentative call clearance eff → ⊥) → ((call : List ℕ) → c ≡ Commit call → ⊥)
       → IsRemade old version c card (arc_value made.strand) (record f { actual = made })
   as_other (Tentative call clearance eff) no_mark no_commit = absurd (no_mark call clearance eff refl)
   as_other (Commit call) no_mark no_commit = absurd (no_commit call refl)
-  as_other c no_mark no_commit = record { card_is = kept.card_is; filed_is = kept.filed_is; new = refl; stamp = stamp_is kinds.Actual; rest = kept.mark }
+  as_other c no_mark no_commit = record { card_is = kept.card_is; filed_is = kept.filed_is; named_is = kept.named_is; new = refl; stamp = stamp_is kinds.Actual; rest = kept.mark }
 
 not_both : (c : Command) → IsReport c → IsWithdrawal c → ⊥
 not_both (commands.Report call report) reports withdraws = withdraws
@@ -301,24 +301,24 @@ not_both c reports withdraws = reports
 -- a report and a withdrawal are put into the slot
 pub put_report : (shot : Shot) (slot : ℕ) (card : Record) (f : Flight) (who : ℕ) (c : Command) → IsSoundShot shot
     → option_map (λ (g : Flight). g.card.call) (flight_at shot slot) ≡ Some card.call → IsReport c → IsLeftByEntry shot.setup (state_in shot) who c card
-    → ((i : ℕ) (g : Flight) → flight_at shot i ≡ Some g → g.filed ≤ shot.version) → IsKeptFlight (flight_at shot slot) card f
+    → IsKeptFlight (flight_at shot slot) (shot.version + 1) card f
     → IsFlightPut shot slot f (record { who = who; command = filled shot.now c })
-put_report shot slot card f who c sound there_is reports left earlier kept =
+put_report shot slot card f who c sound there_is reports left kept =
     let it = there (flight_at shot slot) card.call there_is in
     let old = it.flight in
     let filed : f.filed ≡ old.filed = let e = kept.filed_is ∙ ap (option_map (λ (g : Flight). g.filed)) it.at_is in cc in
     put_kept shot slot old f who c sound it.at_is (it.own ∙ ap (λ (r : Record). r.call) (sym kept.card_is)) (inl reports)
-    (subst (IsLeftByEntry shot.setup (state_in shot) who c) (sym kept.card_is) left) filed (earlier slot old it.at_is) kept.actual (λ is. kept.mark)
+    (subst (IsLeftByEntry shot.setup (state_in shot) who c) (sym kept.card_is) left) filed kept.named_is kept.actual (λ is. kept.mark)
     (λ withdraws. absurd (not_both c reports withdraws))
 
 pub put_bare : (shot : Shot) (slot : ℕ) (card : Record) (f : Flight) (who : ℕ) (c : Command) → IsSoundShot shot
     → option_map (λ (g : Flight). g.card.call) (flight_at shot slot) ≡ Some card.call → IsWithdrawal c → IsLeftByEntry shot.setup (state_in shot) who c card
-    → ((i : ℕ) (g : Flight) → flight_at shot i ≡ Some g → g.filed ≤ shot.version) → IsKeptFlight (flight_at shot slot) card f
+    → IsKeptFlight (flight_at shot slot) (shot.version + 1) card f
     → IsFlightPut shot slot (record f { mark = None }) (record { who = who; command = filled shot.now c })
-put_bare shot slot card f who c sound there_is withdraws left earlier kept =
+put_bare shot slot card f who c sound there_is withdraws left kept =
     let it = there (flight_at shot slot) card.call there_is in
     let old = it.flight in
     let filed : f.filed ≡ old.filed = let e = kept.filed_is ∙ ap (option_map (λ (g : Flight). g.filed)) it.at_is in cc in
     put_kept shot slot old (record f { mark = None }) who c sound it.at_is (it.own ∙ ap (λ (r : Record). r.call) (sym kept.card_is)) (inr withdraws)
-    (subst (IsLeftByEntry shot.setup (state_in shot) who c) (sym kept.card_is) left) filed (earlier slot old it.at_is) kept.actual
+    (subst (IsLeftByEntry shot.setup (state_in shot) who c) (sym kept.card_is) left) filed kept.named_is kept.actual
     (λ reports. absurd (not_both c reports withdraws)) (λ is. refl)

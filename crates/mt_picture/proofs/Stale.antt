@@ -29,7 +29,8 @@ use Rattle.mt_probe.specs.Standing.{IsSoundShot}
 use Rattle.mt_probe.proofs.Left.{found_call, found_changed, planned_flight}
 use Rattle.mt_probe.proofs.Placed.{filled_inside, found_there, record_placed}
 use Rattle.mt_probe.proofs.Short.{found_in}
-use Rattle.mt_picture.specs.Private.Entries.{IsFiling, IsRemaking}
+use Rattle.mt_picture.specs.Private.Entries.{IsRemaking}
+use Rattle.mt_picture.specs.Stamps.{IsFiling}
 use Rattle.mt_picture.specs.Story.{IsNamedAfter, IsPrepFor, IsPreparedFor, IsUsable, Story}
 use Rattle.mt_picture.proofs.Entered.{apart_false, filed_unique}
 
@@ -206,7 +207,11 @@ usable_card shot h who c p card sound stands for kept usable left = ⊎_elim fil
       let call = card.call in
       let planned = planned_flight shot.setup s p.who c call change before.passed left.call_is in
       let r = some_is (flight_of s.records call) planned in
-      let now = found_now shot h v call r.0 sound stands for.within (usable.same_flight call left.call_is) r.1 in
+      let here = some_is (flight_of (records_in shot.slots) call) (planned_flight shot.setup (state_in shot) who c call change left.passed left.call_is) in
+      let some : is_some (flight_of (records_in shot.slots) call) ≡ true = rw here.1 refl in
+      let there : is_some (flight_of (state_of shot.setup h).records call) ≡ true = subst (λ (q : State). is_some (flight_of q.records call) ≡ true) stands some in
+      let unnamed : ¬ IsNamedAfter h v call = λ named. usable.same_flight call left.call_is (record { there = there; named = named }) in
+      let now = found_now shot h v call r.0 sound stands for.within unnamed r.1 in
       let one = left_of_one shot.setup (state_in shot) who c call r.0 card change left.call_is now left.card_is in
       let other = left_of_one shot.setup s p.who c call r.0 p.card change left.call_is r.1 before.card_is in
       let moment : filled s.now c ≡ filled shot.now c =

@@ -13,6 +13,7 @@ use Rattle.mt_base.specs.Effect.{state_of}
 use Rattle.mt_base.specs.Picture.{NamedTrajectory, State, trajectories}
 use Rattle.mt_base.specs.Tables.{Setup}
 use Rattle.mt_edges.specs.declared.edge.Edge.{Edge}
+use Rattle.mt_edges.specs.Pairs.{HaveSameEnds}
 use Rattle.mt_kept.specs.Losing.{IsPair}
 use Rattle.mt_kept.specs.Places.{at}
 use Rattle.mt_base.specs.Trajectory.{horizon}
@@ -26,7 +27,6 @@ use Rattle.mt_probe.specs.Shot.{Shot}
 use Rattle.mt_probe.specs.Shot.{state_in_shot as state_in}
 use Rattle.mt_probe.specs.Standing.{IsSoundShot}
 use Rattle.mt_probe.proofs.Gathered.{at_kept}
-use Rattle.mt_base.proofs.OneConflict.{one_span}
 use Rattle.mt_picture.specs.Asked.{IsCrossingPair, WasTestedForTick}
 use Rattle.mt_picture.specs.Private.Places.{all_places, made_of_kind}
 use Rattle.mt_picture.specs.Story.{Story}
@@ -99,20 +99,12 @@ module _ (shot : Shot) (sound : IsSoundShot shot) where
       (at_kept shot (j / 2) s.flight (made_of_kind s.flight (kind_at j) s.made) sound s.at_is (kept_made s.flight (kind_at j) s.made s.made_is))
 
   -- one pair of trajectories is one pair of places
-  same_places : (e f : Edge) (p : IsPair rules places e) (q : IsPair rules places f) → p.left ≡ q.left → p.right ≡ q.right → e ≡ f
+  same_places : (e f : Edge) (p : IsPair rules places e) (q : IsPair rules places f) → p.left ≡ q.left → p.right ≡ q.right → HaveSameEnds e f
   same_places e f p q left right =
-      let a = one_place shot e.a f.a q.left sound (p.left_is ∙ ap Some left) q.left_is in
-      let b = one_place shot e.b f.b q.right sound (p.right_is ∙ ap Some right) q.right_is in
-      let span : IsSpanOfLoss rules q.left.path q.right.path 0 horizon e.first e.last =
-      subst (λ (u : NamedTrajectory). IsSpanOfLoss rules u.path q.right.path 0 horizon e.first e.last) left
-      (subst (λ (u : NamedTrajectory). IsSpanOfLoss rules p.left.path u.path 0 horizon e.first e.last) right p.span) in
-      let ends = one_span rules q.left.path q.right.path 0 horizon e.first e.last f.first f.last span q.span in
-      let first = ends.0 in
-      let last = ends.1 in
-      λ i. record { a = a i; b = b i; first = first i; last = last i }
+      (one_place shot e.a f.a q.left sound (p.left_is ∙ ap Some left) q.left_is, one_place shot e.b f.b q.right sound (p.right_is ∙ ap Some right) q.right_is)
 
   -- and the lesser place stands first in each
-  crossed : (e f : Edge) (p : IsPair rules places e) (q : IsPair rules places f) → p.left ≡ q.right → p.right ≡ q.left → e ≡ f
+  crossed : (e f : Edge) (p : IsPair rules places e) (q : IsPair rules places f) → p.left ≡ q.right → p.right ≡ q.left → HaveSameEnds e f
   crossed e f p q left right =
       let a = one_place shot e.a f.b q.right sound (p.left_is ∙ ap Some left) q.right_is in
       let b = one_place shot e.b f.a q.left sound (p.right_is ∙ ap Some right) q.left_is in
@@ -120,7 +112,7 @@ module _ (shot : Shot) (sound : IsSoundShot shot) where
       let other = q.before in
       absurd (omega (arith, a, b, one, other))
 
-  one_edge : (e f : Edge) → IsPair rules places e → IsPair rules places f → pair_of e ≡ pair_of f → e ≡ f
+  one_edge : (e f : Edge) → IsPair rules places e → IsPair rules places f → pair_of e ≡ pair_of f → HaveSameEnds e f
   one_edge e f p q same =
       let both : in_order p.left p.right ≡ in_order q.left q.right = sym (pair_is e p) ∙ same ∙ pair_is f q in
       ⊎_elim
@@ -143,7 +135,7 @@ module _ (shot : Shot) (sound : IsSoundShot shot) where
   ticked story now old new setup_is stands was = record {
     pairs = map pair_of was.edges;
     distinct = distinct_map (λ p q. p ≢ q) pair_of was.edges
-        (distinct_held (λ e f. e ≢ f) (λ e f. pair_of e ≢ pair_of f) was.edges
+        (distinct_held (λ e f. ¬ HaveSameEnds e f) (λ e f. pair_of e ≢ pair_of f) was.edges
         (λ e f e_in f_in differ same. differ (one_edge e f (facts e e_in).0 (facts f f_in).0 same)) was.distinct);
     each = All-from_held (IsCrossingPair story now) (map pair_of was.edges) (λ pair held.
         let s = Contains-map_cases pair_of was.edges pair held in

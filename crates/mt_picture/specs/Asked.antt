@@ -87,7 +87,7 @@ pub record IsCrossingPair (story : Story) (now : ℕ) (pair : NamedTrajectory ×
   pub span : IsSpanOfLoss story.setup.rules pair.0.path pair.1.path 0 horizon first last
   pub straddling : is_straddling now first last ≡ true
 
--- one test per pair across an edge, no other
+-- at most one test per pair across an edge, no other
 pub record WasTestedForTick (story : Story) (now old new : ℕ) : Type 0 where
   pub pairs : List (NamedTrajectory × NamedTrajectory)
   pub distinct : AllPairs (λ p q. p ≢ q) pairs
@@ -110,7 +110,7 @@ abbrev pub IsWithinPreps : Story → ℕ → Command → Option Prepared → ℕ
 IsWithinPreps story who command prep old new = IsWithinPrep story command prep (left_made story.setup (state_now story) who command) old new
 
 -- each command keeps within its bound of tests. The bounds:
---   a tick                                    one test for each pair that straddles an edge of its look-ahead
+--   a tick                                    at most one test for each pair that straddles an edge of its look-ahead
 --   a drop, a report, a withdrawal            none
 --   any other, where it leaves no trajectory  none
 --     where its prep is usable                two for each near trajectory that was made after it, one for each that was there and whose conflict

@@ -1,11 +1,12 @@
 -- A picture as its callers see it, and what a command is answered.
-use Rattle.std.specs.Prelude.{◌≡◌, ℕ, ◌≤◌, List, [], ◌∷◌, ◌++◌, length, take, slice_get, Option, Some, None, Ok, Err, ⊤}
+use Rattle.std.specs.Prelude.{◌≡◌, ℕ, ◌≤◌, List, [], ◌∷◌, ◌++◌, length, take, slice_get, is_some, true, Option, Some, None, Ok, Err, ⊤}
 use Rattle.mt_base.specs.declared.command.Command.{Command}
 use Rattle.mt_base.specs.declared.command.Command.TheVariants.{Tentative}
 use Rattle.mt_base.specs.declared.command.Entered.{Entered}
 use Rattle.mt_base.specs.declared.command.Entry.{Entry}
 use Rattle.mt_base.specs.Decision.{IsDecided, call_of, filled}
 use Rattle.mt_base.specs.Effect.{entered_by, state_of}
+use Rattle.mt_base.specs.Picture.{flight_of}
 use Rattle.mt_base.specs.Tables.{Setup}
 use Rattle.mt_board.specs.declared.no.No.{No}
 use Rattle.mt_board.specs.declared.no.No.TheVariants as nos
@@ -43,9 +44,15 @@ pub record IsNamedAfter (h : List Entry) (n : ℕ) (call : List ℕ) : Type 0 wh
   pub is : slice_get h place ≡ Some entry
   pub names : call_of entry.command ≡ Some call
 
--- no entry since names the preparation's flight, and a moment left open is still its own. What the command leaves to the moment is as it was then.
+-- a flight has that callsign now, and an entry after the first n names it
+pub record IsFlightNamedAfter (story : Story) (n : ℕ) (call : List ℕ) : Type 0 where
+  pub there : is_some (flight_of (state_of story.setup story.history).records call) ≡ true
+  pub named : IsNamedAfter story.history n call
+
+-- no entry since names the preparation's flight, where it is there now, and a moment left open is still its own. What the command leaves to the moment
+-- is as it was then.
 pub record IsUsable (story : Story) (command : Command) (p : Prepared) : Type 0 where
-  pub same_flight : (call : List ℕ) → call_of command ≡ Some call → ¬ IsNamedAfter story.history p.state.version call
+  pub same_flight : (call : List ℕ) → call_of command ≡ Some call → ¬ IsFlightNamedAfter story p.state.version call
   pub same_moment : filled p.state.now command ≡ filled (state_of story.setup story.history).now command
 
 -- a command is entered as decided, one entry more

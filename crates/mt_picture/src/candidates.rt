@@ -2,7 +2,8 @@
 ghost use Rattle.std.specs.Prelude.{◌≡◌, ◌≤◌, ℕ, IfOk, IfSome, IsSomeAnd, OnOk};
 ghost use Rattle.mt_cover.specs.Sliced.{slices_of};
 ghost use Rattle.mt_picture.specs.Private.Candidates.{AreAddedSince, AreStill, IsStill, StandsInPlace, candidate_met};
-ghost use Rattle.mt_picture.specs.Private.Stamps.{AreStamped, HaveStood};
+ghost use Rattle.mt_picture.specs.Private.Stamps.{HaveStood};
+ghost use Rattle.mt_picture.specs.Stamps.{AreStamped};
 ghost use Rattle.mt_picture.specs.Private.Known.{AreNearCandidates, IsPreps};
 
 use crate::later::may_stand_since;
@@ -26,7 +27,10 @@ fn still(snapshot: &Snapshot, found: &Found, version: u64) -> Option<Candidate>
     }
     Some(Candidate {
         place: it.place,
-        knowledge: Knowledge::Known(found.whole),
+        knowledge: Knowledge::Known {
+            span: found.whole,
+            solid: found.solid,
+        },
     })
 }
 

@@ -8,7 +8,8 @@ ghost use Rattle.mt_probe.specs.Shot.{state_in_shot as state_in};
 ghost use Rattle.mt_picture.specs.Asked.{IsWithinBound, IsWithinPreps};
 ghost use Rattle.mt_picture.specs.Private.Asking.{WasAskedFor};
 ghost use Rattle.mt_picture.specs.Private.Brought.{IsEnterable};
-ghost use Rattle.mt_picture.specs.Private.Entries.{IsFiling, IsReport, IsWithdrawal};
+ghost use Rattle.mt_picture.specs.Private.Entries.{IsReport, IsWithdrawal};
+ghost use Rattle.mt_picture.specs.Stamps.{IsFiling};
 ghost use Rattle.mt_picture.specs.Private.Holding.{AddsEntry, EntersOrStops, IsPassed, entry_now, held_story};
 ghost use Rattle.mt_picture.specs.Story.{IsPrepGivenFor, IsPrepFor};
 

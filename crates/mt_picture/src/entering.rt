@@ -9,7 +9,8 @@ ghost use Rattle.mt_probe.specs.Shot.{flight_at, made_of};
 ghost use Rattle.mt_probe.specs.Shot.{state_in_shot as state_in};
 ghost use Rattle.mt_picture.specs.Private.Asking.{WasAskedFor, WasAskedOf};
 ghost use Rattle.mt_picture.specs.Private.Brought.{BringsNew, IsEnterable, IsPreparedNow};
-ghost use Rattle.mt_picture.specs.Private.Entries.{IsFiling, IsRemaking, IsReport, IsWithdrawal, is_probed};
+ghost use Rattle.mt_picture.specs.Private.Entries.{IsRemaking, IsReport, IsWithdrawal, is_probed};
+ghost use Rattle.mt_picture.specs.Stamps.{IsFiling};
 ghost use Rattle.mt_picture.specs.Private.Holding.{AddsEntry, AddsOrStops, EntersOrStops, entry_now};
 ghost use Rattle.mt_picture.specs.Private.Places.{place_kind};
 ghost use Rattle.mt_picture.specs.Private.Putting.{IsFirstOf, IsKeptFlight, IsFlightPut, IsRemade};
@@ -167,6 +168,7 @@ pub(crate) fn file(
     let flight = Flight {
         card,
         filed: version + 1,
+        named: version + 1,
         actual: Made {
             strand,
             stamp: version + 1,
@@ -176,10 +178,11 @@ pub(crate) fn file(
     put_made(held, alloc, slot, flight, entry, entering, tests)
 }
 
-// The flight in a slot with another record, and with all else that it has.
+// The flight in a slot with another record, as an entry leaves it that names it now, and with all else that it has.
 fn kept_flight(held: &Parts, slot: u32, card: Record) -> Result<Flight, Memory>
-    requires { option_map (λ f. f.card.call) (flight_at held.now.snapshot slot) ≡ Some card.call }
-    ensures { IfOk result (IsKeptFlight (flight_at held.now.snapshot slot) card) }
+    requires counted { held.now.snapshot.version < 2 ^ 40 }
+    requires there { option_map (λ f. f.card.call) (flight_at held.now.snapshot slot) ≡ Some card.call }
+    ensures { IfOk result (IsKeptFlight (flight_at held.now.snapshot slot) (held.now.snapshot.version + 1) card) }
 {
     let snapshot = held.snapshot();
     let Some(filed) = snapshot.filed(slot) else {
@@ -192,6 +195,7 @@ fn kept_flight(held: &Parts, slot: u32, card: Record) -> Result<Flight, Memory>
     Ok(Flight {
         card,
         filed,
+        named: snapshot.version() + 1,
         actual,
         mark,
     })

@@ -183,6 +183,7 @@ impl Parts {
     {
         let command = Command::Drop { call };
         command.keeps();
+        self.snapshot.keeps();
         let snapshot = self.snapshot.put(slot, None)?;
         snapshot.keeps();
         self.history.reserve(1)?;

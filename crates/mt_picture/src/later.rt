@@ -1,7 +1,7 @@
 //! Whether trajectories were made after a version.
-ghost use Rattle.std.specs.Prelude.{◌≡◌, ◌≤◌, length, false};
+ghost use Rattle.std.specs.Prelude.{◌≡◌, false};
 ghost use Rattle.mt_picture.specs.Private.Candidates.{IsNoneMade, IsNoneSince};
-ghost use Rattle.mt_picture.specs.Private.Stamps.{AreStamped};
+ghost use Rattle.mt_picture.specs.Stamps.{AreStamped};
 
 use crate::places::is_made_since;
 use mt_base::Entry;

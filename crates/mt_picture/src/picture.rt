@@ -8,6 +8,7 @@ ghost use Rattle.mt_base.specs.History.{IsInTime, IsLegal, IsReplayable, WasFree
 ghost use Rattle.mt_base.specs.Picture.{IsPublished};
 ghost use Rattle.mt_probe.specs.Shot.{state_in_shot as state_in};
 ghost use Rattle.mt_picture.specs.Asked.{IsWithinBound};
+ghost use Rattle.mt_picture.specs.Stamps.{AreNamedLast, AreStamped, HaveFilings};
 ghost use Rattle.mt_picture.specs.Story.{IsEntered, IsPrepGivenFor, IsCommandRefused};
 
 use crate::deciding::{decide, verdict_on};
@@ -47,11 +48,16 @@ impl Picture {
         })
     }
 
-    /// The snapshot now, which stands for the state of the history. It copies no list.
+    /// The snapshot now, which stands for the state of the history. Each trajectory has the version of the entry that made it, and each flight that
+    /// of the one that filed it and of the last that names it. It copies no list.
     pub fn snapshot(&self) -> Result<Snapshot, Memory>
         ensures setup { IfOk result (λ shot. shot.setup ≡ self.now.setup) }
         ensures state { IfOk result (λ shot. state_in shot ≡ state_of self.now.setup self.now.history) }
+        ensures stamped { IfOk result (λ shot. AreStamped self.now.setup self.now.history shot.slots) }
+        ensures filed { IfOk result (λ shot. HaveFilings self.now.setup self.now.history shot.slots) }
+        ensures named { IfOk result (λ shot. AreNamedLast self.now.history shot.slots) }
     {
+        self.held.keeps();
         self.held.snapshot().share()
     }
 
@@ -134,8 +140,8 @@ impl Picture {
     ///
     /// At most two pairs are tested for each trajectory of another flight that is near the new one. Where the prep is usable, these are only those
     /// that were made after it, and one more test is made for each that was there before and whose conflict with the new one straddles an edge of
-    /// the window. A tick tests once each pair that straddles an edge of its window; a command that makes no trajectory, or leaves none now, tests
-    /// none.
+    /// the window. A tick makes at most as many tests as pairs straddle an edge of its window; a command that makes no trajectory, or leaves none
+    /// now, makes none.
     pub fn publish(
         &mut self,
         alloc: Global,

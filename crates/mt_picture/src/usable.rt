@@ -1,34 +1,27 @@
 //! Whether a prep of an earlier version is of use.
-ghost use Rattle.std.specs.Prelude.{◌≡◌, ◌↔◌, IsTrue, Some, false, true};
-ghost use Rattle.mt_base.specs.Decision.{call_of, filled};
+ghost use Rattle.std.specs.Prelude.{◌≡◌, false, true};
+ghost use Rattle.mt_base.specs.Decision.{filled};
 ghost use Rattle.mt_picture.specs.Private.Holding.{held_story};
-ghost use Rattle.mt_picture.specs.Story.{IsNamedAfter, IsPrepFor, IsUsable};
+ghost use Rattle.mt_picture.specs.Story.{IsFlightNamedAfter, IsPrepFor, IsUsable};
 
 use crate::held::Parts;
-use mt_base::{Callsign, Command, Entry};
+use mt_base::{Callsign, Command};
 use mt_probe::{Prep, Snapshot};
 
-// Whether a command names that callsign.
-fn names(command: &Command, call: Callsign) -> bool
-    ensures { IsTrue result ↔ (call_of command.now ≡ Some call) }
+// Whether there is a flight of that callsign, and an entry after a version names it: by the version of the last that does.
+fn is_flight_named_after(held: &Parts, version: u64, call: Callsign) -> bool
+    ensures named { result ≡ true → IsFlightNamedAfter (held_story held.now) version call }
+    ensures unnamed { result ≡ false → ¬ IsFlightNamedAfter (held_story held.now) version call }
 {
-    match command.call() {
-        Some(other) => other == call,
-        None => false,
-    }
-}
-
-// Whether an entry after the first ones names that callsign.
-fn is_named_after(history: &[Entry], from: usize, call: Callsign) -> bool
-    ensures named { result ≡ true → IsNamedAfter history.now from call }
-    ensures unnamed { result ≡ false → ¬ IsNamedAfter history.now from call }
-{
-    for i in from..history.len() {
-        if names(&history[i].command, call) {
-            return true;
-        }
-    }
-    false
+    held.keeps();
+    let snapshot = held.snapshot();
+    let Some(slot) = snapshot.find(call) else {
+        return false;
+    };
+    let Some(last) = snapshot.named(slot) else {
+        return false;
+    };
+    version < last
 }
 
 // Whether a moment that a command leaves open is that of its prep.
@@ -53,8 +46,7 @@ pub(crate) fn is_usable(held: &Parts, who: u32, command: &Command, prep: &Prep) 
     let Some(call) = command.call() else {
         return false;
     };
-    let history = held.history();
-    if is_named_after(history, prep.version() as usize, call) {
+    if is_flight_named_after(held, prep.version(), call) {
         return false;
     }
     is_same_moment(held.snapshot(), command, prep)

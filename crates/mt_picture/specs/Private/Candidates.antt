@@ -31,7 +31,7 @@ pub record IsStill (slots : List (Option Flight)) (version : ℕ) (found : Found
   pub stamp : ℕ
   pub stands : StandsInPlace slots x.place found.call found.kind stamp
   pub early : stamp ≤ version
-  pub knowledge_is : x.knowledge ≡ Known found.whole
+  pub knowledge_is : x.knowledge ≡ Known found.whole found.solid
 
 -- so stands the candidate of one of some finds
 pub record IsStillOne (slots : List (Option Flight)) (version : ℕ) (finds : List Found) (x : Candidate) : Type 0 where

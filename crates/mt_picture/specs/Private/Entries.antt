@@ -2,14 +2,8 @@
 -- Commands by what they do to the flight that they name.
 use Rattle.std.specs.Prelude.{Bool, true, false, ⊤}
 use Rattle.mt_base.specs.declared.command.Command.{Command}
-use Rattle.mt_base.specs.declared.command.Command.TheVariants.{Plan, External, Renew, Clear, Accept, Tentative, Withdraw, Commit}
+use Rattle.mt_base.specs.declared.command.Command.TheVariants.{Renew, Clear, Accept, Tentative, Withdraw, Commit}
 use Rattle.mt_base.specs.declared.command.Command.TheVariants as commands
-
--- a command files a flight
-abbrev pub IsFiling : Command → Type 0
-IsFiling (Plan call kind route at from level rvsm) = ⊤
-IsFiling (External call straight) = ⊤
-IsFiling command = ⊥
 
 -- a command makes a trajectory of a flight that is there
 abbrev pub IsRemaking : Command → Type 0

@@ -40,7 +40,7 @@ IsEarlierAt p slot kind = (f : Flight) (made : Made) → slot ≡ Some f → mad
 -- use, it was made after.
 pub record IsKnown (p : Prepared) (known : Bool) (t : Trajectory) (slots : List (Option Flight)) (x : Candidate) : Type 0 where
   pub right : IsRightAt p t (get_or slots (x.place / 2) None) (kind_at x.place) x.knowledge
-  pub earlier : (span : Option (ℕ × ℕ)) → x.knowledge ≡ Known span → IsEarlierAt p (get_or slots (x.place / 2) None) (kind_at x.place)
+  pub earlier : (span : Option (ℕ × ℕ)) (solid : Bool) → x.knowledge ≡ Known span solid → IsEarlierAt p (get_or slots (x.place / 2) None) (kind_at x.place)
   pub later : known ≡ true → is_unknown x.knowledge ≡ true → IsLaterAt p (get_or slots (x.place / 2) None) (kind_at x.place)
 
 -- the candidates of a trajectory, each near it, listed once, with what is known of it. What stands of another flight and has a loss second with it is

@@ -1,6 +1,6 @@
 -- No public contract names these: they are of private steps and of proofs.
 -- A flight that an entry leaves in a slot.
-use Rattle.std.specs.Prelude.{◌≡◌, ◌<◌, ◌≤◌, ◌+◌, ◌++◌, ◌∷◌, [], ℕ, List, Option, Some, None, length, option_map, slice_get}
+use Rattle.std.specs.Prelude.{◌≡◌, ◌<◌, ◌+◌, ◌++◌, ◌∷◌, [], ℕ, List, Option, Some, None, length, option_map, slice_get}
 use Rattle.mt_base.specs.declared.command.Command.{Command}
 use Rattle.mt_base.specs.declared.command.Command.TheVariants.{Tentative, Commit}
 use Rattle.mt_base.specs.declared.command.Entry.{Entry}
@@ -20,15 +20,17 @@ use Rattle.mt_probe.specs.Prepared.{kind_made}
 use Rattle.mt_probe.specs.Putting.{Fits, records_put}
 use Rattle.mt_probe.specs.Shot.{Shot, flight_at, records_in}
 use Rattle.mt_picture.specs.Private.Places.{IsNewOrStays, stamped_at}
+use Rattle.mt_picture.specs.Stamps.{IsFiling}
 
 -- the entry leaves this flight in the slot, which was empty or its own. It fits there, the records with it are those that the entry leaves, and each
--- of its trajectories is made now or stays with its stamp.
+-- of its trajectories is made now or stays with its stamp. A flight that is new there is filed now, and each is named now.
 pub record IsFlightPut (shot : Shot) (slot : ℕ) (f : Flight) (e : Entry) : Type 0 where
   pub inside : slot < length shot.slots
   pub fits : Fits shot slot f
   pub was : (g : Flight) → flight_at shot slot ≡ Some g → g.card.call ≡ f.card.call
   pub made : (kind : Kind) → IsNewOrStays (flight_at shot slot) (shot.version + 1) e.command f kind
-  pub filed : f.filed ≤ shot.version + 1
+  pub filed : flight_at shot slot ≡ None → (f.filed ≡ shot.version + 1) × IsFiling e.command
+  pub named : f.named ≡ shot.version + 1
   pub names : call_of e.command ≡ Some f.card.call
   pub still : now_after e.command shot.now ≡ shot.now
   pub records : records_put (flight_at shot slot) (Some f) (records_in shot.slots)
@@ -55,13 +57,15 @@ RestIs command old f = stamped_at kinds.Tentative (Some f) ≡ stamped_at kinds.
 pub record IsRemade (old : Option Flight) (version : ℕ) (command : Command) (card : Record) (t : Trajectory) (f : Flight) : Type 0 where
   pub card_is : f.card ≡ card
   pub filed_is : Some f.filed ≡ option_map (λ g. g.filed) old
+  pub named_is : f.named ≡ version
   pub new : path_of (kind_made command) f ≡ Some t
   pub stamp : stamped_at (kind_made command) (Some f) ≡ Some (record { call = card.call; kind = kind_made command; path = t }, version)
   pub rest : RestIs command old f
 
--- a flight with this record and all else that the old one has
-pub record IsKeptFlight (old : Option Flight) (card : Record) (f : Flight) : Type 0 where
+-- a flight with this record, named at this version, and with all else that the old one has
+pub record IsKeptFlight (old : Option Flight) (version : ℕ) (card : Record) (f : Flight) : Type 0 where
   pub card_is : f.card ≡ card
   pub filed_is : Some f.filed ≡ option_map (λ g. g.filed) old
+  pub named_is : f.named ≡ version
   pub actual : stamped_at kinds.Actual (Some f) ≡ stamped_at kinds.Actual old
   pub mark : stamped_at kinds.Tentative (Some f) ≡ stamped_at kinds.Tentative old

@@ -13,20 +13,16 @@ use Rattle.mt_probe.specs.Prepared.{Prepared}
 use Rattle.mt_probe.specs.Shot.{Shot, flight_at, made_of}
 use Rattle.mt_probe.specs.Shot.{state_in_shot as state_in}
 use Rattle.mt_picture.specs.Private.Places.{all_places, made_of_kind}
-use Rattle.mt_picture.specs.Stamps.{IsMadeAt}
-
--- each trajectory that is kept of a flight was made at its stamp
-abbrev pub AreStamped : Setup → List Entry → List (Option Flight) → Type 0
-AreStamped setup h slots = (i : ℕ) (f : Flight) (kind : Kind) (made : Made) → get_or slots i None ≡ Some f → made_of f kind ≡ Some made
-    → IsMadeAt setup h (made_of_kind f kind made) made.stamp
+use Rattle.mt_picture.specs.Stamps.{AreNamedLast, AreStamped, HaveFilings}
 
 -- what every picture keeps. The snapshot stands for the state of the history, whose entries are complete; each trajectory has stood since its stamp,
--- and what is kept is kept of the snapshot's places.
+-- each flight is there since it was filed and has the version that names it last, and what is kept is kept of the snapshot's places.
 pub record IsPicture (shot : Shot) (h : List Entry) (kept : Watched) : Type 0 where
   pub stands : state_in shot ≡ state_of shot.setup h
   pub stamped : AreStamped shot.setup h shot.slots
   pub complete : All IsComplete h
-  pub filed : (i : ℕ) (f : Flight) → flight_at shot i ≡ Some f → f.filed ≤ shot.version
+  pub filed : HaveFilings shot.setup h shot.slots
+  pub named : AreNamedLast h shot.slots
   pub rules_are : kept.rules ≡ shot.setup.rules
   pub moment_is : kept.moment ≡ shot.now
   pub places_are : kept.places ≡ all_places shot.slots

@@ -12,6 +12,7 @@ use Rattle.mt_probe.specs.Prepared.{named_trajectory}
 use Rattle.mt_picture.proofs.Bounding.{made_known}
 use Rattle.mt_picture.proofs.FirstHit.{enters_or_stops, filing_unprobed, no_first}
 use Rattle.mt_picture.proofs.Making.{filing_kind}
+use Rattle.mt_picture.proofs.Standing.{filed_early}
 use Rattle.std.proofs.lemmas.Option.{none-some, same_Some}
 use Rattle.mt_picture.proofs.entering.file.Goals as goal
 
@@ -22,19 +23,21 @@ put_made-requires-clause-put c =
     let f : Flight = record {
       card = c.args.card;
       filed = c.version-version.result + 1;
+      named = c.version-version.result + 1;
       actual = record { strand = c.in_ok-strand.strand; stamp = c.version-version.result + 1 };
       mark = None;
     } in
     let made = rw (filing_kind c.args.entering.now.command.now c.requires.filing) at c.in_ok-strand.ensures.made in
     rw c.in_ok-entry.ensures.entry
     (put_filed shot c.args.slot f c.args.entering.now.who c.args.entering.now.command.now c.keeps.ensures.sound c.requires.slot c.requires.free c.requires.filing c.requires.enterable.prepared.left refl
-    made (ap (λ n. n + 1) v) (ap (λ n. n + 1) v) c.keeps.ensures.picture.filed)
+    made (ap (λ n. n + 1) v) (ap (λ n. n + 1) v) (ap (λ n. n + 1) v) (filed_early shot c.args.held.now.history c.args.held.now.kept c.keeps.ensures.picture))
 
 pub put_made-requires-clause-new : goal.put_made-requires-clause-new
 put_made-requires-clause-new c =
     let f : Flight = record {
       card = c.args.card;
       filed = c.version-version.result + 1;
+      named = c.version-version.result + 1;
       actual = record { strand = c.in_ok-strand.strand; stamp = c.version-version.result + 1 };
       mark = None;
     } in

@@ -15,13 +15,13 @@ put_made-requires-clause-put c =
     let shot = c.args.held.now.snapshot in
     rw c.in_ok-entry.ensures.entry
     (put_remade shot c.args.slot c.in_ok-flight.flight c.args.entering.now.who c.args.entering.now.command.now c.args.card (arc_value c.in_ok-strand.strand) c.keeps.ensures.sound
-    c.requires.there c.requires.remaking c.requires.enterable.prepared.left c.keeps.ensures.picture.filed c.in_ok-strand.ensures.made c.in_ok-flight.ensures)
+    c.requires.there c.requires.remaking c.requires.enterable.prepared.left c.in_ok-strand.ensures.made c.in_ok-flight.ensures)
 
 pub put_made-requires-clause-new : goal.put_made-requires-clause-new
 put_made-requires-clause-new c =
     let shot = c.args.held.now.snapshot in
     let put = put_remade shot c.args.slot c.in_ok-flight.flight c.args.entering.now.who c.args.entering.now.command.now c.args.card (arc_value c.in_ok-strand.strand) c.keeps.ensures.sound
-    c.requires.there c.requires.remaking c.requires.enterable.prepared.left c.keeps.ensures.picture.filed c.in_ok-strand.ensures.made c.in_ok-flight.ensures in
+    c.requires.there c.requires.remaking c.requires.enterable.prepared.left c.in_ok-strand.ensures.made c.in_ok-flight.ensures in
     record {
       inside = put.inside;
       was = put.was;
@@ -41,7 +41,7 @@ returns-clause-entered c =
     let it = there (flight_at shot c.args.slot) c.args.card.call c.requires.there in
     let card_is = c.in_ok-flight.ensures.card_is in
     let put = put_remade shot c.args.slot f c.args.entering.now.who c.args.entering.now.command.now c.args.card (arc_value c.in_ok-strand.strand) c.keeps.ensures.sound
-    c.requires.there c.requires.remaking c.requires.enterable.prepared.left c.keeps.ensures.picture.filed c.in_ok-strand.ensures.made c.in_ok-flight.ensures in
+    c.requires.there c.requires.remaking c.requires.enterable.prepared.left c.in_ok-strand.ensures.made c.in_ok-flight.ensures in
     let left = subst (IsLeftByEntry shot.setup (state_in shot) c.args.entering.now.who c.args.entering.now.command.now) (sym card_is) c.requires.enterable.prepared.left in
     enters_or_stops c.args.held.now c.put_made.new.held c.args.entering.now.who c.args.entering.now.command.now c.in_ok-entry.entry c.put_made.result c.in_ok-entry.ensures.entry
     c.put_made.ensures.entered (both_ok c.put_made.result _ _ _ (λ first here none.

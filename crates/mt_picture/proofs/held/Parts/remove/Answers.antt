@@ -27,7 +27,7 @@ invariant_of-self-2 c =
     let places = rw (c.self.invariant.places_are, ← places_set p.snapshot.slots c.args.slot None inside) at c.in_ok-remove.ensures.ok in
     subst (λ (g : List Entry). IsPicture c.in_ok-snapshot.snapshot g c.remove.new.self) (sym entered)
     (picture_drop p.snapshot c.in_ok-snapshot.snapshot p.history.items c.args.who c.args.slot c.args.call it.flight p.kept c.remove.new.self c.self.invariant
-    (record { names = c.keeps.ensures; timed = tt; bounded = tt; who = c.ranges.who.fits }) c.keeps-2.ensures.sound inside it.at_is it.own
+    (record { names = c.keeps.ensures; timed = tt; bounded = tt; who = c.ranges.who.fits }) c.keeps-2.ensures.sound c.keeps-3.ensures.sound inside it.at_is it.own
     c.in_ok-snapshot.ensures.value c.in_ok-snapshot.ensures.records c.in_ok-remove.ensures.rules c.in_ok-remove.ensures.moment places)
 
 pub remove-requires : goal.remove-requires
