@@ -1,4 +1,4 @@
-ghost use Rattle.std.specs.Prelude.{◌≡◌, ◌<◌, ◌++◌, [], ◌∷◌, IfOk, OnOk};
+ghost use Rattle.std.specs.Prelude.{◌≡◌, ◌<◌, ◌++◌, IfOk, OnOk};
 ghost use Rattle.mt_load.specs.Input.{bands, coordinate, each_below, fix, kind_name};
 ghost use Rattle.mt_read.specs.declared.request.Request.TheVariants as requests;
 

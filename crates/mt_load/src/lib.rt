@@ -18,5 +18,6 @@ mod summary;
 
 pub use laws::{one_summary_law, right_input_law};
 pub use loading::load;
+pub use making::input;
 pub use mt_memory::Memory;
 pub use summary::{Summary, write_summary};

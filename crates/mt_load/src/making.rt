@@ -19,7 +19,7 @@ const FIRST_TICK: u32 = 60;
 /// 300, 310 and so on to 390, and a second below 1,200; all are approved for RVSM. The definition is `inputs`.
 ///
 /// The numbers of each request are within their bounds, whatever the rules are. The one error is want of memory.
-pub(crate) fn input(alloc: Global, flights: u32, number: u64) -> Result<Vec<Request>, Memory>
+pub fn input(alloc: Global, flights: u32, number: u64) -> Result<Vec<Request>, Memory>
     requires { (1 ≤ flights) × (flights ≤ 1024) }
     ensures exact { IfOk result (λ list. list.items ≡ inputs flights number) }
     ensures bounded { (rules : Rules) → IfOk result (λ list. All (IsBoundedRequest rules) list.items) }

@@ -9,6 +9,7 @@ pub mod Keeping
 pub mod OneAnswer
 pub mod Renewing
 pub mod Taking
+pub mod Tested
 pub mod Told
 pub mod Viewed
 pub mod WorldLemmas

@@ -4,7 +4,7 @@ ghost use Rattle.mt_base.specs.History.{IsLegal};
 ghost use Rattle.mt_machine.specs.Book.{empty_book};
 ghost use Rattle.mt_read.specs.Bounded.{IsBoundedRequest};
 ghost use Rattle.mt_lines.specs.Fit.{IsFit};
-ghost use Rattle.mt_world.specs.Counted.{IsUntestedRequest};
+ghost use Rattle.mt_world.specs.Counted.{IsUntestedRequest, WereTestsOf};
 ghost use Rattle.mt_world.specs.Reading.{IsReadRequest};
 ghost use Rattle.mt_world.specs.World.{IsServed, IsStarved, new_actor, with_areas, world_of};
 
@@ -87,6 +87,7 @@ impl Centre {
         ensures served { IsServed self.old who request.now result self.new ⊎ IsStarved self.old who request.now result self.new }
         ensures fit { IsFit result }
         ensures untested { IsUntestedRequest request.now → tests.new ≡ tests.old }
+        ensures tested { WereTestsOf self.old who request.now result tests.old tests.new }
     {
         self.keeps();
         match request {

@@ -5,7 +5,10 @@ ghost use Rattle.mt_write.specs.declared.reply.Reply.TheVariants as replies;
 ghost use Rattle.mt_lines.specs.Fit.{IsFit};
 ghost use Rattle.mt_picture.specs.Story.{IsEntered, IsPrepGivenFor, IsCommandRefused as IsDenied};
 ghost use Rattle.mt_world.specs.Private.Sound.{story_of};
-ghost use Rattle.mt_world.specs.World.{IsAccepted, IsCommandAnswered, IsRefused};
+ghost use Rattle.mt_machine.specs.Book.{probe_at};
+ghost use Rattle.mt_picture.specs.Asked.{IsWithinBound};
+ghost use Rattle.mt_world.specs.Counted.{WereTestsOfAcceptance, WereTestsOfChange, WereTestsOfPrep};
+ghost use Rattle.mt_world.specs.World.{IsAccepted, IsCommandAnswered, IsRefused, actor_of, picture_of, setup_of};
 
 use crate::centre::Centre;
 use mt_base::{Command, Entered, Refusal, Tally};
@@ -21,6 +24,7 @@ impl Centre {
         requires asked { IsAskedFor command.now }
         ensures answered { IsCommandAnswered self.old who command.now result self.new ⊎ IsRefused self.old replies.Memory result self.new }
         ensures fit { IsFit result }
+        ensures tested { WereTestsOfChange self.old (picture_of self.old) who who command.now tests.old tests.new }
     {
         reply_to_change(self.enter(who, command, tests))
     }
@@ -38,6 +42,7 @@ impl Centre {
         ensures refused { IfErr result (IsDenied (story_of self.old) who command.now) }
         ensures unchanged { OnErr result (self.new ≡ self.old) }
         ensures kept { self.new ≡ record self.old { history = self.new.history } }
+        ensures tested { WereTestsOfChange self.old (picture_of self.old) who who command.now tests.old tests.new }
     {
         let prep = self.prepared(who, command, tests)?;
         self.publish(who, command, &prep, tests)
@@ -49,6 +54,7 @@ impl Centre {
         requires asked { IsAskedFor command.now }
         ensures given { IfOk result (IsPrepGivenFor (story_of self.now) who command.now) }
         ensures refused { IfErr result (IsDenied (story_of self.now) who command.now) }
+        ensures tested { (tests.new ≡ tests.old) ⊎ WereTestsOfPrep (setup_of self.now) (picture_of self.now) who command.now tests.old tests.new }
     {
         if !makes_strand(command) {
             return Ok(None);
@@ -76,6 +82,7 @@ impl Centre {
         ensures refused { IfErr result (IsDenied (story_of self.old) who command.now) }
         ensures unchanged { OnErr result (self.new ≡ self.old) }
         ensures kept { self.new ≡ record self.old { history = self.new.history } }
+        ensures tested { IsWithinBound (story_of self.old) who command.now prep.now tests.old tests.new }
     {
         self.picture
             .publish(self.alloc, who, command, prep.as_ref(), tests)
@@ -97,6 +104,7 @@ impl Centre {
         requires { who ≤ 15 }
         ensures answered { IsAccepted self.old who number result self.new ⊎ IsRefused self.old replies.Memory result self.new }
         ensures fit { IsFit result }
+        ensures tested { WereTestsOfAcceptance self.old who (probe_at (actor_of self.old who).book number) tests.old tests.new }
     {
         let Some(probe) = self.actors[who as usize].book.get(number) else {
             return self.refused(Refusal::NoProbe);

@@ -7,6 +7,8 @@ ghost use Rattle.mt_probe.specs.Hits.{told_of};
 ghost use Rattle.mt_write.specs.declared.reply.Reply.TheVariants as replies;
 ghost use Rattle.mt_lines.specs.Fit.{IsFit};
 ghost use Rattle.mt_world.specs.Private.Sound.{IsKeptOf, IsProbeOf, IsUnprobedOf};
+ghost use Rattle.mt_probe.specs.Tests.{WereAtLeast};
+ghost use Rattle.mt_world.specs.Counted.{WereEnough, WereTestsOfTry};
 ghost use Rattle.mt_world.specs.World.{IsGiven, IsProbeAnswered, IsRefused, actor_of, setup_of, with_all_taken, with_book};
 
 use crate::centre::Centre;
@@ -47,6 +49,8 @@ impl Centre {
         requires early { IfSome eff (λ second. second ≤ 10000000) }
         ensures answered { IsProbeAnswered self.old who call clearance eff result self.new ⊎ IsRefused self.old replies.Memory result self.new }
         ensures fit { IsFit result }
+        ensures tested { WereTestsOfTry self.old who call clearance eff tests.old tests.new }
+        ensures enough { WereEnough result tests.old tests.new }
     {
         match self.try_clearance(who, call, clearance, eff, tests) {
             Ok(probe) => {
@@ -81,6 +85,8 @@ impl Centre {
         ensures probe { IfOk result (IsProbeOf self.now who call clearance eff) }
         ensures kept { IfOk result (IsKeptOf (setup_of self.now) self.now.history) }
         ensures refused { IfErr result (IsUnprobedOf self.now who call clearance eff) }
+        ensures tested { WereTestsOfTry self.now who call clearance eff tests.old tests.new }
+        ensures enough { IfOk result (λ p. WereAtLeast (length p.hits) tests.old tests.new) }
     {
         let taken = &self.actors[who as usize].taken;
         let (tables, rules) = (taken.tables(), taken.rules());

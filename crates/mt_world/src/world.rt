@@ -3,7 +3,7 @@ ghost use Rattle.std.specs.Prelude.{◌≡◌, ◌⊎◌, ◌≤◌, [], replica
 ghost use Rattle.mt_base.specs.History.{IsLegal};
 ghost use Rattle.mt_read.specs.Bounded.{IsBoundedRequest};
 ghost use Rattle.mt_lines.specs.Fit.{IsFit};
-ghost use Rattle.mt_world.specs.Counted.{IsUntestedRequest};
+ghost use Rattle.mt_world.specs.Counted.{AreTestsAdded, IsUntestedRequest};
 ghost use Rattle.mt_world.specs.World.{IsServed, IsStarved, new_actor, with_areas, world_of};
 
 use crate::centre::Centre;
@@ -48,8 +48,8 @@ impl World {
     /// nothing has changed, but that settling may have renewed some flights.
     ///
     /// Actors have the numbers 0 to 15. A line that would set the picture up is refused, as it has begun. A reply that follows a change is short
-    /// enough for the room that is taken before the first line. The number of tests never falls, and it stays as it was where the request neither
-    /// enters a command nor makes a probe.
+    /// enough for the room that is taken before the first line. The number of tests never falls, it rises by no more than the request may test, and
+    /// it stays as it was where the request neither enters a command nor makes a probe. By a probe it rises by one for each conflict at least.
     pub fn step<R: Threads + Sync>(&mut self, rt: &R, who: u32, request: &Request) -> Reply
         requires who { who ≤ 15 }
         requires bounded { IsBoundedRequest self.old.world.rules request.now }
@@ -57,6 +57,7 @@ impl World {
         ensures fit { IsFit result }
         ensures counted { self.old.tests ≤ self.new.tests }
         ensures untested { IsUntestedRequest request.now → self.new.tests ≡ self.old.tests }
+        ensures tested { AreTestsAdded self.old.world who request.now result self.old.tests self.new.tests }
     {
         let mut tests = Tally::new(rt);
         let reply = self.centre.step(rt, who, request, &mut tests);
@@ -85,6 +86,9 @@ impl World {
     }
 
     /// How many pairs were tested for commands and probes; those of advice and of checks from nothing are counted apart. At 2^64 - 1 it stays.
+    ///
+    /// It is no more than what each request may test. A probe was counted once for each of its conflicts at least; of commands no clause says that they
+    /// were counted.
     pub fn tests(&self) -> u64
         ensures { result ≡ self.now.tests }
     {

@@ -1,15 +1,17 @@
-use Rattle.std.proofs.Common.{◌≡◌, ◌<◌, ◌∙◌, ◌⊎◌, Some, ap, inl, option_copied, subst, sym, arith}
+use Rattle.std.proofs.Common.{◌≡◌, ◌<◌, ◌∙◌, ◌⊎◌, Some, ap, inl, inr, option_copied, refl, subst, sym, arith}
 use Rattle.mt_base.specs.declared.command.Command.{Command}
 use Rattle.mt_base.specs.History.{WasFree}
 use Rattle.mt_probe.specs.Hits.{Trial}
 use Rattle.mt_write.specs.declared.reply.Reply.TheVariants as replies
 use Rattle.mt_lines.specs.Told.{entered_reply}
 use Rattle.mt_world.specs.World.{IsCommandAnswered, IsRefused}
+use Rattle.mt_picture.specs.Asked.{IsWithinBound}
 use Rattle.mt_picture.specs.Story.{IsPrepGivenFor, Story}
 use Rattle.mt_base.proofs.Cases.{empty_list}
 use Rattle.mt_world.proofs.Accepting.{accept_bounded, accept_free, accept_given, accept_in_time, accepted, accepting, no_probe, not_free, not_some, published_is}
 use Rattle.mt_world.proofs.Entering.{sound_after}
 use Rattle.mt_world.proofs.Taking.{seen}
+use Rattle.mt_world.proofs.Tested.{none_accepted, tested_accept, tested_prep, unpublished}
 use Rattle.mt_world.proofs.centre.Centre.accept.Goals as goal
 
 pub returns-then-not-is_empty-clause-answered : goal.returns-then-not-is_empty-clause-answered
@@ -96,3 +98,49 @@ returns-in_default-clause-answered c =
     inl (rw (← c.self.view_is)
     (no_probe c.self.inside.areas story c.self.inside.actors.items c.args.who c.index.result.now c.self.invariant below c.index.ensures c.args.number none
     c.refused.result (rw (← c.self.view_is) at c.refused.ensures.answered)))
+
+pub returns-in_default-clause-tested : goal.returns-in_default-clause-tested
+returns-in_default-clause-tested c =
+    let story : Story = c.self.inside.picture in
+    let below : c.args.who < 16 = omega (arith, c.requires) in
+    let none = sym c.get.ensures.value ∙ ap option_copied (not_some c.get.result c.in_default.not-Some) in
+    rw (← c.self.view_is)
+    (none_accepted c.self.inside.areas story c.self.inside.actors.items c.args.who c.index.result.now c.self.invariant below c.index.ensures c.args.number none _)
+
+pub returns-then-not-is_empty-clause-tested : goal.returns-then-not-is_empty-clause-tested
+returns-then-not-is_empty-clause-tested c =
+    let story : Story = c.self.inside.picture in
+    let below : c.args.who < 16 = omega (arith, c.requires) in
+    let found = sym c.get.ensures.value ∙ ap option_copied c.in-Some.is in
+    rw (← c.self.view_is)
+    (tested_accept c.self.inside.areas story c.self.inside.actors.items c.args.who c.index.result.now c.self.invariant below c.index.ensures c.args.number c.in-Some.probe.now found _ _
+    (unpublished _ _ 0 c.args.who _ _ _ (inl refl)))
+
+pub returns-clause-tested : goal.returns-clause-tested
+returns-clause-tested c =
+    let story : Story = c.self.inside.picture in
+    let below : c.args.who < 16 = omega (arith, c.requires) in
+    let p : Trial = c.in-Some.probe.now in
+    let found = sym c.get.ensures.value ∙ ap option_copied c.in-Some.is in
+    let same : c.command-command.result.now ≡ accepting p = c.command-command.ensures ∙ c.in-Ok.ensures.prep.command_is in
+    rw (← c.self.view_is)
+    (tested_accept c.self.inside.areas story c.self.inside.actors.items c.args.who c.index.result.now c.self.invariant below c.index.ensures c.args.number p found _ _
+    (record {
+      between = c.prep.new.tests;
+      prep = Some c.in-Ok.prep;
+      prepared = inr (tested_prep c.self.inside.areas story c.self.inside.actors.items c.args.who c.index.result.now c.self.invariant below c.index.ensures c.args.number p found _ _
+          c.prep.ensures.counted);
+      published = subst (λ (k : Command). IsWithinBound story c.args.who k (Some c.in-Ok.prep) c.prep.new.tests c.publish.new.tests) same c.publish.ensures.counted;
+    }))
+
+pub returns-in_default-prep-clause-tested : goal.returns-in_default-prep-clause-tested
+returns-in_default-prep-clause-tested c =
+    let story : Story = c.self.inside.picture in
+    let below : c.args.who < 16 = omega (arith, c.requires) in
+    let p : Trial = c.in-Some.probe.now in
+    let found = sym c.get.ensures.value ∙ ap option_copied c.in-Some.is in
+    rw (← c.self.view_is)
+    (tested_accept c.self.inside.areas story c.self.inside.actors.items c.args.who c.index.result.now c.self.invariant below c.index.ensures c.args.number p found _ _
+    (unpublished _ _ 0 c.args.who _ _ _
+    (inr (tested_prep c.self.inside.areas story c.self.inside.actors.items c.args.who c.index.result.now c.self.invariant below c.index.ensures c.args.number p found _ _
+    c.prep.ensures.counted))))

@@ -1,4 +1,4 @@
-use Rattle.std.proofs.Common.{◌∙◌, ap, subst}
+use Rattle.std.proofs.Common.{◌∙◌, ap, inr, subst}
 use Rattle.mt_base.specs.Bounds.{AreWithinBounds}
 use Rattle.mt_base.specs.Tables.{Setup}
 use Rattle.mt_picture.specs.Story.{Story}
@@ -18,3 +18,19 @@ returns-in-Ok-clause-given c =
     let story : Story = c.self.inside.picture in
     rw (← c.self.view_is) (given_now story c.in_ok-now.now c.args.who c.args.command.now c.in-Ok.prep (c.makes_strand.ensures.0 c.if-not-makes_strand.false)
     c.in_ok-now.ensures.setup c.in_ok-now.ensures.state c.in-Ok.ensures.prep)
+
+pub returns-in-Ok-clause-tested : goal.returns-in-Ok-clause-tested
+returns-in-Ok-clause-tested c = rw (← c.self.view_is) (inr (record {
+  shot = c.in_ok-now.now;
+  setup_is = c.in_ok-now.ensures.setup;
+  state_is = c.in_ok-now.ensures.state;
+  prepared = c.prepare.ensures.counted;
+}))
+
+pub returns-clause-tested : goal.returns-clause-tested
+returns-clause-tested c = rw (← c.self.view_is) (inr (record {
+  shot = c.in_ok-now.now;
+  setup_is = c.in_ok-now.ensures.setup;
+  state_is = c.in_ok-now.ensures.state;
+  prepared = c.prepare.ensures.counted;
+}))

@@ -1,4 +1,5 @@
 use Rattle.std.proofs.Common.{◌∙◌, inl}
+use Rattle.mt_world.proofs.Tested.{refused_enough}
 use Rattle.mt_world.proofs.Taking.{brief_tried, probed_is, unprobed_is}
 use Rattle.mt_world.proofs.centre.Centre.probe.Goals as goal
 
@@ -14,3 +15,15 @@ returns-in-Ok-copy-clause-fit c = rw (c.in-Ok-copy.ensures, c.found.ensures.foun
 pub returns-in-Err-clause-answered : goal.returns-in-Err-clause-answered
 returns-in-Err-clause-answered c =
     rw c.refused.ensures.reply (unprobed_is c.args.self.now c.args.who c.args.call c.args.clearance c.args.eff c.in-Err.no c.in-Err.ensures.refused)
+
+pub returns-in-Ok-copy-clause-tested : goal.returns-in-Ok-copy-clause-tested
+returns-in-Ok-copy-clause-tested c = c.try_clearance.ensures.tested
+
+pub returns-in-Err-clause-tested : goal.returns-in-Err-clause-tested
+returns-in-Err-clause-tested c = c.try_clearance.ensures.tested
+
+pub returns-in-Ok-copy-clause-enough : goal.returns-in-Ok-copy-clause-enough
+returns-in-Ok-copy-clause-enough c = rw (c.in-Ok-copy.ensures, c.found.ensures.found) c.in-Ok.ensures.enough
+
+pub returns-in-Err-clause-enough : goal.returns-in-Err-clause-enough
+returns-in-Err-clause-enough c = rw c.refused.ensures.reply (refused_enough c.in-Err.no _ _)

@@ -27,3 +27,6 @@ returns-clause-kept c =
     let after : Story = c.publish.new.self in
     rw (← c.self.view_is) (ap (λ (s : Setup). seen c.self.inside.areas (record { setup = s; history = after.history }) c.self.inside.actors.items)
     (same_setup story after c.args.who c.args.command.now c.publish.result c.publish.ensures.entered c.publish.ensures.unchanged))
+
+pub returns-clause-tested : goal.returns-clause-tested
+returns-clause-tested c = rw (← c.self.view_is) (rw c.as_ref.ensures.value at c.publish.ensures.counted)

@@ -1,4 +1,4 @@
-use Rattle.std.proofs.Common.{⊎_elim, inl, inr}
+use Rattle.std.proofs.Common.{⊎_elim, inl, inr, refl}
 use Rattle.mt_world.proofs.WorldLemmas.{begun_or, begun_refused, on_true}
 use Rattle.mt_world.proofs.centre.Centre.step.Goals as goal
 
@@ -90,3 +90,61 @@ returns-in-Settle-clause-served g c = rw c.in-Settle.is (⊎_elim (λ settled. i
 
 pub returns-in-Settle-clause-fit : goal.returns-in-Settle-clause-fit
 returns-in-Settle-clause-fit g c = c.settle.ensures.fit
+
+-- the tests of each
+pub returns-in-Fix-clause-tested : goal.returns-in-Fix-clause-tested
+returns-in-Fix-clause-tested g c = rw c.in-Fix.is refl
+
+pub returns-in-TypeLine-clause-tested : goal.returns-in-TypeLine-clause-tested
+returns-in-TypeLine-clause-tested g c = rw c.in-TypeLine.is refl
+
+pub returns-in-Rule-clause-tested : goal.returns-in-Rule-clause-tested
+returns-in-Rule-clause-tested g c = rw c.in-Rule.is refl
+
+pub returns-in-Area-clause-tested : goal.returns-in-Area-clause-tested
+returns-in-Area-clause-tested g c = rw c.in-Area.is refl
+
+pub returns-in-Begin-clause-tested : goal.returns-in-Begin-clause-tested
+returns-in-Begin-clause-tested g c = rw c.in-Begin.is refl
+
+pub returns-in-Hello-clause-tested : goal.returns-in-Hello-clause-tested
+returns-in-Hello-clause-tested g c = rw c.in-Hello.is refl
+
+pub returns-in-Bye-clause-tested : goal.returns-in-Bye-clause-tested
+returns-in-Bye-clause-tested g c = rw c.in-Bye.is refl
+
+pub returns-in-List-clause-tested : goal.returns-in-List-clause-tested
+returns-in-List-clause-tested g c = rw c.in-List.is refl
+
+pub returns-in-Check-clause-tested : goal.returns-in-Check-clause-tested
+returns-in-Check-clause-tested g c = rw c.in-Check.is refl
+
+pub returns-in-Due-clause-tested : goal.returns-in-Due-clause-tested
+returns-in-Due-clause-tested g c = rw c.in-Due.is refl
+
+pub returns-in-Flight-clause-tested : goal.returns-in-Flight-clause-tested
+returns-in-Flight-clause-tested g c = rw c.in-Flight.is refl
+
+pub returns-in-History-clause-tested : goal.returns-in-History-clause-tested
+returns-in-History-clause-tested g c = rw c.in-History.is refl
+
+pub returns-in-Take-clause-tested : goal.returns-in-Take-clause-tested
+returns-in-Take-clause-tested g c = rw c.in-Take.is refl
+
+pub returns-in-Advise-clause-tested : goal.returns-in-Advise-clause-tested
+returns-in-Advise-clause-tested g c = rw c.in-Advise.is refl
+
+pub returns-in-Areas-clause-tested : goal.returns-in-Areas-clause-tested
+returns-in-Areas-clause-tested g c = rw c.in-Areas.is refl
+
+pub returns-in-Change-clause-tested : goal.returns-in-Change-clause-tested
+returns-in-Change-clause-tested g c = rw c.in-Change.is c.change.ensures.tested
+
+pub returns-in-Probe-clause-tested : goal.returns-in-Probe-clause-tested
+returns-in-Probe-clause-tested g c = rw c.in-Probe.is (c.probe.ensures.tested, c.probe.ensures.enough)
+
+pub returns-in-Accept-clause-tested : goal.returns-in-Accept-clause-tested
+returns-in-Accept-clause-tested g c = rw c.in-Accept.is c.accept.ensures.tested
+
+pub returns-in-Settle-clause-tested : goal.returns-in-Settle-clause-tested
+returns-in-Settle-clause-tested g c = rw c.in-Settle.is c.settle.ensures.tested
