@@ -2,6 +2,7 @@
 
 use mt_io::{Door, TcpDoor};
 use mt_ws::AnyDoor;
+use std::io::Write;
 use std::net::{Ipv4Addr, Net, TcpListener, TcpStream};
 use std::process::Abort;
 
@@ -10,15 +11,25 @@ fn is_let_in<N: Net<Listener = TcpListener, Stream = TcpStream>>(net: &N, port: 
     TcpStream::connect(net, (Ipv4Addr::LOCALHOST, port)).is_ok()
 }
 
-/// The door gives its one link, and listens until it is asked for another.
+/// A client that has said the first byte of a line.
+fn spoken<N: Net<Listener = TcpListener, Stream = TcpStream>>(
+    net: &N,
+    port: u16,
+) -> Option<TcpStream> {
+    let mut client = TcpStream::connect(net, (Ipv4Addr::LOCALHOST, port)).ok()?;
+    client.write_all(b"{").ok()?;
+    Some(client)
+}
+
+/// The door gives its one link, to a client that has spoken, and listens until it is asked for another.
 fn check_shut<R: Net<Listener = TcpListener, Stream = TcpStream> + Abort, D: Door>(
     rt: &R,
     door: &mut D,
     port: u16,
 ) {
     assert!(rt; door.listen(port, 1).is_ok());
-    let client = TcpStream::connect(rt, (Ipv4Addr::LOCALHOST, port));
-    assert!(rt; client.is_ok());
+    let client = spoken(rt, port);
+    assert!(rt; client.is_some());
     let link = door.next_link();
     assert!(rt; matches!(&link, Ok(Some(_))));
     assert!(rt; is_let_in(rt, port));

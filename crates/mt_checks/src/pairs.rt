@@ -13,7 +13,13 @@ fn add(rt: &impl Abort, edges: &mut Edges, a: u32, b: u32, first: u32, last: u32
     edges.reserve(1).expect(rt, "memory");
     assert!(rt; a < b && b < 4 && first <= last && last < 10_014_400);
     assert!(rt; edges.get(a, b).is_none());
-    edges.add(Edge { a, b, first, last });
+    edges.add(Edge {
+        a,
+        b,
+        first,
+        last,
+        solid: false,
+    });
     assert!(rt; edges.get(a, b).is_some());
 }
 

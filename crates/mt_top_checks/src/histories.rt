@@ -1,10 +1,11 @@
 //! A small history as text: read, rebuilt, printed, and read and rebuilt once more; and texts that say none.
 ghost use Rattle.std.specs.Prelude.{All};
+ghost use Rattle.mt_base.specs.Bounds.{AreWithinBounds};
 ghost use Rattle.mt_history.specs.Rebuilt.{IsReadyToDecide};
 
 use crate::names::callsign;
 use crate::tables::shared_tables;
-use mt_base::{Conflict, Entries, Kind, Refusal, Rules};
+use mt_base::{Conflict, Entries, Hit, Kind, Refusal, Rules};
 use mt_history::{BadHistory, Wrong, print, read_all, rebuild};
 use mt_picture::Picture;
 use std::alloc::Global;
@@ -25,6 +26,14 @@ const WITHDRAWN: &str = r#"{"call":"III1","do":"clear","eff":0,"level":370,"who"
 {"call":"DDD1","do":"withdraw","force":false,"who":1}
 "#;
 
+// What was printed before there were approvals, so no entry tells one. Beyond an external flight that comes towards it at flight level 420 the
+// first climbs to 430, which was free by the one vertical minimum that there was.
+const UNAPPROVED: &str =
+    r#"{"at":0,"call":"DDD1","do":"plan","from":400,"level":400,"route":["Q0","Q1"],"type":"JA2","who":0}
+{"call":"JJJ1","do":"external","from":0,"gr":0,"gw":0,"r":0,"to":1200,"vx":-480,"vy":0,"vz":0,"w":0,"who":0,"x":480000,"y":0,"z":2520000}
+{"call":"DDD1","do":"accept","eff":0,"level":430,"v":2,"who":0}
+"#;
+
 // The entries that a text says.
 fn entries_of(rt: &impl Abort, alloc: Global, text: &[u8]) -> Entries
     ensures { All IsReadyToDecide result }
@@ -35,15 +44,27 @@ fn entries_of(rt: &impl Abort, alloc: Global, text: &[u8]) -> Entries
     }
 }
 
-// What is rebuilt of the entries that a text says, in the usual rules.
+// What is rebuilt of the entries that a text says, in some rules.
+fn rebuilt_in(
+    rt: &(impl Abort + Threads + Sync),
+    alloc: Global,
+    rules: Rules,
+    text: &[u8],
+) -> Result<Picture, Wrong>
+    requires { AreWithinBounds rules }
+{
+    let entries = entries_of(rt, alloc, text);
+    let tables = shared_tables(rt, alloc);
+    rebuild(rt, alloc, rules, tables, &entries)
+}
+
+// What is rebuilt of them in the usual rules.
 fn rebuilt(
     rt: &(impl Abort + Threads + Sync),
     alloc: Global,
     text: &[u8],
 ) -> Result<Picture, Wrong> {
-    let entries = entries_of(rt, alloc, text);
-    let tables = shared_tables(rt, alloc);
-    rebuild(rt, alloc, Rules::usual(), tables, &entries)
+    rebuilt_in(rt, alloc, Rules::usual(), text)
 }
 
 // The conflict of the marked climb with the flight ahead.
@@ -129,4 +150,39 @@ fn what_is_wrong_is_named_by_its_place(rt: HostRuntime) {
     let ahead = "{\"call\":\"DDD1\",\"do\":\"accept\",\"eff\":0,\"level\":360,\"v\":5,\"who\":0}\n";
     check_wrong(&rt, alloc, ahead, Wrong::Late { at: 4 });
     check_gap(&rt, alloc);
+}
+
+// The usual rules, but that the greater vertical minimum is the lesser one.
+fn one_minimum(rt: &impl Abort) -> Rules
+    ensures { AreWithinBounds result }
+{
+    let mut rules = Rules::usual();
+    rules.sv2 = rules.sv;
+    assert!(rt; rules.check().is_ok());
+    rules
+}
+
+// By two minima the climb is refused: 960 units a second nearer, with 15 more of a margin each second, the two are too close from second 473 to 526.
+fn check_refused(rt: &(impl Abort + Threads + Sync), alloc: Global) {
+    let first = Hit {
+        first: 473,
+        with: callsign(rt, b"JJJ1"),
+        last: 526,
+    };
+    let wanted = Wrong::Illegal {
+        at: 2,
+        refusal: Refusal::Stale { first },
+    };
+    assert!(rt; rebuilt(rt, alloc, UNAPPROVED.as_bytes()).err() == Some(wanted));
+}
+
+#[test]
+fn a_history_from_before_there_were_approvals_is_rebuilt_by_one_minimum(rt: HostRuntime) {
+    let alloc = rt.alloc();
+    let rules = one_minimum(&rt);
+    let picture = rebuilt_in(&rt, alloc, rules, UNAPPROVED.as_bytes())
+        .ok()
+        .expect(&rt, "a picture");
+    check_picture(&rt, &picture, 3, &[]);
+    check_refused(&rt, alloc);
 }

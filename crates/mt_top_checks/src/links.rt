@@ -29,7 +29,9 @@ pub fn slow_link(rt: &impl Abort, alloc: Global, text: &str) -> MemLink {
     link.failing(Vec::new(alloc), Vec::new(alloc), 1)
 }
 
-/// A link was answered so.
+/// A link was answered so, and then shut, once.
 pub fn check_held(rt: &impl Abort, link: &MemLink, answer: &str) {
     assert!(rt; link.held() == answer.as_bytes());
+    assert!(rt; link.shuts() == 1);
+    assert!(rt; link.held_at_shut() == answer.len());
 }

@@ -23,14 +23,21 @@ fn add_all(rt: &impl Abort, tables: &mut Tables) {
         climb: 2_100,
         descent: 2_100,
     }];
+    let high = [Band {
+        top: 450,
+        speed: 480,
+        climb: 2_100,
+        descent: 2_100,
+    }];
     add_fix(rt, tables, b"Q0", 0, 0);
     add_fix(rt, tables, b"Q1", 480_000, 0);
     add_fix(rt, tables, b"Q2", 0, 500_000);
     add_fix(rt, tables, b"Q3", 480_000, 500_000);
     assert!(rt; tables.add_type(type_name(rt, b"JA1"), &band).is_ok());
+    assert!(rt; tables.add_type(type_name(rt, b"JA2"), &high).is_ok());
 }
 
-/// Two pairs of fixes, one 500,000 units north of the other, those of a pair 480,000 units apart; and a type of one band. They are to be shared.
+/// Two pairs of fixes, one 500,000 units north of the other, those of a pair 480,000 units apart; and two types of one band each. They are to be shared.
 pub fn shared_tables(rt: &impl Abort, alloc: Global) -> Arc<Tables> {
     let mut tables = Tables::make(alloc).expect(rt, "memory");
     add_all(rt, &mut tables);

@@ -43,6 +43,12 @@ pub fn connection<N: Net<Listener = TcpListener, Stream = TcpStream>>(
     None
 }
 
+/// Whether the program has ended what it writes.
+pub fn is_over(stream: &mut TcpStream) -> bool {
+    let mut more = [0u8; 1];
+    matches!(stream.read(&mut more), Ok(0))
+}
+
 /// Whether a client is answered as it should.
 fn speak<N: Net<Listener = TcpListener, Stream = TcpStream>>(net: &N) -> bool {
     let Some(mut stream) = connection(net, PORT) else {

@@ -1,7 +1,8 @@
-//! A page's POST, and lines that begin almost so, on one port of loopback; and a client that comes after the last session.
+//! What is no session on one port of loopback: clients that say nothing, a page's requests, a greeting of TLS. Then as many sessions as were asked
+//! for, whose connections are over when they are; and a client that comes after the last.
 ghost use Rattle.std.specs.Thread.{IsSync};
 
-use super::loopback::connection;
+use super::loopback::{connection, is_over};
 use super::scene::{AMPLE, run_over, source_of};
 use mt_io::OpenGate;
 use mt_top::Status;
@@ -17,16 +18,33 @@ use std::thread::Threads;
 /// The port that is served.
 const PORT: u16 = 7_713;
 
-/// What a page of another site can have a browser send: a request whose body is lines.
-const POSTED: &str = r#"POST / HTTP/1.1
-Host: 127.0.0.1:7713
-Origin: http://elsewhere.example
-Content-Type: text/plain
-Content-Length: 113
+/// Requests that a page of another site can have a browser send: two whose bodies are lines, the first by a method of no list; one for an image; and
+/// one for a WebSocket. Last the first bytes of a greeting of TLS, with lines behind them.
+const FOREIGN: [(&[u8], &[u8]); 5] = [
+    (
+        b"POSTED / HTTP/1.1\r\nHost: elsewhere.example:7713\r\nContent-Length: 29\r\n\r\n{\"do\":\"hello\",\"role\":\"feed\"}\n",
+        BAD,
+    ),
+    (
+        b"POST / HTTP/1.1\r\nHost: 127.0.0.1:7713\r\nOrigin: http://elsewhere.example\r\nContent-Length: 13\r\n\r\n{\"do\":\"list\"}\n",
+        BAD,
+    ),
+    (
+        b"GET /?1 HTTP/1.1\r\nHost: 127.0.0.1:7713\r\nReferer: http://elsewhere.example/\r\n\r\n",
+        BAD,
+    ),
+    (
+        b"GET / HTTP/1.1\r\nHost: 127.0.0.1:7713\r\nOrigin: http://elsewhere.example\r\nUpgrade: websocket\r\nConnection: Upgrade\r\nSec-WebSocket-Key: dGhlIHNhbXBsZSBub25jZQ==\r\nSec-WebSocket-Version: 13\r\n\r\n",
+        FORBIDDEN,
+    ),
+    (b"\x16\x03\x01\x02\0\n{\"do\":\"list\"}\n", BAD),
+];
 
-{"do":"hello","role":"feed"}
-{"do":"external","call":"BBB1","from":0,"to":1200,"x":0,"y":0,"z":2100000,"vx":480}
-"#;
+/// How each is answered.
+const BAD: &[u8] = b"HTTP/1.1 400 Bad Request\r\nConnection: close\r\nContent-Length: 0\r\n\r\n";
+
+const FORBIDDEN: &[u8] =
+    b"HTTP/1.1 403 Forbidden\r\nConnection: close\r\nContent-Length: 0\r\n\r\n";
 
 /// What the line session sends first: a line that begins with a `P`, and is no method.
 const FIRST: &[u8] = b"P\n";
@@ -49,14 +67,37 @@ const BYE: &[u8] = b"{\"do\":\"bye\"}\n";
 
 const DONE: &[u8] = b"{\"done\":\"bye\"}\n";
 
-/// What the program writes: the request was a fault, and entered nothing.
+/// What the program writes: of what was no session nothing was entered, and none of it is counted.
 const WRITTEN: &[u8] =
-    b"{\"done\":\"begin\"}\n{\"conflicts\":0,\"entries\":1,\"faulted\":1,\"flights\":1,\"sessions\":2,\"starved\":0}\n";
+    b"{\"done\":\"begin\"}\n{\"conflicts\":0,\"entries\":1,\"faulted\":0,\"flights\":1,\"sessions\":2,\"starved\":0}\n";
 
-/// Whether a request is broken before a byte of an answer.
-fn is_broken(mut stream: TcpStream) -> bool {
-    let mut answered = [0u8; 1];
-    stream.write_all(POSTED.as_bytes()).is_ok() && !matches!(stream.read(&mut answered), Ok(1))
+/// Whether a client that is no session is answered so, and nothing else.
+fn is_refused_so(mut stream: TcpStream, sent: &[u8], answer: &[u8]) -> bool {
+    let mut answered = [0u8; 128];
+    if stream.write_all(sent).is_err() {
+        return false;
+    }
+    let mut count: usize = 0;
+    for _ in 0..128u32 {
+        match stream.read(&mut answered[count..]) {
+            Ok(0) | Err(_) => break,
+            Ok(more) => count += more,
+        }
+    }
+    &answered[..count] == answer
+}
+
+/// Whether all of them are.
+fn are_refused<N: Net<Listener = TcpListener, Stream = TcpStream>>(net: &N) -> bool {
+    for (sent, answer) in FOREIGN {
+        let Some(stream) = connection(net, PORT) else {
+            return false;
+        };
+        if !is_refused_so(stream, sent, answer) {
+            return false;
+        }
+    }
+    true
 }
 
 /// Whether all bytes could be sent, each by itself.
@@ -80,12 +121,13 @@ fn speak_lines(stream: &mut TcpStream) -> bool {
         && answered.as_slice() == ANSWERED
 }
 
-/// Whether it is answered its last line.
+/// Whether it is answered its last line, and its connection is over then.
 fn say_bye(mut stream: TcpStream) -> bool {
     let mut answered = [0u8; 15];
     stream.write_all(BYE).is_ok()
         && stream.read_exact(&mut answered).is_ok()
         && answered.as_slice() == DONE
+        && is_over(&mut stream)
 }
 
 /// Whether a client is refused, as soon as the program has seen that no session is left.
@@ -99,18 +141,22 @@ fn is_refused<N: Net<Listener = TcpListener, Stream = TcpStream>>(net: &N) -> bo
     false
 }
 
-/// Whether all find what they should: the request first.
+/// Whether all find what they should: first those that are no session, with two beside them that never speak; and then two sessions, the first of which
+/// is over before the other begins.
 fn speak<N: Net<Listener = TcpListener, Stream = TcpStream>>(net: &N) -> bool {
-    let Some(request) = connection(net, PORT) else {
+    let (Some(silent), Some(mute)) = (connection(net, PORT), connection(net, PORT)) else {
         return false;
     };
-    if !is_broken(request) {
+    if !are_refused(net) {
         return false;
     }
-    let Some(mut lines) = connection(net, PORT) else {
+    let (Some(mut first), Some(second)) = (connection(net, PORT), connection(net, PORT)) else {
         return false;
     };
-    speak_lines(&mut lines) && is_refused(net) && say_bye(lines)
+    let spoke = speak_lines(&mut first) && say_bye(first) && say_bye(second) && is_refused(net);
+    drop(silent);
+    drop(mute);
+    spoke
 }
 
 /// Whether the program serves them as it should.
@@ -128,7 +174,7 @@ fn serve<R: Net<Listener = TcpListener, Stream = TcpStream> + Threads + Wait + S
 }
 
 #[test]
-fn a_request_over_loopback_changes_nothing(rt: HostRuntime) {
+fn what_is_no_session_changes_nothing_and_uses_none_up(rt: HostRuntime) {
     let alloc = rt.alloc();
     let (served, spoke) = thread::join(&rt, || serve(&rt, alloc), || speak(&rt));
     assert!(&rt; served);

@@ -3,7 +3,7 @@
 //! The frames are by RFC 6455. A client's are masked, here by 0: a text of n bytes is 81, n + 80, four bytes of mask and the text. A server's are not.
 ghost use Rattle.std.specs.Thread.{IsSync};
 
-use super::loopback::connection;
+use super::loopback::{connection, is_over};
 use super::scene::{AMPLE, run_over, source_of};
 use mt_io::OpenGate;
 use mt_top::Status;
@@ -28,7 +28,7 @@ const LINES: &str = r#"{"do":"hello","role":"feed"}
 
 /// What it is answered.
 const ANSWERED: &[u8] =
-    b"{\"role\":\"feed\"}\n{\"entered\":1}\n{\"conflicts\":[],\"version\":1}\n{\"done\":\"bye\"}\n";
+    b"{\"role\":\"feed\"}\n{\"entered\":2}\n{\"conflicts\":[],\"version\":2}\n{\"done\":\"bye\"}\n";
 
 /// How the other client asks for a WebSocket. The key is the example of RFC 6455.
 const REQUEST: &str =
@@ -42,9 +42,9 @@ const FRAMES: [&[u8]; 4] = [
     b"\x81\x8c\0\0\0\0{\"do\":\"bye\"}",
 ];
 
-/// What it is answered: texts of 15, 13, 28 and 14 bytes; and, once all sessions have ended, a close.
+/// What it is answered: texts of 15, 13, 28 and 14 bytes; and a close, since its session has ended.
 const FRAMED: &[u8] =
-    b"\x81\x0f{\"role\":\"feed\"}\x81\x0d{\"entered\":2}\x81\x1c{\"conflicts\":[],\"version\":2}\x81\x0e{\"done\":\"bye\"}\x88\0";
+    b"\x81\x0f{\"role\":\"feed\"}\x81\x0d{\"entered\":1}\x81\x1c{\"conflicts\":[],\"version\":1}\x81\x0e{\"done\":\"bye\"}\x88\0";
 
 /// What the program writes.
 const WRITTEN: &[u8] =
@@ -88,10 +88,12 @@ fn speak_frames(mut stream: TcpStream) -> bool {
         }
     }
     let mut answered = [0u8; 80];
-    stream.read_exact(&mut answered).is_ok() && answered.as_slice() == FRAMED
+    stream.read_exact(&mut answered).is_ok()
+        && answered.as_slice() == FRAMED
+        && is_over(&mut stream)
 }
 
-/// Whether the two are answered as they should, the line session first.
+/// Whether the two are answered as they should: the WebSocket, which is over then, while the other has yet to speak; and then that one.
 fn speak<N: Net<Listener = TcpListener, Stream = TcpStream>>(net: &N) -> bool {
     let Some(lines) = connection(net, PORT) else {
         return false;
@@ -99,7 +101,7 @@ fn speak<N: Net<Listener = TcpListener, Stream = TcpStream>>(net: &N) -> bool {
     let Some(frames) = connection(net, PORT) else {
         return false;
     };
-    speak_lines(lines) && speak_frames(frames)
+    speak_frames(frames) && speak_lines(lines)
 }
 
 /// Whether the program serves both as it should.
