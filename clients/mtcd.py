@@ -6,9 +6,8 @@
         client.hello("position")
         for conflict in client.list().conflicts:
             print(conflict.pair, conflict.first, conflict.last)
-        probe = client.probe("EA00", level=360)
-        if not probe.conflicts:
-            client.accept(probe.probe)
+        for hit in client.clear_if_free("EA00", level=360).conflicts:
+            print("not cleared, for", hit.call, hit.first, hit.last)
 
 Units, as docs/PROTOCOL.md has them: `x` and `y` are 1/3600 of a nautical mile, east and north; `z` is 1/60 of a foot, so flight level n is at
 6,000 n; `vx` and `vy` are knots and `vz` is feet a minute, which are units a second; levels are hundreds of feet; times are whole seconds of the
@@ -77,6 +76,14 @@ class Probe(NamedTuple):
     eff: int
     probe: int
     version: int
+
+
+class Cleared(NamedTuple):
+    """What came of a clearance that was to be entered while it is free: its version, or None where it had these conflicts; from second `eff` on."""
+
+    entered: Optional[int]
+    conflicts: List[Hit]
+    eff: int
 
 
 class Advised(NamedTuple):
@@ -394,12 +401,24 @@ class Client:
     def probe(self, call: str, *, level: Optional[int] = None, direct: Optional[str] = None, eff: Optional[int] = None) -> Probe:
         """Tries a clearance, and gives the conflicts that it would have."""
         told = self.ask(do="probe", call=call, **_given(level=level, direct=direct, eff=eff))
-        hits = [Hit(hit["with"], hit["first"], hit["last"]) for hit in told["conflicts"]]
-        return Probe(hits, told["eff"], told["probe"], told["version"])
+        return Probe([_hit(hit) for hit in told["conflicts"]], told["eff"], told["probe"], told["version"])
 
     def accept(self, probe: int) -> int:
-        """Enters a clearance that was tried or advised, if it is free still; else it is refused as `stale`."""
+        """Enters a clearance that was tried or advised, if it is free still; else it is refused as `stale`. It holds from the probe's `eff` on: what
+        was probed a while ago is entered as if the flight had begun it then."""
         return self.ask(do="accept", probe=probe)["entered"]
+
+    def clear_if_free(self, call: str, *, level: Optional[int] = None, direct: Optional[str] = None) -> Cleared:
+        """Tries a clearance anew, from the moment on, and enters it at once if it is free."""
+        probe = self.probe(call, level=level, direct=direct)
+        if probe.conflicts:
+            return Cleared(None, probe.conflicts, probe.eff)
+        try:
+            return Cleared(self.accept(probe.probe), [], probe.eff)
+        except Refused as refusal:
+            if refusal.word != "stale":
+                raise
+            return Cleared(None, [_hit(refusal.reply["conflict"])], probe.eff)
 
     def clear(self, call: str, *, level: Optional[int] = None, direct: Optional[str] = None, eff: Optional[int] = None) -> int:
         """Clears a flight, whatever follows from it."""
@@ -442,6 +461,11 @@ def _accepted(line: str, text: str) -> dict:
     if "no" in reply:
         raise Refused(line, reply)
     return reply
+
+
+def _hit(told: dict) -> Hit:
+    """A conflict that `probe` and a stale acceptance tell."""
+    return Hit(told["with"], told["first"], told["last"])
 
 
 def _conflicts(told: dict) -> Conflicts:
