@@ -71,20 +71,20 @@ const DONE: &[u8] = b"{\"done\":\"bye\"}\n";
 const WRITTEN: &[u8] =
     b"{\"done\":\"begin\"}\n{\"conflicts\":0,\"entries\":1,\"faulted\":0,\"flights\":1,\"sessions\":2,\"starved\":0}\n";
 
-/// Whether a client that is no session is answered so, and nothing else.
-fn is_refused_so(mut stream: TcpStream, sent: &[u8], answer: &[u8]) -> bool {
-    let mut answered = [0u8; 128];
-    if stream.write_all(sent).is_err() {
-        return false;
-    }
-    let mut count: usize = 0;
-    for _ in 0..128u32 {
-        match stream.read(&mut answered[count..]) {
-            Ok(0) | Err(_) => break,
-            Ok(more) => count += more,
+/// Whether just these bytes come, and then nothing more.
+fn is_answered_so(stream: &mut TcpStream, answer: &[u8]) -> bool {
+    for byte in answer {
+        let mut next = [0u8; 1];
+        if stream.read_exact(&mut next).is_err() || next != [*byte] {
+            return false;
         }
     }
-    &answered[..count] == answer
+    is_over(stream)
+}
+
+/// Whether a client that is no session is answered so, and nothing else.
+fn is_refused_so(mut stream: TcpStream, sent: &[u8], answer: &[u8]) -> bool {
+    stream.write_all(sent).is_ok() && is_answered_so(&mut stream, answer)
 }
 
 /// Whether all of them are.
