@@ -1,14 +1,15 @@
 -- What lines mean once all that waited was written.
-use Rattle.std.proofs.Common.{◌≡◌, ◌<◌, ◌++◌, inr, ℕ, Bool, List, [], Some, None, length, sym, ap, ◌∙◌, arith, append_assoc, append-nil, ⊎_elim}
+use Rattle.std.proofs.Common.{◌≡◌, ◌<◌, ◌++◌, inr, ℕ, Bool, List, [], Some, None, length, sym, ap, ◌∙◌, arith, append_assoc, append-nil, length-append, ⊎_elim}
 use Rattle.std.specs.declared.option.Option.{Option}
 use Rattle.std.specs.Io.KnownBytes.{Appends}
 use Rattle.mt_io.specs.Reading.{Reading}
 use Rattle.mt_io.specs.Writing.{AppendsFront}
 use Rattle.mt_io.proofs.Known.{appends_on}
 use Rattle.mt_lines.specs.Answering.{Explains}
-use Rattle.mt_lines.specs.Ending.{EndsSo, HasRun, Turned}
+use Rattle.mt_lines.specs.Ending.{AnswersToLastWithin, EndsSo, HasRun, Turned}
 use Rattle.mt_lines.specs.declared.ending.Ending.{Ending}
 use Rattle.mt_lines.specs.declared.ending.Ending.TheVariants.{Last, WriteFault}
+use Rattle.mt_lines.proofs.Answering.{explained_as, replied_more, to_last}
 
 -- what is told of bytes is told of an output to which they were appended
 told_of : (M : List ℕ → List ℕ → List ℕ → Type 0) (before now held held_now : Option (List ℕ)) (all : List ℕ)
@@ -29,17 +30,17 @@ module _ {W R : Type 0} (text : R → List ℕ) (is_last : R → Bool) (IsReplie
   abbrev Ends : W → W → Ending → List ℕ → List ℕ → List ℕ → Type 0
   Ends start end ending input left written = EndsSo text is_last IsReplied IsFollowed start end ending input left written
 
-  abbrev Runs : W → Option (List ℕ) → Option (List ℕ) → List ℕ → Reading → W → Type 0
-  Runs start before now bytes reader w = HasRun text is_last IsReplied IsFollowed start before now bytes reader w
+  abbrev Runs : W → Option (List ℕ) → Option (List ℕ) → List ℕ → List ℕ → Reading → W → Type 0
+  Runs start before now written waiting reader w = HasRun text is_last IsReplied IsFollowed start before now written waiting reader w
 
   abbrev Turns : W → Option Ending → Option (List ℕ) → Option (List ℕ) → List ℕ → Option (List ℕ) → Option (List ℕ) → List ℕ → Reading → W → Type 0
   Turns start result before now sent held held_now waiting reader w = Turned text is_last IsReplied IsFollowed start result before now sent held held_now waiting reader w
 
   -- more lines are to be answered
   pub stays_open : (start : W) (before old now held held_now held_after : Option (List ℕ)) (waited waiting : List ℕ) (reader new : Reading) (w v : W)
-      → ((sent : List ℕ) × Appends held held_now sent × Runs start before old (sent ++ waited) reader w)
-      → ((before : Option (List ℕ)) (sent : List ℕ) → Runs start before old (sent ++ waited) reader w → Turns start None before now sent held_now held_after waiting new v)
-      → (sent : List ℕ) × Appends held held_after sent × Runs start before now (sent ++ waiting) new v
+      → ((sent : List ℕ) × Appends held held_now sent × Runs start before old sent waited reader w)
+      → ((before : Option (List ℕ)) (sent : List ℕ) → Runs start before old sent waited reader w → Turns start None before now sent held_now held_after waiting new v)
+      → (sent : List ℕ) × Appends held held_after sent × Runs start before now sent waiting new v
   stays_open start before old now held held_now held_after waited waiting reader new w v (sent, first, so_far) turn =
       let t = turn before sent so_far in
       (sent ++ t.more, appends_on held held_now held_after sent t.more first t.written, t.leaves)
@@ -53,7 +54,8 @@ module _ {W R : Type 0} (text : R → List ℕ) (is_last : R → Bool) (IsReplie
         let all = appends_on held held_after held_last (sent ++ turn.more) waiting so_far last in
         ⊎_elim
         (λ (none, e). told_of _ before now held held_last (sent ++ turn.more) e (rw (none, append-nil (sent ++ turn.more)) at all))
-        (λ (done, e). rw done (told_of (Ends start w Last) before now held held_last ((sent ++ turn.more) ++ waiting) e all))
+        (λ (done, e). rw done (told_of (Ends start w Last) before now held held_last ((sent ++ turn.more) ++ waiting)
+        (explained_as _ (Ends start w Last) before now (Some []) _ (λ input left bytes to. to_last text is_last IsReplied IsFollowed _ start input left bytes w to) e) all))
         turn.leaves
 
     -- the output failed before all that waited was written
@@ -66,7 +68,8 @@ module _ {W R : Type 0} (text : R → List ℕ) (is_last : R → Bool) (IsReplie
         (λ (none, e). absurd (omega (arith, some, ap length none)))
         (λ (done, e). cut e all)
         turn.leaves where
-          cut : Explains (Ends start w Last) before now (Some []) (Some ((sent ++ turn.more) ++ waiting)) → Appends held held_last ((sent ++ turn.more) ++ front)
+          cut : Explains (λ input left bytes. AnswersToLastWithin text is_last IsReplied IsFollowed (length (sent ++ turn.more)) start input left bytes w) before now (Some [])
+              (Some ((sent ++ turn.more) ++ waiting)) → Appends held held_last ((sent ++ turn.more) ++ front)
               → Explains (Ends start w WriteFault) before now held held_last
           cut e all =
               let to = e.means in
@@ -83,10 +86,13 @@ module _ {W R : Type 0} (text : R → List ℕ) (is_last : R → Bool) (IsReplie
                     lines = to.lines;
                     line = to.line;
                     read = to.read;
-                    others = to.bytes;
+                    others = to.others;
+                    middle = to.middle;
+                    replied = replied_more text is_last IsReplied IsFollowed (length (sent ++ turn.more)) (length ((sent ++ turn.more) ++ front)) start to.lines to.others to.middle
+                        (omega (arith, length-append (sent ++ turn.more) front)) to.replied;
                     reply = to.reply;
-                    replied = to.replied;
-                    bytes_are = append_assoc (sent ++ turn.more) front rest ∙ ap (λ bs. (sent ++ turn.more) ++ bs) (sym is) ∙ e.appended ∙ to.written_is;
+                    last = to.last;
+                    bytes_are = append_assoc (sent ++ turn.more) front rest ∙ ap (λ bs. (sent ++ turn.more) ++ bs) (sym is) ∙ e.appended ∙ to.bytes_are;
                   });
                 };
               }

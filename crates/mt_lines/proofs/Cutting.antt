@@ -6,6 +6,7 @@ use Rattle.std.proofs.Math.Seq.{drop-append_seam, take-append_seam}
 use Rattle.mt_io.specs.HasRead.{AreRead}
 use Rattle.mt_lines.specs.Answering.{AnswersFront, AreReplied, AreRepliedTo}
 use Rattle.mt_lines.specs.Ending.{LosesReplies}
+use Rattle.mt_lines.proofs.Answering.{replied_all}
 use Rattle.mt_lines.proofs.Fronts.{first_read}
 
 -- two ways to cut the same bytes: what stands between the cuts
@@ -156,7 +157,11 @@ module _ {W R : Type 0} (text : R → List ℕ) (is_last : R → Bool) (IsReplie
   pub front_of_lost : (start : W) (input left written : List ℕ) (end : W) → LosesReplies text is_last IsReplied IsFollowed start input left written end
       → AnswersSomeFront start input left written
   front_of_lost start input left written end loses = ⊎_elim
-      (λ all. cut_read start input left all.lines written all.read (cut_at start all.lines (written ++ loses.lost) written loses.lost end all.replied refl all.some))
+      (λ all. cut_read start input left all.lines written all.read
+      (cut_at start all.lines (written ++ loses.lost) written loses.lost end
+      (replied_all text is_last IsReplied IsFollowed (length written) start all.lines (written ++ loses.lost) end all.replied) refl all.some))
       (λ to. cut_read start input left (to.lines ++ to.line ∷ []) written to.read
-      (cut_to start to.lines to.line to.others written loses.lost to.reply end to.replied (sym to.bytes_are)))
+      (cut_to start to.lines to.line to.others written loses.lost to.reply end
+      (record { middle = to.middle; replied = replied_all text is_last IsReplied IsFollowed (length written) start to.lines to.others to.middle to.replied; last = to.last })
+      (sym to.bytes_are)))
       loses.answers

@@ -6,7 +6,7 @@ use Rattle.mt_io.specs.Reading.{Reading}
 use Rattle.mt_io.specs.declared.line.LineFault.{LineFault}
 use Rattle.mt_io.specs.declared.line.LineFault.TheVariants as faults
 use Rattle.mt_io.specs.declared.whole_write.WriteFault.{WriteFault as Failed}
-use Rattle.mt_lines.specs.Answering.{AnswersAll, AnswersToLast, AnswersWhole, AreReplied, AreRepliedTo, Explains, SoFar}
+use Rattle.mt_lines.specs.Answering.{AnswersAll, AnswersToLast, AnswersWhole, AreRepliedWithin, Explains, SoFar}
 use Rattle.mt_lines.specs.declared.ending.Ending.{Ending}
 use Rattle.mt_lines.specs.declared.ending.Ending.TheVariants.{End, Last, ReadFault, WriteFault, Spent}
 
@@ -23,27 +23,43 @@ ending_after (Ok false) true = Some Last
 ending_after (Ok false) false = None
 
 module _ {W R : Type 0} (text : R → List ℕ) (is_last : R → Bool) (IsReplied : W → List ℕ → R → W → Type 0) (IsFollowed : W → List ℕ → R → W → W → Type 0) where
-  -- lines were read, and these bytes answer them, in order, each once
-  pub record AnswersRead (start : W) (input left bytes : List ℕ) (end : W) : Type 0 where
+  -- lines were read, and these bytes, of which the first were written, answer them, in order, each once
+  pub record AnswersRead (start : W) (input left written lost : List ℕ) (end : W) : Type 0 where
     pub lines : List (List ℕ)
     pub read : AreRead input left lines
-    pub some : 0 < length bytes
-    pub replied : AreReplied text is_last IsReplied IsFollowed start lines bytes end
+    pub some : 0 < length (written ++ lost)
+    pub replied : AreRepliedWithin text is_last IsReplied IsFollowed (length written) start lines (written ++ lost) end
 
   -- the same, but that what follows the last reply was not done
-  pub record AnswersUnfollowed (start : W) (input left bytes : List ℕ) (end : W) : Type 0 where
+  pub record AnswersUnfollowed (start : W) (input left written lost : List ℕ) (end : W) : Type 0 where
     pub lines : List (List ℕ)
     pub line : List ℕ
     pub read : AreRead input left (lines ++ line ∷ [])
     pub others : List ℕ
+    pub middle : W
+    pub replied : AreRepliedWithin text is_last IsReplied IsFollowed (length written) start lines others middle
     pub reply : R
-    pub replied : AreRepliedTo text is_last IsReplied IsFollowed start lines line others reply end
+    pub last : IsReplied middle line reply end
+    pub bytes_are : written ++ lost ≡ others ++ text reply
+
+  -- the lines up to the one that ends the run are answered, and of the replies so many bytes were written
+  pub record AnswersToLastWithin (written : ℕ) (start : W) (input left bytes : List ℕ) (end : W) : Type 0 where
+    pub lines : List (List ℕ)
+    pub line : List ℕ
+    pub read : AreRead input left (lines ++ line ∷ [])
+    pub others : List ℕ
+    pub middle : W
+    pub replied : AreRepliedWithin text is_last IsReplied IsFollowed written start lines others middle
+    pub reply : R
+    pub last : IsReplied middle line reply end
+    pub ends : is_last reply ≡ true
     pub bytes_are : bytes ≡ others ++ text reply
 
-  -- of the bytes that answer the lines read a front was written, and the rest is lost: the end of a reply, and replies that waited
+  -- of the bytes that answer the lines read a front was written, and the rest is lost: the end of a reply, and replies that waited. No line was
+  -- followed whose text isn't written whole.
   pub record LosesReplies (start : W) (input left written : List ℕ) (end : W) : Type 0 where
     pub lost : List ℕ
-    pub answers : AnswersRead start input left (written ++ lost) end ⊎ AnswersUnfollowed start input left (written ++ lost) end
+    pub answers : AnswersRead start input left written lost end ⊎ AnswersUnfollowed start input left written lost end
 
   -- what an ending says: which lines the bytes written answer. By the state at first and at last, of the whole input, of what was left of it, and of
   -- what was written.
@@ -55,20 +71,21 @@ module _ {W R : Type 0} (text : R → List ℕ) (is_last : R → Bool) (IsReplie
       × AnswersWhole text is_last IsReplied IsFollowed start input left taken written end
   EndsSo start end WriteFault input left written = LosesReplies start input left written end
 
-  -- these bytes answer the lines that were read, the first of them written and the others waiting
-  abbrev pub HasRun : W → Option (List ℕ) → Option (List ℕ) → List ℕ → Reading → W → Type 0
-  HasRun start before now bytes reader w = SoFar text is_last IsReplied IsFollowed start before now (Some []) (Some bytes) reader w
+  -- the lines that were read are answered by the bytes written and those that wait. What follows a line was done only once its text was written.
+  abbrev pub HasRun : W → Option (List ℕ) → Option (List ℕ) → List ℕ → List ℕ → Reading → W → Type 0
+  HasRun start before now written waiting reader w =
+      SoFar text is_last IsReplied IsFollowed (length written) start before now (written ++ waiting) reader w
 
   -- no more lines will be answered. What the ending says is true of the bytes that were written, and none waits; or the last line was answered, and
   -- some replies wait.
   abbrev pub HasEnded : W → Ending → Option (List ℕ) → Option (List ℕ) → List ℕ → List ℕ → W → Type 0
   HasEnded start ending before now written waiting w =
       ((waiting ≡ []) × Explains (EndsSo start w ending) before now (Some []) (Some written))
-      ⊎ ((ending ≡ Last) × Explains (EndsSo start w Last) before now (Some []) (Some (written ++ waiting)))
+      ⊎ ((ending ≡ Last) × Explains (λ input left bytes. AnswersToLastWithin (length written) start input left bytes w) before now (Some []) (Some (written ++ waiting)))
 
   -- more lines are to be answered, or no more
   abbrev pub GoesOnOrEnds : W → Option Ending → Option (List ℕ) → Option (List ℕ) → List ℕ → List ℕ → Reading → W → Type 0
-  GoesOnOrEnds start None before now written waiting reader w = HasRun start before now (written ++ waiting) reader w
+  GoesOnOrEnds start None before now written waiting reader w = HasRun start before now written waiting reader w
   GoesOnOrEnds start (Some ending) before now written waiting reader w = HasEnded start ending before now written waiting w
 
   -- what a turn of the loop over lines leaves, before which these bytes were sent. It wrote more, and others wait.

@@ -1,6 +1,6 @@
 -- What a session's lines mean as they end.
-use Rattle.std.proofs.Common.{◌≡◌, ◌<◌, ◌≤◌, ◌||◌, inl, inr, ℕ, Bool, true, false, List, length, Option, Some, None, Result, Ok, Err, refl}
-use Rattle.std.specs.Prelude.{MatchOption, OnOk}
+use Rattle.std.proofs.Common.{◌≡◌, ◌<◌, ◌≤◌, ◌||◌, ◌⊎◌, inl, inr, ℕ, Bool, true, false, List, [], length, Option, Some, None, Result, Ok, Err, refl}
+use Rattle.std.specs.Prelude.{IfNone, MatchOption, OnOk, is_some}
 use Rattle.mt_io.specs.declared.whole_write.WriteFault.{WriteFault}
 use Rattle.mt_lines.specs.Ending.{ending_after}
 use Rattle.mt_write.specs.declared.reply.Reply.{Reply}
@@ -86,6 +86,13 @@ module _ (w : Standing) (line : List ℕ) where
   pub long_followed : 65536 < length line → (ending : Option Ending) (next : Standing) → IsDoneUnless ending None w next
       → (other : Reply) → IsGivenFor replies.Long other → MatchOption ending (IsFollowed w line other w next) (λ _. next ≡ w)
   long_followed long ending next done = followed_so ending replies.Long w next (rw (long_job w.session line long) done)
+
+-- where the session goes on, no job follows, or no reply waits
+pub settled : (ending : Option Ending) (job : Option (List ℕ)) (answered next : Standing) (waiting : List ℕ) → IsDoneUnless ending job answered next
+    → IfNone ending (is_some job ≡ true → waiting ≡ []) → IfNone ending ((next ≡ answered) ⊎ (waiting ≡ []))
+settled None None answered next waiting done written = inl done
+settled None (Some call) answered next waiting done written = inr (written refl)
+settled (Some ending) job answered next waiting done written = tt
 
 -- memory was wanted before the first line
 pub nothing_done : (seat : BoardSeat) (link : Link) (jobs : Option Jobs) → IsSession seat seat link link (Some jobs) (Some jobs) outcomes.Memory

@@ -1,5 +1,5 @@
 //! A session, from its first line to its last.
-ghost use Rattle.std.specs.Prelude.{◌≡◌, ◌≤◌, ◌^◌, ◌+◌, ◌++◌, ℕ, List, [], None, Some, Contains, IfNone, IfOk, is_some, true, false};
+ghost use Rattle.std.specs.Prelude.{◌≡◌, ◌≤◌, ◌^◌, ◌+◌, ℕ, List, [], None, Some, Contains, IfNone, IfOk, is_some, true, false};
 ghost use Rattle.std.specs.declared.option.Option.{Option};
 ghost use Rattle.mt_io.specs.Causes.{Rose};
 ghost use Rattle.mt_io.specs.Reading.{fresh};
@@ -167,7 +167,7 @@ impl<B: Board> Lines<B> {
         requires bound { self.old.reader.given ≤ 2 ^ 32 }
         requires none { self.old.outgoing ≡ [] }
         ensures ended { (start : Standing) (before : Option (List ℕ))
-            → SessionRuns start before (L.left link.old) [] self.old.reader (record { session = self.old.serving.session; jobs = O.jobs jobs.old })
+            → SessionRuns start before (L.left link.old) [] [] self.old.reader (record { session = self.old.serving.session; jobs = O.jobs jobs.old })
             → Explains (SessionEnds start (record { session = self.new.serving.session; jobs = O.jobs jobs.new }) result)
             before (L.left link.new) (L.held link.old) (L.held link.new) }
         ensures on { StaysOn self.old.serving self.new.serving }
@@ -196,7 +196,7 @@ impl<B: Board> Lines<B> {
         requires sync { IsSync R.row }
         requires sound { self.old.reader.fault ≡ None }
         ensures turned { (start : Standing) (before : Option (List ℕ)) (sent : List ℕ)
-            → SessionRuns start before (L.left link.old) (sent ++ self.old.outgoing) self.old.reader (record { session = self.old.serving.session; jobs = O.jobs jobs.old })
+            → SessionRuns start before (L.left link.old) sent self.old.outgoing self.old.reader (record { session = self.old.serving.session; jobs = O.jobs jobs.old })
             → SessionTurned start result before (L.left link.new) sent (L.held link.old) (L.held link.new) self.new.outgoing
             self.new.reader (record { session = self.new.serving.session; jobs = O.jobs jobs.new }) }
         ensures rises { IfNone result ((self.new.reader.given ≡ self.old.reader.given + 1) × (self.new.reader.given ≤ 2 ^ 32) × (self.new.reader.fault ≡ None)) }
@@ -228,7 +228,7 @@ impl<B: Board> Lines<B> {
         requires idle { ¬ Contains self.old.reader.store.ahead 10 → self.old.outgoing ≡ [] }
         requires anew { ¬ Contains self.old.reader.store.ahead 10 → self.old.serving.keeps_look ≡ false }
         ensures turned { (start : Standing) (before : Option (List ℕ)) (sent : List ℕ)
-            → SessionRuns start before (L.left link.old) (sent ++ self.old.outgoing) self.old.reader (record { session = self.old.serving.session; jobs = O.jobs jobs.old })
+            → SessionRuns start before (L.left link.old) sent self.old.outgoing self.old.reader (record { session = self.old.serving.session; jobs = O.jobs jobs.old })
             → SessionTurned start result before (L.left link.new) sent (L.held link.old) (L.held link.new) self.new.outgoing
             self.new.reader (record { session = self.new.serving.session; jobs = O.jobs jobs.new }) }
         ensures rises { IfNone result ((self.new.reader.given ≡ self.old.reader.given + 1) × (self.new.reader.given ≤ 2 ^ 32) × (self.new.reader.fault ≡ None)) }

@@ -30,8 +30,8 @@ outcome_of endings.Spent = outcomes.Spent
 abbrev pub SessionEnds : Standing → Standing → Ending → List ℕ → List ℕ → List ℕ → Type 0
 SessionEnds start end ending input left written = ends.EndsSo reply_text is_farewell TouchesNoJob IsFollowed start end ending input left written
 
-abbrev pub SessionRuns : Standing → Option (List ℕ) → Option (List ℕ) → List ℕ → Reading → Standing → Type 0
-SessionRuns start before now bytes reader w = ends.HasRun reply_text is_farewell TouchesNoJob IsFollowed start before now bytes reader w
+abbrev pub SessionRuns : Standing → Option (List ℕ) → Option (List ℕ) → List ℕ → List ℕ → Reading → Standing → Type 0
+SessionRuns start before now written waiting reader w = ends.HasRun reply_text is_farewell TouchesNoJob IsFollowed start before now written waiting reader w
 
 abbrev pub SessionTurned : Standing → Option Ending → Option (List ℕ) → Option (List ℕ) → List ℕ → Option (List ℕ) → Option (List ℕ) → List ℕ → Reading → Standing → Type 0
 SessionTurned start result before now sent held held_now waiting reader w =

@@ -1,4 +1,4 @@
-use Rattle.std.proofs.Common.{Err, Some, false, ap, sym, ◌∙◌}
+use Rattle.std.proofs.Common.{Err, None, Some, false, ap, sym, ◌∙◌}
 use Rattle.std.proofs.Math.Nat.{le_trans}
 use Rattle.mt_lines.specs.Ending.{ending_after}
 use Rattle.mt_lines.specs.Given.{is_farewell}
@@ -8,7 +8,7 @@ use Rattle.mt_lines.proofs.Streams.{behind, untold}
 use Rattle.mt_lines.proofs.Turning.{at_end, at_fault, at_given, one_more}
 use Rattle.mt_session.specs.Following.{IsFollowed, Standing, TouchesNoJob}
 use Rattle.mt_session.proofs.Stays.{stays_itself, stays_on}
-use Rattle.mt_session.proofs.Turning.{followed_so, long_followed, long_so, only_farewell, replied_so}
+use Rattle.mt_session.proofs.Turning.{followed_so, long_followed, long_so, only_farewell, replied_so, settled}
 use Rattle.mt_session.proofs.over_link.Lines.answer_next.Goals as goal
 
 pub returns-in-Ok-Text-clause-turned : goal.returns-in-Ok-Text-clause-turned
@@ -18,13 +18,15 @@ returns-in-Ok-Text-clause-turned g c =
     let held = g.met.L.Duplex.reading_keeps_held _ _ c.next.ensures.kept in
     let given = rw held at c.finish.ensures.given in
     let done = rw (c.answer-reply.ensures.job, given.result_is) at c.finish.ensures.done in
+    let written = rw (c.answer-reply.ensures.job, given.result_is) at c.finish.ensures.written in
     let jobs = g.O.Outbox.jobs c.args.jobs.now in
     let w : Standing = record { session = c.args.self.now.serving.session; jobs = jobs } in
     let answered : Standing = record { session = c.answer-reply.new.self.session; jobs = jobs } in
     let next : Standing = record { session = c.finish.new.self.serving.session; jobs = g.O.Outbox.jobs c.finish.new.jobs } in
     λ start before sent so_far. rw (left, c.finish.ensures.reader, given.result_is) (at_given is_farewell TouchesNoJob IsFollowed start before _ _ sent _ _ _ _ _ _ _ c.in-Ok-Text.line.now
     c.answer-reply.result.0 answered so_far line.1 (replied_so w c.in-Ok-Text.line.now c.answer-reply.result.0 answered.session c.answer-reply.ensures.replied line.0) given.given false next given.gives given.lost
-    (only_farewell c.answer-reply.result.0) (followed_so w c.in-Ok-Text.line.now (ending_after given.given false) c.answer-reply.result.0 answered next done))
+    (only_farewell c.answer-reply.result.0) (followed_so w c.in-Ok-Text.line.now (ending_after given.given false) c.answer-reply.result.0 answered next done)
+    (settled (ending_after given.given false) _ answered next _ done written))
 
 pub returns-in-Ok-Long-clause-turned : goal.returns-in-Ok-Long-clause-turned
 returns-in-Ok-Long-clause-turned g c =
@@ -33,10 +35,12 @@ returns-in-Ok-Long-clause-turned g c =
     let held = g.met.L.Duplex.reading_keeps_held _ _ c.next.ensures.kept in
     let given = rw held at c.finish-in-Ok-Long.ensures.given in
     let done = rw given.result_is at c.finish-in-Ok-Long.ensures.done in
+    let written = rw given.result_is at c.finish-in-Ok-Long.ensures.written in
     let w : Standing = record { session = c.args.self.now.serving.session; jobs = g.O.Outbox.jobs c.args.jobs.now } in
     let next : Standing = record { session = c.finish-in-Ok-Long.new.self.serving.session; jobs = g.O.Outbox.jobs c.finish-in-Ok-Long.new.jobs } in
     λ start before sent so_far. rw (left, c.finish-in-Ok-Long.ensures.reader, given.result_is) (at_given is_farewell TouchesNoJob IsFollowed start before _ _ sent _ _ _ _ _ _ _ line
-    replies.Long w so_far takes (long_so w line long) given.given false next given.gives given.lost (only_farewell replies.Long) (long_followed w line long (ending_after given.given false) next done))
+    replies.Long w so_far takes (long_so w line long) given.given false next given.gives given.lost (only_farewell replies.Long) (long_followed w line long (ending_after given.given false) next done)
+    (settled (ending_after given.given false) None w next _ done written))
 
 pub returns-in-Ok-Text-clause-rises : goal.returns-in-Ok-Text-clause-rises
 returns-in-Ok-Text-clause-rises g c =
