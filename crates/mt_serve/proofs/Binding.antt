@@ -14,7 +14,8 @@ use Rattle.mt_turn.specs.Lending.{AllJoined, IsJoined, ClosesHistory}
 use Rattle.mt_base.specs.declared.command.Entry.{Entry}
 use Rattle.mt_serve.specs.Sitting.{SessionRun, SessionStart, starts_of, seats_of}
 use Rattle.mt_serve.specs.Working.{IsRenewal}
-use Rattle.mt_serve.specs.Private.Working.{Worked, IsRested, froms_of, rests_of}
+use Rattle.mt_serve.specs.Private.Working.{froms_of, rests_of}
+use Rattle.mt_serve.specs.Working.{IsRested, Worked}
 use Rattle.mt_serve.specs.Serving.{HasServed}
 use Rattle.mt_serve.specs.Seating.{numbers_of}
 use Rattle.mt_serve.specs.Private.Seating.{IsNewSeat, AllSplit, HasSplit, HasJoined, views_of, joined_of}

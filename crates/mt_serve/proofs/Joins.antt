@@ -13,7 +13,8 @@ use Rattle.mt_base.specs.declared.command.Entry.{Entry}
 use Rattle.mt_io.specs.Door.{took_one}
 use Rattle.mt_session.specs.declared.outcome.Outcome.{Outcome}
 use Rattle.mt_serve.specs.Sitting.{SessionRun}
-use Rattle.mt_serve.specs.Private.Working.{Worked, HasWorkedInSeat, IsRested, rests_of}
+use Rattle.mt_serve.specs.Private.Working.{rests_of}
+use Rattle.mt_serve.specs.Working.{HasWorkedInSeat, IsRested, Worked}
 use Rattle.mt_serve.specs.Serving.{HasServed}
 use Rattle.mt_serve.specs.Private.Seating.{HasJoined, views_of}
 use Rattle.mt_serve.specs.declared.counts.Counts.{Counts}

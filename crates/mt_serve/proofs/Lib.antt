@@ -7,3 +7,4 @@ pub mod Binding
 pub mod Renewals
 pub mod Whole
 pub mod ClosingLine
+pub mod Staff

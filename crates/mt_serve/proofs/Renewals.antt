@@ -20,7 +20,7 @@ use Rattle.mt_turn.specs.declared.view.View.{View}
 use Rattle.mt_turn.specs.Seats.{SeatNow}
 use Rattle.mt_workers.specs.Work.{HasWorkedAll}
 use Rattle.mt_serve.specs.Working.{IsRenewal}
-use Rattle.mt_serve.specs.Private.Working.{HasWorkedInSeat}
+use Rattle.mt_serve.specs.Working.{HasWorkedInSeat}
 
 abbrev home_of : Hand → Home
 home_of h = record { turn = h.desk.home; gave = h.view.gave; joined = h.view.joined }

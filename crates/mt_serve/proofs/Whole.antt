@@ -21,6 +21,7 @@ use Rattle.mt_serve.specs.Sitting.{HaveNoChannel, SessionRun, SessionStart, star
 use Rattle.mt_serve.specs.Private.Sitting.{HasSeatedLinks, HasServedLinks, IsDoorOver}
 use Rattle.mt_serve.specs.Private.Seating.{IsNewSeat, AllSplit, HasSplit}
 use Rattle.mt_serve.specs.Tied.{Doorway, IsTied, HasServedAll, backs_of}
+use Rattle.mt_serve.specs.Working.{IsRested, Worked, staff_of}
 use Rattle.mt_serve.specs.Private.Tied.{HasTakenBack}
 use Rattle.mt_serve.proofs.Accepts.{loses_none}
 use Rattle.mt_serve.proofs.Seats.{length_map}
@@ -61,12 +62,12 @@ count_is c port sessions given back a b d e =
 
 module _ {L : Type 0} (source : Source.Ghosts L) (sink : Sink.Ghosts L) where
   -- the door was `at_first` at first, `at_listening` once it listened, `at_end` when it was over, and `at_last` once the links were back
-  pub served_all : (setup : Setup) (port sessions workers staff : ℕ) (at_first at_listening at_end at_last : Doorway L) (desk : Desk) (faulted : Bool) (h : List Entry) (runs : List (SessionRun L)) (seats rest : List (SeatNow Entry Setup))
+  pub served_all : (setup : Setup) (port sessions workers : ℕ) (works : List Worked) (at_first at_listening at_end at_last : Doorway L) (desk : Desk) (faulted : Bool) (h : List Entry) (runs : List (SessionRun L)) (seats rest : List (SeatNow Entry Setup))
       → at_listening.count ≡ listened port sessions → at_listening.still ≡ at_first.still → at_listening.returned ≡ at_first.returned → at_first.faults ≤ at_listening.faults
       → HasServedLinks desk at_listening at_end seats rest (starts_of runs) faulted
       → IsTied source sink setup h runs → HasTakenBack at_end at_last (backs_of runs)
-      → staff ≤ workers → (staff ≡ 0 → HaveNoChannel (starts_of runs)) → HasServedAll source sink setup port sessions workers at_first at_last faulted h runs
-  served_all setup port sessions workers staff at_first at_listening at_end at_last desk faulted h runs seats rest listen ss bs later links tied back staff_is channels =
+      → All IsRested works → length works ≤ workers → (staff_of works ≡ 0 → HaveNoChannel (starts_of runs)) → HasServedAll source sink setup port sessions workers at_first at_last faulted h runs
+  served_all setup port sessions workers works at_first at_listening at_end at_last desk faulted h runs seats rest listen ss bs later links tied back worked few channels =
       let begun = links.begun in
       let many = length_map (λ (z : SessionRun L). z.from) runs in
       let p1 = ap (λ (z : Count). z.port) listen in let n1 = ap (λ (z : Count). z.sessions) listen in let g1 = ap (λ (z : Count). z.given) listen in let k1 = ap (λ (z : Count). z.back) listen in
@@ -82,8 +83,9 @@ module _ {L : Type 0} (source : Source.Ghosts L) (sink : Sink.Ghosts L) where
           over_all faulted at_end.count at_listening.faults at_end.faults (length runs) sessions links.over given (begun.sessions ∙ n1),
         );
         cause = λ is. let r = over_cause faulted at_end.count at_listening.faults at_end.faults links.over is in omega (arith, r, later, back.faults);
-        staff = staff;
-        staff_is = staff_is;
+        works = works;
+        worked = worked;
+        few = few;
         channels = channels;
       }
 
@@ -101,8 +103,9 @@ module _ {L : Type 0} (source : Source.Ghosts L) (sink : Sink.Ghosts L) where
         returned = subst (λ b. Gains b at_last.returned (backs_of runs)) bs back.returned;
         count = inr (back.count ∙ ap (λ n. record { port = at_listening.count.port; sessions = at_listening.count.sessions; given = at_listening.count.given; back = n }) same ∙ listen, zero_, refl);
         cause = λ is. omega (arith, rose, back.faults);
-        staff = 0;
-        staff_is = omega arith;
+        works = [];
+        worked = λ k d below. absurd (omega arith);
+        few = omega arith;
         channels = λ _. subst (λ (ms : List (SessionRun L)). HaveNoChannel (starts_of ms)) (sym none) (λ k d below. absurd (omega arith));
       }
 

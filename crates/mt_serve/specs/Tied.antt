@@ -11,7 +11,7 @@ use Rattle.mt_turn.specs.Views.{Extends, entries_of}
 use Rattle.mt_serve.specs.Seating.{numbers_of}
 use Rattle.mt_serve.specs.Serving.{HasServed}
 use Rattle.mt_serve.specs.Sitting.{HaveNoChannel, SessionRun, links_of, seats_of, starts_of}
-use Rattle.mt_serve.specs.Working.{IsRenewal}
+use Rattle.mt_serve.specs.Working.{IsRenewal, IsRested, Worked, staff_of}
 
 -- `number_of`, `backs_of`: the number of an entry's actor, and links given back
 abbrev pub number_of : Entry → ℕ
@@ -51,8 +51,8 @@ module _ {L : Type 0} (source : Source.Ghosts L) (sink : Sink.Ghosts L) where
     pub others : (e : Entry) → Contains h e → IsSessions runs e.who ⊎ IsRenewal e
 
   -- each link that the door gave was served and is back, tied by one history. The door was asked for a port and so many sessions, and gave that many
-  -- links, or failed while some were to come. They are back in order. Where the door doesn't listen, no link was given. Of so many workers some were
-  -- started; where none was, no session had a channel.
+  -- links, or failed while some were to come. They are back in order. Where the door doesn't listen, no link was given. At most so
+  -- many workers were beside them, all of whose entries are renewals; where none worked until no job would come, no session had a channel.
   pub record HasServedAll (setup : Setup) (port sessions workers : ℕ) (old new : Doorway L) (faulted : Bool) (h : List Entry) (runs : List (SessionRun L)) : Type 0 where
     pub tied : IsTied setup h runs
     pub given : LosesFront old.still new.still (links_of (starts_of runs))
@@ -60,6 +60,7 @@ module _ {L : Type 0} (source : Source.Ghosts L) (sink : Sink.Ghosts L) where
     pub count : ((new.count ≡ record { port = port; sessions = sessions; given = length runs; back = length runs }) × MatchBool faulted (length runs < sessions) (length runs ≡ sessions))
         ⊎ ((new.count ≡ old.count) × (length runs ≡ 0) × (faulted ≡ true))
     pub cause : faulted ≡ true → Rose old.faults new.faults
-    pub staff : ℕ
-    pub staff_is : staff ≤ workers
-    pub channels : staff ≡ 0 → HaveNoChannel (starts_of runs)
+    pub works : List Worked
+    pub worked : All IsRested works
+    pub few : length works ≤ workers
+    pub channels : staff_of works ≡ 0 → HaveNoChannel (starts_of runs)

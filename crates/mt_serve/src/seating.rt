@@ -7,7 +7,8 @@ ghost use Rattle.mt_serve.specs.Summary.{counted};
 ghost use Rattle.mt_serve.specs.Private.Summary.{with_outcome};
 ghost use Rattle.mt_serve.specs.Tied.{backs_of, doorway_of};
 ghost use Rattle.mt_serve.specs.Private.Tied.{AreOver, HasTakenBack, ends_of};
-ghost use Rattle.mt_serve.specs.Private.Working.{IsRested, rests_of};
+ghost use Rattle.mt_serve.specs.Private.Working.{rests_of};
+ghost use Rattle.mt_serve.specs.Working.{IsRested};
 ghost use Rattle.mt_turn.specs.Views.{taker};
 
 use crate::counts::Counts;
@@ -57,7 +58,11 @@ pub(crate) fn join_workers(desk: &Desk, first: &mut Seat, mut resteds: VecDeque<
     ensures worked { All IsRested resteds.items }
 {
     while let Some(rested) = resteds.pop_front() {
-        let Rested { given: _, seat } = rested;
+        let Rested {
+            given: _,
+            seat,
+            jobs: _,
+        } = rested;
         desk.join(first, seat);
     }
 }

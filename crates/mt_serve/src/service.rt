@@ -12,6 +12,7 @@ ghost use Rattle.mt_serve.specs.Summary.{HasServedWhole, counted};
 ghost use Rattle.mt_serve.specs.Tied.{IsTied, backs_of, doorway_of};
 ghost use Rattle.mt_serve.specs.Private.Tied.{HasTakenBack};
 ghost use Rattle.mt_serve.specs.Private.Working.{HasStaffed, IsStaffed, froms_of};
+ghost use Rattle.mt_serve.specs.Working.{IsRested};
 
 use crate::accepting::{serve_links, take_back};
 use crate::counts::Counts;
@@ -122,7 +123,7 @@ fn serve_beside<R: Threads + Wait + Sync, D: Door, G: Gate + Sync>(
             let (seats, dones, faulted) = serve_links(
                 rt, desk, gate, door, seats, sittings, dones, senders,
             );
-            rest_all(rt, workings, &mut resteds);
+            rest_all(rt, desk, gate, workings, &mut resteds);
             let left = Left {
                 seats,
                 dones,
@@ -150,6 +151,7 @@ fn settle<D: Door>(desk: Desk, door: &mut D, first: Seat, left: Left<D::Link>) -
     ensures complete { All IsComplete result.picture.history }
     ensures counted { result.counts ≡ counted left.dones.items }
     ensures faulted { result.faulted ≡ left.faulted }
+    ensures worked { All IsRested left.resteds.items }
     ensures door { HasTakenBack (doorway_of D.count D.still D.returned D.faults door.old)
         (doorway_of D.count D.still D.returned D.faults door.new) (backs_of left.dones.items) }
 {

@@ -1,5 +1,5 @@
 //! Jobs through a channel, from many threads to many.
-ghost use Rattle.std.specs.Prelude.{None};
+ghost use Rattle.std.specs.Prelude.{◌≡◌, IfOk, None, false};
 
 use crate::inbox::Inbox;
 use crate::job::Job;
@@ -7,6 +7,7 @@ use crate::outbox::Outbox;
 use crossbeam_channel::{Receiver, Sender, bounded};
 use mt_memory::Memory;
 use std::alloc::Global;
+use std::marker::Model;
 use std::sync::Wait;
 use std::thread::Threads;
 
@@ -16,16 +17,32 @@ pub struct JobSender {
     sender: Sender<Job, Global>,
 }
 
-/// The end of a channel that gives jobs: none once all senders are gone and no job is left. It tells nothing of them.
+/// The end of a channel that gives jobs: none once all senders are gone and no job is left. It tells nothing of them, but whether it has said that
+/// no job will come.
 #[derive(Drop)]
 pub struct JobReceiver {
     receiver: Receiver<Job, Global>,
+    over: bool,
+}
+
+impl Model for JobReceiver {
+    ghost use Rattle.std.specs.Prelude.{Bool};
+
+    ghost Value = { Bool };
+
+    ghost view = { λ r. r.over };
 }
 
 /// The two ends of a channel with so many places.
-pub fn jobs(alloc: Global, places: usize) -> Result<(JobSender, JobReceiver), Memory> {
+pub fn jobs(alloc: Global, places: usize) -> Result<(JobSender, JobReceiver), Memory>
+    ensures { IfOk result (λ ends. ends.1 ≡ false) }
+{
     let (sender, receiver) = bounded(alloc, places)?;
-    Ok((JobSender { sender }, JobReceiver { receiver }))
+    let receiver = JobReceiver {
+        receiver,
+        over: false,
+    };
+    Ok((JobSender { sender }, receiver))
 }
 
 impl JobSender {
@@ -39,9 +56,12 @@ impl JobSender {
 
 impl JobReceiver {
     /// Another such end of the same channel.
-    pub fn share(&self) -> Result<JobReceiver, Memory> {
+    pub fn share(&self) -> Result<JobReceiver, Memory>
+        ensures { IfOk result (λ end. end ≡ false) }
+    {
         Ok(JobReceiver {
             receiver: self.receiver.clone()?,
+            over: false,
         })
     }
 }
@@ -60,7 +80,15 @@ impl Outbox for JobSender {
 impl Inbox for JobReceiver {
     ghost left = { λ _. None };
 
+    ghost is_over = { λ receiver. receiver };
+
     fn next<R: Threads + Wait + Sync>(&mut self, rt: &R) -> Option<Job> {
-        self.receiver.recv(rt).ok()
+        match self.receiver.recv(rt) {
+            Ok(job) => Some(job),
+            Err(_) => {
+                self.over = true;
+                None
+            }
+        }
     }
 }

@@ -14,7 +14,8 @@ use Rattle.mt_serve.specs.declared.counts.Counts.{Counts}
 use Rattle.mt_serve.specs.Summary.{counted}
 use Rattle.mt_serve.specs.Tied.{Doorway, backs_of}
 use Rattle.mt_serve.specs.Private.Tied.{AreOver, HasTakenBack, ends_of}
-use Rattle.mt_serve.specs.Private.Working.{IsRested, Worked, rests_of}
+use Rattle.mt_serve.specs.Private.Working.{rests_of}
+use Rattle.mt_serve.specs.Working.{IsRested, Worked}
 
 -- `JoinsSeats`, `JoinsWorkers`, `JoinsSessions`: the first seats of a list are joined, and others are left; so for workers, and for sessions
 pub record JoinsSeats (desk : Desk) (v w : View Entry Setup) (all rest : List (SeatNow Entry Setup)) : Type 0 where

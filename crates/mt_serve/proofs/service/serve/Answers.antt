@@ -65,12 +65,13 @@ returns-clause-served g c =
     let door = doorway_of g.D.Door.count g.D.Door.still g.D.Door.returned g.D.Door.faults in
     whole g.D.Link.Source g.D.Link.Sink c.in-Ok.desk.fixed c.args.picture.setup _ _ _ _ _ _ _ c.settle-2.result.picture c.settle-2.result.counts
     c.serve_beside-left.result.dones.items c.in-Ok.ensures.fixed c.settle-2.ensures.faulted c.settle-2.ensures.setup c.settle-2.ensures.legal c.settle-2.ensures.complete
-    (served_all g.D.Link.Source g.D.Link.Sink c.in-Ok.desk.fixed c.args.port c.args.sessions c.args.workers c.serve_beside-left.result.staff (door c.args.door.now) (door c.listen.new.self)
+    (served_all g.D.Link.Source g.D.Link.Sink c.in-Ok.desk.fixed c.args.port c.args.sessions c.args.workers c.serve_beside-left.result.resteds.items (door c.args.door.now) (door c.listen.new.self)
     (door c.serve_beside-left.new.door) (door c.settle-2.new.door) c.in-Ok.desk _ _ c.serve_beside-left.result.dones.items c.split_all.new.seats.items
     c.serve_beside-left.result.seats.items c.in-Ok-listen.ensures.count c.in-Ok-listen.ensures.links.0 c.in-Ok-listen.ensures.links.1 c.in-Ok-listen.ensures.cause.later
     c.serve_beside-left.ensures.links
     c.settle-2.ensures.tied c.settle-2.ensures.door
-    (omega (arith, c.serve_beside-left.ensures.staff.few, c.split_all-2.ensures.many.1)) c.serve_beside-left.ensures.channels)
+    c.settle-2.ensures.worked (omega (arith, c.serve_beside-left.ensures.staff.few, c.split_all-2.ensures.many.1))
+    (λ none. c.serve_beside-left.ensures.channels (c.serve_beside-left.ensures.staff.staff_is ∙ none)))
     c.settle-2.ensures.counted
 
 -- the seats

@@ -61,3 +61,6 @@ returns-clause-counted g c = c.join_sessions-counts.ensures.counted
 
 pub returns-clause-door : goal.returns-clause-door
 returns-clause-door g c = c.join_sessions-counts.ensures.door
+
+pub returns-clause-worked : goal.returns-clause-worked
+returns-clause-worked g c = c.join_workers.ensures.worked

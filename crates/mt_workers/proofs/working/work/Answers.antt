@@ -11,11 +11,14 @@ loop-preserved g c =
     let so_far = c.loop.invariant in
     let on = change_goes_on _ _ _ _ c.change-renewed.ensures.changed in
     record {
-      worked = works_on _ _ _ _ _ _ c.in-Some-next.job.call _ so_far.worked c.in-Some-next.ensures c.change-renewed.ensures.changed;
+      worked = works_on _ _ _ _ _ _ c.in-Some-next.job.call _ so_far.worked c.in-Some-next.ensures.jobs c.change-renewed.ensures.changed;
       same = same_on _ _ _ so_far.same on.0;
       begins = goes_on _ _ _ so_far.begins on.1;
       home = c.change-renewed.ensures.home ∙ so_far.home;
     }
 
 pub returns-in_default-clause-worked : goal.returns-in_default-clause-worked
-returns-in_default-clause-worked g c = works_all _ _ _ _ _ c.loop.invariant.worked c.in_default.ensures.0 c.in_default.ensures.1
+returns-in_default-clause-worked g c = works_all _ _ _ _ _ c.loop.invariant.worked c.in_default.ensures.jobs.0 c.in_default.ensures.jobs.1
+
+pub returns-in_default-clause-over : goal.returns-in_default-clause-over
+returns-in_default-clause-over g c = c.in_default.ensures.over
