@@ -1,6 +1,7 @@
 -- What lines that ended mean for a whole script, and for lines that set a picture up.
-use Rattle.std.proofs.Common.{◌≡◌, inl, inr, ℕ, true, false, List, Some, Result, Err, refl, sym, ap, ◌∙◌, true≢false}
+use Rattle.std.proofs.Common.{◌≡◌, inl, inr, ℕ, true, false, All, List, Some, Result, Err, refl, sym, ap, ◌∙◌, true≢false}
 use Rattle.std.specs.declared.option.Option.{Option}
+use Rattle.mt_base.specs.Complete.{IsComplete}
 use Rattle.mt_lines.specs.Answering.{Explains}
 use Rattle.mt_lines.specs.Given.{is_farewell}
 use Rattle.mt_lines.specs.declared.ending.Ending.{Ending}
@@ -30,18 +31,18 @@ unopened before held = steps.explained_as _ (OpeningMeans Memory) before before 
 
 module _ (before after held held_after : Option (List ℕ)) (w : World) where
   -- the lines are all that there are
-  whole : (HasReply : World → List ℕ → Reply → World → Type 0) (ending : Ending) (input left written : List ℕ) → LinesEnd HasReply false w ending input left written
-      → AnswersMean HasReply (status_of ending) input left written
-  whole HasReply endings.End input left written all = inl (w, all)
-  whole HasReply endings.Last input left written to = inr (w, to)
-  whole HasReply endings.ReadFault input left written (taken, answers) = (taken, (w, answers))
-  whole HasReply endings.Spent input left written (taken, all, answers) = (taken, all, (w, answers))
-  whole HasReply endings.WriteFault input left written loses = front_of_lost reply_text is_farewell HasReply NothingFollows opening_world input left written w loses
+  whole : (HasReply : World → List ℕ → Reply → World → Type 0) → All IsComplete w.history → (ending : Ending) (input left written : List ℕ)
+      → LinesEnd HasReply false w ending input left written → AnswersMean HasReply (status_of ending) input left written
+  whole HasReply complete endings.End input left written all = inl (w, all, complete)
+  whole HasReply complete endings.Last input left written to = inr (w, to, complete)
+  whole HasReply complete endings.ReadFault input left written (taken, answers) = (taken, (w, answers, complete))
+  whole HasReply complete endings.Spent input left written (taken, all, answers) = (taken, all, (w, answers, complete))
+  whole HasReply complete endings.WriteFault input left written loses = front_of_lost reply_text is_farewell HasReply NothingFollows opening_world input left written w loses
 
-  pub replayed : (HasReply : World → List ℕ → Reply → World → Type 0) (ending : Ending) → Explains (LinesEnd HasReply false w ending) before after held held_after
-      → Explains (AnswersMean HasReply (status_of ending)) before after held held_after
-  replayed HasReply ending explained =
-      steps.explained_as (LinesEnd HasReply false w ending) (AnswersMean HasReply (status_of ending)) before after held held_after (whole HasReply ending) explained
+  pub replayed : (HasReply : World → List ℕ → Reply → World → Type 0) → All IsComplete w.history → (ending : Ending)
+      → Explains (LinesEnd HasReply false w ending) before after held held_after → Explains (AnswersMean HasReply (status_of ending)) before after held held_after
+  replayed HasReply complete ending explained =
+      steps.explained_as (LinesEnd HasReply false w ending) (AnswersMean HasReply (status_of ending)) before after held held_after (whole HasReply complete ending) explained
 
   -- they set a picture up, and it has begun
   begun_by : (picture : Story) → picture ≡ record { setup = setup_of w; history = w.history } → w.begun ≡ true → (ending : Ending) → is_done (status_of ending) ≡ true

@@ -123,6 +123,6 @@ module _ (primary : Story) (n : ℕ) where
   pub done_caught_up : (input left written : List ℕ) → FollowsPrimary primary n (lines_of input) written → StandbyMeans Done input left written
       → EndsCaughtUp primary n input left written
   done_caught_up input left written f means = ⊎_elim
-      (λ (end, all). record { end = end; answers = all; caught_up = run_caught_up (lines_of input) written end f all.replied })
-      (λ (end, last). absurd (unended input left written end f last))
+      (λ (end, all, complete). record { end = end; answers = all; caught_up = run_caught_up (lines_of input) written end f all.replied })
+      (λ (end, last, complete). absurd (unended input left written end f last))
       means

@@ -1,6 +1,6 @@
 -- What is known of lines that set a picture up, turn by turn.
 use Rattle.std.proofs.Common.{◌≡◌, ◌||◌, ◌&&◌, inl, ⊎_elim, Bool, true, false, [], Option, Some, None, refl, sym, ap, ◌∙◌, Result, Ok, Err, true≢false}
-use Rattle.std.specs.Prelude.{MatchOption, ◌⊎◌}
+use Rattle.std.specs.Prelude.{IfNone, MatchOption, ◌⊎◌}
 use Rattle.mt_io.specs.declared.whole_write.WriteFault.{WriteFault as Failed}
 use Rattle.mt_lines.specs.Ending.{ending_after}
 use Rattle.mt_lines.specs.Given.{IsGivenFor, is_brief, is_farewell}
@@ -54,6 +54,11 @@ pub nothing_more : (reply : Reply) (ending : Option Ending) (next : World) (othe
     → MatchOption ending (next ≡ next) (λ _. next ≡ next)
 nothing_more reply None next other for = refl
 nothing_more reply (Some ending) next other for = refl
+
+-- so it doesn't matter what waits
+pub none_open : (ending : Option Ending) (next : World) (P : Type 0) → IfNone ending ((next ≡ next) ⊎ P)
+none_open None next P = inl refl
+none_open (Some ending) next P = tt
 
 -- the picture hasn't begun before a line
 pub unbegun : {until_begun : Bool} {w : World} → IsSettingUp until_begun None w → until_begun ≡ true → w.begun ≡ false

@@ -1,6 +1,7 @@
-use Rattle.std.specs.Prelude.{◌≡◌, ◌^◌, ◌⊎◌, ℕ, List, [], ◌∷◌, ◌++◌, length, codes}
+use Rattle.std.specs.Prelude.{◌≡◌, ◌^◌, ◌⊎◌, ℕ, List, [], ◌∷◌, ◌++◌, length, codes, All}
 use Rattle.std.specs.declared.option.Option.{Option}
 use Rattle.std.specs.declared.option.Option.TheVariants.{None, Some}
+use Rattle.mt_base.specs.Complete.{IsComplete}
 use Rattle.mt_args.specs.declared.task.Task.{Task}
 use Rattle.mt_args.specs.declared.task.Task.TheVariants.{Load, Replay, Serve, Standby}
 use Rattle.mt_args.specs.Task.{task_of}
@@ -20,22 +21,23 @@ use Rattle.mt_top.specs.Standby.{IsStoodBy}
 use Rattle.mt_world.specs.World.{World, opening_world}
 
 -- Lines are answered one by one, from the opening world on, up to the one that is answered with a farewell: which reply is given to a line of a
--- world, and which world that leaves, is said by `HasReply`. At the end there is some world.
+-- world, and which world that leaves, is said by `HasReply`. At the end there is some world; where no output failed, each entry of its history is
+-- complete.
 module _ (HasReply : World → List ℕ → Reply → World → Type 0) where
   -- all lines of the input are answered
   abbrev pub AnswersAllLines : List ℕ → List ℕ → List ℕ → Type 0
   AnswersAllLines input left written = (end : World)
-      × answering.AnswersAll reply_text is_farewell HasReply NothingFollows opening_world input left written end
+      × answering.AnswersAll reply_text is_farewell HasReply NothingFollows opening_world input left written end × All IsComplete end.history
 
   -- the lines up to `bye` are answered
   abbrev pub AnswersToBye : List ℕ → List ℕ → List ℕ → Type 0
   AnswersToBye input left written = (end : World)
-      × answering.AnswersToLast reply_text is_farewell HasReply NothingFollows opening_world input left written end
+      × answering.AnswersToLast reply_text is_farewell HasReply NothingFollows opening_world input left written end × All IsComplete end.history
 
   -- the whole lines of the bytes taken are answered
   abbrev pub AnswersWholeLines : List ℕ → List ℕ → List ℕ → List ℕ → Type 0
   AnswersWholeLines input left taken written = (end : World)
-      × answering.AnswersWhole reply_text is_farewell HasReply NothingFollows opening_world input left taken written end
+      × answering.AnswersWhole reply_text is_farewell HasReply NothingFollows opening_world input left taken written end × All IsComplete end.history
 
   -- some first lines are answered, the last reply cut short. More may have been read, whose replies are lost.
   abbrev pub AnswersFrontOfLines : List ℕ → List ℕ → List ℕ → Type 0

@@ -1,6 +1,7 @@
 //! What answers lines, and a line of a script.
-ghost use Rattle.std.specs.Prelude.{◌≡◌, ◌<◌, ◌≤◌, ℕ, List, [], IfOk, false, length};
+ghost use Rattle.std.specs.Prelude.{◌≡◌, ◌<◌, ◌≤◌, ℕ, List, [], All, IfOk, false, length};
 ghost use Rattle.std.specs.Thread.{IsSync};
+ghost use Rattle.mt_base.specs.Complete.{IsComplete};
 ghost use Rattle.mt_lines.specs.Fit.{IsFit};
 ghost use Rattle.mt_lines.specs.Given.{IsGivenFor, is_brief};
 ghost use Rattle.mt_world.specs.Begun.{is_begin};
@@ -31,6 +32,10 @@ pub(crate) trait Answers: Drop + Sized {
     /// Whether the picture has begun.
     fn has_begun(&self) -> bool
         ensures { result ≡ (world self.now).begun };
+
+    /// Each entry of the history is complete. It does nothing.
+    fn keeps(&self)
+        ensures { All IsComplete (world self.now).history };
 
     /// Answers a line of at most 65,536 bytes. A text with an escape goes into `scratch`, which is kept from line to line.
     fn answer<R: Threads + Sync>(
@@ -64,6 +69,10 @@ impl Answers for Script {
 
     fn has_begun(&self) -> bool {
         Script::has_begun(self)
+    }
+
+    fn keeps(&self) {
+        Script::keeps(self)
     }
 
     fn answer<R: Threads + Sync>(

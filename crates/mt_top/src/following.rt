@@ -94,6 +94,15 @@ impl Answers for Follower {
         }
     }
 
+    fn keeps(&self) {
+        if let Some(standby) = &self.standby {
+            standby.picture().keeps();
+        }
+        if let Some(script) = &self.script {
+            Answers::keeps(script);
+        }
+    }
+
     fn answer<R: Threads + Sync>(
         &mut self,
         rt: &R,

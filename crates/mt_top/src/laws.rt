@@ -1,8 +1,14 @@
-ghost use Rattle.std.specs.Prelude.{◌≡◌, ℕ, List, true, false, Ok};
+ghost use Rattle.std.specs.Prelude.{◌≡◌, ℕ, Bool, List, All, true, false, Ok};
 ghost use Rattle.mt_base.specs.declared.area.Area.{Area};
+ghost use Rattle.mt_base.specs.Complete.{IsComplete};
+ghost use Rattle.mt_base.specs.History.{IsReplayable};
+ghost use Rattle.mt_base.specs.Tables.{Setup};
 ghost use Rattle.mt_io.specs.Lines.{lines_of};
 ghost use Rattle.mt_picture.specs.Story.{Story};
 ghost use Rattle.mt_read.specs.declared.request.Request.TheVariants as requests;
+ghost use Rattle.mt_serve.specs.Summary.{HasServedWhole};
+ghost use Rattle.mt_serve.specs.Tied.{Doorway};
+ghost use Rattle.mt_serve.specs.declared.counts.Counts.{Counts};
 ghost use Rattle.mt_standby.specs.Law.{HasCaughtUp};
 ghost use Rattle.mt_write.specs.declared.reply.Reply.{Reply};
 ghost use Rattle.mt_top.specs.declared.status.Status.TheVariants.{Done};
@@ -10,6 +16,8 @@ ghost use Rattle.mt_top.specs.Following.{AreStoodBy, EndsCaughtUp, FollowsPrimar
 ghost use Rattle.mt_top.specs.Run.{StandbyMeans};
 ghost use Rattle.mt_top.specs.Script.{IsAnswered, asked};
 ghost use Rattle.mt_world.specs.World.{AreAreasTold, IsAreaAdded, World};
+
+use mt_io::Duplex;
 
 /// A line of a world has one reply, and leaves one world, but where memory is wanted. So the bytes that answer a script in which no line
 /// wants memory are determined by its lines.
@@ -37,4 +45,12 @@ pub fn standby_run_law()
         → AreStoodBy lines bytes end → HasCaughtUp primary.setup primary.history n end }
     ensures done { (primary : Story) (n : ℕ) (input left written : List ℕ) → FollowsPrimary primary n (lines_of input) written
         → StandbyMeans Done input left written → EndsCaughtUp primary n input left written }
+{}
+
+/// The picture that `serve` closes can be followed: its history can be replayed, and each of its entries is complete. So a standby of it needs no
+/// other premise than those of [`standby_run_law`].
+pub fn served_law<L: Duplex>()
+    ensures { (setup : Setup) (port sessions workers : ℕ) (old new : Doorway L) (faulted : Bool) (closed : Story) (counts : Counts)
+        → HasServedWhole L.Source L.Sink setup port sessions workers old new faulted closed counts
+        → IsReplayable closed.setup closed.history × All IsComplete closed.history }
 {}

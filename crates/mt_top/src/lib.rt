@@ -11,6 +11,6 @@ mod serving;
 mod status;
 mod top_call;
 
-pub use laws::{areas_law, one_reply_law, standby_run_law};
+pub use laws::{areas_law, one_reply_law, served_law, standby_run_law};
 pub use status::Status;
 pub use top_call::run;

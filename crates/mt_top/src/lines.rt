@@ -1,5 +1,5 @@
 //! Lines read from the input and answered on the output, up to the last one.
-ghost use Rattle.std.specs.Prelude.{◌≡◌, ◌<◌, ◌≤◌, ◌^◌, ◌+◌, ◌&&◌, ◌++◌, ℕ, List, [], None, Some, Contains, IfNone, IfOk, false, true, vec_capacity};
+ghost use Rattle.std.specs.Prelude.{◌≡◌, ◌<◌, ◌≤◌, ◌^◌, ◌+◌, ◌&&◌, ℕ, List, [], None, Some, Contains, IfNone, IfOk, false, true, vec_capacity};
 ghost use Rattle.std.specs.declared.option.Option.{Option};
 ghost use Rattle.std.specs.Thread.{IsSync};
 ghost use Rattle.mt_io.specs.Reading.{fresh};
@@ -75,7 +75,11 @@ impl<A: Answers> Lines<A> {
         ensures output { LeavesStream (result ≡ WriteFault) (K.faults output.old) (K.faults output.new) (K.writes_to output.old output.new) }
     {
         match Lines::<A>::make(alloc) {
-            Ok(mut lines) => Status::of(lines.answer_all(rt, alloc, false, input, output)),
+            Ok(mut lines) => {
+                let ending = lines.answer_all(rt, alloc, false, input, output);
+                lines.script.keeps();
+                Status::of(ending)
+            }
             Err(_) => Status::Memory,
         }
     }
@@ -130,7 +134,7 @@ impl<A: Answers> Lines<A> {
         requires sound { self.old.reader.fault ≡ None }
         requires setting { IsSettingUp until_begun None (A.world self.old.script) }
         ensures turned { (before : Option (List ℕ)) (sent : List ℕ)
-            → LinesSoFar A.replied until_begun before (S.left input.old) (sent ++ self.old.outgoing) self.old.reader (A.world self.old.script)
+            → LinesSoFar A.replied until_begun before (S.left input.old) sent self.old.outgoing self.old.reader (A.world self.old.script)
             → LinesTurned A.replied until_begun result before (S.left input.new) sent (K.held output.old) (K.held output.new) self.new.outgoing
             self.new.reader (A.world self.new.script) }
         ensures rises { IfNone result ((self.new.reader.given ≡ self.old.reader.given + 1) × (self.new.reader.given ≤ 2 ^ 32) × (self.new.reader.fault ≡ None)) }
@@ -159,7 +163,7 @@ impl<A: Answers> Lines<A> {
         requires idle { ¬ Contains self.old.reader.store.ahead 10 → self.old.outgoing ≡ [] }
         requires setting { IsSettingUp until_begun None (A.world self.old.script) }
         ensures turned { (before : Option (List ℕ)) (sent : List ℕ)
-            → LinesSoFar A.replied until_begun before (S.left input.old) (sent ++ self.old.outgoing) self.old.reader (A.world self.old.script)
+            → LinesSoFar A.replied until_begun before (S.left input.old) sent self.old.outgoing self.old.reader (A.world self.old.script)
             → LinesTurned A.replied until_begun result before (S.left input.new) sent (K.held output.old) (K.held output.new) self.new.outgoing
             self.new.reader (A.world self.new.script) }
         ensures rises { IfNone result ((self.new.reader.given ≡ self.old.reader.given + 1) × (self.new.reader.given ≤ 2 ^ 32) × (self.new.reader.fault ≡ None)) }

@@ -1,7 +1,8 @@
 //! A script: what each request is answered, and the world that it leaves.
-ghost use Rattle.std.specs.Prelude.{◌≡◌, ◌⊎◌, ◌≤◌, [], IfOk, MatchOption, None, false, true};
+ghost use Rattle.std.specs.Prelude.{◌≡◌, ◌⊎◌, ◌≤◌, [], All, IfOk, MatchOption, None, false, true};
 ghost use Rattle.std.specs.Arc.{arc_value};
 ghost use Rattle.mt_base.specs.Bounds.{AreWithinBounds};
+ghost use Rattle.mt_base.specs.Complete.{IsComplete};
 ghost use Rattle.mt_read.specs.Bounded.{IsBoundedRequest};
 ghost use Rattle.mt_lines.specs.Fit.{IsFit};
 ghost use Rattle.mt_world.specs.Begun.{is_begin};
@@ -68,11 +69,15 @@ impl Script {
         }
     }
 
-    /// The history is empty before the picture has begun. It does nothing.
+    /// The history is empty before the picture has begun, and each of its entries is complete. It does nothing.
     pub fn keeps(&self)
-        ensures { self.now.begun ≡ false → self.now.history ≡ [] }
+        ensures empty { self.now.begun ≡ false → self.now.history ≡ [] }
+        ensures complete { All IsComplete self.now.history }
     {
-        self.rules();
+        match &self.stage {
+            Stage::Setting(setting) => setting.keeps(),
+            Stage::Begun(_, world) => world.picture().keeps(),
+        }
     }
 
     /// The tables that stand. They are shared and not copied.

@@ -26,8 +26,8 @@ module _ (HasReply : World → List ℕ → Reply → World → Type 0) (until_b
   abbrev pub LinesEnd : World → Ending → List ℕ → List ℕ → List ℕ → Type 0
   LinesEnd w ending input left written = ends.EndsSo reply_text (is_last until_begun) HasReply NothingFollows opening_world w ending input left written
 
-  abbrev pub LinesSoFar : Option (List ℕ) → Option (List ℕ) → List ℕ → Reading → World → Type 0
-  LinesSoFar before now bytes reader w = ends.HasRun reply_text (is_last until_begun) HasReply NothingFollows opening_world before now bytes reader w
+  abbrev pub LinesSoFar : Option (List ℕ) → Option (List ℕ) → List ℕ → List ℕ → Reading → World → Type 0
+  LinesSoFar before now written waiting reader w = ends.HasRun reply_text (is_last until_begun) HasReply NothingFollows opening_world before now written waiting reader w
 
   abbrev pub LinesTurned : Option Ending → Option (List ℕ) → Option (List ℕ) → List ℕ → Option (List ℕ) → Option (List ℕ) → List ℕ → Reading → World → Type 0
   LinesTurned result before now sent held held_now waiting reader w =

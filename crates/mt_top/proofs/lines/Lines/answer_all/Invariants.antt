@@ -1,4 +1,4 @@
-use Rattle.std.proofs.Common.{◌≡◌, ◌≤◌, ◌^◌, ◌-◌, ◌++◌, ℕ, List, None}
+use Rattle.std.proofs.Common.{◌≡◌, ◌≤◌, ◌^◌, ◌-◌, ℕ, List, None}
 use Rattle.std.specs.Io.KnownBytes.{Appends}
 use Rattle.mt_top.specs.Private.Lines.{IsSettingUp, LinesSoFar}
 use Rattle.mt_top.proofs.lines.Lines.answer_all.Given as goal
@@ -6,7 +6,7 @@ use Rattle.mt_top.proofs.lines.Lines.answer_all.Given as goal
 abbrev pub invariant-loop-ending : goal.invariant-loop-ending
 invariant-loop-ending g l = record {
   so_far : (sent : List ℕ) × Appends (g.K.Sink.held l.fn.output) (g.K.Sink.held l.output) sent
-      × LinesSoFar g.A.Answers.replied l.fn.until_begun (g.S.Source.left l.fn.input) (g.S.Source.left l.input) (sent ++ l.self.outgoing) l.self.reader (g.A.Answers.world l.self.script);
+      × LinesSoFar g.A.Answers.replied l.fn.until_begun (g.S.Source.left l.fn.input) (g.S.Source.left l.input) sent l.self.outgoing l.self.reader (g.A.Answers.world l.self.script);
   sound : l.self.reader.fault ≡ None;
   bound : l.self.reader.given ≤ 2 ^ 32;
   setting : IsSettingUp l.fn.until_begun None (g.A.Answers.world l.self.script);

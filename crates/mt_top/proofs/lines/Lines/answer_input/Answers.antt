@@ -5,15 +5,15 @@ use Rattle.mt_top.proofs.lines.Lines.answer_input.Goals as goal
 
 pub returns-in-Ok-clause-means : goal.returns-in-Ok-clause-means
 returns-in-Ok-clause-means g c =
-    rw c.of.ensures (replayed _ _ _ _ (g.A.Answers.world c.answer_all.new.self.script) g.A.Answers.replied c.answer_all.result c.answer_all.ensures.means)
+    rw c.of.ensures (replayed _ _ _ _ (g.A.Answers.world c.answer_all-ending.new.self.script) g.A.Answers.replied c.keeps.ensures c.answer_all-ending.result c.answer_all-ending.ensures.means)
 
 pub returns-in-Ok-clause-input : goal.returns-in-Ok-clause-input
 returns-in-Ok-clause-input g c =
-    rw c.of.ensures (record { fault = told_as (λ is. read_ends c.answer_all.result is) c.answer_all.ensures.input.fault; kept = c.answer_all.ensures.input.kept })
+    rw c.of.ensures (record { fault = told_as (λ is. read_ends c.answer_all-ending.result is) c.answer_all-ending.ensures.input.fault; kept = c.answer_all-ending.ensures.input.kept })
 
 pub returns-in-Ok-clause-output : goal.returns-in-Ok-clause-output
 returns-in-Ok-clause-output g c =
-    rw c.of.ensures (record { fault = told_as (λ is. write_ends c.answer_all.result is) c.answer_all.ensures.output.fault; kept = c.answer_all.ensures.output.kept })
+    rw c.of.ensures (record { fault = told_as (λ is. write_ends c.answer_all-ending.result is) c.answer_all-ending.ensures.output.fault; kept = c.answer_all-ending.ensures.output.kept })
 
 -- memory wanted before the first line is told as that, not as a fault
 pub returns-in-Err-clause-means : goal.returns-in-Err-clause-means

@@ -6,7 +6,7 @@ use Rattle.mt_lines.proofs.Streams.{untold}
 use Rattle.mt_lines.proofs.Turning.{at_end, at_fault, at_given, one_more}
 use Rattle.mt_top.specs.Private.Lines.{is_last}
 use Rattle.mt_top.specs.Script.{NothingFollows}
-use Rattle.mt_top.proofs.Turning.{given_open, last_given, long_goes_on, nothing_more, still_open, unbegun}
+use Rattle.mt_top.proofs.Turning.{given_open, last_given, long_goes_on, none_open, nothing_more, still_open, unbegun}
 use Rattle.mt_world.specs.World.{opening_world}
 use Rattle.mt_top.proofs.lines.Lines.answer_next.Goals as goal
 
@@ -20,7 +20,8 @@ returns-in-Ok-Text-clause-turned g c =
     (λ other for. c.reply_law.ensures.given _ _ c.in-Ok-Text.line.now c.answer-reply.result other c.answer-reply.ensures.replied for (λ _. line.0))
     c.give-given.result (c.args.until_begun && next.begun) next c.give-given.ensures.given c.give-given.ensures.lost
     (last_given c.args.until_begun next c.answer-reply.result (λ until. (c.answer-reply.ensures.begins (unbegun c.requires.setting until)).0))
-    (nothing_more c.answer-reply.result (ending_after c.give-given.result (c.args.until_begun && next.begun)) next))
+    (nothing_more c.answer-reply.result (ending_after c.give-given.result (c.args.until_begun && next.begun)) next)
+    (none_open (ending_after c.give-given.result (c.args.until_begun && next.begun)) next _))
 
 pub returns-in-Ok-Text-clause-rises : goal.returns-in-Ok-Text-clause-rises
 returns-in-Ok-Text-clause-rises g c =
@@ -54,7 +55,8 @@ returns-in-Ok-Long-clause-turned g c =
     λ before sent so_far. rw c.after-in-Ok-Long.ensures (at_given (is_last c.args.until_begun) g.A.Answers.replied NothingFollows opening_world before _ _ sent _ _ _ _ _ _ _ line replies.Long w so_far takes
     (λ other for. c.reply_law.ensures.given w w line replies.Long other (c.reply_law.ensures.too_long w line long) for (λ not_brief. cc))
     c.give-given-in-Ok-Long.result false w c.give-given-in-Ok-Long.ensures.given c.give-given-in-Ok-Long.ensures.lost
-    (long_goes_on c.args.until_begun w (unbegun c.requires.setting)) (nothing_more replies.Long (ending_after c.give-given-in-Ok-Long.result false) w))
+    (long_goes_on c.args.until_begun w (unbegun c.requires.setting)) (nothing_more replies.Long (ending_after c.give-given-in-Ok-Long.result false) w)
+    (none_open (ending_after c.give-given-in-Ok-Long.result false) w _))
 
 pub returns-in-Ok-Long-clause-rises : goal.returns-in-Ok-Long-clause-rises
 returns-in-Ok-Long-clause-rises g c =
