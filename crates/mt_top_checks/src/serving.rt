@@ -2,6 +2,7 @@
 
 mod faults;
 mod holding;
+mod looks;
 mod loopback;
 mod requests;
 mod scene;

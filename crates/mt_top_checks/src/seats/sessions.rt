@@ -3,7 +3,7 @@ ghost use Rattle.std.specs.Thread.{IsSync};
 ghost use Rattle.mt_desk.specs.Desk.{IsSeatOfDesk};
 
 use crate::desks::opening::opened;
-use crate::links::{check_held, link};
+use crate::links::{check_held, failing_link, link};
 use crate::names::callsign;
 use crate::reports::{JUDGED, REPORTED};
 use mt_base::Calls;
@@ -99,7 +99,8 @@ fn renewed<'a, R: Threads + Wait + Sync + Abort>(rt: &R, alloc: Global, hand: Ha
 {
     let mut calls = Calls::make(alloc).expect(rt, "memory");
     calls.push(callsign(rt, b"DDD1")).expect(rt, "memory");
-    work(rt, hand, MemInbox::of(calls), &OpenGate)
+    let (hand, _jobs) = work(rt, hand, MemInbox::of(calls), &OpenGate);
+    hand
 }
 
 /// What is listed after three entries, and after the renewal.
@@ -125,4 +126,24 @@ fn flagged_report_is_renewed_here(rt: HostRuntime) {
     let (hand, jobs) = reported(&rt, alloc, &desk, seat, 0);
     assert!(&rt; jobs.taken().len() == 0);
     drop(list(&rt, alloc, hand, FOUR));
+}
+
+/// Without an outbox, over a link whose first write fails: the flight is renewed only once its report was answered.
+#[test]
+fn flagged_report_whose_reply_is_lost_is_not_renewed(rt: HostRuntime) {
+    let alloc = rt.alloc();
+    let (desk, seat, _second) = opened(&rt, alloc);
+    let mut first = failing_link(&rt, alloc, REPORTED, 1, u32::MAX);
+    let hand = desk.hand(seat);
+    let (hand, outcome) = session(
+        &rt,
+        alloc,
+        hand,
+        &mut first,
+        None::<&mut MemOutbox>,
+        &OpenGate,
+    );
+    assert!(&rt; outcome == Outcome::WriteFault);
+    check_held(&rt, &first, "");
+    drop(list(&rt, alloc, hand, THREE));
 }
