@@ -1,10 +1,10 @@
 -- The pairs of a place, as finds.
-use Rattle.std.proofs.Common.{◌≡◌, ◌≢◌, ℕ, ◌<◌, ◌≤◌, ◌⊎◌, inl, inr, ⊎_elim, Bool, true, false, true≢false, not, List, ◌++◌, map, Contains, Option, Some, refl, sym, ◌∙◌, ap, subst, arith}
-use Rattle.std.specs.List.{AllPairs, filter}
+use Rattle.std.proofs.Common.{refl, ◌≡◌, ◌≢◌, ℕ, ◌<◌, ◌≤◌, ◌⊎◌, inl, inr, ⊎_elim, true, List, map, Contains, Option, Some, sym, ◌∙◌, ap, subst, arith, cond, [], ◌↔◌}
+use Rattle.std.specs.List.{AllPairs, filter, list_any}
 use Rattle.std.proofs.lemmas.Bool.{cases_Bool}
-use Rattle.std.proofs.lemmas.List.{map-append}
-use Rattle.std.proofs.lemmas.List.Elements.{All-contains, Contains-append_cases, Contains-append_left, Contains-append_right}
-use Rattle.std.proofs.lemmas.List.Kept.{AllPairs-filter}
+use Rattle.std.proofs.lemmas.List.Elements.{All-contains}
+use Rattle.std.proofs.lemmas.List.Folds.{list_any_at}
+use Rattle.mt_base.specs.declared.conflict.Conflict.{Conflict}
 use Rattle.mt_base.specs.declared.rules.Rules.{Rules}
 use Rattle.mt_base.specs.Conflict.{IsSpanOfLoss}
 use Rattle.mt_base.specs.Picture.{NamedTrajectory}
@@ -16,15 +16,14 @@ use Rattle.mt_kept.specs.Places.{at}
 use Rattle.mt_base.specs.Trajectory.{horizon}
 use Rattle.mt_kept.specs.Losing.{IsPair, LoseSeparation, Touches}
 use Rattle.mt_kept.specs.Private.Losing.{AreKept}
-use Rattle.mt_kept.specs.Window.{IsOpen, edge_of}
-use Rattle.mt_kept.specs.Private.Window.{AreInnerAdded, AreOpen, ShowsWhole}
-use Rattle.mt_kept.specs.Private.Made.{borders, is_at_border, is_inner, touches_place}
+use Rattle.mt_kept.specs.Window.{IsFoundOf, IsOpen, ShowsInWindow, edge_of}
+use Rattle.mt_kept.specs.Private.Window.{AreShownUntested, AreOpen, IsShownUntested}
+use Rattle.mt_kept.specs.Private.Made.{borders, is_at_border, is_tested, touches_place}
 use Rattle.mt_kept.specs.Finds.{Agree, AreFindsAt}
 use Rattle.mt_kept.proofs.Keeping.{touches_is}
-use Rattle.mt_base.proofs.Members.{Contains-filter, Contains-map, Contains-map_cases, distinct_append, distinct_held, distinct_of}
-use Rattle.mt_kept.proofs.Moving.{apart_distinct, one_kept}
-use Rattle.mt_kept.proofs.Publishing.{whole_shown}
-use Rattle.mt_kept.proofs.Windows.{borders_open, inner_straddles}
+use Rattle.mt_base.proofs.Members.{Contains-filter, Contains-map, Contains-map_cases, distinct_of}
+use Rattle.mt_kept.proofs.Publishing.{within_shown}
+use Rattle.mt_kept.proofs.Windows.{tested_borders}
 
 -- two pairs of the same places have one span
 pub same_span : (rules : Rules) (places : List (Option NamedTrajectory)) (e f : Edge) → IsPair rules places e → IsPair rules places f → HaveSameEnds e f
@@ -37,69 +36,61 @@ same_span rules places e f p q ends =
     (subst (λ (x : NamedTrajectory). IsSpanOfLoss rules x.path q.right.path 0 horizon f.first f.last) l q.span) in
     one_span rules p.left.path p.right.path 0 horizon e.first e.last f.first f.last p.span span
 
-inverse : (b : Bool) → not b ≡ true → b ≡ false
-inverse true e = sym e
-inverse false e = refl
-
-pub finds_again : (rules : Rules) (places : List (Option NamedTrajectory)) (now place : ℕ) (edges near : List Edge) (pairs bordering finds : List OpenPair)
-    → now ≤ 10000000 → AreKept rules places edges → AreOpen rules places now edges pairs → bordering ≡ filter (is_at_border now) pairs
-    → IsEach (λ e. touches place e ≡ true) edges near → AreInnerAdded places now near (filter (touches_place place) bordering) finds
-    → AreFindsAt rules places now place finds
-finds_again rules places now place edges near pairs bordering finds early kept opened borderers each inner =
-    let first = filter (touches_place place) bordering in
-    let second = inner.added in
-    let from_first : (o : OpenPair) → Contains first o → Contains pairs o × (borders now o.edge ≡ true) × Touches place o.edge = λ o held.
-    let h = (Contains-filter (touches_place place) bordering o).0 held in
-    let g = (Contains-filter (is_at_border now) pairs o).0 (subst (λ (os : List OpenPair). Contains os o) borderers h.0) in
-    (g.0, g.1, (touches_is place o.edge).0 h.1) in
-    let from_second : (o : OpenPair) → Contains second o → Contains edges o.edge × (borders now o.edge ≡ false) × Touches place o.edge
-    × (IsOpen now o.edge → ShowsWhole places o.edge o.conflict) = λ o held.
-    let listed : Contains (filter (is_inner now) near) o.edge = subst (λ (es : List Edge). Contains es o.edge) inner.same (Contains-map edge_of second o held) in
-    let s = (Contains-filter (is_inner now) near o.edge).0 listed in
-    let n = (each.exact o.edge).0 s.0 in (
-      n.0,
-      inverse (borders now o.edge) s.1,
-      (touches_is place o.edge).0 n.1,
-      All-contains (λ (p : OpenPair). IsOpen now p.edge → ShowsWhole places p.edge p.conflict) second o inner.shown held,
+-- what an open pair of a place is told to show without a test is what it shows
+untested_shown : (rules : Rules) (places : List (Option NamedTrajectory)) (now place : ℕ) (edges own : List Edge) (pairs bordering tested : List OpenPair)
+    (e : Edge) (shown : Option Conflict) → now ≤ 10000000 → AreOpen rules places now edges pairs → bordering ≡ filter (is_at_border now) pairs
+    → tested ≡ cond (list_any (is_tested now) own) (filter (touches_place place) bordering) [] → Contains own e → Contains edges e → touches place e ≡ true
+    → IsPair rules places e → IsOpen now e → IsShownUntested places now tested e shown → ShowsInWindow rules places now e shown
+untested_shown rules places now place edges own pairs bordering tested e shown early opened borderers are in_own held here pair meets told = ⊎_elim
+    (λ some.
+    let any : list_any (is_tested now) own ≡ true = list_any_at (is_tested now) own in_own.0 e in_own.1 (ap (is_tested now) in_own.2 ∙ some) in
+    let is : tested ≡ filter (touches_place place) (filter (is_at_border now) pairs) = are ∙ rw (any, borderers) refl in
+    let listed : (o : OpenPair) → Contains tested o ↔ ((Contains pairs o × (borders now o.edge ≡ true)) × (touches place o.edge ≡ true)) = λ o. (
+      (λ there. let h = (Contains-filter (touches_place place) (filter (is_at_border now) pairs) o).0 (subst (λ (os : List OpenPair). Contains os o) is there) in
+          ((Contains-filter (is_at_border now) pairs o).0 h.0, h.1)),
+      (λ h. subst (λ (os : List OpenPair). Contains os o) (sym is)
+          ((Contains-filter (touches_place place) (filter (is_at_border now) pairs) o).1 ((Contains-filter (is_at_border now) pairs o).1 h.0, h.1))),
     ) in
-    let kept_of : (o : OpenPair) → Contains (first ++ second) o → Contains edges o.edge = λ o held. ⊎_elim
-    (λ old. (opened.sound o (from_first o old).0).0)
-    (λ come. (from_second o come).0) (Contains-append_cases first second o held) in
-    let pair_of : (o : OpenPair) → Contains (first ++ second) o → IsPair rules places o.edge = λ o held. kept.sound o.edge (kept_of o held) in
-    subst (AreFindsAt rules places now place) (sym inner.is) (record {
-      sound = λ o held. ⊎_elim
-          (λ old. let h = from_first o old in (h.2, pair_of o held, λ meets. (opened.sound o h.0).2))
-          (λ come. let h = from_second o come in
-          (h.2, pair_of o held, λ meets. whole_shown rules places now o.edge o.conflict early (pair_of o held) meets (inner_straddles now o.edge meets h.1) (h.3 meets)))
-          (Contains-append_cases first second o held);
-      complete = λ a b k before here loses.
-          let j = kept.complete a b k before loses in
-          let touching : Touches place j.edge = ⊎_elim (λ x. inl (j.ends.0 ∙ x)) (λ y. inr (j.ends.1 ∙ y)) here in
-          let near_e = (each.exact j.edge).1 (j.held, (touches_is place j.edge).1 touching) in
-          record {
-            edge = j.edge;
-            held = subst (λ (es : List Edge). Contains es j.edge) (sym (map-append edge_of first second)) (⊎_elim
-                (λ at_border.
-                let x = Contains-map_cases edge_of pairs j.edge (opened.complete j.edge j.held (borders_open now j.edge at_border)) in
-                let s = (Contains-filter (is_at_border now) pairs x.of).1 (x.held, ap (borders now) x.is ∙ at_border) in
-                let t : touches_place place x.of ≡ true = (touches_is place x.of.edge).1 (subst (Touches place) (sym x.is) touching) in
-                let in_first = Contains-map edge_of first x.of ((Contains-filter (touches_place place) bordering x.of).1
-                (subst (λ (os : List OpenPair). Contains os x.of) (sym borderers) s, t)) in
-                Contains-append_left (map edge_of first) (map edge_of second) j.edge (subst (Contains (map edge_of first)) x.is in_first))
-                (λ none. Contains-append_right (map edge_of first) (map edge_of second) j.edge (subst (λ (es : List Edge). Contains es j.edge) (sym inner.same)
-                ((Contains-filter (is_inner now) near j.edge).1 (near_e, ap not none))))
-                (cases_Bool (borders now j.edge)));
-            ends = j.ends;
-          };
-      distinct = distinct_held (λ o p. o.edge ≢ p.edge) (λ o p. ¬ HaveSameEnds o.edge p.edge) (first ++ second)
-          (λ o p in_o in_p differ. λ ends. differ (one_kept edges o.edge p.edge kept.once (kept_of o in_o) (kept_of p in_p) ends))
-          (distinct_append (λ o p. o.edge ≢ p.edge) first second
-          (AllPairs-filter (λ o p. o.edge ≢ p.edge) (touches_place place) bordering (subst (AllPairs (λ o p. o.edge ≢ p.edge)) (sym borderers)
-          (AllPairs-filter (λ o p. o.edge ≢ p.edge) (is_at_border now) pairs opened.distinct)))
-          (distinct_of (λ e f. e ≢ f) edge_of second (subst (AllPairs (λ e f. e ≢ f)) (sym inner.same)
-          (AllPairs-filter (λ e f. e ≢ f) (is_inner now) near (apart_distinct near each.apart))))
-          (λ o p old come. λ same. true≢false (sym (from_first o old).1 ∙ ap (borders now) same ∙ (from_second p come).1)));
+    let x = Contains-map_cases edge_of pairs e (opened.complete e held meets) in
+    let there : Contains tested x.of = (listed x.of).1 ((x.held, ap (borders now) x.is ∙ tested_borders now e meets some), ap (touches place) x.is ∙ here) in
+    let k = told.among some (subst (Contains (map edge_of tested)) x.is (Contains-map edge_of tested x.of there)) in
+    let s = (opened.sound k.pair ((listed k.pair).0 k.held).0.0).2 in
+    record {
+      left = s.left;
+      right = s.right;
+      left_is = ap (at places) (sym k.ends.0) ∙ s.left_is;
+      right_is = ap (at places) (sym k.ends.1) ∙ s.right_is;
+      found = subst (IsFoundOf rules now s.left s.right) (sym k.is) s.found;
     })
+    (λ none. within_shown rules places now e shown early pair meets none (told.within none)) (cases_Bool (is_tested now e))
+
+-- so are the pairs of a place
+pub finds_untested : (rules : Rules) (places : List (Option NamedTrajectory)) (now place : ℕ) (edges own : List Edge)
+    (pairs bordering tested finds : List OpenPair) → now ≤ 10000000 → AreKept rules places edges → AreOpen rules places now edges pairs
+    → bordering ≡ filter (is_at_border now) pairs → tested ≡ cond (list_any (is_tested now) own) (filter (touches_place place) bordering) []
+    → IsEach (λ e. touches place e ≡ true) edges own → AreShownUntested places now tested own finds → AreFindsAt rules places now place finds
+finds_untested rules places now place edges own pairs bordering tested finds early kept opened borderers are each told = record {
+  sound = λ o held.
+      let in_own = subst (λ (es : List Edge). Contains es o.edge) told.same (Contains-map edge_of finds o held) in
+      let h = (each.exact o.edge).0 in_own in
+      let pair = kept.sound o.edge h.0 in (
+        (touches_is place o.edge).0 h.1,
+        pair,
+        λ meets. untested_shown rules places now place edges own pairs bordering tested o.edge o.conflict early opened borderers are in_own h.0 h.1 pair meets
+            (All-contains (λ (p : OpenPair). IsOpen now p.edge → IsShownUntested places now tested p.edge p.conflict) finds o told.shown held meets),
+      );
+  complete = λ a b k before here loses.
+      let j = kept.complete a b k before loses in
+      let touching : Touches place j.edge = ⊎_elim (λ x. inl (j.ends.0 ∙ x)) (λ y. inr (j.ends.1 ∙ y)) here in
+      record {
+        edge = j.edge;
+        held = subst (λ (es : List Edge). Contains es j.edge) (sym told.same) ((each.exact j.edge).1 (j.held, (touches_is place j.edge).1 touching));
+        ends = j.ends;
+      };
+  distinct = distinct_of DifferInEnds edge_of finds (subst (AllPairs DifferInEnds) (sym told.same) each.apart);
+} where
+  DifferInEnds : Edge → Edge → Type 0
+  DifferInEnds e f = ¬ HaveSameEnds e f
 
 -- they stay its finds where places change, as far as other flights go, in no other way
 ends_agree : (rules : Rules) (places after : List (Option NamedTrajectory)) (place : ℕ) (mine : NamedTrajectory) (e : Edge) → at places place ≡ Some mine

@@ -1,8 +1,8 @@
 -- How many tests finds cost.
-use Rattle.std.proofs.Common.{◌≡◌, ◌≢◌, ℕ, ◌+◌, ◌*◌, ◌<◌, ◌≤◌, Bool, true, false, cond, not, ◌==◌, ◌&&◌, List, [], ◌∷◌, length, take, get_or, Option, Some, None, refl, sym, true≢false, ◌∙◌, ap, subst, arith}
+use Rattle.std.proofs.Common.{◌≡◌, ◌≢◌, ℕ, ◌+◌, ◌*◌, ◌<◌, ◌≤◌, Bool, true, false, cond, not, ◌==◌, ◌&&◌, List, [], ◌∷◌, length, take, get_or, Option, Some, None, refl, sym, ◌∙◌, ap, subst, arith}
 use Rattle.std.specs.List.{filter, sum_by}
 use Rattle.std.specs.Str.{bytes_eq}
-use Rattle.std.proofs.lemmas.Bool.{and_from, and_left, ne_eqb}
+use Rattle.std.proofs.lemmas.Bool.{and_from, ne_eqb}
 use Rattle.std.proofs.lemmas.Slice.Eq.{bytes_eq-Decides}
 use Rattle.std.proofs.lemmas.List.Sums.{sum_by-cons, sum_by-take-le}
 use Rattle.mt_base.specs.Picture.{NamedTrajectory}
@@ -49,18 +49,6 @@ at_most false q = omega arith
 
 pub tested_rose : (now : ℕ) (e : Edge) (old new : ℕ) → new ≡ raised_by (cond (is_tested now e) 1 0) old → RoseUpTo (cond (straddles now e) 1 0) old new
 tested_rose now e old new is = record { more = cond (is_tested now e) 1 0; within = at_most (straddles now e) (not e.solid); is = is }
-
-tests_cut : (p q : Bool) → p ≡ true → ◌≡◌ {A = ℕ} (cond q 0 1) (cond (p && not q) 1 0)
-tests_cut true true some = refl
-tests_cut true false some = refl
-tests_cut false q some = absurd (true≢false (sym some))
-
-pub cut_counted : (now : ℕ) (e : Edge) (old new : ℕ) → straddles now e ≡ true → new ≡ raised_by (cond e.solid 0 1) old
-    → new ≡ raised_by (cond (is_tested now e) 1 0) old
-cut_counted now e old new some is = is ∙ ap (λ (n : ℕ). raised_by n old) (tests_cut (straddles now e) e.solid some)
-
-pub inner_counted : (now : ℕ) (e : Edge) (old : ℕ) → straddles now e ≡ false → old ≡ raised_by (cond (is_tested now e) 1 0) old
-inner_counted now e old none = rw (and_left (straddles now e) (not e.solid) none) refl
 
 -- a candidate that is passed over costs nothing; another one what it asks for
 is_other_is : (o : Option NamedTrajectory) (call : List ℕ) (t : NamedTrajectory) → o ≡ Some t → call ≢ t.call → is_other o call ≡ true

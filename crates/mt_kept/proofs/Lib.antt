@@ -15,7 +15,7 @@ pub mod Merged
 pub mod Leaving
 pub mod Anew
 pub mod Slots
-pub mod Inner
+pub mod Untested
 pub mod Marks
 pub mod Renewed
 pub mod Permuted

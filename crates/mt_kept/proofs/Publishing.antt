@@ -24,11 +24,11 @@ use Rattle.mt_kept.specs.Places.{at, held, seen}
 use Rattle.mt_base.specs.Trajectory.{horizon}
 use Rattle.mt_kept.specs.Losing.{IsPair, IsSolidAsSaid, LoseSeparation}
 use Rattle.mt_kept.specs.Private.Losing.{AreKept}
-use Rattle.mt_kept.specs.Window.{IsFoundOf, IsOpen, ShowsInWindow, edge_of, straddles}
-use Rattle.mt_kept.specs.Private.Window.{AreOpen, Shows, ShowsWhole}
-use Rattle.mt_kept.specs.Private.Made.{IsInOrder}
+use Rattle.mt_kept.specs.Window.{IsFoundOf, IsOpen, ShowsInWindow, edge_of}
+use Rattle.mt_kept.specs.Private.Window.{AreOpen, Shows, ShowsWithin}
+use Rattle.mt_kept.specs.Private.Made.{IsInOrder, is_tested, span_within}
 use Rattle.mt_base.proofs.Members.{Contains-cases, Contains-head, Contains-later, Contains-map_cases, Contains-none, IsSeen}
-use Rattle.mt_kept.proofs.Windows.{IsLossSecond-sym, IsSpanOfLoss-sym, is_open_at, span_in_window}
+use Rattle.mt_kept.proofs.Windows.{IsLossSecond-sym, IsSpanOfLoss-sym, is_open_at, span_shown}
 
 -- a trajectory that stands in some place
 pub record Stands (places : List (Option NamedTrajectory)) (t : NamedTrajectory) : Type 0 where
@@ -223,25 +223,25 @@ found_pair rules now left right span c is order = ⊎_elim
 pub one_there : (places : List (Option NamedTrajectory)) (i : ℕ) (s t : NamedTrajectory) → at places i ≡ Some s → at places i ≡ Some t → s ≡ t
 one_there places i s t s_is t_is = let e : Some s ≡ Some t = sym s_is ∙ t_is in cc
 
--- an open pair that straddles no edge of the window shows its whole span
-pub whole_shown : (rules : Rules) (places : List (Option NamedTrajectory)) (now : ℕ) (e : Edge) (shown : Option Conflict) → now ≤ 10000000
-    → IsPair rules places e → IsOpen now e → straddles now e ≡ false → ShowsWhole places e shown → ShowsInWindow rules places now e shown
-whole_shown rules places now e shown early pair meets none whole =
-    let span : ℕ × ℕ = (e.first, e.last) in
-    let l : whole.left ≡ pair.left = let p = pair.left_is in let q = whole.left_is in cc in
-    let r : whole.right ≡ pair.right = let p = pair.right_is in let q = whole.right_is in cc in
-    let order : IsInOrder pair.left pair.right span whole.conflict ⊎ IsInOrder pair.right pair.left span whole.conflict =
-    subst (λ (y : NamedTrajectory). IsInOrder pair.left y span whole.conflict ⊎ IsInOrder y pair.left span whole.conflict) r
-    (subst (λ (x : NamedTrajectory). IsInOrder x whole.right span whole.conflict ⊎ IsInOrder whole.right x span whole.conflict) l whole.order) in
-    let found : IsFoundOf rules now pair.left pair.right (Some whole.conflict) =
-    found_pair rules now pair.left pair.right span whole.conflict
-    (span_in_window rules pair.left.path pair.right.path now e early meets none pair.span) order in
+-- an open pair that needs no test shows what of its span lies in the window
+pub within_shown : (rules : Rules) (places : List (Option NamedTrajectory)) (now : ℕ) (e : Edge) (shown : Option Conflict) → now ≤ 10000000
+    → IsPair rules places e → IsOpen now e → is_tested now e ≡ false → ShowsWithin places now e shown → ShowsInWindow rules places now e shown
+within_shown rules places now e shown early pair meets none within =
+    let span = span_within now e in
+    let l : within.left ≡ pair.left = let p = pair.left_is in let q = within.left_is in cc in
+    let r : within.right ≡ pair.right = let p = pair.right_is in let q = within.right_is in cc in
+    let order : IsInOrder pair.left pair.right span within.conflict ⊎ IsInOrder pair.right pair.left span within.conflict =
+    subst (λ (y : NamedTrajectory). IsInOrder pair.left y span within.conflict ⊎ IsInOrder y pair.left span within.conflict) r
+    (subst (λ (x : NamedTrajectory). IsInOrder x within.right span within.conflict ⊎ IsInOrder within.right x span within.conflict) l within.order) in
+    let found : IsFoundOf rules now pair.left pair.right (Some within.conflict) =
+    found_pair rules now pair.left pair.right span within.conflict
+    (span_shown rules pair.left.path pair.right.path now e early meets none pair.span pair.solid) order in
     record {
       left = pair.left;
       right = pair.right;
       left_is = pair.left_is;
       right_is = pair.right_is;
-      found = subst (IsFoundOf rules now pair.left pair.right) (sym whole.is) found;
+      found = subst (IsFoundOf rules now pair.left pair.right) (sym within.is) found;
     }
 
 pub shown_of : (rules : Rules) (places : List (Option NamedTrajectory)) (now : ℕ) (e : Edge) (pair : IsPair rules places e) (left right : NamedTrajectory)

@@ -1,5 +1,6 @@
 -- A conflict over all seconds, and the one in a window; and that a loss doesn't tell which of the two comes first.
-use Rattle.std.proofs.Common.{◌≡◌, max, min, Option, Some, None, ◌&&◌, ◌⊎◌, inl, inr, ⊎_elim, refl, Bool, true, ℕ, ◌+◌, ◌-◌, ◌<◌, ◌≤◌, ℤ, ◌+ℤ◌, ◌-ℤ◌, ◌*ℤ◌, ◌<ℤ◌, neg_ℤ, false, arith}
+use Rattle.std.proofs.Common.{◌≡◌, max, min, Option, Some, None, ◌&&◌, ◌⊎◌, inl, inr, ⊎_elim, refl, sym, ◌∙◌, ap, not, true≢false, Bool, true, ℕ, ◌+◌, ◌<◌, ◌≤◌, ℤ, ◌+ℤ◌, ◌-ℤ◌, ◌*ℤ◌, ◌<ℤ◌, neg_ℤ, false, arith}
+use Rattle.std.proofs.lemmas.Bool.{and_from, and_parts, cases_Bool}
 use Rattle.std.proofs.lemmas.Bool.Decides.{nat_tests}
 use Rattle.mt_ring.proofs.Ring.{lin, spread}
 use Rattle.mt_base.specs.declared.row.Row.{Row}
@@ -14,7 +15,7 @@ use Rattle.mt_base.specs.Trajectory.{horizon}
 use Rattle.mt_base.specs.Span.{IsSolid}
 use Rattle.mt_kept.specs.Losing.{IsSolidAsSaid}
 use Rattle.mt_kept.specs.Window.{IsOpen, straddles}
-use Rattle.mt_kept.specs.Private.Made.{borders, window_last}
+use Rattle.mt_kept.specs.Private.Made.{borders, is_tested, span_within, window_last}
 
 -- the loss of two rows at an instant, over plain numbers
 across : (p q r s w v z : ℤ) → ((q -ℤ p) *ℤ (q -ℤ p) +ℤ (s -ℤ r) *ℤ (s -ℤ r)) <ℤ ((w +ℤ v +ℤ z) *ℤ (w +ℤ v +ℤ z))
@@ -71,11 +72,11 @@ IsSpanOfLoss-sym rules a b from to first last h = record {
 }
 
 -- an open pair that straddles no edge of the window lies inside it
-pub within_window : (now : ℕ) (e : Edge) → IsOpen now e → straddles now e ≡ false → (now ≤ e.first) × (e.last < window_end now)
+within_window : (now : ℕ) (e : Edge) → IsOpen now e → straddles now e ≡ false → (now ≤ e.first) × (e.last < window_end now)
 within_window now e is_open none = grind (arith, nat_tests)
 
 -- so its conflict in the window is the one over all seconds
-pub span_in_window : (rules : Rules) (a b : Trajectory) (now : ℕ) (e : Edge) → now ≤ 10000000 → IsOpen now e → straddles now e ≡ false
+span_in_window : (rules : Rules) (a b : Trajectory) (now : ℕ) (e : Edge) → now ≤ 10000000 → IsOpen now e → straddles now e ≡ false
     → IsSpanOfLoss rules a b 0 horizon e.first e.last → IsSpanOfLoss rules a b now (window_end now) e.first e.last
 span_in_window rules a b now e early is_open none whole =
     let h = within_window now e is_open none in
@@ -87,12 +88,12 @@ span_in_window rules a b now e early is_open none whole =
     }
 
 -- a pair's conflict in the window is the one in what of its span lies within
-pub window_within : (rules : Rules) (a b : Trajectory) (now first last from to : ℕ) (found : Option (ℕ × ℕ)) → now ≤ 10000000
-    → from ≡ max now first → to ≡ min (window_end now) (last + 1) → IsSpanOfLoss rules a b 0 horizon first last
-    → IsConflict rules a b from to found → IsConflict rules a b now (window_end now) found
-window_within rules a b now first last from to None early from_is to_is whole none = λ k low high loss.
+pub window_within : (rules : Rules) (a b : Trajectory) (now : ℕ) (e : Edge) (found : Option (ℕ × ℕ)) → now ≤ 10000000
+    → IsSpanOfLoss rules a b 0 horizon e.first e.last → IsConflict rules a b (span_within now e).0 ((span_within now e).1 + 1) found
+    → IsConflict rules a b now (window_end now) found
+window_within rules a b now e None early whole none = λ k low high loss.
     let h = whole.none_outside k (omega arith) (omega arith) loss in none k (omega arith) (omega arith) loss
-window_within rules a b now first last from to (Some span) early from_is to_is whole some = record {
+window_within rules a b now e (Some span) early whole some = record {
   inside = (let h = some.inside.0 in omega arith, some.inside.1, let h = some.inside.2 in omega arith);
   first_is = some.first_is;
   last_is = some.last_is;
@@ -101,17 +102,34 @@ window_within rules a b now first last from to (Some span) early from_is to_is w
 }
 
 -- where the whole conflict is solid, that is what of it lies within the window
-pub solid_in_window : (rules : Rules) (a b : Trajectory) (now first last from to : ℕ) → now ≤ 10000000 → first < window_end now → now ≤ last
-    → from ≡ max now first → to ≡ min (window_end now) (last + 1) → IsSpanOfLoss rules a b 0 horizon first last
-    → IsSolid (IsLossSecond rules a b) (Some (first, last)) → IsSpanOfLoss rules a b now (window_end now) from (to - 1)
-solid_in_window rules a b now first last from to early ahead lasting from_is to_is whole solid =
+solid_in_window : (rules : Rules) (a b : Trajectory) (now : ℕ) (e : Edge) → now ≤ 10000000 → IsOpen now e
+    → IsSpanOfLoss rules a b 0 horizon e.first e.last → IsSolid (IsLossSecond rules a b) (Some (e.first, e.last))
+    → IsSpanOfLoss rules a b now (window_end now) (span_within now e).0 (span_within now e).1
+solid_in_window rules a b now e early meets whole solid =
     let some = whole.inside.1 in
+    let ahead = meets.0 in
+    let lasting = meets.1 in
     record {
       inside = (omega arith, omega arith, omega arith);
-      first_is = solid from (omega arith) (omega arith);
-      last_is = solid (to - 1) (omega arith) (omega arith);
+      first_is = solid (max now e.first) (omega arith) (omega arith);
+      last_is = solid (min (window_last now) e.last) (omega arith) (omega arith);
       none_outside = λ k low high loss. let h = whole.none_outside k (omega arith) (omega arith) loss in (omega arith, omega arith);
     }
+
+-- so it is where a pair needs no test
+pub span_shown : (rules : Rules) (a b : Trajectory) (now : ℕ) (e : Edge) → now ≤ 10000000 → IsOpen now e → is_tested now e ≡ false
+    → IsSpanOfLoss rules a b 0 horizon e.first e.last → IsSolidAsSaid rules a b e
+    → IsSpanOfLoss rules a b now (window_end now) (span_within now e).0 (span_within now e).1
+span_shown rules a b now e early meets none whole said = ⊎_elim
+    (λ some. solid_in_window rules a b now e early meets whole (said (⊎_elim (λ yes. yes)
+    (λ no. absurd (true≢false (sym (and_from (straddles now e) (not e.solid) some (ap not no)) ∙ none))) (cases_Bool e.solid))))
+    (λ inner.
+    let h = within_window now e meets inner in
+    let low = h.0 in
+    let high = h.1 in
+    let first : max now e.first ≡ e.first = omega arith in
+    let last : min (window_last now) e.last ≡ e.last = omega arith in
+    rw (first, last) (span_in_window rules a b now e early meets inner whole)) (cases_Bool (straddles now e))
 
 -- what a pair says of its being solid, with the two the other way round
 pub IsSolidAsSaid-sym : (rules : Rules) (a b : Trajectory) (e : Edge) → IsSolidAsSaid rules a b e → IsSolidAsSaid rules b a e
@@ -124,8 +142,12 @@ borders_open now e some = grind (arith, nat_tests)
 pub within_border : (now : ℕ) (e : Edge) → IsOpen now e → borders now e ≡ false → (now ≤ e.first) × (e.last < window_last now)
 within_border now e is_open none = grind (arith, nat_tests)
 
-pub inner_straddles : (now : ℕ) (e : Edge) → IsOpen now e → borders now e ≡ false → straddles now e ≡ false
+inner_straddles : (now : ℕ) (e : Edge) → IsOpen now e → borders now e ≡ false → straddles now e ≡ false
 inner_straddles now e is_open none = grind (arith, nat_tests)
+
+pub tested_borders : (now : ℕ) (e : Edge) → IsOpen now e → is_tested now e ≡ true → borders now e ≡ true
+tested_borders now e meets some = ⊎_elim (λ yes. yes)
+    (λ no. absurd (true≢false (sym (and_parts (straddles now e) (not e.solid) some).0 ∙ inner_straddles now e meets no))) (cases_Bool (borders now e))
 
 -- one that begins before the window and goes on in it, or ends after its last second but one, is at its border, and one that lies inside isn't
 pub borders_begun : (now : ℕ) (e : Edge) → e.first < now → now ≤ e.last → borders now e ≡ true

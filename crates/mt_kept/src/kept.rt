@@ -1,4 +1,4 @@
-ghost use Rattle.std.specs.Prelude.{◌≡◌, ◌+◌, ◌*◌, ◌<◌, ◌≤◌, ◌↔◌, [], All, AllPairs, Contains, IfOk, List, None, OnErr, OnOk, Option, filter, length, map, replicate};
+ghost use Rattle.std.specs.Prelude.{◌≡◌, ◌+◌, ◌*◌, ◌^◌, ◌<◌, ◌≤◌, ◌↔◌, [], All, AllPairs, Contains, IfOk, List, None, OnErr, OnOk, Option, filter, length, map, replicate};
 ghost use Rattle.std.specs.List.{sum_by};
 ghost use Rattle.mt_base.specs.Bounds.{AreWithinBounds};
 ghost use Rattle.mt_base.specs.declared.conflict.Conflict.{Conflict};
@@ -9,17 +9,17 @@ ghost use Rattle.mt_kept.specs.Dropped.{WereStepsOf};
 ghost use Rattle.mt_kept.specs.Finds.{Agree, AreCandidates, AreFindsOfSlot, AreFindsAt, cost};
 ghost use Rattle.mt_kept.specs.Losing.{TouchesSlot};
 ghost use Rattle.mt_kept.specs.Private.Made.{AreReplaced, WereDropped, is_at_border, opens};
-ghost use Rattle.mt_kept.specs.Private.Window.{AreShownAt, Shows};
+ghost use Rattle.mt_kept.specs.Private.Window.{AreOwnPairs, Shows};
 ghost use Rattle.mt_kept.specs.Places.{HaveOwnSlots, held, seen, with_slot};
 ghost use Rattle.mt_base.specs.Tally.{RoseUpTo};
 ghost use Rattle.mt_kept.specs.Window.{WasTestedOnce};
 
 use crate::conflict_list::ConflictList;
 use crate::finds::{Candidate, gather};
-use crate::lists::{at_place, bordering_of, drop_slot, due_pairs};
+use crate::lists::{bordering_of, drop_slot, due_pairs, tested_at};
 use crate::open_pair::OpenPair;
 use crate::renewing::{in_order_of_publishing, renew, renew_bordering};
-use crate::showing::{add_inner, shown_of};
+use crate::showing::{shown_of, shown_pairs};
 use crate::stale::Stale;
 use mt_base::{Conflict, Memory, Rules, Second, Steps, Tally};
 use mt_edges::Edges;
@@ -156,37 +156,35 @@ impl Kept {
         requires { place < length self.now.places }
         ensures { IfOk result (λ finds. AreFindsAt self.now.rules self.now.places self.now.moment place finds.items) }
     {
-        let mut finds = at_place(alloc, &self.bordering, place)?;
-        let edges = self.pairs.of(place)?;
-        add_inner(&mut finds, &self.places, &edges, self.moment)?;
-        Ok(finds)
+        let own = self.pairs.of(place)?;
+        let tested = tested_at(alloc, &self.bordering, place, &own, self.moment)?;
+        shown_pairs(alloc, &self.places, &tested, &own, self.moment)
     }
 
-    /// What the pairs of a slot show.
-    fn shown_at(&self, alloc: Global, slot: u32) -> Result<ConflictList, Memory>
-        requires { 2 * slot + 1 < length self.now.places }
-        ensures { IfOk result (λ list. AreShownAt self.now.rules self.now.places self.now.moment slot list.conflicts) }
+    /// The pairs of a slot, each with what it shows where it is open.
+    fn of_slot(&self, alloc: Global, slot: u32) -> Result<Vec<OpenPair>, Memory>
+        requires slot { 2 * slot + 1 < length self.now.places }
+        requires few { length self.now.places < 2 ^ 32 }
+        ensures { IfOk result (λ own. AreOwnPairs self.now.rules self.now.places self.now.moment slot own.items) }
     {
-        let now = self.moment;
-        let mut finds = self.of(alloc, 2 * slot)?;
+        let mut own = self.of(alloc, 2 * slot)?;
         let others = self.of(alloc, 2 * slot + 1)?;
-        finds.extend_from_slice(&others)?;
-        shown_of(alloc, &finds, now)
+        own.extend_from_slice(&others)?;
+        Ok(own)
     }
 
-    /// What the pairs of a slot show, what those show that were found for it, and which of these are at the border of the window.
+    /// What the slot's own pairs show, what those show that were found for it, and which of these are at the border of the window.
     fn prepare(
         &self,
         alloc: Global,
-        slot: u32,
+        own: &[OpenPair],
         finds: &[OpenPair],
     ) -> Result<(ConflictList, ConflictList, Vec<OpenPair>), Memory>
-        requires { 2 * slot + 1 < length self.now.places }
-        ensures hidden { IfOk result (λ it. AreShownAt self.now.rules self.now.places self.now.moment slot it.0.conflicts) }
+        ensures hidden { IfOk result (λ it. (c : Conflict) → Contains it.0.conflicts c ↔ Shows (filter (opens self.now.moment) own.now) c) }
         ensures shown { IfOk result (λ it. (c : Conflict) → Contains it.1.conflicts c ↔ Shows (filter (opens self.now.moment) finds.now) c) }
         ensures bordering { IfOk result (λ it. it.2.items ≡ filter (is_at_border self.now.moment) finds.now) }
     {
-        let hidden = self.shown_at(alloc, slot)?;
+        let hidden = shown_of(alloc, own, self.moment)?;
         let shown = shown_of(alloc, finds, self.moment)?;
         let bordering = bordering_of(alloc, finds, self.moment)?;
         Ok((hidden, shown, bordering))
@@ -196,8 +194,8 @@ impl Kept {
     /// its memory before it changes anything, so on an error all stays as it was.
     ///
     /// It makes at most six steps for each pair that the slot had, and two; a step is one link written or one node of a pair visited.
-    /// Besides it looks at the slot's pairs and at the finds, and at the pairs at the border of the window, and copies what is
-    /// published. A caller that bounds no steps hands in a `Steps::new()` and forgets it.
+    /// Besides it looks at the slot's pairs and at the finds, and copies what is published; at the pairs at the border of the window it looks
+    /// only where one of the slot's is there. A caller that bounds no steps hands in a `Steps::new()` and forgets it.
     pub fn change(
         &mut self,
         slot: u32,
@@ -219,12 +217,13 @@ impl Kept {
             return Err(Memory);
         };
         let alloc = *self.bordering.allocator();
-        let (hidden, shown, bordering) = self.prepare(alloc, slot, finds)?;
+        let own = self.of_slot(alloc, slot)?;
+        let (hidden, shown, bordering) = self.prepare(alloc, &own, finds)?;
         self.pairs.reserve(count)?;
         self.bordering.reserve(bordering.len())?;
         self.published.reserve(shown.items().len())?;
         replace_pairs(&mut self.pairs, slot, finds, steps);
-        drop_slot(&mut self.bordering, slot);
+        drop_slot(&mut self.bordering, slot, &own, self.moment);
         let _ = self.bordering.extend_from_slice(&bordering);
         self.published.replace(&hidden, &shown);
         self.places[2 * slot as usize] = first;

@@ -1,10 +1,11 @@
 //! Which pairs a change keeps, and which a move looks at.
-ghost use Rattle.std.specs.Prelude.{◌≡◌, ◌++◌, ◌≤◌, filter, IfOk, OnOk, vec_len, vec_capacity};
+ghost use Rattle.std.specs.Prelude.{◌≡◌, ◌++◌, ◌≤◌, [], Contains, true, false, filter, if◌then◌else◌, IfOk, OnOk, vec_len, vec_capacity};
+ghost use Rattle.std.specs.List.{list_any};
 ghost use Rattle.mt_edges.specs.Pairs.{AreDistinctPairs};
-ghost use Rattle.mt_kept.specs.Private.Made.{avoids, is_at_border, touches_place};
+ghost use Rattle.mt_kept.specs.Private.Made.{avoids, is_at_border, is_tested, touches_place};
 ghost use Rattle.mt_kept.specs.Private.Stale.{AreDue, AreDueAdded, AreStale, comes_due};
 
-use crate::open_pair::{OpenPair, is_bordering};
+use crate::open_pair::{OpenPair, is_bordering, is_tested};
 use crate::stale::Stale;
 use mt_base::{Memory, Second, WINDOW};
 use mt_edges::{Edge, Edges};
@@ -92,13 +93,26 @@ fn is_elsewhere(pair: &OpenPair, slot: u32) -> bool
     pair.edge.a / 2 != slot && pair.edge.b / 2 != slot
 }
 
-/// Drops the open pairs of which an end is a place of that slot.
-pub(crate) fn drop_slot(pairs: &mut Vec<OpenPair>, slot: u32)
+/// Whether one of these pairs is at the border of the window.
+fn has_bordering(pairs: &[OpenPair], now: Second) -> bool
+    requires { now ≤ 10000000 }
+    ensures { result ≡ list_any (is_at_border now) pairs.now }
+{
+    pairs.iter().any(|pair| is_bordering(&pair.edge, now))
+}
+
+/// Drops those of the pairs at the border of the window of which an end is a place of that slot. It looks at them only where one of the slot's
+/// own pairs is there.
+pub(crate) fn drop_slot(pairs: &mut Vec<OpenPair>, slot: u32, own: &[OpenPair], now: Second)
+    requires early { now ≤ 10000000 }
+    requires own { (o : OpenPair) → Contains pairs.old.items o → avoids slot o ≡ false → list_any (is_at_border now) own.now ≡ true }
     ensures rest { pairs.new.items ≡ filter (avoids slot) pairs.old.items }
     ensures len { vec_len pairs.new ≤ vec_len pairs.old }
     ensures capacity { vec_capacity pairs.new ≡ vec_capacity pairs.old }
 {
-    pairs.retain(|pair| is_elsewhere(pair, slot));
+    if has_bordering(own, now) {
+        pairs.retain(|pair| is_elsewhere(pair, slot));
+    }
 }
 
 /// Those of these pairs that are at the border of the window.
@@ -121,11 +135,7 @@ pub(crate) fn bordering_of(
 }
 
 /// The open pairs of which one end is that place.
-pub(crate) fn at_place(
-    alloc: Global,
-    pairs: &[OpenPair],
-    place: u32,
-) -> Result<Vec<OpenPair>, Memory>
+fn at_place(alloc: Global, pairs: &[OpenPair], place: u32) -> Result<Vec<OpenPair>, Memory>
     ensures { IfOk result (λ list. list.items ≡ filter (touches_place place) pairs.now) }
 {
     let mut list = Vec::new(alloc);
@@ -135,4 +145,31 @@ pub(crate) fn at_place(
         }
     }
     Ok(list)
+}
+
+/// Whether one of these pairs would have to be tested where it is open.
+fn has_tested(edges: &[Edge], now: Second) -> bool
+    requires { now ≤ 10000000 }
+    ensures { result ≡ list_any (is_tested now) edges.now }
+{
+    edges.iter().any(|edge| is_tested(edge, now))
+}
+
+/// Of the pairs at the border of the window those of a place, where one of the place's own pairs would have to be tested. It looks at them only
+/// then.
+pub(crate) fn tested_at(
+    alloc: Global,
+    bordering: &[OpenPair],
+    place: u32,
+    own: &[Edge],
+    now: Second,
+) -> Result<Vec<OpenPair>, Memory>
+    requires { now ≤ 10000000 }
+    ensures { IfOk result (λ list. list.items ≡ (if list_any (is_tested now) own.now then filter (touches_place place) bordering.now else [])) }
+{
+    if has_tested(own, now) {
+        at_place(alloc, bordering, place)
+    } else {
+        Ok(Vec::new(alloc))
+    }
 }

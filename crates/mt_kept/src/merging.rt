@@ -43,7 +43,7 @@ fn parted<'a>(list: &'a [Conflict], conflict: &Conflict) -> (&'a [Conflict], &'a
 }
 
 /// How many conflicts are copied at once. A longer copy isn't quicker for a list that stays in the cache.
-const BLOCK: usize = 64;
+const BLOCK: usize = 128;
 
 /// Puts the conflicts of a list after what `merged` holds, block by block. It has room for all.
 fn add_all(merged: &mut Vec<Conflict>, list: &[Conflict])

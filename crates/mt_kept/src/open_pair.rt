@@ -1,7 +1,7 @@
 //! A pair of places, and whether it is open.
 ghost use Rattle.std.specs.Prelude.{◌≡◌, ◌++◌, ◌∷◌, [], ◌≤◌, OnOk};
 ghost use Rattle.mt_kept.specs.Made.{is_open_pair};
-ghost use Rattle.mt_kept.specs.Private.Made.{borders};
+ghost use Rattle.mt_kept.specs.Private.Made.{borders, is_tested};
 ghost use Rattle.mt_kept.specs.Window.{straddles};
 
 use mt_base::{Conflict, Memory, Second, WINDOW};
@@ -26,11 +26,19 @@ pub fn is_open(edge: &Edge, now: Second) -> bool
 }
 
 /// Whether an edge of the window from `now` lies inside the pair's span.
-pub(crate) fn is_straddling(edge: &Edge, now: Second) -> bool
+fn is_straddling(edge: &Edge, now: Second) -> bool
     requires { now ≤ 10000000 }
     ensures { result ≡ straddles now edge.now }
 {
     crosses_one(edge.first, edge.last, now, now + WINDOW)
+}
+
+/// Whether what an open pair shows has to be tested: its span straddles an edge of the window and isn't known to be solid.
+pub(crate) fn is_tested(edge: &Edge, now: Second) -> bool
+    requires { now ≤ 10000000 }
+    ensures { result ≡ is_tested now edge.now }
+{
+    is_straddling(edge, now) && !edge.solid
 }
 
 /// Whether the pair's span meets the window from `now` and reaches its border: it begins before it, or doesn't end before its last second.

@@ -4,19 +4,18 @@ ghost use Rattle.std.specs.Option.{option_to_list};
 ghost use Rattle.mt_base.specs.declared.conflict.Conflict.{Conflict};
 ghost use Rattle.mt_base.specs.declared.rules.Rules.{Rules};
 ghost use Rattle.mt_base.specs.Bounds.{AreWithinBounds};
-ghost use Rattle.mt_base.specs.Conflict.{IsConflict, IsSpanOfLoss};
-ghost use Rattle.mt_base.specs.Picture.{window_end};
+ghost use Rattle.mt_base.specs.Conflict.{IsSpanOfLoss};
 ghost use Rattle.mt_track.specs.Named.{named};
 ghost use Rattle.mt_kept.specs.Losing.{IsPair, IsSolidAsSaid};
-ghost use Rattle.mt_kept.specs.Private.Made.{IsInOrder, conflict_of, is_tested, opens};
+ghost use Rattle.mt_kept.specs.Private.Made.{IsInOrder, conflict_of, is_tested, opens, span_within};
 ghost use Rattle.mt_kept.specs.Places.{at, seen};
 ghost use Rattle.mt_base.specs.Trajectory.{horizon};
 ghost use Rattle.mt_base.specs.Tally.{raised_by};
-ghost use Rattle.mt_kept.specs.Window.{IsFoundOf, IsOpen, ShowsInWindow};
-ghost use Rattle.mt_kept.specs.Private.Window.{AreInnerAdded, Shows, ShowsWhole};
+ghost use Rattle.mt_kept.specs.Window.{IsFoundOf, IsOpen, ShowsInWindow, edge_of};
+ghost use Rattle.mt_kept.specs.Private.Window.{AreShownUntested, IsShownUntested, IsShownAmong, Shows};
 
 use crate::conflict_list::ConflictList;
-use crate::open_pair::{OpenPair, is_bordering, is_open, is_straddling};
+use crate::open_pair::{OpenPair, is_open, is_tested, push_pair};
 use mt_base::{Conflict, Memory, Rules, Second, Tally, WINDOW};
 use mt_edges::Edge;
 use mt_pair::lose;
@@ -49,34 +48,16 @@ fn paired(left: &Item, right: &Item, span: (Second, Second)) -> Conflict
     }
 }
 
-/// The conflict of two items in the window, which their span meets. Where the span is known to be solid, it is what of the span lies within;
-/// else that is tested.
-fn cut(
-    left: &Item,
-    right: &Item,
-    edge: &Edge,
-    rules: &Rules,
-    now: Second,
-    tests: &mut Tally,
-) -> Option<(Second, Second)>
-    requires rules_kept { AreWithinBounds rules.now }
-    requires early { now ≤ 10000000 }
-    requires span { IsSpanOfLoss rules.now (named left.now).path (named right.now).path 0 horizon edge.now.first edge.now.last }
-    requires solid { IsSolidAsSaid rules.now (named left.now).path (named right.now).path edge.now }
-    requires opened { IsOpen now edge.now }
-    ensures conflict { IsConflict rules.now (named left.now).path (named right.now).path now (window_end now) result }
-    ensures counted { tests.new ≡ raised_by (if edge.now.solid then 0 else 1) tests.old }
+/// What of an open pair's span lies in the window. That is what the pair shows, unless it has to be tested.
+fn span_within(edge: &Edge, now: Second) -> (Second, Second)
+    requires { now ≤ 10000000 }
+    ensures { result ≡ span_within now edge.now }
 {
-    let from = now.max(edge.first);
-    let to = (now + WINDOW).min(edge.last + 1);
-    if edge.solid {
-        return Some((from, to - 1));
-    }
-    lose(&left.strand, &right.strand, rules, from, to, tests)
+    (now.max(edge.first), (now + WINDOW - 1).min(edge.last))
 }
 
 /// What a pair that is open shows in the window. It is tested only where its span straddles an edge of the window and isn't known to be
-/// solid, over what of the span lies within; where it straddles none, the whole span lies within, and is what it shows.
+/// solid, over what of the span lies within.
 pub(crate) fn shown_pair(
     left: &Item,
     right: &Item,
@@ -94,10 +75,12 @@ pub(crate) fn shown_pair(
     ensures found { IsFoundOf rules.now now (named left.now) (named right.now) result }
     ensures counted { tests.new ≡ raised_by (if is_tested now edge.now then 1 else 0) tests.old }
 {
-    let span = if is_straddling(edge, now) {
-        cut(left, right, edge, rules, now, tests)?
+    let within = span_within(edge, now);
+    let span = if is_tested(edge, now) {
+        let to = within.1 + 1;
+        lose(&left.strand, &right.strand, rules, within.0, to, tests)?
     } else {
-        (edge.first, edge.last)
+        within
     };
     Some(paired(left, right, span))
 }
@@ -136,40 +119,58 @@ pub(crate) fn shown(
     shown_pair(left, right, edge, rules, now, tests)
 }
 
-/// What a pair of places shows where it isn't at the border of the window: its span, if it is open.
-fn shown_whole(places: &[Option<Item>], edge: &Edge, now: Second) -> Option<Conflict>
+/// What the pair of the same two places shows, where it is one of these.
+fn shown_among(pairs: &[OpenPair], edge: &Edge) -> Option<Conflict>
+    ensures { Contains (map edge_of pairs.now) edge.now → IsShownAmong pairs.now edge.now result }
+{
+    for pair in pairs {
+        if pair.edge.a == edge.a && pair.edge.b == edge.b {
+            return pair.conflict;
+        }
+    }
+    None
+}
+
+/// What a pair of places shows where it is open, without a test: one that would have to be tested is among the tested ones.
+fn shown_untested(
+    places: &[Option<Item>],
+    tested: &[OpenPair],
+    edge: &Edge,
+    now: Second,
+) -> Option<Conflict>
     requires early { now ≤ 10000000 }
     requires pair { (rules : Rules) × IsPair rules (map seen places.now) edge.now }
-    ensures { IsOpen now edge.now → ShowsWhole (map seen places.now) edge.now result }
+    ensures { IsOpen now edge.now → IsShownUntested (map seen places.now) now tested.now edge.now result }
 {
     if !is_open(edge, now) {
         return None;
     }
+    if is_tested(edge, now) {
+        return shown_among(tested, edge);
+    }
     let (left, right) = items_of(places, edge);
-    Some(paired(left, right, (edge.first, edge.last)))
+    Some(paired(left, right, span_within(edge, now)))
 }
 
-/// Puts after some pairs those of others that aren't at the border of the window, each with what it shows where it is open.
-pub(crate) fn add_inner(
-    pairs: &mut Vec<OpenPair>,
+/// Some pairs of places, each with what it shows where it is open. It makes no test: those that would have to be tested are among the tested ones.
+pub(crate) fn shown_pairs(
+    alloc: Global,
     places: &[Option<Item>],
+    tested: &[OpenPair],
     edges: &[Edge],
     now: Second,
-) -> Result<(), Memory>
+) -> Result<Vec<OpenPair>, Memory>
     requires early { now ≤ 10000000 }
     requires pairs { (rules : Rules) × All (IsPair rules (map seen places.now)) edges.now }
-    ensures { OnOk result (AreInnerAdded (map seen places.now) now edges.now pairs.old.items pairs.new.items) }
+    ensures { IfOk result (λ pairs. AreShownUntested (map seen places.now) now tested.now edges.now pairs.items) }
 {
+    let mut pairs = Vec::new(alloc);
+    pairs.reserve(edges.len())?;
     for edge in edges {
-        if !is_bordering(edge, now) {
-            let conflict = shown_whole(places, edge, now);
-            pairs.push(OpenPair {
-                edge: *edge,
-                conflict,
-            })?;
-        }
+        let conflict = shown_untested(places, tested, edge, now);
+        push_pair(&mut pairs, *edge, conflict)?;
     }
-    Ok(())
+    Ok(pairs)
 }
 
 /// Puts what a pair shows after what others do.

@@ -1,5 +1,5 @@
 -- No public contract names these: they are of private steps and of proofs.
-use Rattle.std.specs.Prelude.{◌≡◌, ℕ, ◌<◌, ◌↔◌, ◌⊎◌, ◌++◌, ◌∷◌, [], ◌+◌, ◌*◌, ◌≤◌, List, map, take, length, filter, Contains, Option, Bool, ⊤, not, ◌==◌, ◌&&◌, ◌||◌, nat_le, nat_lt}
+use Rattle.std.specs.Prelude.{◌≡◌, ℕ, ◌<◌, ◌↔◌, ◌⊎◌, ◌++◌, ◌∷◌, [], ◌+◌, ◌*◌, ◌≤◌, List, map, take, length, filter, Contains, Option, Bool, ⊤, not, ◌==◌, ◌&&◌, ◌||◌, max, min, nat_le, nat_lt}
 use Rattle.std.specs.List.{count_by}
 use Rattle.std.specs.Cmp.Lexicographic.{slice_cmp}
 use Rattle.std.specs.Ordering.{nat_cmp}
@@ -23,8 +23,8 @@ use Rattle.mt_base.specs.Tally.{raised_by}
 use Rattle.mt_kept.specs.Window.{IsFoundOf, IsOpen, edge_of, straddles}
 use Rattle.mt_kept.specs.Made.{is_open_pair}
 
--- `window_last`, `goes_on`, `borders`, `is_inner`: the last second of the look-ahead; a pair doesn't end before the moment; an open pair is at the border
--- of the look-ahead, as it begins before it, or doesn't end before its last second; a pair isn't
+-- `window_last`, `goes_on`, `borders`: the last second of the look-ahead; a pair doesn't end before the moment; an open pair is at the border of the
+-- look-ahead, as it begins before it, or doesn't end before its last second
 abbrev pub window_last : ℕ → ℕ
 window_last now = now + 1199
 
@@ -34,8 +34,9 @@ goes_on now e = nat_le now e.last
 abbrev pub borders : ℕ → Edge → Bool
 borders now e = is_open_pair now e && (nat_lt e.first now || nat_le (window_last now) e.last)
 
-abbrev pub is_inner : ℕ → Edge → Bool
-is_inner now e = not (borders now e)
+-- what of a pair's span lies within the look-ahead
+abbrev pub span_within : ℕ → Edge → ℕ × ℕ
+span_within now e = (max now e.first, min (window_last now) e.last)
 
 -- `opens`, `is_at_border`, `avoids`, `meets`, `touches_place`: of a pair with what it shows: it is open; it is at the border of the look-ahead; no end
 -- is in that slot; some end is; one end is that place

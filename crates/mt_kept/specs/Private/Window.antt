@@ -1,16 +1,17 @@
 -- No public contract names these: they are of private steps and of proofs.
-use Rattle.std.specs.Prelude.{◌≡◌, ◌≢◌, ℕ, ◌+◌, ◌*◌, ◌⊎◌, ◌↔◌, List, ◌++◌, map, filter, All, Contains, AllPairs, Option, Some, true}
+use Rattle.std.specs.Prelude.{◌≡◌, ◌≢◌, ℕ, ◌+◌, ◌*◌, ◌⊎◌, ◌↔◌, List, ◌++◌, map, filter, All, Contains, AllPairs, Option, Some, true, false}
 use Rattle.std.specs.List.Sorted.{IsPermutation}
 use Rattle.mt_base.specs.declared.conflict.Conflict.{Conflict}
 use Rattle.mt_base.specs.declared.rules.Rules.{Rules}
 use Rattle.mt_base.specs.Picture.{NamedTrajectory}
 use Rattle.mt_edges.specs.declared.edge.Edge.{Edge}
+use Rattle.mt_edges.specs.Pairs.{HaveSameEnds}
 use Rattle.mt_kept.specs.declared.open_pair.OpenPair.{OpenPair}
 use Rattle.mt_kept.specs.Finds.{AreFindsAt}
 use Rattle.mt_kept.specs.Places.{at}
 use Rattle.mt_kept.specs.declared.stale.Stale.{Stale}
 use Rattle.mt_kept.specs.Private.Stale.{stays}
-use Rattle.mt_kept.specs.Private.Made.{IsInOrder, goes_on, is_at_border, is_inner, opens}
+use Rattle.mt_kept.specs.Private.Made.{IsInOrder, goes_on, is_at_border, is_tested, opens, span_within}
 use Rattle.mt_kept.specs.Window.{IsOpen, ShowsInWindow, edge_of}
 
 -- exactly the kept pairs that are open, each once, with what it shows
@@ -27,22 +28,33 @@ pub record Shows (open_pairs : List OpenPair) (c : Conflict) : Type 0 where
   pub held : Contains open_pairs pair
   pub shown : pair.conflict ≡ Some c
 
--- a pair shows its whole span, the lesser callsign first
-pub record ShowsWhole (places : List (Option NamedTrajectory)) (e : Edge) (shown : Option Conflict) : Type 0 where
+-- a pair shows what of its span lies within the look-ahead, the lesser callsign first
+pub record ShowsWithin (places : List (Option NamedTrajectory)) (now : ℕ) (e : Edge) (shown : Option Conflict) : Type 0 where
   pub left : NamedTrajectory
   pub right : NamedTrajectory
   pub left_is : at places e.a ≡ Some left
   pub right_is : at places e.b ≡ Some right
   pub conflict : Conflict
   pub is : shown ≡ Some conflict
-  pub order : IsInOrder left right (e.first, e.last) conflict ⊎ IsInOrder right left (e.first, e.last) conflict
+  pub order : IsInOrder left right (span_within now e) conflict ⊎ IsInOrder right left (span_within now e) conflict
 
--- those of some pairs that aren't at the border of the look-ahead were put after others. Each that is open shows its whole span.
-pub record AreInnerAdded (places : List (Option NamedTrajectory)) (now : ℕ) (edges : List Edge) (old new : List OpenPair) : Type 0 where
-  pub added : List OpenPair
-  pub is : new ≡ old ++ added
-  pub same : map edge_of added ≡ filter (is_inner now) edges
-  pub shown : All (λ o. IsOpen now o.edge → ShowsWhole places o.edge o.conflict) added
+-- some pair of the same places shows that
+pub record IsShownAmong (pairs : List OpenPair) (e : Edge) (shown : Option Conflict) : Type 0 where
+  pub pair : OpenPair
+  pub held : Contains pairs pair
+  pub ends : HaveSameEnds pair.edge e
+  pub is : shown ≡ pair.conflict
+
+-- what an open pair shows without a test: what it shows among those that were tested, where it would be tested, and what lies within the look-ahead
+-- else
+pub record IsShownUntested (places : List (Option NamedTrajectory)) (now : ℕ) (tested : List OpenPair) (e : Edge) (shown : Option Conflict) : Type 0 where
+  pub among : is_tested now e ≡ true → Contains (map edge_of tested) e → IsShownAmong tested e shown
+  pub within : is_tested now e ≡ false → ShowsWithin places now e shown
+
+-- these pairs, each with what it shows without a test where it is open
+pub record AreShownUntested (places : List (Option NamedTrajectory)) (now : ℕ) (tested : List OpenPair) (edges : List Edge) (pairs : List OpenPair) : Type 0 where
+  pub same : map edge_of pairs ≡ edges
+  pub shown : All (λ o. IsOpen now o.edge → IsShownUntested places now tested o.edge o.conflict) pairs
 
 -- these pairs were looked at, and put after others with what they show
 pub record AreAdded (rules : Rules) (places : List (Option NamedTrajectory)) (now : ℕ) (edges : List Edge) (old new : List OpenPair) : Type 0 where
@@ -65,10 +77,10 @@ pub record AreListed (now : ℕ) (renewed bordering : List OpenPair) (conflicts 
   pub at_border : bordering ≡ filter (is_at_border now) pairs
   pub exact : (c : Conflict) → Contains conflicts c ↔ Shows (filter (opens now) pairs) c
 
--- exactly what the open pairs of a slot's two places show
-pub record AreShownAt (rules : Rules) (places : List (Option NamedTrajectory)) (now slot : ℕ) (conflicts : List Conflict) : Type 0 where
+-- exactly the pairs of a slot's two places, with what open ones show
+pub record AreOwnPairs (rules : Rules) (places : List (Option NamedTrajectory)) (now slot : ℕ) (own : List OpenPair) : Type 0 where
   pub first : List OpenPair
   pub second : List OpenPair
   pub first_are : AreFindsAt rules places now (2 * slot) first
   pub second_are : AreFindsAt rules places now (2 * slot + 1) second
-  pub exact : (c : Conflict) → Contains conflicts c ↔ Shows (filter (opens now) (first ++ second)) c
+  pub is : own ≡ first ++ second

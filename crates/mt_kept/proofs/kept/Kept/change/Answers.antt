@@ -5,11 +5,11 @@ use Rattle.mt_base.specs.declared.conflict.Conflict.{Conflict}
 use Rattle.mt_kept.specs.Finds.{AreFindsOfSlot}
 use Rattle.mt_kept.specs.Private.Made.{AreReplaced, WereDropped, avoids, is_at_border, opens}
 use Rattle.mt_kept.specs.Places.{HaveOwnSlots, seen, with_slot}
-use Rattle.mt_kept.specs.Private.Window.{AreShownAt, Shows}
+use Rattle.mt_kept.specs.Private.Window.{AreOwnPairs, Shows}
 use Rattle.mt_kept.proofs.Keeping.{kept_put, length_slot, map_slot, open_put, borderers_put}
 use Rattle.mt_kept.proofs.Replacing.{finds_sound, were_steps}
 use Rattle.mt_kept.proofs.Shown.{shown_put}
-use Rattle.mt_kept.proofs.Slots.{shown_slot}
+use Rattle.mt_kept.proofs.Slots.{own_borders, shown_slot}
 use Rattle.std.proofs.lemmas.Result.{MatchResult-from_err}
 use Rattle.mt_base.proofs.Members.{All-from_held}
 use Rattle.mt_kept.specs.declared.open_pair.OpenPair.{OpenPair}
@@ -36,14 +36,16 @@ invariant_of-self-2 c =
     let places = map seen c.self.inside.places.items in
     let edges = c.self.inside.pairs.edges in
     let list = c.self.inside.published.conflicts in
+    let own_pairs = c.in_ok-own.own.items in
     let hidden = c.in_ok-hidden.hidden.conflicts in
     let first = seen c.args.first in
     let second = seen c.args.second in
     let own : HaveOwnSlots (with_slot places slot first second) = rw (← c.self.view_is) at c.requires.own in
     let finds : AreFindsOfSlot c.self.inside.rules (with_slot places slot first second) now slot finds_now = rw (← c.self.view_is) at c.requires.finds in
     let replaced : AreReplaced slot finds_now edges c.replace_pairs.new.pairs.edges = rw c.in_ok-reserve.ensures.edges at c.replace_pairs.ensures.replaced in
-    let shown_at : AreShownAt c.self.inside.rules places now slot hidden = rw (← c.self.view_is) at c.in_ok-hidden.ensures.hidden in
-    let gone = shown_slot c.self.inside.rules places now slot edges k.open_pairs hidden k.early k.own k.kept k.opened shown_at in
+    let own_are : AreOwnPairs c.self.inside.rules places now slot own_pairs = rw (← c.self.view_is) at c.in_ok-own.ensures in
+    let shown_at : (d : Conflict) → Contains hidden d ↔ Shows (filter (opens now) own_pairs) d = rw (← c.self.view_is, c.deref.ensures.value) at c.in_ok-hidden.ensures.hidden in
+    let gone = shown_slot c.self.inside.rules places now slot edges k.open_pairs own_pairs hidden k.early k.own k.kept k.opened own_are shown_at in
     let fresh : (d : Conflict) → Contains c.in_ok-hidden.shown.conflicts d ↔ Shows (filter (opens now) finds_now) d = rw (← c.self.view_is) at c.in_ok-hidden.ensures.shown in
     let published : (d : Conflict) → Contains c.replace.new.self.conflicts d ↔ ((Contains list d × (¬ Contains hidden d)) ⊎ Contains c.in_ok-hidden.shown.conflicts d) =
     rw c.in_ok-reserve-3.ensures.same at c.replace.ensures in
@@ -54,9 +56,9 @@ invariant_of-self-2 c =
     let shorter = c.drop_slot.ensures.len in
     let capacity = c.drop_slot.ensures.capacity in
     let count = c.len.ensures in
-    let long = c.deref.ensures.len in
+    let long = c.deref-3.ensures.len in
     let room : is_ok c.extend_from_slice.result ≡ true = c.extend_from_slice.ensures.succeeds (omega arith) in
-    rw (room, c.drop_slot.ensures.rest, c.in_ok-reserve-2.ensures.items, c.deref.ensures.value, came) at c.extend_from_slice.ensures.items in
+    rw (room, c.drop_slot.ensures.rest, c.in_ok-reserve-2.ensures.items, c.deref-3.ensures.value, came) at c.extend_from_slice.ensures.items in
     rw (map_slot c.self.inside.places.items slot c.args.first c.args.second) (record {
       bounds = k.bounds;
       early = k.early;
@@ -82,7 +84,13 @@ returns-clause-steps c =
     c.self.invariant.kept dropped)
 
 pub returns-in_err-hidden-clause-err : goal.returns-in_err-hidden-clause-err
-returns-in_err-hidden-clause-err c = MatchResult-from_err c.from_residual.result _ _ c.from_residual.ensures.0 (λ err. refl)
+returns-in_err-hidden-clause-err c = MatchResult-from_err c.from_residual-in_err-hidden.result _ _ c.from_residual-in_err-hidden.ensures.0 (λ err. refl)
+
+pub returns-in_err-own-clause-err : goal.returns-in_err-own-clause-err
+returns-in_err-own-clause-err c = MatchResult-from_err c.from_residual.result _ _ c.from_residual.ensures.0 (λ err. refl)
+
+pub returns-in_err-own-clause-steps : goal.returns-in_err-own-clause-steps
+returns-in_err-own-clause-steps c = none_dropped _ _ _ _
 
 pub returns-in_err-hidden-clause-steps : goal.returns-in_err-hidden-clause-steps
 returns-in_err-hidden-clause-steps c = none_dropped _ _ _ _
@@ -173,3 +181,14 @@ index_mut-requires c = first_inside c.args.slot _ c.self.inside.places.items (rw
 
 pub index_mut-requires-2 : goal.index_mut-requires-2
 index_mut-requires-2 c = second_inside c.args.slot _ c.self.inside.places.items (rw (← c.self.view_is) at c.requires.slot) c.self.inside.places.ok.0
+
+pub drop_slot-requires-clause-own : goal.drop_slot-requires-clause-own
+drop_slot-requires-clause-own c =
+    let k = c.self.invariant in
+    let bordering = c.self.inside.bordering.items in
+    let own = c.in_ok-own.own.items in
+    rw (c.in_ok-reserve-2.ensures.items, c.deref-2.ensures.value) (own_borders c.self.inside.rules (map seen c.self.inside.places.items) c.self.inside.moment
+    c.args.slot c.self.inside.pairs.edges k.open_pairs bordering own k.kept k.opened k.borderers (rw (← c.self.view_is) at c.in_ok-own.ensures))
+
+pub of_slot-requires-clause-few : goal.of_slot-requires-clause-few
+of_slot-requires-clause-few c = rw (← c.self.view_is) c.self.invariant.few
