@@ -5,6 +5,7 @@ pub mod Candidacy
 pub mod Choosing
 pub mod Completed
 pub mod Counted
+pub mod Effected
 pub mod Either
 pub mod Entered
 pub mod Exits
@@ -14,7 +15,6 @@ pub mod Given
 pub mod HitsHere
 pub mod Knowing
 pub mod Leaving
-pub mod Looked
 pub mod Making
 pub mod Moved
 pub mod Named

@@ -1,5 +1,5 @@
 -- The version of the last entry that names a flight tells whether one after a version does.
-use Rattle.std.proofs.Common.{◌≡◌, ℕ, ◌-◌, ◌<◌, ◌≤◌, List, Option, Some, None, is_some, true, false, nat_lt, get_or, option_map, refl, sym, ◌∙◌, ap, subst, arith}
+use Rattle.std.proofs.Common.{◌≡◌, ℕ, ◌-◌, ◌<◌, ◌≤◌, List, Option, Some, None, is_some, true, false, nat_lt, option_map, refl, sym, subst, arith}
 use Rattle.std.proofs.lemmas.Bool.Decides.{nat_tests}
 use Rattle.mt_base.specs.declared.command.Entry.{Entry}
 use Rattle.mt_base.specs.declared.flight.Record.{Record}
@@ -10,7 +10,7 @@ use Rattle.mt_probe.specs.Shot.{Shot, flight_at, records_in}
 use Rattle.mt_probe.specs.Shot.{state_in_shot as state_in}
 use Rattle.mt_probe.proofs.Left.{found_call}
 use Rattle.mt_picture.specs.Stamps.{AreNamedLast, WasNamedLastAt}
-use Rattle.mt_picture.specs.Story.{IsFlightNamedAfter, IsNamedAfter, Story}
+use Rattle.mt_picture.specs.Story.{IsNamedAfter, Story}
 
 -- ---- of the last entry that names a callsign
 

@@ -1,9 +1,9 @@
 -- What a command that passes its checks says of the state.
-use Rattle.std.proofs.Common.{◌≡◌, ◌⊎◌, inl, inr, ⊎_elim, Bool, true, ℕ, ℤ, pos, ◌≤ℤ◌, ◌<◌, ◌^◌, List, [], ◌∷◌, ◌++◌, Option, Some, None, Ok, IsOk, is_some, length, option_map, refl, ap, arith}
+use Rattle.std.proofs.Common.{◌≡◌, ◌⊎◌, inl, inr, ⊎_elim, Bool, true, ℕ, ℤ, pos, ◌≤ℤ◌, ◌<◌, ◌^◌, List, [], ◌∷◌, ◌++◌, Option, Some, None, Ok, IsOk, is_some, length, option_map, refl, ap, subst, arith}
 use Rattle.std.proofs.lemmas.Int.{ints}
 use Rattle.std.specs.List.{AllByRecursion}
 use Rattle.std.specs.Option.{option_map_or}
-use Rattle.std.specs.Prelude.{int_lt, unwrap_or}
+use Rattle.std.specs.Prelude.{int_lt, option_and_then, unwrap_or}
 use Rattle.std.proofs.lemmas.Bool.Decides.{nat_tests}
 use Rattle.mt_base.specs.declared.command.Command.{Command}
 use Rattle.mt_base.specs.declared.command.Command.TheVariants.{Accept, Clear, Commit, Drop, External, Plan, Renew, Tentative, Tick, Withdraw}
@@ -14,17 +14,20 @@ use Rattle.mt_base.specs.declared.flight.Record.{Record}
 use Rattle.mt_base.specs.Bounds.{AreWithinBounds}
 use Rattle.mt_base.specs.Checks.{judged}
 use Rattle.mt_base.specs.Cleared.{aim_checks}
-use Rattle.mt_base.specs.Decision.{checks, look_at, route_checks}
+use Rattle.mt_base.specs.Decision.{call_of, checks, look_at, route_checks}
 use Rattle.mt_base.specs.Picture.{State, flight_of, trajectory_of}
 use Rattle.mt_base.specs.Tables.{Setup}
 use Rattle.mt_base.specs.WhatIf.{course_in, what_if_checks}
 use Rattle.mt_base.proofs.CheckLemmas.{all_pass, all_passed}
 use Rattle.mt_change.proofs.Passed.{ok_is}
 use Rattle.mt_probe.specs.declared.flight.Flight.{Flight}
-use Rattle.mt_probe.specs.Prepared.{MakesStrand, judged_aside, roomy}
-use Rattle.mt_probe.proofs.Left.{found_call}
+use Rattle.mt_probe.specs.Prepared.{IsSlotNamed, MakesStrand, judged_aside, roomy}
+use Rattle.mt_probe.specs.Shot.{Shot, flight_at}
+use Rattle.mt_probe.specs.Shot.{state_in_shot as state_in}
+use Rattle.mt_probe.proofs.Left.{found_call, planned_there}
 use Rattle.mt_machine.specs.Deciding.{IsFirstHit}
-use Rattle.mt_base.proofs.Cases.{room_for_one}
+use Rattle.mt_base.proofs.Cases.{is_none, room_for_one}
+use Rattle.mt_picture.specs.Private.Effects.{IsOfFlight}
 use Rattle.mt_picture.specs.Private.Entries.{IsReport, IsWithdrawal}
 use Rattle.mt_picture.specs.Stamps.{IsFiling}
 
@@ -46,6 +49,10 @@ both_of (x ∷ xs) ys one two = (one.0, both_of xs ys one.1 two)
 
 few : (n : ℕ) (h : ℤ) → int_lt (pos n) h ≡ true → h ≤ℤ pos 4194304 → n < 2 ^ 40
 few n h below most = grind (arith, ints)
+
+pub planned_some : (at : Option Record) → is_some (course_in at) ≡ true → is_some at ≡ true
+planned_some None e = absurd (cc)
+planned_some (Some r) e = refl
 
 module _ (setup : Setup) (s : State) (who : ℕ) (rules : AreWithinBounds setup.rules) where
   abbrev Pass : Command → Type 0
@@ -124,8 +131,35 @@ module _ (setup : Setup) (s : State) (who : ℕ) (rules : AreWithinBounds setup.
   pub drop_there : (call : List ℕ) → Pass (Drop call) → is_some (flight_of s.records call) ≡ true
   drop_there call passed = (tests (Drop call) passed).0
 
+  -- the flight that a command names is there, where it has to be; and where one is filed, none has its callsign
+  pub flight_there : (c : Command) → IsOfFlight c → Pass c → is_some (option_and_then (flight_of s.records) (call_of c)) ≡ true
+  flight_there (Plan call kind route at from level rvsm) of passed = absurd of
+  flight_there (External call straight) of passed = absurd of
+  flight_there (Tick now) of passed = absurd of
+  flight_there (Drop call) of passed = drop_there call passed
+  flight_there c of passed = planned_some (option_and_then (flight_of s.records) (call_of c)) (planned_there setup s who c tt (aside_passes c passed))
+
+  pub none_filed : (c : Command) → IsFiling c → Pass c → option_and_then (flight_of s.records) (call_of c) ≡ None
+  none_filed (Plan call kind route at from level rvsm) filing passed =
+      is_none (flight_of s.records call) (tests (Plan call kind route at from level rvsm) passed).0
+  none_filed (External call straight) filing passed = is_none (flight_of s.records call) (tests (External call straight) passed).0
+  none_filed c filing passed = absurd filing
+
   pub tick_later : (now : ℕ) → Pass (Tick now) → s.now < now
   tick_later now passed = let t = (tests (Tick now) passed).0 in grind (arith, nat_tests)
+
+-- the flight in the slot that a command names has the callsign
+at_slot : (rs : List Record) (call : List ℕ) (at : Option Flight) → is_some at ≡ true → flight_of rs call ≡ option_map (λ (f : Flight). f.card) at
+    → option_map (λ (f : Flight). f.card.call) at ≡ Some call
+at_slot rs call None some is = absurd (cc)
+at_slot rs call (Some f) some is = ap Some (found_call call rs f.card is)
+
+pub slot_there : (shot : Shot) (c : Command) (slot : ℕ) (call : List ℕ) → IsSlotNamed shot c (Some slot) → call_of c ≡ Some call
+    → option_map (λ (f : Flight). f.card.call) (flight_at shot slot) ≡ Some call
+slot_there shot c slot call named is =
+    at_slot (state_in shot).records call (flight_at shot slot) named.there
+    (subst (λ (o : Option (List ℕ)). option_and_then (flight_of (state_in shot).records) o ≡ option_map (λ (f : Flight). f.card) (flight_at shot slot)) is
+    named.flight_is)
 
 -- a flight that is found is at its place
 pub found_place : (rs : List Record) (call : List ℕ) (at : Option Flight) → is_some (flight_of rs call) ≡ true → flight_of rs call ≡ option_map (λ (f : Flight). f.card) at
@@ -135,10 +169,6 @@ found_place rs call (Some f) some is = ap Some (found_call call rs f.card is)
 
 pub full_not : (n m : ℕ) (h : ℤ) → pos m ≡ h → int_lt (pos n) h ≡ true → n ≡ m → ⊥
 full_not n m h is below same = grind (arith, ints)
-
-pub planned_some : (at : Option Record) → is_some (course_in at) ≡ true → is_some at ≡ true
-planned_some None e = absurd (cc)
-planned_some (Some r) e = refl
 
 -- a command that makes no trajectory and is neither a tick nor a drop
 pub plain_other : (c : Command) → (MakesStrand c → ⊥) → ((now : ℕ) → c ≡ Tick now → ⊥) → ((call : List ℕ) → c ≡ Drop call → ⊥) → IsReport c ⊎ IsWithdrawal c

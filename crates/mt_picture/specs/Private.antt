@@ -2,6 +2,7 @@
 pub mod Asking
 pub mod Brought
 pub mod Candidates
+pub mod Effects
 pub mod Entries
 pub mod Finding
 pub mod Hits

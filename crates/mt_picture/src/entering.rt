@@ -3,23 +3,24 @@ ghost use Rattle.std.specs.Prelude.{◌≡◌, ◌<◌, ◌+◌, ◌^◌, None, 
 ghost use Rattle.std.specs.Arc.{arc_value};
 ghost use Rattle.mt_base.specs.Bounds.{IsBoundedCommand};
 ghost use Rattle.mt_base.specs.Complete.{IsComplete};
+ghost use Rattle.mt_base.specs.Effect.{verdict_in};
 ghost use Rattle.mt_base.specs.Picture.{NamedTrajectory};
-ghost use Rattle.mt_probe.specs.Prepared.{IsLeftByEntry, kind_made, path_made};
+ghost use Rattle.mt_probe.specs.Prepared.{IsSlotNamed, kind_made, path_made};
 ghost use Rattle.mt_probe.specs.Shot.{flight_at, made_of};
 ghost use Rattle.mt_probe.specs.Shot.{state_in_shot as state_in};
 ghost use Rattle.mt_picture.specs.Private.Asking.{WasAskedFor, WasAskedOf};
 ghost use Rattle.mt_picture.specs.Private.Brought.{BringsNew, IsEnterable, IsPreparedNow};
 ghost use Rattle.mt_picture.specs.Private.Entries.{IsRemaking, IsReport, IsWithdrawal, is_probed};
 ghost use Rattle.mt_picture.specs.Stamps.{IsFiling};
-ghost use Rattle.mt_picture.specs.Private.Holding.{AddsEntry, AddsOrStops, EntersOrStops, entry_now};
+ghost use Rattle.mt_picture.specs.Private.Holding.{AddsEntry, AddsOrStops, EntersOrStops, IsPassed, entry_now};
 ghost use Rattle.mt_picture.specs.Private.Places.{place_kind};
 ghost use Rattle.mt_picture.specs.Private.Putting.{IsFirstOf, IsKeptFlight, IsFlightPut, IsRemade};
 
 use crate::change::{change_bare, change_for};
 use crate::held::Parts;
 use crate::hits::first_hit;
-use mt_base::{Callsign, Command, Entry, Hit, Kind, Memory, Record, Tally};
-use mt_probe::{Flight, Made, Prep, kind_made, strand_of};
+use mt_base::{Callsign, Command, Entry, Hit, Kind, Memory, Record, Tally, Verdict};
+use mt_probe::{Altered, Flight, Made, Prep, altered_flight, kind_made, strand_of};
 use mt_track::Strand;
 use std::alloc::Global;
 use std::sync::Arc;
@@ -256,26 +257,27 @@ pub(crate) fn remake(
     put_made(held, alloc, slot, flight, entry, entering, tests)
 }
 
-/// Enters the report of a flight in a slot.
+/// Enters the report of the flight in a slot, and gives the verdict on it.
 pub(crate) fn report(
     held: &mut Parts,
     alloc: Global,
     slot: u32,
     who: u32,
     command: &Command,
-    card: Record,
-) -> Result<(), Memory>
-    requires counted { held.old.snapshot.version < 2 ^ 40 }
-    requires there { option_map (λ f. f.card.call) (flight_at held.old.snapshot slot) ≡ Some card.call }
+) -> Result<Option<Verdict>, Memory>
+    requires passed { IsPassed held.old.snapshot who command.now }
+    requires named { IsSlotNamed held.old.snapshot command.now (Some slot) }
     requires reports { IsReport command.now }
     requires bounded { IsBoundedCommand command.now }
-    requires left { IsLeftByEntry held.old.snapshot.setup (state_in held.old.snapshot) who command.now card }
-    ensures { AddsEntry held.old held.new (entry_now held.old.snapshot who command.now) result }
+    ensures entered { AddsEntry held.old held.new (entry_now held.old.snapshot who command.now) result }
+    ensures verdict { IfOk result (λ verdict. verdict ≡ verdict_in held.old.snapshot.setup (state_in held.old.snapshot) command.now) }
 {
     held.keeps();
+    let Altered { card, verdict } = altered_flight(alloc, held.snapshot(), slot, who, command)?;
     let flight = kept_flight(held, slot, card)?;
     let entry = entry_of(alloc, held, who, command)?;
-    held.put_card(slot, flight, entry)
+    held.put_card(slot, flight, entry)?;
+    Ok(verdict)
 }
 
 /// Withdraws the tentative clearance of the flight in a slot.
@@ -285,16 +287,15 @@ pub(crate) fn withdraw(
     slot: u32,
     who: u32,
     command: &Command,
-    card: Record,
 ) -> Result<(), Memory>
-    requires counted { held.old.snapshot.version < 2 ^ 40 }
-    requires there { option_map (λ f. f.card.call) (flight_at held.old.snapshot slot) ≡ Some card.call }
+    requires passed { IsPassed held.old.snapshot who command.now }
+    requires named { IsSlotNamed held.old.snapshot command.now (Some slot) }
     requires withdraws { IsWithdrawal command.now }
     requires bounded { IsBoundedCommand command.now }
-    requires left { IsLeftByEntry held.old.snapshot.setup (state_in held.old.snapshot) who command.now card }
     ensures { AddsEntry held.old held.new (entry_now held.old.snapshot who command.now) result }
 {
     held.keeps();
+    let card = altered_flight(alloc, held.snapshot(), slot, who, command)?.card;
     let mut flight = kept_flight(held, slot, card)?;
     flight.mark = None;
     let entry = entry_of(alloc, held, who, command)?;

@@ -130,7 +130,8 @@ impl Parts {
         Ok(())
     }
 
-    /// Enters a command that leaves this flight in a slot, with the trajectories that it had. The kept conflicts stay as they are.
+    /// Enters a command that leaves this flight in a slot, with the trajectories that it had. The snapshot is changed in place where nobody
+    /// shares it, and the kept conflicts stay as they are.
     pub(crate) fn put_card(&mut self, slot: u32, flight: Flight, entry: Entry) -> Result<(), Memory>
         requires counted { self.old.snapshot.version < 2 ^ 40 }
         requires put { IsFlightPut self.old.snapshot slot flight entry }
@@ -140,10 +141,9 @@ impl Parts {
         ensures { AddsEntry self.old self.new entry result }
     {
         self.snapshot.keeps();
-        let snapshot = self.snapshot.put_again(slot, flight)?;
-        snapshot.keeps();
         self.history.reserve(1)?;
-        self.snapshot = snapshot;
+        self.snapshot.put_again(slot, flight)?;
+        self.snapshot.keeps();
         self.history.push_reserved(entry);
         Ok(())
     }

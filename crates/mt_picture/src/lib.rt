@@ -4,6 +4,7 @@
 mod candidates;
 mod change;
 mod deciding;
+mod effect;
 mod enter;
 mod entering;
 mod held;

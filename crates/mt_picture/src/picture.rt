@@ -11,8 +11,8 @@ ghost use Rattle.mt_picture.specs.Asked.{IsWithinBound};
 ghost use Rattle.mt_picture.specs.Stamps.{AreNamedLast, AreStamped, HaveFilings};
 ghost use Rattle.mt_picture.specs.Story.{IsEntered, IsPrepGivenFor, IsCommandRefused};
 
-use crate::deciding::{decide, verdict_on};
-use crate::enter::enter;
+use crate::deciding::decide;
+use crate::enter::{Upshot, enter};
 use crate::held::Parts;
 use mt_base::{Command, Conflict, Entered, Entry, Memory, Refusal, Rules, Second, Tally};
 use mt_board::No;
@@ -163,16 +163,19 @@ impl Picture {
     {
         let snapshot = self.held.snapshot();
         let version = snapshot.version();
-        if let Err(refusal) = decide(snapshot, who, command) {
-            return Err(No::Refused { refusal, version });
-        }
-        let verdict = verdict_on(snapshot, command);
-        if let Some(hit) = enter(&mut self.held, alloc, who, command, prep, tests)? {
-            return Err(No::Refused {
-                refusal: Refusal::Stale { first: hit },
-                version,
-            });
-        }
+        let effect = match decide(snapshot, who, command) {
+            Ok(effect) => effect,
+            Err(refusal) => return Err(No::Refused { refusal, version }),
+        };
+        let verdict = match enter(&mut self.held, alloc, who, command, effect, prep, tests)? {
+            Upshot::Entered(verdict) => verdict,
+            Upshot::Stopped(hit) => {
+                return Err(No::Refused {
+                    refusal: Refusal::Stale { first: hit },
+                    version,
+                });
+            }
+        };
         Ok(Entered {
             version: self.held.snapshot().version(),
             verdict,

@@ -7,7 +7,7 @@ use Rattle.std.specs.Prelude.{int_lt, is_some, option_and_then, option_map}
 use Rattle.std.specs.Str.{bytes_eq}
 use Rattle.mt_base.specs.declared.clearance.Clearance.{Clearance}
 use Rattle.mt_base.specs.declared.command.Command.{Command}
-use Rattle.mt_base.specs.declared.command.Command.TheVariants.{Accept, Drop, External, Plan, Tentative, Tick, Withdraw}
+use Rattle.mt_base.specs.declared.command.Command.TheVariants.{Accept, Clear, Drop, External, Plan, Tentative, Tick, Withdraw}
 use Rattle.mt_base.specs.declared.command.Command.TheVariants as commands
 use Rattle.mt_base.specs.declared.command.Refusal.TheVariants.{HistoryFull}
 use Rattle.mt_base.specs.declared.flight.Course.{Course}
@@ -18,7 +18,7 @@ use Rattle.mt_base.specs.declared.flight.Straight.{Straight}
 use Rattle.mt_base.specs.Bounds.{AreWithinBounds, IsBoundedStretch, IsInPlane, IsSoundFlight}
 use Rattle.mt_base.specs.Checks.{judged, next}
 use Rattle.mt_base.specs.Decision.{call_of, checks, filled, route_checks}
-use Rattle.mt_base.specs.Effect.{changed, course_of, first_of_points, records_after}
+use Rattle.mt_base.specs.Effect.{changed, course_of, first_of_points, records_after, verdict_in, verdict_on}
 use Rattle.mt_base.specs.Picture.{NamedTrajectory, State, flight_of}
 use Rattle.mt_base.specs.Predictor.{points_of}
 use Rattle.mt_base.specs.Tables.{Setup}
@@ -26,7 +26,7 @@ use Rattle.mt_base.specs.Trajectory.{Trajectory}
 use Rattle.mt_base.specs.WhatIf.{course_in, course_on, what_if_checks}
 use Rattle.mt_base.proofs.CheckLemmas.{all_passed, judged-append, next-ok}
 use Rattle.mt_predict.proofs.Refusing.{check-true}
-use Rattle.mt_change.specs.Altered.{Alters, CanAlter, path_after}
+use Rattle.mt_change.specs.Altered.{Alters, CanAlter, path_after, verdict_for}
 use Rattle.mt_change.proofs.Alterations.{PassesOn, can_alter, planned, records_are}
 use Rattle.mt_change.proofs.Filling.{filled_alters, filled_call, filled_passes, filled_twice}
 use Rattle.mt_change.proofs.Passed.{halves}
@@ -43,6 +43,24 @@ found_call call (q ∷ rs) r is = by_test (bytes_eq q.call call) refl (found_cal
   by_test : (b : Bool) → bytes_eq q.call call ≡ b → (flight_of rs call ≡ Some r → r.call ≡ call) → (if b then Some q else flight_of rs call) ≡ Some r → r.call ≡ call
   by_test true e rest is = let same : q ≡ r = cc in subst (λ (s : Record). s.call ≡ call) same ((bytes_eq-Decides q.call call).0 e)
   by_test false e rest is = rest is
+
+-- a flight that is found by the callsign of a command has it
+pub found_named : (rs : List Record) (o : Option (List ℕ)) (r : Record) → option_and_then (flight_of rs) o ≡ Some r → (o ≡ Some r.call) × (flight_of rs r.call ≡ Some r)
+found_named rs None r is = absurd (cc)
+found_named rs (Some call) r is =
+    let own = found_call call rs r is in
+    (ap Some (sym own), subst (λ (k : List ℕ). flight_of rs k ≡ Some r) (sym own) is)
+
+-- the verdict on the report of a flight is that on the report that is entered
+pub verdict_named : (setup : Setup) (s : State) (now : ℕ) (command : Command) (flight : Record) (course : Course)
+    → option_and_then (flight_of s.records) (call_of command) ≡ Some flight → flight.path ≡ Planned course
+    → verdict_for setup course (filled now command) ≡ verdict_in setup s command
+verdict_named setup s now (commands.Report call report) flight course found plan =
+    sym (ap (λ (o : Option Record). option_map (λ (d : Course). verdict_on setup d report) (course_in o)) found
+    ∙ ap (λ (p : Path). option_map (λ (d : Course). verdict_on setup d report) (course_on p)) plan)
+verdict_named setup s now (Clear call clearance eff) flight course found plan = refl
+verdict_named setup s now (Tentative call clearance eff) flight course found plan = refl
+verdict_named setup s now c flight course found plan = refl
 
 -- the flight of a callsign among flights of which that one has another path
 pub found_changed : (call : List ℕ) (change : Path → Path) (rs : List Record) (r : Record) → flight_of rs call ≡ Some r

@@ -17,6 +17,7 @@ pub mod Nearby
 pub mod Once
 pub mod Order
 pub mod Placed
+pub mod PutAgain
 pub mod Short
 pub mod Spans
 pub mod Strands

@@ -73,10 +73,3 @@ flight_looked shot slot looked command sound card_is strand_is = any_command sho
   by_flight None at card_is strand_is = subst (λ (o : Option Record). IfSome (course_in o) (HasStrandOf shot.setup looked)) (sym card_is) tt
   by_flight (Some f) at card_is strand_is =
       subst (λ (o : Option Record). IfSome (course_in o) (HasStrandOf shot.setup looked)) (sym card_is) (by_path f at strand_is f.card.path refl)
-
--- a place is one
-pub one_place : {slot : Option ℕ} (a b : ℕ) → slot ≡ Some a → slot ≡ Some b → a ≡ b
-one_place a b a_is b_is = let both = sym a_is ∙ b_is in cc
-
-pub no_place : {slot : Option ℕ} (a : ℕ) → slot ≡ Some a → slot ≡ None → ⊥
-no_place a is none = let both = sym is ∙ none in cc

@@ -1,5 +1,5 @@
 -- What is prepared for a command that makes a trajectory.
-use Rattle.std.specs.Prelude.{◌≡◌, ◌≤◌, ℕ, List, Option, Some, None, Result, Ok, Err, length, is_some, option_and_then, option_map, true, ⊤}
+use Rattle.std.specs.Prelude.{◌≡◌, ◌≤◌, ℕ, List, Option, Some, None, IfSome, Result, Ok, Err, length, is_some, option_and_then, option_map, true, ⊤}
 use Rattle.mt_base.specs.declared.command.Command.{Command}
 use Rattle.mt_base.specs.declared.command.Command.TheVariants.{Plan, External, Renew, Clear, Accept, Tentative, Commit}
 use Rattle.mt_base.specs.declared.command.Refusal.{Refusal}
@@ -21,7 +21,7 @@ use Rattle.mt_track.specs.Laid.{IsStrand}
 use Rattle.mt_probe.specs.declared.finding.Found.{Found}
 use Rattle.mt_probe.specs.Finds.{AreFinds, AreOneEach}
 use Rattle.mt_probe.specs.Items.{WasTestedNear}
-use Rattle.mt_probe.specs.Shot.{Shot, state_in_shot}
+use Rattle.mt_probe.specs.Shot.{Shot, flight_at, state_in_shot}
 
 -- what a decision looks at, with room to spare
 abbrev pub roomy : State → Command → Look
@@ -88,7 +88,7 @@ pub record IsPrepared (p : Prepared) : Type 0 where
   pub few : length p.state.records ≤ 1024
   pub one_each : AreOneEach (trajectories p.setup p.state)
 
--- `IsLeftByEntry`, `IsLeftOr`: the flight that a command leaves, or its first refusal
+-- the flight that a command leaves
 pub record IsLeftByEntry (setup : Setup) (s : State) (who : ℕ) (command : Command) (card : Record) : Type 0 where
   pub passed : judged_aside setup s who command ≡ Ok (tt {0})
   pub card_is : flight_left setup s who command ≡ Some card
@@ -96,9 +96,10 @@ pub record IsLeftByEntry (setup : Setup) (s : State) (who : ℕ) (command : Comm
   pub sound : IsSoundFlight setup card
   pub makes : is_some (path_made setup card (kind_made command)) ≡ true
 
-abbrev pub IsLeftOr : Setup → State → ℕ → Command → Result Record Refusal → Type 0
-IsLeftOr setup s who command (Ok card) = IsLeftByEntry setup s who command card
-IsLeftOr setup s who command (Err refusal) = judged_aside setup s who command ≡ Err refusal
+-- the slot of the flight that a command names, none where it names none that is there
+pub record IsSlotNamed (shot : Shot) (command : Command) (slot : Option ℕ) : Type 0 where
+  pub there : IfSome slot (λ k. is_some (flight_at shot k) ≡ true)
+  pub flight_is : option_and_then (flight_of (state_in_shot shot).records) (call_of command) ≡ option_map (λ f. f.card) (option_and_then (flight_at shot) slot)
 
 -- prepared on that snapshot, for that actor's command
 pub record IsPrepOf (shot : Shot) (who : ℕ) (command : Command) (p : Prepared) : Type 0 where

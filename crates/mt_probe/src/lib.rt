@@ -16,14 +16,14 @@ mod probe;
 mod snapshot;
 mod trying;
 
-pub use altering::altered_flight;
+pub use altering::{Altered, altered_flight};
 pub use finding::{Finds, Found};
 pub use flight::{Flight, Made};
 pub use laws::filing_order_law;
 pub use mt_memory::Memory;
 pub use narrow::narrowed;
 pub use prep::Prep;
-pub use preparing::{kind_made, left_of, look, makes_strand, prepare, strand_of};
+pub use preparing::{judge_on, kind_made, left_of, makes_strand, prepare, slot_named, strand_of};
 pub use probe::Probe;
 pub use snapshot::Snapshot;
 pub use trying::{probe_if_free, what_if};

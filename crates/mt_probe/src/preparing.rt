@@ -1,16 +1,18 @@
 //! How a command that makes a trajectory is prepared.
-ghost use Rattle.std.specs.Prelude.{◌≡◌, ◌↔◌, Ok, Some, true, is_some, IfOk, IfErr, IsTrue};
+ghost use Rattle.std.specs.Prelude.{◌≡◌, ◌↔◌, Ok, Some, true, is_some, option_and_then, option_map, IfOk, IfErr, IsTrue};
 ghost use Rattle.std.specs.Arc.{arc_value};
 ghost use Rattle.mt_base.specs.Bounds.{IsSoundFlight};
-ghost use Rattle.mt_base.specs.Decision.{look_at};
+ghost use Rattle.mt_base.specs.Checks.{judged};
+ghost use Rattle.mt_base.specs.declared.command.Command.{Command};
+ghost use Rattle.mt_base.specs.Decision.{checks, look_at};
 ghost use Rattle.mt_base.specs.Trajectory.{Trajectory};
 ghost use Rattle.mt_base.specs.Tables.{setup_with};
 ghost use Rattle.mt_change.specs.Altered.{IsBoundedBesides};
 ghost use Rattle.mt_predict.specs.Looking.{HasStrand, look_of};
 ghost use Rattle.mt_probe.specs.Finds.{AreFinds};
 ghost use Rattle.mt_probe.specs.Items.{WasTestedNear};
-ghost use Rattle.mt_probe.specs.Prepared.{IsLeftByEntry, IsLeftOr, IsPrepOf, IsRefusedOn, MakesStrand, WasTestedFor, kind_made, path_made};
-ghost use Rattle.mt_probe.specs.Shot.{state_in_shot};
+ghost use Rattle.mt_probe.specs.Prepared.{IsLeftByEntry, IsPrepOf, IsRefusedOn, IsSlotNamed, MakesStrand, WasTestedFor, judged_aside, kind_made, path_made};
+ghost use Rattle.mt_probe.specs.Shot.{flight_at, state_in_shot};
 ghost use Rattle.mt_probe.specs.Tests.{IsUntested};
 
 use crate::altering::altered_flight;
@@ -67,53 +69,81 @@ pub fn strand_of(
     Ok(Arc::new(alloc, strand)?)
 }
 
-/// What the decision of a command looks at, as if so many flights were held and so many entries made. The trajectory that the flight flies is at
-/// hand.
-pub fn look<'a>(snapshot: &'a Snapshot, command: &Command, held: u32, entries: u64) -> Looked<'a>
-    ensures look { look_of result ≡ record (look_at (state_in_shot snapshot.now) command.now) { held = held; entries = entries } }
-    ensures strand { HasStrand snapshot.now.setup result command.now }
+/// The slot of the flight that a command names; `None` exactly where it names none that is there.
+pub fn slot_named(snapshot: &Snapshot, command: &Command) -> Option<u32>
+    ensures { IsSlotNamed snapshot.now command.now result }
+{
+    snapshot.find(command.call()?)
+}
+
+// What a decision looks at, as if so many flights were held and so many entries made: the flight in a slot, or none. The trajectory that it
+// flies is at hand.
+fn look(snapshot: &Snapshot, slot: Option<u32>, held: u32, entries: u64) -> Looked<'_>
+    ensures look { look_of result ≡ record {
+      now = snapshot.now.now;
+      held = held;
+      entries = entries;
+      flight = option_map (λ f. f.card) (option_and_then (flight_at snapshot.now) slot);
+    } }
+    ensures strand { (command : Command) → HasStrand snapshot.now.setup result command }
 {
     snapshot.keeps();
-    let slot = match command.call() {
-        Some(call) => snapshot.find(call),
-        None => None,
-    };
-    let flight = match slot {
-        Some(slot) => snapshot.flight(slot),
-        None => None,
-    };
-    let strand = match slot {
-        Some(slot) => snapshot.path(slot, Kind::Actual),
-        None => None,
+    let now = snapshot.now();
+    let Some(slot) = slot else {
+        return Looked {
+            now,
+            held,
+            entries,
+            flight: None,
+            strand: None,
+        };
     };
     Looked {
-        now: snapshot.now(),
+        now,
         held,
         entries,
-        flight,
-        strand,
+        flight: snapshot.flight(slot),
+        strand: snapshot.path(slot, Kind::Actual),
     }
 }
 
-/// The flight that a command names as its entry leaves it, or the first refusal of the command, but for the want of room.
+/// The first refusal of an actor's command on a snapshot, as if so many flights were held and so many entries made; or none.
 ///
-/// It asks that the command makes a trajectory, and that its numbers are within their bounds, whatever version the probe of an acceptance names.
+/// It asks that the slot is that of the flight that the command names.
+pub fn judge_on(
+    snapshot: &Snapshot,
+    slot: Option<u32>,
+    who: u32,
+    command: &Command,
+    held: u32,
+    entries: u64,
+) -> Result<(), Refusal>
+    requires { IsSlotNamed snapshot.now command.now slot }
+    ensures { result ≡ judged (checks snapshot.now.setup (record (look_at (state_in_shot snapshot.now) command.now) { held = held; entries = entries })
+        who command.now) (tt {0}) }
+{
+    let looked = look(snapshot, slot, held, entries);
+    judge(snapshot.tables(), snapshot.rules(), &looked, who, command)
+}
+
+/// The flight that a command names as its entry leaves it.
+///
+/// It asks that the slot is that of the flight that the command names, that the command makes a trajectory, that its numbers are within their
+/// bounds, whatever version the probe of an acceptance names, and that no check of it fails, but for the want of room.
 pub fn left_of(
     alloc: Global,
     snapshot: &Snapshot,
+    slot: Option<u32>,
     who: u32,
     command: &Command,
-) -> Result<Result<Record, Refusal>, Memory>
+) -> Result<Record, Memory>
+    requires named { IsSlotNamed snapshot.now command.now slot }
     requires makes { MakesStrand command.now }
     requires bounded { IsBoundedBesides command.now }
-    ensures { IfOk result (IsLeftOr snapshot.now.setup (state_in_shot snapshot.now) who command.now) }
+    requires passed { judged_aside snapshot.now.setup (state_in_shot snapshot.now) who command.now ≡ Ok (tt {0}) }
+    ensures { IfOk result (IsLeftByEntry snapshot.now.setup (state_in_shot snapshot.now) who command.now) }
 {
     snapshot.keeps();
-    // There is room for a flight and an entry.
-    let looked = look(snapshot, command, 0, 0);
-    if let Err(refusal) = judge(snapshot.tables(), snapshot.rules(), &looked, who, command) {
-        return Ok(Err(refusal));
-    }
     match command {
         Command::Plan {
             call,
@@ -135,17 +165,44 @@ pub fn left_of(
                 *level,
                 *rvsm,
             );
-            Ok(Ok(Record {
+            Ok(Record {
                 call: *call,
                 path: Path::Planned(course),
-            }))
+            })
         }
-        Command::External { call, straight } => Ok(Ok(Record {
+        Command::External { call, straight } => Ok(Record {
             call: *call,
             path: Path::Outer(*straight),
-        })),
-        _ => Ok(Ok(altered_flight(alloc, snapshot, who, command)?)),
+        }),
+        _ => {
+            let Some(slot) = slot else { unreachable!() };
+            Ok(altered_flight(alloc, snapshot, slot, who, command)?.card)
+        }
     }
+}
+
+/// The flight that a command names as its entry leaves it, or the first refusal of the command, but for the want of room, at the snapshot's
+/// version.
+///
+/// It asks that the command makes a trajectory, and that its numbers are within their bounds, whatever version the probe of an acceptance names.
+pub(crate) fn leave(
+    alloc: Global,
+    snapshot: &Snapshot,
+    who: u32,
+    command: &Command,
+) -> Result<Record, No>
+    requires makes { MakesStrand command.now }
+    requires bounded { IsBoundedBesides command.now }
+    ensures left { IfOk result (IsLeftByEntry snapshot.now.setup (state_in_shot snapshot.now) who command.now) }
+    ensures refused { IfErr result (IsRefusedOn snapshot.now who command.now) }
+{
+    let slot = slot_named(snapshot, command);
+    // There is room for a flight and an entry.
+    if let Err(refusal) = judge_on(snapshot, slot, who, command, 0, 0) {
+        let version = snapshot.version();
+        return Err(No::Refused { refusal, version });
+    }
+    Ok(left_of(alloc, snapshot, slot, who, command)?)
 }
 
 /// The kind of the trajectory that a command makes.
@@ -228,14 +285,11 @@ pub fn prepare(
     ensures counted { WasTestedFor snapshot.now who command.now tests.old tests.new }
     ensures untested { IfErr result (IsUntested tests.old tests.new) }
 {
-    match left_of(alloc, snapshot, who, command)? {
+    match leave(alloc, snapshot, who, command) {
         Ok(card) => {
             let command = command.copy(alloc)?;
             Ok(prep_of(alloc, snapshot, who, command, card, tests)?)
         }
-        Err(refusal) => Err(No::Refused {
-            refusal,
-            version: snapshot.version(),
-        }),
+        Err(no) => Err(no),
     }
 }

@@ -1,12 +1,12 @@
 //! A picture as it was at one version.
-ghost use Rattle.std.specs.Prelude.{◌≡◌, ◌↔◌, ◌<◌, ◌≤◌, ◌^◌, ◌+◌, None, Ok, Some, pos, length, replicate, IfOk, IfSome, IsTrue, is_some, true, option_copied, option_map, option_and_then};
+ghost use Rattle.std.specs.Prelude.{◌≡◌, ◌↔◌, ◌<◌, ◌≤◌, ◌^◌, ◌+◌, None, Ok, Some, pos, length, replicate, IfOk, IfSome, IsTrue, OnErr, OnOk, is_some, true, option_copied, option_map, option_and_then};
 ghost use Rattle.std.specs.Arc.{arc_value};
 ghost use Rattle.mt_base.specs.Bounds.{AreWithinBounds};
 ghost use Rattle.mt_base.specs.Picture.{flight_of, opening};
 ghost use Rattle.mt_change.specs.Sound.{IsSoundState};
 ghost use Rattle.mt_cover.specs.Sliced.{slices_of};
 ghost use Rattle.mt_probe.specs.Private.Ahead.{IsAskedAhead};
-ghost use Rattle.mt_probe.specs.Private.Body.{shot_of};
+ghost use Rattle.mt_probe.specs.Private.Body.{IsSameBody, shot_of};
 ghost use Rattle.mt_probe.specs.Meeting.{AreMetItems};
 ghost use Rattle.mt_probe.specs.Private.Boxed.{IsNextMetOf, IsSearchedIn, IsSnapshotKept};
 ghost use Rattle.mt_probe.specs.Items.{AreNearItems, IsNearItem, path_of};
@@ -25,7 +25,7 @@ use mt_meet::{Met, Search, SliceTable, Subject};
 use mt_paged::Paged;
 use mt_tables::Tables;
 use mt_track::Strand;
-use std::alloc::Global;
+use std::alloc::{AllocError, Global};
 use std::marker::Model;
 use std::sync::Arc;
 
@@ -40,6 +40,37 @@ pub struct Body {
     slots: Paged<Flight>,
     table: SliceTable,
     index: Index,
+}
+
+impl Body {
+    // The same once more. It copies no list.
+    fn share(&self) -> Result<Body, Memory>
+        ensures { IfOk result (IsSameBody self.now) }
+    {
+        Ok(Body {
+            alloc: self.alloc,
+            rules: self.rules,
+            tables: Arc::try_clone(&self.tables)?,
+            version: self.version,
+            moment: self.moment,
+            slots: self.slots.share()?,
+            table: self.table.share()?,
+            index: self.index.share()?,
+        })
+    }
+}
+
+impl Clone for Body {
+    ghost use Rattle.mt_probe.specs.Private.Body.{IsSameBody};
+
+    ghost is_clone = { IsSameBody };
+
+    fn clone(&self) -> Result<Body, AllocError> {
+        match self.share() {
+            Ok(body) => Ok(body),
+            Err(_) => Err(AllocError),
+        }
+    }
 }
 
 /// A picture as it was at one version.
@@ -326,23 +357,25 @@ impl Snapshot {
         changed(body, body.moment, slots, table, index)
     }
 
-    /// The picture with a flight at a place that has its callsign and its trajectories already, one version later. This snapshot stays as it is,
-    /// and shares with it all that is kept of trajectories and callsigns.
+    /// Puts at a place a flight that has the callsign and the trajectories of the one that is there: the snapshot is one version later. Snapshots
+    /// that were shared with this one stay, and on an error this one does too. What nobody shares is changed where it stands, and all that is kept
+    /// of trajectories and callsigns stays shared.
     ///
     /// It asks that the version is below 2^40. The flight must be sound, and its trajectories its own; it keeps its filing.
-    pub fn put_again(&self, slot: u32, flight: Flight) -> Result<Snapshot, Memory>
-        requires counted { self.now.version < 2 ^ 40 }
-        requires fits { Fits self.now slot flight }
-        requires same { option_map kept_of (flight_at self.now slot) ≡ Some (kept_of flight) }
-        ensures value { IfOk result (λ shot. shot ≡ with_flight self.now slot (Some flight)) }
-        ensures records { IfOk result (λ shot.
-            (state_in_shot shot).records ≡ records_put (flight_at self.now slot) (Some flight) (state_in_shot self.now).records) }
+    pub fn put_again(&mut self, slot: u32, flight: Flight) -> Result<(), Memory>
+        requires counted { self.old.version < 2 ^ 40 }
+        requires fits { Fits self.old slot flight }
+        requires same { option_map kept_of (flight_at self.old slot) ≡ Some (kept_of flight) }
+        ensures value { OnOk result (self.new ≡ with_flight self.old slot (Some flight)) }
+        ensures unchanged { OnErr result (self.new ≡ self.old) }
+        ensures records { OnOk result ((state_in_shot self.new).records
+            ≡ records_put (flight_at self.old slot) (Some flight) (state_in_shot self.old).records) }
     {
-        let body = &*self.body;
-        let shared = Arc::new(body.alloc, flight)?;
-        let slots = body.slots.set(slot, Some(shared))?;
-        let (table, index) = (body.table.share()?, body.index.share()?);
-        changed(body, body.moment, slots, table, index)
+        let flight = Arc::new(self.body.alloc, flight)?;
+        let body = Arc::make_mut(&mut self.body)?;
+        body.slots.replace(slot, Some(flight))?;
+        body.version += 1;
+        Ok(())
     }
 
     /// The picture at that moment, one version later. This snapshot stays as it is. It asks that the version is below 2^40.

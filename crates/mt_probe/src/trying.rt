@@ -13,7 +13,7 @@ ghost use Rattle.mt_probe.specs.Shot.{state_in_shot};
 ghost use Rattle.mt_probe.specs.Tests.{IsUntested, WasTriedFor, WasTriedNear, WereAtLeast};
 
 use crate::hitting::{has_hit, hits};
-use crate::preparing::{left_of, strand_of};
+use crate::preparing::{leave, strand_of};
 use crate::probe::Probe;
 use crate::snapshot::Snapshot;
 use mt_base::{Callsign, Clearance, Command, Hits, Kind, Memory, Record, Rules, Second, Tally};
@@ -34,17 +34,13 @@ fn accepted(
     ensures left { IfOk result (IsLeftByEntry snapshot.now.setup (state_in_shot snapshot.now) 0 (Accept call clearance eff snapshot.now.version)) }
     ensures refused { IfErr result (IsRefusedOn snapshot.now 0 (Accept call clearance eff snapshot.now.version)) }
 {
-    let version = snapshot.version();
     let command = Command::Accept {
         call,
         clearance,
         eff,
-        probed: version,
+        probed: snapshot.version(),
     };
-    match left_of(alloc, snapshot, 0, &command)? {
-        Ok(card) => Ok(card),
-        Err(refusal) => Err(No::Refused { refusal, version }),
-    }
+    leave(alloc, snapshot, 0, &command)
 }
 
 // The probe of a clearance that holds from second `eff` on, with its hits.

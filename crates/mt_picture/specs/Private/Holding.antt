@@ -10,6 +10,8 @@ use Rattle.mt_kept.specs.Kept.{Watched}
 use Rattle.mt_machine.specs.Deciding.{IsFirstHit}
 use Rattle.mt_probe.specs.Shot.{Shot}
 use Rattle.mt_probe.specs.Shot.{state_in_shot as state_in}
+use Rattle.mt_picture.specs.declared.enter.Upshot.{Upshot}
+use Rattle.mt_picture.specs.Private.Effects.{hit_in}
 use Rattle.mt_picture.specs.Private.Putting.{history_after}
 use Rattle.mt_picture.specs.Story.{Story}
 
@@ -50,7 +52,11 @@ pub record HasEnteredOrStopped (before after : Holding) (who : ℕ) (command : C
   pub story : held_story after ≡ story_after (held_story before) (entry_now before.snapshot who command) first
   pub hits : IsFirstHit before.snapshot.setup (state_in before.snapshot) command first
 
--- a command has entered or stopped. Where memory ran out, all that callers see is as it was.
+-- `EntersOrStops`, `Goes`: a command has entered or stopped. Where memory ran out, all that callers see is as it was.
 abbrev pub EntersOrStops : {E : Type 0} → Holding → Holding → ℕ → Command → Result (Option Hit) E → Type 0
 EntersOrStops before after who command result =
     MatchResult result (HasEnteredOrStopped before after who command) (λ err. held_story after ≡ held_story before)
+
+abbrev pub Goes : {E : Type 0} → Holding → Holding → ℕ → Command → Result Upshot E → Type 0
+Goes before after who command result =
+    MatchResult result (λ upshot. HasEnteredOrStopped before after who command (hit_in upshot)) (λ err. held_story after ≡ held_story before)

@@ -1,11 +1,10 @@
 -- No public contract names these: they are of private steps and of proofs.
-use Rattle.std.specs.Prelude.{◌≡◌, ℕ, ◌≤◌, All, List, get_or, Contains, Option, Some, None}
+use Rattle.std.specs.Prelude.{◌≡◌, ℕ, ◌≤◌, All, List, Contains, Some}
 use Rattle.mt_base.specs.declared.command.Entry.{Entry}
 use Rattle.mt_base.specs.declared.conflict.Kind.{Kind}
 use Rattle.mt_base.specs.Complete.{IsComplete}
 use Rattle.mt_base.specs.Effect.{state_of}
 use Rattle.mt_base.specs.Picture.{trajectories}
-use Rattle.mt_base.specs.Tables.{Setup}
 use Rattle.mt_kept.specs.Kept.{Watched}
 use Rattle.mt_probe.specs.declared.flight.Flight.{Flight}
 use Rattle.mt_probe.specs.declared.flight.Made.{Made}

@@ -22,3 +22,9 @@ returns-clause-usable c = λ same.
           subst (λ (k : List ℕ). ¬ IsFlightNamedAfter (held_story c.args.held.now) c.args.prep.now.state.version k) own unnamed;
       same_moment = rw c.snapshot.ensures.value at (c.is_same_moment.ensures.same same) ∙ ap (λ (s : State). filled s.now c.args.command.now) c.snapshot.ensures.stands;
     }
+
+pub is_flight_named_after-requires-clause-there : goal.is_flight_named_after-requires-clause-there
+is_flight_named_after-requires-clause-there c = c.requires.named.there
+
+pub is_flight_named_after-requires-clause-flight : goal.is_flight_named_after-requires-clause-flight
+is_flight_named_after-requires-clause-flight c = rw (← c.in-Some.ensures) at c.requires.named.flight_is

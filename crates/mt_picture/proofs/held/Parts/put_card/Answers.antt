@@ -21,9 +21,12 @@ invariant_of-self-2 c =
     let entered = pushed_on _ _ p.history.items e c.push_reserved.ensures.items c.in_ok-reserve.ensures.items in
     let places = c.self.invariant.places_are ∙ sym (places_same p.snapshot.slots c.args.slot (Some c.args.flight)
     (rw (← c.self.view_is) at c.requires.first) (rw (← c.self.view_is) at c.requires.second)) in
-    subst (λ (g : List Entry). IsPicture c.in_ok-snapshot.snapshot g p.kept) (sym entered)
-    (picture_put p.snapshot c.in_ok-snapshot.snapshot p.history.items e c.args.slot c.args.flight c.self.invariant.stands (rw (← c.self.view_is) at c.requires.put)
-    c.in_ok-snapshot.ensures.value c.in_ok-snapshot.ensures.records p.kept p.kept c.self.invariant c.requires.complete c.keeps-2.ensures.sound refl refl places)
+    subst (λ (g : List Entry). IsPicture c.put_again.new.self g p.kept) (sym entered)
+    (picture_put p.snapshot c.put_again.new.self p.history.items e c.args.slot c.args.flight c.self.invariant.stands (rw (← c.self.view_is) at c.requires.put)
+    c.in_ok-put_again.ensures.value c.in_ok-put_again.ensures.records p.kept p.kept c.self.invariant c.requires.complete c.keeps-2.ensures.sound refl refl places)
+
+pub invariant_of-self-in_err-put_again : goal.invariant_of-self-in_err-put_again
+invariant_of-self-in_err-put_again c = rw (c.in_ok-reserve.ensures.items, c.in_err-put_again.ensures.unchanged) c.self.invariant
 
 pub put_again-requires-clause-counted : goal.put_again-requires-clause-counted
 put_again-requires-clause-counted c = rw (← c.self.view_is) at c.requires.counted
@@ -37,15 +40,18 @@ push_reserved-requires c = has_room _ _ c.in_ok-reserve.ensures.ok
 pub invariant_of-self : goal.invariant_of-self
 invariant_of-self c = rw c.in_err-reserve.ensures.items c.self.invariant
 
-pub returns-in_err-snapshot : goal.returns-in_err-snapshot
-returns-in_err-snapshot c = MatchResult-from_err c.from_residual.result _ _ c.from_residual.ensures.0 (λ err. refl)
-
 pub returns-in_err-reserve : goal.returns-in_err-reserve
 returns-in_err-reserve c =
-    MatchResult-from_err c.from_residual-in_err-reserve.result _ _ c.from_residual-in_err-reserve.ensures.0
+    MatchResult-from_err c.from_residual.result _ _ c.from_residual.ensures.0
     (λ err. rw (← c.self.view_is) (ap (told c.self.inside.snapshot.setup) c.in_err-reserve.ensures.items))
+
+pub returns-in_err-put_again : goal.returns-in_err-put_again
+returns-in_err-put_again c =
+    MatchResult-from_err c.from_residual-in_err-put_again.result _ _ c.from_residual-in_err-put_again.ensures.0
+    (λ err. rw (← c.self.view_is) (told_same _ c.self.inside.snapshot.setup _ _ (ap (λ (s : Shot). s.setup) c.in_err-put_again.ensures.unchanged)
+    c.in_ok-reserve.ensures.items))
 
 pub returns : goal.returns
 returns c =
-    rw (← c.self.view_is) (told_same _ c.self.inside.snapshot.setup _ _ (ap (λ (s : Shot). s.setup) c.in_ok-snapshot.ensures.value)
+    rw (← c.self.view_is) (told_same _ c.self.inside.snapshot.setup _ _ (ap (λ (s : Shot). s.setup) c.in_ok-put_again.ensures.value)
     (pushed_on _ _ c.self.inside.history.items c.args.entry c.push_reserved.ensures.items c.in_ok-reserve.ensures.items))

@@ -1,4 +1,4 @@
-use Rattle.std.proofs.Common.{◌∙◌, sym, refl, option_copied}
+use Rattle.std.proofs.Common.{refl, option_copied}
 use Rattle.mt_base.specs.declared.command.Entered.{Entered}
 use Rattle.mt_picture.specs.Private.Holding.{held_story}
 use Rattle.mt_picture.proofs.Bounding.{none_within}
@@ -10,23 +10,24 @@ returns-in-Err-clause-refused c =
     let p = c.self.inside.held in
     let value = c.snapshot-snapshot.ensures.value in
     rw (← c.self.view_is) (refused_now p.snapshot p.history c.args.who c.args.command.now c.in-Err.refusal c.version-version.result
-    c.snapshot-snapshot.ensures.stands (sym (rw value at c.decide.ensures) ∙ c.in-Err.is) (rw value at c.version-version.ensures.version))
+    c.snapshot-snapshot.ensures.stands (rw value at c.in-Err.ensures.refused) (rw value at c.version-version.ensures.version))
 
-pub returns-in-Some-clause-refused : goal.returns-in-Some-clause-refused
-returns-in-Some-clause-refused c =
+pub returns-in-Stopped-clause-refused : goal.returns-in-Stopped-clause-refused
+returns-in-Stopped-clause-refused c =
     let p = c.self.inside.held in
     let value = c.snapshot-snapshot.ensures.value in
-    let stopped = rw c.in-Some.is at c.in_ok-hit.ensures.entered in
-    rw (← c.self.view_is) (stale_now p.snapshot p.history c.args.who c.args.command.now c.in-Some.hit c.version-version.result
-    c.snapshot-snapshot.ensures.stands (sym (rw value at c.decide.ensures) ∙ c.in_default.is) stopped.hits (rw value at c.version-version.ensures.version))
+    let stopped = rw c.in-Stopped.is at c.in_ok-verdict.ensures.entered in
+    rw (← c.self.view_is) (stale_now p.snapshot p.history c.args.who c.args.command.now c.in-Stopped.hit c.version-version.result
+    c.snapshot-snapshot.ensures.stands (rw value at c.in-Ok.ensures.passed) stopped.hits (rw value at c.version-version.ensures.version))
 
 pub returns-clause-entered : goal.returns-clause-entered
 returns-clause-entered c =
     let value = c.snapshot-snapshot.ensures.value in
-    let entered = rw c.in_default-2.is at c.in_ok-hit.ensures.entered in
-    rw (← c.self.view_is) (entered_now c.self.inside.held c.enter.new.held c.args.who c.args.command.now c.version.result c.verdict_on-verdict.result
-    c.snapshot-snapshot.ensures.stands (sym (rw value at c.decide.ensures) ∙ c.in_default.is) entered c.snapshot.ensures.stands
-    (rw c.snapshot.ensures.value at c.version.ensures.version) (rw value at c.verdict_on-verdict.ensures))
+    let entered = rw c.in-Entered.is at c.in_ok-verdict.ensures.entered in
+    let verdict = rw c.in-Entered.is at c.in_ok-verdict.ensures.verdict in
+    rw (← c.self.view_is) (entered_now c.self.inside.held c.enter.new.held c.args.who c.args.command.now c.version.result c.in-Entered.verdict
+    c.snapshot-snapshot.ensures.stands (rw value at c.in-Ok.ensures.passed) entered c.snapshot.ensures.stands
+    (rw c.snapshot.ensures.value at c.version.ensures.version) verdict)
 
 pub returns-in-Err-clause-counted : goal.returns-in-Err-clause-counted
 returns-in-Err-clause-counted c = none_within c.args.self.now c.args.who c.args.command.now (option_copied c.args.prep) c.args.tests.now c.args.tests.now refl
@@ -34,27 +35,26 @@ returns-in-Err-clause-counted c = none_within c.args.self.now c.args.who c.args.
 pub returns-clause-replayable : goal.returns-clause-replayable
 returns-clause-replayable c =
     let value = c.snapshot-snapshot.ensures.value in
-    let entered = rw c.in_default-2.is at c.in_ok-hit.ensures.entered in
-    let answer : Entered = record { version = c.version.result; verdict = c.verdict_on-verdict.result } in
+    let entered = rw c.in-Entered.is at c.in_ok-verdict.ensures.entered in
+    let verdict = rw c.in-Entered.is at c.in_ok-verdict.ensures.verdict in
+    let answer : Entered = record { version = c.version.result; verdict = c.in-Entered.verdict } in
     rw (← c.self.view_is) (replayable_after (held_story c.self.inside.held) (held_story c.enter.new.held) c.args.who c.args.command.now answer
     (rw (← c.self.view_is) at c.requires.in_time)
-    (entered_now c.self.inside.held c.enter.new.held c.args.who c.args.command.now c.version.result c.verdict_on-verdict.result
-    c.snapshot-snapshot.ensures.stands (sym (rw value at c.decide.ensures) ∙ c.in_default.is) entered c.snapshot.ensures.stands
-    (rw c.snapshot.ensures.value at c.version.ensures.version) (rw value at c.verdict_on-verdict.ensures)))
+    (entered_now c.self.inside.held c.enter.new.held c.args.who c.args.command.now c.version.result c.in-Entered.verdict
+    c.snapshot-snapshot.ensures.stands (rw value at c.in-Ok.ensures.passed) entered c.snapshot.ensures.stands
+    (rw c.snapshot.ensures.value at c.version.ensures.version) verdict))
 
 pub returns-clause-legal : goal.returns-clause-legal
 returns-clause-legal c =
     let value = c.snapshot-snapshot.ensures.value in
-    let entered = rw c.in_default-2.is at c.in_ok-hit.ensures.entered in
-    let answer : Entered = record { version = c.version.result; verdict = c.verdict_on-verdict.result } in
+    let entered = rw c.in-Entered.is at c.in_ok-verdict.ensures.entered in
+    let verdict = rw c.in-Entered.is at c.in_ok-verdict.ensures.verdict in
+    let answer : Entered = record { version = c.version.result; verdict = c.in-Entered.verdict } in
     rw (← c.self.view_is) (legal_after (held_story c.self.inside.held) (held_story c.enter.new.held) c.args.who c.args.command.now answer
     (rw (← c.self.view_is) at c.requires.in_time)
-    (entered_now c.self.inside.held c.enter.new.held c.args.who c.args.command.now c.version.result c.verdict_on-verdict.result
-    c.snapshot-snapshot.ensures.stands (sym (rw value at c.decide.ensures) ∙ c.in_default.is) entered c.snapshot.ensures.stands
-    (rw c.snapshot.ensures.value at c.version.ensures.version) (rw value at c.verdict_on-verdict.ensures)))
-
-pub verdict_on-verdict-requires : goal.verdict_on-verdict-requires
-verdict_on-verdict-requires c = c.requires.bounded
+    (entered_now c.self.inside.held c.enter.new.held c.args.who c.args.command.now c.version.result c.in-Entered.verdict
+    c.snapshot-snapshot.ensures.stands (rw value at c.in-Ok.ensures.passed) entered c.snapshot.ensures.stands
+    (rw c.snapshot.ensures.value at c.version.ensures.version) verdict))
 
 pub enter-requires-clause-bounded : goal.enter-requires-clause-bounded
 enter-requires-clause-bounded c = c.requires.bounded
@@ -63,7 +63,10 @@ pub enter-requires-clause-prepared : goal.enter-requires-clause-prepared
 enter-requires-clause-prepared c = rw (← c.self.view_is) at c.requires.prepared
 
 pub enter-requires-clause-passed : goal.enter-requires-clause-passed
-enter-requires-clause-passed c = sym (rw c.snapshot-snapshot.ensures.value at c.decide.ensures) ∙ c.in_default.is
+enter-requires-clause-passed c = rw c.snapshot-snapshot.ensures.value at c.in-Ok.ensures.passed
 
-pub returns-in-Some-clause-counted : goal.returns-in-Some-clause-counted
-returns-in-Some-clause-counted c = rw (← c.self.view_is) c.in_ok-hit.ensures.counted
+pub enter-requires-clause-effect : goal.enter-requires-clause-effect
+enter-requires-clause-effect c = rw c.snapshot-snapshot.ensures.value at c.in-Ok.ensures.effect
+
+pub returns-in-Stopped-clause-counted : goal.returns-in-Stopped-clause-counted
+returns-in-Stopped-clause-counted c = rw (← c.self.view_is) c.in_ok-verdict.ensures.counted
