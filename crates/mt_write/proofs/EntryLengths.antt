@@ -1,18 +1,16 @@
 -- How long the texts of entries are.
-use Rattle.std.proofs.Common.{ℕ, ℤ, pos, negsuc, suc, neg_ℤ, Option, Some, None, Ok, ◌≡◌, ◌*◌, ◌+◌, ◌<◌, ◌≤◌, ◌^◌, Bool, true, false, List, [], ◌∷◌, ◌++◌, length, map, refl, subst, sym, arith, length-append}
+use Rattle.std.proofs.Common.{ℕ, ℤ, pos, negsuc, neg_ℤ, Option, Some, None, Ok, ◌≡◌, ◌*◌, ◌+◌, ◌<◌, ◌≤◌, ◌^◌, Bool, true, false, List, [], ◌∷◌, ◌++◌, length, map, codes, refl, subst, sym, arith, length-append}
 use Rattle.std.proofs.lemmas.Bool.Decides.{nat_tests}
-use Rattle.std.proofs.lemmas.Fmt.{length-decimal-le}
 use Rattle.std.proofs.lemmas.Int.{ints}
 use Rattle.std.proofs.lemmas.List.{map-append}
 use Rattle.std.proofs.lemmas.List.Elements.{All-head, All-tail}
 use Rattle.std.proofs.lemmas.Option.{slice_get-get_or}
-use Rattle.std.specs.Fmt.{signed_decimal}
 use Rattle.std.specs.List.{AllByRecursion}
 use Rattle.std.specs.Prelude.{All, IfSome, get_or, nat_le, unwrap_or}
 use Rattle.json.specs.Print.{escape}
 use Rattle.json.proofs.OnLiterals.{json_on_literals}
-use Rattle.serde_json.specs.Data.{object, string}
-use Rattle.serde_json.specs.Written.{compact_text, items_text}
+use Rattle.serde_json.specs.Data.{Members, member, no_members, object, string}
+use Rattle.serde_json.specs.Written.{compact_text, items_text, members_text}
 use Rattle.mt_base.specs.declared.clearance.Clearance.{Clearance}
 use Rattle.mt_base.specs.declared.clearance.Clearance.TheVariants.{Level, Direct}
 use Rattle.mt_base.specs.declared.command.Command.{Command}
@@ -30,11 +28,9 @@ use Rattle.mt_base.specs.Name.{IsCallsign, IsFixName, is_name}
 use Rattle.mt_base.specs.Picture.{State}
 use Rattle.mt_base.specs.Tables.{Setup, Tables, fix_checks, length_checks}
 use Rattle.mt_base.proofs.CheckLemmas.{all_passed}
-use Rattle.mt_write.specs.Entry.{entry_members, entry_text, values}
-use Rattle.mt_write.specs.Private.Numbers.{accept_front, approval_text, clear_front, clearance_text, external_front, external_middle, external_numbers, external_text, plan_back, plan_front, plan_route, report_text, tentative_front}
+use Rattle.mt_write.specs.Entry.{clearance_members, entry_members, entry_text, values, whole}
 use Rattle.mt_write.specs.Short.{HasShortRoute, IsShortNumber}
-use Rattle.mt_write.proofs.EntryTexts.{accept_text, clear_text, external_text_is, plan_text, report_text_is, tentative_text}
-use Rattle.mt_write.proofs.Lengths.{comma_length, digits_length, named_length, second_length, truth_length}
+use Rattle.mt_write.proofs.Lengths.{comma_length, digits_length, named_length, number_length, second_length, truth_length}
 use Rattle.mt_write.proofs.PlainText.{plain_name}
 
 -- a name of at most so many letters, between quotes
@@ -58,18 +54,14 @@ short_number : (low high : ℕ) (z : ℤ) → low < 2 ^ 63 → high < 2 ^ 64 →
 short_number low high (pos n) l h w = grind (arith, ints, w.most)
 short_number low high (negsuc n) l h w = grind (arith, ints, w.least)
 
-signed_length : (z : ℤ) → IsShortNumber z → length (signed_decimal z) ≤ 20
-signed_length (pos n) short = digits_length n short
-signed_length (negsuc n) short = omega (arith, length-decimal-le 19 (suc n) (omega arith) (omega arith) (omega arith))
-
-within_length : (low high : ℕ) (z : ℤ) → low < 2 ^ 63 → high < 2 ^ 64 → IsWithin (neg_ℤ (pos low)) (pos high) z → length (signed_decimal z) ≤ 20
-within_length low high z l h w = signed_length z (short_number low high z l h w)
+within_length : (low high : ℕ) (z : ℤ) → low < 2 ^ 63 → high < 2 ^ 64 → IsWithin (neg_ℤ (pos low)) (pos high) z → length (compact_text (whole z)) ≤ 20
+within_length low high z l h w = number_length z (short_number low high z l h w)
 
 -- ---- each command
 
 plan_length : (who : ℕ) (call kind : List ℕ) (route : List (List ℕ)) (at from level : ℕ) (rvsm : Bool)
     → HasNames (command.Plan call kind route at from level rvsm) → IsBoundedCommand (command.Plan call kind route at from level rvsm) → who < 2 ^ 32 → length route ≤ 64
-    → length (plan_front call at from ++ (plan_route level route ++ (approval_text rvsm ++ plan_back who kind))) ≤ 65000
+    → length (compact_text (object (entry_members who (command.Plan call kind route at from level rvsm)))) ≤ 65000
 unfolding json_on_literals
 plan_length who call kind route at from level rvsm names bounded w few =
     simp length-append (
@@ -86,27 +78,20 @@ plan_length who call kind route at from level rvsm names bounded w few =
       second_length who w,
     ))
 
-front_length : (call : List ℕ) (s : Straight) → IsCallsign call → IsBoundedStretch s → length (external_front call s.from) ≤ 100
-front_length call s name bounded = simp length-append (omega (arith, quoted_length 1 7 call name, digits_length s.from (omega (arith, bounded.begins))))
-
-middle_length : (s : Straight) → IsBoundedStretch s → length (external_middle s) ≤ 200
-middle_length s bounded =
+external_length : (who : ℕ) (call : List ℕ) (s : Straight) → IsCallsign call → IsBoundedStretch s → who < 2 ^ 32
+    → length (compact_text (object (entry_members who (command.External call s)))) ≤ 65000
+unfolding json_on_literals
+external_length who call s name bounded w =
     let k = bounded.kept in
     simp length-append (
     omega (
       arith,
+      quoted_length 1 7 call name,
+      digits_length s.from (omega (arith, bounded.begins)),
       within_length 0 1000 s.first.gr (omega arith) (omega arith) k.r.growth,
       within_length 0 10000 s.first.gw (omega arith) (omega arith) k.w.growth,
       within_length 0 72000 s.first.r (omega arith) (omega arith) k.r.value,
       truth_length s.rvsm,
-    ))
-
-numbers_length : (who : ℕ) (s : Straight) → IsBoundedStretch s → who < 2 ^ 32 → length (external_numbers who s) ≤ 500
-numbers_length who s bounded w =
-    let k = bounded.kept in
-    simp length-append (
-    omega (
-      arith,
       digits_length s.to (omega (arith, bounded.begins, bounded.short)),
       within_length 1000 1000 s.first.vx (omega arith) (omega arith) k.x.growth,
       within_length 1000 1000 s.first.vy (omega arith) (omega arith) k.y.growth,
@@ -118,18 +103,9 @@ numbers_length who s bounded w =
       within_length 0 3600000 s.first.z (omega arith) (omega arith) k.z.value,
     ))
 
-external_length : (who : ℕ) (call : List ℕ) (s : Straight) → IsCallsign call → IsBoundedStretch s → who < 2 ^ 32 → length (external_text who call s) ≤ 65000
-external_length who call s name bounded w =
-    omega (
-      arith,
-      front_length call s name bounded,
-      middle_length s bounded,
-      numbers_length who s bounded w,
-      length-append (external_front call s.from) (external_middle s ++ external_numbers who s),
-      length-append (external_middle s) (external_numbers who s),
-    )
-
-report_length : (who : ℕ) (call : List ℕ) (report : Report) → IsCallsign call → IsBoundedReport report → who < 2 ^ 32 → length (report_text who call report) ≤ 65000
+report_length : (who : ℕ) (call : List ℕ) (report : Report) → IsCallsign call → IsBoundedReport report → who < 2 ^ 32
+    → length (compact_text (object (entry_members who (command.Report call report)))) ≤ 65000
+unfolding json_on_literals
 report_length who call report name bounded w =
     simp length-append (
     omega (
@@ -142,13 +118,29 @@ report_length who call report name bounded w =
       within_length 0 3600000 report.z (omega arith) (omega arith) bounded.height,
     ))
 
--- the fields of a clearance, after its command's front
-clearance_length : (front call : List ℕ) (clearance : Clearance) (eff : ℕ) → length front ≤ 100 → IsCallsign call → IsNamedClearance clearance
-    → IsBoundedClearance clearance → eff < 2 ^ 64 → length (clearance_text front call clearance eff) ≤ 1000
-clearance_length front call (Level level) eff short name named bounded early =
-    simp length-append (omega (arith, short, quoted_length 1 7 call name, digits_length level (omega (arith, bounded)), digits_length eff early))
-clearance_length front call (Direct fix) eff short name named bounded early =
-    simp length-append (omega (arith, short, quoted_length 1 7 call name, quoted_length 2 5 fix named, digits_length eff early))
+-- a clearance's fields, before others
+clearance_length : (word call : List ℕ) (clearance : Clearance) (eff : ℕ) (others : Members) → length (escape word) ≤ 100 → IsCallsign call → IsNamedClearance clearance
+    → IsBoundedClearance clearance → eff < 2 ^ 64 → length (members_text true others) ≤ 100
+    → length (compact_text (object (clearance_members word call clearance eff others))) ≤ 1000
+unfolding json_on_literals
+clearance_length word call (Level level) eff others short name named bounded early few =
+    simp length-append (omega (arith, short, quoted_length 1 7 call name, digits_length level (omega (arith, bounded)), digits_length eff early, few))
+clearance_length word call (Direct fix) eff others short name named bounded early few =
+    simp length-append (omega (arith, short, quoted_length 1 7 call name, quoted_length 2 5 fix named, digits_length eff early, few))
+
+abbrev who_member : ℕ → Members
+who_member who = member (codes "who") (whole (pos who)) no_members
+
+abbrev probed_members : ℕ → ℕ → Members
+probed_members probed who = member (codes "v") (whole (pos probed)) (who_member who)
+
+who_length : (who : ℕ) → who < 2 ^ 32 → length (members_text true (who_member who)) ≤ 100
+unfolding json_on_literals
+who_length who w = simp length-append (omega (arith, second_length who w))
+
+probed_length : (probed who : ℕ) → probed < 2 ^ 64 → who < 2 ^ 32 → length (members_text true (probed_members probed who)) ≤ 100
+unfolding json_on_literals
+probed_length probed who p w = simp length-append (omega (arith, digits_length probed p, second_length who w))
 
 early_or : (eff : Option ℕ) → IfSome eff (λ second. second ≤ 10000000) → unwrap_or eff 0 < 2 ^ 64
 early_or None early = omega arith
@@ -156,36 +148,29 @@ early_or (Some second) early = omega (arith, early)
 
 members_length : (who : ℕ) (c : Command) → HasNames c → IsBoundedCommand c → who < 2 ^ 32 → HasShortRoute c → length (compact_text (object (entry_members who c))) ≤ 65000
 unfolding json_on_literals
-members_length who (command.Plan call kind route at from level rvsm) names bounded w few =
-    subst (λ text. length text ≤ 65000) (plan_text who call kind route at from level rvsm) (plan_length who call kind route at from level rvsm names bounded w few)
-members_length who (command.External call s) name bounded w few =
-    subst (λ text. length text ≤ 65000) (external_text_is who call s) (external_length who call s name bounded w)
-members_length who (command.Report call report) name bounded w few =
-    subst (λ text. length text ≤ 65000) (report_text_is who call report) (report_length who call report name bounded w)
+members_length who (command.Plan call kind route at from level rvsm) names bounded w few = plan_length who call kind route at from level rvsm names bounded w few
+members_length who (command.External call s) name bounded w few = external_length who call s name bounded w
+members_length who (command.Report call report) name bounded w few = report_length who call report name bounded w
 members_length who (command.Tick now) names bounded w few =
     simp length-append (omega (arith, digits_length now (omega (arith, bounded)), second_length who w))
 members_length who (command.Clear call clearance eff) names bounded w few =
-    subst (λ text. length text ≤ 65000) (clear_text who call clearance eff _ refl) (simp length-append (
     omega (
       arith,
-      clearance_length clear_front call clearance (unwrap_or eff 0) (omega arith) names.0 names.1 bounded.0 (early_or eff bounded.1),
-      second_length who w,
-    )))
+      clearance_length (codes "clear") call clearance (unwrap_or eff 0) (who_member who) (omega arith) names.0 names.1 bounded.0 (early_or eff bounded.1)
+          (who_length who w),
+    )
 members_length who (command.Accept call clearance eff probed) names bounded w few =
-    subst (λ text. length text ≤ 65000) (accept_text who call clearance eff probed) (simp length-append (
     omega (
       arith,
-      clearance_length accept_front call clearance eff (omega arith) names.0 names.1 bounded.0 (omega (arith, bounded.1)),
-      digits_length probed (omega (arith, bounded.2)),
-      second_length who w,
-    )))
+      clearance_length (codes "accept") call clearance eff (probed_members probed who) (omega arith) names.0 names.1 bounded.0 (omega (arith, bounded.1))
+          (probed_length probed who (omega (arith, bounded.2)) w),
+    )
 members_length who (command.Tentative call clearance eff) names bounded w few =
-    subst (λ text. length text ≤ 65000) (tentative_text who call clearance eff _ refl) (simp length-append (
     omega (
       arith,
-      clearance_length tentative_front call clearance (unwrap_or eff 0) (omega arith) names.0 names.1 bounded.0 (early_or eff bounded.1),
-      second_length who w,
-    )))
+      clearance_length (codes "tentative") call clearance (unwrap_or eff 0) (who_member who) (omega arith) names.0 names.1 bounded.0 (early_or eff bounded.1)
+          (who_length who w),
+    )
 members_length who (command.Drop call) name bounded w few = simp length-append (omega (arith, quoted_length 1 7 call name, second_length who w))
 members_length who (command.Renew call) name bounded w few = simp length-append (omega (arith, quoted_length 1 7 call name, second_length who w))
 members_length who (command.Withdraw call force) name bounded w few =

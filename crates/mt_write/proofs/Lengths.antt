@@ -10,6 +10,7 @@ use Rattle.json.specs.Print.{escape_letter, escape_byte, escape}
 use Rattle.json.proofs.OnLiterals.{json_on_literals}
 use Rattle.mt_base.specs.declared.command.Refusal.{Refusal}
 use Rattle.mt_base.specs.declared.command.Refusal.TheVariants.{UnknownCall, UnknownType, UnknownFix, TentativeHeld, Stale}
+use Rattle.mt_base.specs.declared.command.Refusal.TheVariants as refusal
 use Rattle.mt_base.specs.declared.flight.FlightView.{FlightView}
 use Rattle.mt_base.specs.declared.flight.Tent.{Tent}
 use Rattle.mt_base.specs.declared.hit.Hit.{Hit}
@@ -25,12 +26,10 @@ use Rattle.mt_write.specs.declared.reply.Reply.{Reply}
 use Rattle.mt_write.specs.declared.reply.Reply.TheVariants as reply
 use Rattle.mt_write.specs.Entry.{values, whole}
 use Rattle.mt_write.specs.Flight.{or_null, row_value, tent_value}
-use Rattle.mt_write.specs.Private.Numbers.{flag_text, flight_text, verdict_text}
-use Rattle.mt_write.specs.Reply.{advised_members, advised_value, hit_value, reply_text}
-use Rattle.mt_write.proofs.IllegalTexts.{illegal_parts, illegal_text, word_length}
-use Rattle.mt_write.proofs.ReplyTexts.{judged_text}
-use Rattle.mt_write.proofs.ValueTexts.{flight_text_is}
+use Rattle.mt_write.specs.Private.Flags.{flag_text, flags_text, verdict_value}
+use Rattle.mt_write.specs.Reply.{advised_members, advised_value, hit_value, refusal_word, reply_text}
 use Rattle.mt_write.proofs.PlainText.{plain_name}
+use Rattle.mt_write.proofs.ValueTexts.{flags_of, verdict_text}
 use Rattle.mt_write.specs.Short.{IsShort, IsShortAdvice, IsShortAdvised, IsShortClearance, IsShortFlight, IsShortHit, IsShortNumber, IsShortProbe, IsShortRefusal, IsShortRow, IsShortTent}
 
 escaped : (b c : Bool) (x y : List ℕ) (z : List ℕ) → length x ≤ 6 → length y ≤ 6 → length z ≤ 6 → length (cond b x (cond c y z)) ≤ 6
@@ -160,8 +159,12 @@ flag_length : (later : Bool) (name : List ℕ) (holds : Bool) → length (flag_t
 flag_length later name true = simp length-append (omega (arith, comma_length later))
 flag_length later name false = omega arith
 
-verdict_length : (v : Verdict) → length (verdict_text v) ≤ 60
-verdict_length v =
+end_length : (later : Bool) → length (flags_text later []) ≤ 2
+end_length true = omega arith
+end_length false = omega arith
+
+flags_length : (v : Verdict) → length (flags_of v) ≤ 60
+flags_length v =
     simp length-append (
     omega (
       arith,
@@ -170,32 +173,20 @@ verdict_length v =
       flag_length (v.lateral || v.along) (codes "vertical") v.vertical,
       flag_length ((v.lateral || v.along) || v.vertical) (codes "aged") v.aged,
       flag_length (((v.lateral || v.along) || v.vertical) || v.aged) (codes "outside") v.outside,
+      end_length ((((v.lateral || v.along) || v.vertical) || v.aged) || v.outside),
     ))
 
-abbrev entered_front : ℕ → List ℕ
-entered_front version = codes "{\"entered\":" ++ (decimal version ++ codes ",\"verdict\":[")
-
-front_length : (version : ℕ) → version < 2 ^ 64 → length (entered_front version) ≤ 50
-front_length version fits = simp length-append (omega (arith, digits_length version fits))
-
-judged_length : (version : ℕ) (v : Verdict) → version < 2 ^ 64 → length (entered_front version ++ (verdict_text v ++ codes "}\n")) ≤ 65536
-judged_length version v fits =
-    omega (
-      arith,
-      front_length version fits,
-      verdict_length v,
-      length-append (entered_front version) (verdict_text v ++ codes "}\n"),
-      length-append (verdict_text v) (codes "}\n"),
-    )
+verdict_length : (v : Verdict) → length (compact_text (verdict_value v)) ≤ 60
+verdict_length v = subst (λ text. length text ≤ 60) (verdict_text v) (flags_length v)
 
 entered_length : (version : ℕ) (verdict : Option Verdict) → version < 2 ^ 64 → length (reply_text (reply.Entered (record { version = version; verdict = verdict }))) ≤ 65536
 unfolding json_on_literals
 entered_length version None fits = simp length-append (omega (arith, digits_length version fits))
-entered_length version (Some v) fits = subst (λ text. length text ≤ 65536) (judged_text version v) (judged_length version v fits)
+entered_length version (Some v) fits = simp length-append (omega (arith, digits_length version fits, verdict_length v))
 
 -- ---- what is told of a flight
 
-number_length : (z : ℤ) → IsShortNumber z → length (compact_text (whole z)) ≤ 20
+pub number_length : (z : ℤ) → IsShortNumber z → length (compact_text (whole z)) ≤ 20
 number_length (pos n) short = digits_length n short
 number_length (negsuc n) short = omega (arith, length-decimal-le 19 (suc n) (omega arith) (omega arith) (omega arith))
 
@@ -232,8 +223,9 @@ tent_length None short = omega arith
 tent_length (Some tent) short =
     simp length-append (omega (arith, digits_length tent.level short.level, digits_length tent.owner short.owner, digits_length tent.start short.start))
 
-parts_length : (view : FlightView) → IsShortFlight view → length (flight_text view) ≤ 65536
-parts_length view short =
+flight_length : (view : FlightView) → IsShortFlight view → length (reply_text (reply.Flight view)) ≤ 65536
+unfolding json_on_literals
+flight_length view short =
     simp length-append (
     omega (
       arith,
@@ -248,16 +240,36 @@ parts_length view short =
       digits_length view.version short.version,
     ))
 
-flight_length : (view : FlightView) → IsShortFlight view → length (reply_text (reply.Flight view)) ≤ 65536
-flight_length view short = subst (λ text. length text ≤ 65536) (flight_text_is view) (parts_length view short)
-
 -- ---- the refusal of an entry that a standby was to follow
 
-illegal_parts_length : (version : ℕ) (refusal : Refusal) → version < 2 ^ 64 → length (illegal_parts version refusal) ≤ 65536
-illegal_parts_length version refusal fits = simp length-append (omega (arith, digits_length version fits, word_length refusal))
+word_length : (why : Refusal) → length (refusal_word why) ≤ 14
+word_length refusal.HeldCall = omega arith
+word_length (refusal.UnknownCall call) = omega arith
+word_length (refusal.UnknownType name) = omega arith
+word_length (refusal.UnknownFix name) = omega arith
+word_length refusal.RouteShort = omega arith
+word_length refusal.RouteLong = omega arith
+word_length refusal.RouteTwice = omega arith
+word_length refusal.Full = omega arith
+word_length refusal.HistoryFull = omega arith
+word_length refusal.Backward = omega arith
+word_length refusal.Old = omega arith
+word_length refusal.Future = omega arith
+word_length refusal.Ended = omega arith
+word_length refusal.NotAhead = omega arith
+word_length refusal.Ceiling = omega arith
+word_length (refusal.TentativeHeld owner) = omega arith
+word_length refusal.NoTentative = omega arith
+word_length refusal.NotOwner = omega arith
+word_length refusal.NoProbe = omega arith
+word_length refusal.NotFree = omega arith
+word_length (refusal.Stale first) = omega arith
+word_length refusal.NotDue = omega arith
+word_length refusal.Fixed = omega arith
 
 illegal_length : (version : ℕ) (refusal : Refusal) → version < 2 ^ 64 → length (reply_text (reply.Illegal version refusal)) ≤ 65536
-illegal_length version refusal fits = subst (λ text. length text ≤ 65536) (illegal_text version refusal) (illegal_parts_length version refusal fits)
+unfolding json_on_literals
+illegal_length version refusal fits = simp length-append (omega (arith, digits_length version fits, escape_length (refusal_word refusal), word_length refusal))
 
 -- a reply that carries no list has at most 65,536 bytes
 pub short_text : (r : Reply) → IsShort r → length (reply_text r) ≤ 65536

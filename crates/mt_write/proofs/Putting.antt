@@ -16,11 +16,6 @@ puts_then (Ok u) old mid new a b first then =
     (then.0 ∙ ap (λ s. s ++ b) first.0 ∙ append_assoc old.items a b, omega (arith, then.1, first.1, length-append a b), omega (arith, then.2, first.2))
 puts_then (Err e) old mid new a b first then = omega (arith, then, first.1, first.2, length-append a b)
 
--- a text that there wasn't room for, with more to follow
-pub puts_refused : (r : Result ⊤ Memory) (e : Memory) (old new : Vec ℕ) (a b : List ℕ) → is_err r ≡ true → Puts (Err e) old new a → Puts r old new (a ++ b)
-puts_refused (Ok u) e old new a b h short = absurd (false≢true h)
-puts_refused (Err x) e old new a b h short = omega (arith, short, length-append a b)
-
 -- ---- a loop that puts a text piece by piece: what was put and what is left are the whole
 
 pub text_on : (old out mid : Vec ℕ) (all rest a b : List ℕ) → rest ≡ a ++ b → Puts (Ok tt) out mid a → old.items ++ all ≡ out.items ++ rest

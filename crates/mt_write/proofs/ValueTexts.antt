@@ -1,20 +1,23 @@
--- The pieces of a conflict, a hit and an advised clearance, joined, are the compact texts of their values; and those of a flight.
-use Rattle.std.proofs.Common.{◌≡◌, ℕ, pos, List, [], ◌∷◌, ◌++◌, decimal, codes, refl, ap, ◌∙◌, append_assoc}
+-- The pieces of a conflict, a hit and a passage, joined, are the compact texts of their values; and those of a verdict.
+use Rattle.std.proofs.Common.{◌≡◌, ℕ, pos, Some, Bool, true, false, List, [], ◌∷◌, ◌++◌, decimal, codes, refl, sym, ap, ◌∙◌, append_assoc}
+use Rattle.std.specs.Borrow.{Bor}
+use Rattle.std.specs.Prelude.{◌||◌}
 use Rattle.json.proofs.OnLiterals.{json_on_literals}
 use Rattle.json.specs.Print.{escape}
 use Rattle.serde_json.specs.Data.{string, array, object, no_items, item, no_members, member}
-use Rattle.serde_json.specs.Written.{compact_text}
-use Rattle.mt_base.specs.declared.clearance.Clearance.TheVariants.{Level, Direct}
+use Rattle.serde_json.specs.Written.{compact_text, items_text}
 use Rattle.mt_base.specs.declared.conflict.Kind.{Kind}
 use Rattle.mt_base.specs.declared.conflict.Kind.TheVariants.{Actual, Tentative}
-use Rattle.mt_base.specs.declared.flight.FlightView.{FlightView}
 use Rattle.mt_base.specs.declared.flight.Tent.{Tent}
 use Rattle.mt_base.specs.declared.hit.Hit.{Hit}
-use Rattle.mt_write.specs.declared.reply.Reply.TheVariants as reply
-use Rattle.mt_write.specs.Entry.{whole}
-use Rattle.mt_write.specs.Flight.{or_null, row_value, tent_value}
-use Rattle.mt_write.specs.Private.Numbers.{flight_front, flight_text}
-use Rattle.mt_write.specs.Reply.{advised_members, hit_value, kind_letter, reply_text}
+use Rattle.mt_base.specs.declared.verdict.Verdict.{Verdict}
+use Rattle.mt_write.specs.declared.object.Datum.{Datum}
+use Rattle.mt_write.specs.declared.reply.Reply.TheVariants.{Entered}
+use Rattle.mt_write.specs.Entry.{values, whole}
+use Rattle.mt_write.specs.Flight.{tent_value}
+use Rattle.mt_write.specs.Private.Flags.{flag_text, flags_text, verdict_value}
+use Rattle.mt_write.specs.Private.Object.{ended_text, member_text}
+use Rattle.mt_write.specs.Reply.{hit_value, holding, kind_letter, reply_text}
 
 -- a text that began empty, piece by piece from its end to its beginning
 pub made_of_eleven : (a b c d e f g h i j k t0 t1 t2 t3 t4 t5 t6 t7 t8 t9 t10 t11 : List ℕ) → t0 ≡ [] → t1 ≡ k ++ t0 → t2 ≡ j ++ t1
@@ -66,45 +69,72 @@ pub hit_text : (hit : Hit) (first last with_is : List ℕ) → first ≡ decimal
 unfolding json_on_literals
 hit_text hit first last with_is d e p = simp (d, e, p, append_assoc)
 
-pub level_advised_text : (level probe : ℕ) (height number : List ℕ) → height ≡ decimal level → number ≡ decimal probe
-    → codes "{\"level\":" ++ (height ++ (codes ",\"probe\":" ++ (number ++ (codes "}" ++ [])))) ≡ compact_text (object (advised_members (Level level) probe))
-unfolding json_on_literals
-level_advised_text level probe height number d e = simp (d, e, append_assoc)
-
-pub direct_advised_text : (fix : List ℕ) (probe : ℕ) (name number : List ℕ) → name ≡ escape fix → number ≡ decimal probe
-    → codes "{\"direct\":\"" ++ (name ++ (codes "\",\"probe\":" ++ (number ++ (codes "}" ++ [])))) ≡ compact_text (object (advised_members (Direct fix) probe))
-unfolding json_on_literals
-direct_advised_text fix probe name number p e = simp (p, e, append_assoc)
-
 pub tent_text : (tent : Tent) (level owner start : List ℕ) → level ≡ decimal tent.level → owner ≡ decimal tent.owner → start ≡ decimal tent.start
     → codes "{\"level\":" ++ (level ++ (codes ",\"owner\":" ++ (owner ++ (codes ",\"start\":" ++ (start ++ (codes "}" ++ [])))))) ≡ compact_text (tent_value tent)
 unfolding json_on_literals
 tent_text tent level owner start d e f = simp (d, e, f, append_assoc)
 
--- two texts within two others, and beside them
-beside : (a b c d rest : List ℕ) → (a ++ b) ++ ((c ++ d) ++ rest) ≡ a ++ (b ++ (c ++ (d ++ rest)))
-beside a b c d rest = append_assoc a b ((c ++ d) ++ rest) ∙ ap (λ t. a ++ (b ++ t)) (append_assoc c d rest)
-
-abbrev level_part : FlightView → List ℕ
-level_part view = codes ",\"level\":" ++ compact_text (or_null (λ level. whole (pos level)) view.level)
-
-abbrev row_part : FlightView → List ℕ
-row_part view = codes ",\"row\":" ++ compact_text (or_null row_value view.row)
-
-abbrev start_part : FlightView → List ℕ
-start_part view = codes ",\"start\":" ++ compact_text (whole (pos view.start))
-
-abbrev tent_part : FlightView → List ℕ
-tent_part view = codes ",\"tentative\":" ++ compact_text (or_null tent_value view.tentative)
-
-abbrev version_part : FlightView → List ℕ
-version_part view = codes ",\"version\":" ++ (decimal view.version ++ codes "}\n")
-
-flat_text : (view : FlightView)
-    → flight_front view ++ (level_part view ++ (row_part view ++ (start_part view ++ (tent_part view ++ version_part view)))) ≡ reply_text (reply.Flight view)
+pub name_text : (name letters : List ℕ) → letters ≡ escape name → codes "\"" ++ (letters ++ (codes "\"" ++ [])) ≡ compact_text (string name)
 unfolding json_on_literals
-flat_text view = simp append_assoc
+name_text name letters p = rw p refl
 
-pub flight_text_is : (view : FlightView) → flight_text view ≡ reply_text (reply.Flight view)
-flight_text_is view =
-    ap (λ t. flight_front view ++ t) (beside (level_part view) (row_part view) (start_part view) (tent_part view) (version_part view)) ∙ flat_text view
+-- members and what ends them, and more after it
+pub ended_on : (end more : List ℕ) (ms : List (Bor (List ℕ) × Datum)) → ended_text (end ++ more) ms ≡ ended_text end ms ++ more
+ended_on end more [] = refl
+ended_on end more (m ∷ ms) = ap (λ t. member_text m ++ t) (ended_on end more ms) ∙ sym (append_assoc (member_text m) (ended_text end ms) more)
+
+-- ---- verdicts
+
+-- the names of some flags from a place on, after a comma or the list's bracket
+abbrev names_on : Bool → List (List ℕ × Bool) → List ℕ
+names_on true named = items_text true (values string (holding named))
+names_on false named = 91 ∷ items_text false (values string (holding named))
+
+one_flag : (later holds : Bool) (name : List ℕ) (others : List (List ℕ × Bool)) (rest : List ℕ) → escape name ≡ name → rest ≡ names_on (later || holds) others
+    → flag_text later name holds ++ rest ≡ names_on later ((name, holds) ∷ others)
+one_flag true true name others rest p e = rw (p, e) refl
+one_flag false true name others rest p e = rw (p, e) refl
+one_flag true false name others rest p e = e
+one_flag false false name others rest p e = e
+
+end_is : (later : Bool) → flags_text later [] ≡ names_on later []
+end_is true = refl
+end_is false = refl
+
+-- the flags from a place on
+abbrev outside_on : Verdict → List (List ℕ × Bool)
+outside_on v = (codes "outside", v.outside) ∷ []
+
+abbrev aged_on : Verdict → List (List ℕ × Bool)
+aged_on v = (codes "aged", v.aged) ∷ outside_on v
+
+abbrev vertical_on : Verdict → List (List ℕ × Bool)
+vertical_on v = (codes "vertical", v.vertical) ∷ aged_on v
+
+abbrev along_on : Verdict → List (List ℕ × Bool)
+along_on v = (codes "along", v.along) ∷ vertical_on v
+
+abbrev pub flags_of : Verdict → List ℕ
+flags_of v =
+    flag_text false (codes "lateral") v.lateral ++ (
+    flag_text v.lateral (codes "along") v.along ++ (
+    flag_text (v.lateral || v.along) (codes "vertical") v.vertical ++ (
+    flag_text ((v.lateral || v.along) || v.vertical) (codes "aged") v.aged ++ (
+    flag_text (((v.lateral || v.along) || v.vertical) || v.aged) (codes "outside") v.outside
+    ++ flags_text ((((v.lateral || v.along) || v.vertical) || v.aged) || v.outside) []))))
+
+pub verdict_text : (v : Verdict) → flags_of v ≡ compact_text (verdict_value v)
+unfolding json_on_literals
+verdict_text v =
+    one_flag false v.lateral (codes "lateral") (along_on v) _ refl
+    (one_flag v.lateral v.along (codes "along") (vertical_on v) _ refl
+    (one_flag (v.lateral || v.along) v.vertical (codes "vertical") (aged_on v) _ refl
+    (one_flag ((v.lateral || v.along) || v.vertical) v.aged (codes "aged") (outside_on v) _ refl
+    (one_flag (((v.lateral || v.along) || v.vertical) || v.aged) v.outside (codes "outside") [] _ refl
+    (end_is ((((v.lateral || v.along) || v.vertical) || v.aged) || v.outside))))))
+
+pub judged_text : (version : ℕ) (v : Verdict)
+    → ((codes "{\"entered\":" ++ (decimal version ++ codes ",\"verdict\":")) ++ compact_text (verdict_value v)) ++ codes "}\n"
+    ≡ reply_text (Entered (record { version = version; verdict = Some v }))
+unfolding json_on_literals
+judged_text version v = simp append_assoc

@@ -1,4 +1,5 @@
 -- What no public contract names: invariants and relations of private steps.
 pub mod Joined
-pub mod Numbers
+pub mod Flags
+pub mod Object
 pub mod Puts

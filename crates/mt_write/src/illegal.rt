@@ -1,11 +1,10 @@
 //! The refusal of an entry that a standby was to follow.
-ghost use Rattle.std.specs.Prelude.{◌≡◌, ◌++◌, codes, decimal};
+ghost use Rattle.std.specs.Prelude.{◌≡◌};
 ghost use Rattle.mt_write.specs.declared.reply.Reply.TheVariants.{Illegal};
 ghost use Rattle.mt_write.specs.Private.Puts.{Puts};
 ghost use Rattle.mt_write.specs.Reply.{refusal_word, reply_text};
 
-use crate::write::put_all;
-use itoa::Buffer;
+use crate::object::{Datum, put_line};
 use mt_base::Refusal;
 use mt_memory::Memory;
 
@@ -38,27 +37,16 @@ fn word_of(refusal: &Refusal) -> &'static [u8]
     }
 }
 
-// Puts that refusal, the word of why being given.
-fn put_why(out: &mut Vec<u8>, version: u64, why: &[u8]) -> Result<(), Memory>
-    ensures { Puts result out.old out.new
-        (codes "{\"no\":\"illegal\",\"version\":" ++ (decimal version ++ (codes ",\"why\":\"" ++ (why.now ++ codes "\"}\n")))) }
-{
-    let mut digits = Buffer::new();
-    put_all(
-        out,
-        &[
-            b"{\"no\":\"illegal\",\"version\":",
-            digits.format(version).as_bytes(),
-            b",\"why\":\"",
-            why,
-            b"\"}\n",
-        ],
-    )
-}
-
 /// Puts the refusal of an entry that is not what is decided of its command, with the version at which that holds and the word of why.
+#[tactic(auto, unfolding(json::proofs::OnLiterals::json_on_literals))]
 pub(crate) fn put_illegal(out: &mut Vec<u8>, version: u64, refusal: &Refusal) -> Result<(), Memory>
     ensures { Puts result out.old out.new (reply_text (Illegal version refusal.now)) }
 {
-    put_why(out, version, word_of(refusal))
+    put_line(
+        out,
+        &[
+            ("{\"no\":\"illegal\",\"version\":", Datum::Version(version)),
+            (",\"why\":", Datum::Text(word_of(refusal))),
+        ],
+    )
 }

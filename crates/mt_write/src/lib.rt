@@ -4,19 +4,17 @@
 #![tactic(auto)]
 
 mod advice;
-mod cleared;
 mod conflict;
 mod entry;
 mod escape;
-mod external;
 mod flight_view;
 mod hit;
 mod illegal;
 mod laws;
 mod names;
 mod number;
+mod object;
 mod pierced;
-mod planned;
 mod put_reply;
 mod refused;
 mod reply;

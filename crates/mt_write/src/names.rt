@@ -3,12 +3,13 @@ ghost use Rattle.serde_json.specs.Data.{string};
 
 use crate::write::put_all;
 use crate::written::Written;
-use mt_base::{Callsign, FixName};
+use mt_base::{Callsign, FixName, TypeName};
 use mt_memory::Memory;
 
 impl Written for FixName {
     ghost value = { string };
 
+    #[inline(always)]
     fn put(&self, out: &mut Vec<u8>) -> Result<(), Memory> {
         put_all(out, &[b"\"", self.bytes(), b"\""])
     }
@@ -17,6 +18,16 @@ impl Written for FixName {
 impl Written for Callsign {
     ghost value = { string };
 
+    #[inline(always)]
+    fn put(&self, out: &mut Vec<u8>) -> Result<(), Memory> {
+        put_all(out, &[b"\"", self.bytes(), b"\""])
+    }
+}
+
+impl Written for TypeName {
+    ghost value = { string };
+
+    #[inline(always)]
     fn put(&self, out: &mut Vec<u8>) -> Result<(), Memory> {
         put_all(out, &[b"\"", self.bytes(), b"\""])
     }

@@ -25,6 +25,9 @@ const PASSAGE: usize = 82;
 /// The bytes of most entries and their comma.
 const ENTRY: usize = 192;
 
+/// The bytes of what is told of most flights.
+const FLIGHT: usize = 256;
+
 /// How many bytes a list has, its items having so many each.
 fn list_size(count: usize, each: usize) -> usize {
     count.saturating_mul(each).saturating_add(SHORT)
@@ -36,6 +39,7 @@ fn text_size(reply: &Reply) -> usize {
         Reply::List { conflicts, .. } => list_size(conflicts.items().len(), CONFLICT),
         Reply::Due { calls, .. } => list_size(calls.items().len(), CALLSIGN),
         Reply::Areas { areas, .. } => list_size(areas.items().len(), PASSAGE),
+        Reply::Flight(_) => FLIGHT,
         Reply::History { entries, .. } => list_size(entries.items().len(), ENTRY),
         _ => SHORT,
     }
@@ -65,7 +69,7 @@ pub fn write_short(reply: &Reply, room: &mut Vec<u8>)
 pub fn write_entry(alloc: Global, entry: &Entry) -> Result<Vec<u8>, Memory>
     ensures { IfOk result (λ line. line.items ≡ entry_text entry.now) }
 {
-    let mut line = Vec::new(alloc);
+    let mut line = Vec::with_capacity(alloc, ENTRY)?;
     entry.put(&mut line)?;
     put(&mut line, b"\n")?;
     Ok(line)

@@ -1,16 +1,19 @@
 //! What an entered command answers.
-ghost use Rattle.std.specs.Prelude.{◌≡◌, ◌||◌, ◌++◌, codes, decimal, false, MatchResult, Ok, Err};
-ghost use Rattle.mt_write.specs.Private.Numbers.{flag_text, flags_text, verdict_text};
+ghost use Rattle.std.specs.Prelude.{◌≡◌, ◌||◌, ◌++◌, [], codes, decimal, false, MatchResult, Ok, Err};
+ghost use Rattle.serde_json.specs.Written.{compact_text};
+ghost use Rattle.mt_write.specs.Private.Flags.{flag_text, flags_text, verdict_value};
 ghost use Rattle.mt_write.specs.declared.reply.Reply.TheVariants.{Entered as answered};
 ghost use Rattle.mt_write.specs.Private.Puts.{Puts};
 ghost use Rattle.mt_write.specs.Reply.{reply_text};
 
-use crate::write::{put, put_all, put_versioned};
+use crate::object::put_versioned;
+use crate::write::{put, put_all};
+use crate::written::Written;
 use itoa::Buffer;
 use mt_base::{Entered, Verdict};
 use mt_memory::Memory;
 
-// Puts the name of a flag that holds, after a comma where one stands before it; whether one stands then.
+// Puts the name of a flag that holds, after what stands before it; whether a name stands then.
 fn put_flag(out: &mut Vec<u8>, later: bool, name: &str, holds: bool) -> Result<bool, Memory>
     ensures { MatchResult result
         (λ then. Puts (Ok (tt {0})) out.old out.new (flag_text later name.now holds) × (then ≡ (later || holds)))
@@ -19,12 +22,22 @@ fn put_flag(out: &mut Vec<u8>, later: bool, name: &str, holds: bool) -> Result<b
     if !holds {
         return Ok(later);
     }
-    let comma: &[u8] = if later { b"," } else { b"" };
-    put_all(out, &[comma, b"\"", name.as_bytes(), b"\""])?;
+    let before: &[u8] = if later { b",\"" } else { b"[\"" };
+    put_all(out, &[before, name.as_bytes(), b"\""])?;
     Ok(true)
 }
 
-// Puts the names of the flags that hold, with the closing bracket.
+// Puts what ends the list of flags.
+fn put_end(out: &mut Vec<u8>, later: bool) -> Result<(), Memory>
+    ensures { Puts result out.old out.new (flags_text later []) }
+{
+    if later {
+        return put(out, b"]");
+    }
+    put(out, b"[]")
+}
+
+// Puts the names of the flags that hold as a list.
 fn put_flags(out: &mut Vec<u8>, flags: &[(&str, bool)]) -> Result<(), Memory>
     ensures { Puts result out.old out.new (flags_text false flags.now) }
 {
@@ -32,12 +45,30 @@ fn put_flags(out: &mut Vec<u8>, flags: &[(&str, bool)]) -> Result<(), Memory>
     for (name, holds) in flags {
         later = put_flag(out, later, name, *holds)?;
     }
-    put(out, b"]")
+    put_end(out, later)
 }
 
-// Puts the version of a report's entry, before the verdict.
-fn put_reported(out: &mut Vec<u8>, version: u64) -> Result<(), Memory>
-    ensures { Puts result out.old out.new (codes "{\"entered\":" ++ (decimal version ++ codes ",\"verdict\":[")) }
+impl Written for Verdict {
+    ghost value = { verdict_value };
+
+    fn put(&self, out: &mut Vec<u8>) -> Result<(), Memory> {
+        put_flags(
+            out,
+            &[
+                ("lateral", self.lateral),
+                ("along", self.along),
+                ("vertical", self.vertical),
+                ("aged", self.aged),
+                ("outside", self.outside),
+            ],
+        )
+    }
+}
+
+// Puts what an entered report answers.
+fn put_judged(out: &mut Vec<u8>, verdict: &Verdict, version: u64) -> Result<(), Memory>
+    ensures { Puts result out.old out.new
+        (((codes "{\"entered\":" ++ (decimal version ++ codes ",\"verdict\":")) ++ compact_text (verdict_value verdict.now)) ++ codes "}\n") }
 {
     let mut digits = Buffer::new();
     put_all(
@@ -45,44 +76,19 @@ fn put_reported(out: &mut Vec<u8>, version: u64) -> Result<(), Memory>
         &[
             b"{\"entered\":",
             digits.format(version).as_bytes(),
-            b",\"verdict\":[",
+            b",\"verdict\":",
         ],
-    )
-}
-
-// Puts the flags of a verdict that hold.
-fn put_verdict(out: &mut Vec<u8>, verdict: &Verdict) -> Result<(), Memory>
-    ensures { Puts result out.old out.new (verdict_text verdict.now) }
-{
-    put_flags(
-        out,
-        &[
-            ("lateral", verdict.lateral),
-            ("along", verdict.along),
-            ("vertical", verdict.vertical),
-            ("aged", verdict.aged),
-            ("outside", verdict.outside),
-        ],
-    )
-}
-
-// Puts what an entered report answers.
-fn put_judged(out: &mut Vec<u8>, verdict: &Verdict, version: u64) -> Result<(), Memory>
-    ensures { Puts result out.old out.new
-        ((codes "{\"entered\":" ++ (decimal version ++ codes ",\"verdict\":[")) ++ (verdict_text verdict.now ++ codes "}\n")) }
-{
-    put_reported(out, version)?;
-    put_verdict(out, verdict)?;
+    )?;
+    verdict.put(out)?;
     put(out, b"}\n")
 }
 
 /// Puts what an entered command answers: the version with it, and the verdict on a report.
-#[tactic(auto, unfolding(json::proofs::OnLiterals::json_on_literals))]
 pub(crate) fn put_entered(out: &mut Vec<u8>, entered: &Entered) -> Result<(), Memory>
     ensures { Puts result out.old out.new (reply_text (answered entered.now)) }
 {
     match &entered.verdict {
-        None => put_versioned(out, b"{\"entered\":", entered.version),
+        None => put_versioned(out, "{\"entered\":", entered.version),
         Some(verdict) => put_judged(out, verdict, entered.version),
     }
 }

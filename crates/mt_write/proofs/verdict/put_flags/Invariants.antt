@@ -1,5 +1,5 @@
 use Rattle.std.proofs.Common.{◌≡◌, ◌≤◌, ◌+◌, ◌++◌, false, length, drop, vec_len, vec_capacity}
-use Rattle.mt_write.specs.Private.Numbers.{flags_text}
+use Rattle.mt_write.specs.Private.Flags.{flags_text}
 use Rattle.mt_write.proofs.verdict.put_flags.Given as goal
 
 abbrev pub invariant-loop-name : goal.invariant-loop-name

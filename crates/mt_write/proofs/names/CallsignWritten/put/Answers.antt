@@ -1,10 +1,10 @@
 use Rattle.std.proofs.Common.{◌∙◌, sym}
 use Rattle.mt_write.proofs.PlainText.{plain_name}
 use Rattle.mt_write.proofs.Putting.{puts_is}
-use Rattle.mt_write.proofs.EntryTexts.{fix_text}
+use Rattle.mt_write.proofs.ValueTexts.{name_text}
 use Rattle.mt_write.proofs.names.CallsignWritten.put.Goals as goal
 
 pub returns : goal.returns
 returns c =
     puts_is c.put_all.result c.args.out.now c.put_all.new.out _ _
-    (fix_text c.args.self.now _ (c.bytes.ensures.text ∙ sym (plain_name 1 7 c.args.self.now c.bytes.ensures.named))) c.put_all.ensures
+    (name_text c.args.self.now _ (c.bytes.ensures.text ∙ sym (plain_name 1 7 c.args.self.now c.bytes.ensures.named))) c.put_all.ensures

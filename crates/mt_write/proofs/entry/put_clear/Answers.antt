@@ -1,0 +1,19 @@
+use Rattle.std.proofs.Common.{sym, ap, codes, pos}
+use Rattle.json.proofs.OnLiterals.{json_on_literals}
+use Rattle.serde_json.specs.Data.{member, no_members, object}
+use Rattle.serde_json.specs.Written.{compact_text}
+use Rattle.mt_write.specs.Entry.{clearance_members, whole}
+use Rattle.mt_write.proofs.Putting.{puts_is}
+use Rattle.mt_write.proofs.entry.put_clear.Goals as goal
+
+pub returns-in-Level : goal.returns-in-Level
+unfolding json_on_literals
+returns-in-Level c =
+    puts_is c.put_object.result c.args.out.now c.put_object.new.out _ _
+    (ap (λ clearance. compact_text (object (clearance_members c.args.word.now c.args.call.now clearance c.args.eff (member (codes "who") (whole (pos c.args.who)) no_members)))) (sym c.in-Level.is)) c.put_object.ensures
+
+pub returns-in-Direct : goal.returns-in-Direct
+unfolding json_on_literals
+returns-in-Direct c =
+    puts_is c.put_object-in-Direct.result c.args.out.now c.put_object-in-Direct.new.out _ _
+    (ap (λ clearance. compact_text (object (clearance_members c.args.word.now c.args.call.now clearance c.args.eff (member (codes "who") (whole (pos c.args.who)) no_members)))) (sym c.in-Direct.is)) c.put_object-in-Direct.ensures
