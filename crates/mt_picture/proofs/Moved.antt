@@ -1,8 +1,9 @@
 -- The picture after a tick and after a drop.
-use Rattle.std.proofs.Common.{◌≡◌, ◌≢◌, ℕ, ◌+◌, ◌<◌, inl, List, [], ◌∷◌, ◌++◌, length, get_or, set, not, Option, Some, None, refl, sym, ◌∙◌, ap, subst, arith, get_or-set_other, get_or-set_same}
+use Rattle.std.proofs.Common.{◌≡◌, ◌≢◌, ℕ, ◌+◌, ◌<◌, inl, List, [], ◌∷◌, ◌++◌, length, get_or, set, not, Option, Some, None, IfSome, refl, sym, ◌∙◌, ap, subst, arith, get_or-set_other, get_or-set_same}
 use Rattle.std.specs.List.{filter}
 use Rattle.std.specs.Str.{bytes_eq}
 use Rattle.std.proofs.lemmas.List.Elements.{All-push}
+use Rattle.mt_base.specs.declared.command.Command.{Command}
 use Rattle.mt_base.specs.declared.command.Command.TheVariants.{Drop, Tick}
 use Rattle.mt_base.specs.declared.command.Entry.{Entry}
 use Rattle.mt_base.specs.declared.flight.Record.{Record}
@@ -15,14 +16,17 @@ use Rattle.mt_base.proofs.HistoryLemmas.{state_of-push}
 use Rattle.mt_kept.specs.Kept.{Watched}
 use Rattle.mt_kept.specs.Window.{WasTestedOnce}
 use Rattle.mt_probe.specs.declared.flight.Flight.{Flight}
-use Rattle.mt_probe.specs.Putting.{records_put, with_flight, with_moment}
+use Rattle.mt_probe.specs.Putting.{Fits, records_put, with_flight, with_moment}
+use Rattle.mt_probe.proofs.Placed.{filled_inside}
 use Rattle.mt_probe.specs.Shot.{Shot, flight_at, records_in}
 use Rattle.mt_probe.specs.Shot.{state_in_shot as state_in}
 use Rattle.mt_probe.specs.Standing.{IsSoundShot}
 use Rattle.mt_picture.specs.Private.Places.{all_places}
 use Rattle.mt_picture.specs.Private.Stamps.{IsPicture}
 use Rattle.mt_picture.specs.Stamps.{AreStamped, HaveFilings}
-use Rattle.mt_picture.proofs.Standing.{filed_on, named_on, stamped_on}
+use Rattle.mt_picture.specs.Private.Putting.{IsSlotPut}
+use Rattle.mt_picture.proofs.Entered.{there}
+use Rattle.mt_picture.proofs.Standing.{filed_on, named_on, picture_put, stamped_on}
 
 pub picture_tick : (shot after : Shot) (h : List Entry) (who now : ℕ) (kept new : Watched) → IsPicture shot h kept
     → IsComplete (record { who = who; command = Tick now }) → IsSoundShot after → after ≡ with_moment shot now → new.rules ≡ kept.rules → new.moment ≡ now → new.places ≡ kept.places
@@ -95,3 +99,28 @@ picture_drop shot after h who slot call old kept new is complete sound sound_aft
 pub none_tested : (rules : Rules) (places : List (Option NamedTrajectory)) (now count : ℕ) → WasTestedOnce rules places now count count
 none_tested rules places now count =
     record { edges = []; distinct = (λ i j d before below. absurd (omega arith)); each = (λ k d below. absurd (omega arith)); is = refl }
+
+-- ---- a flight that is put into a slot, or taken away
+
+pub put_inside : (shot : Shot) (slot : ℕ) (x : Option Flight) (e : Entry) → IsSlotPut shot slot x e → slot < length shot.slots
+put_inside shot slot (Some f) e put = put.inside
+put_inside shot slot None e taken =
+    let it = there (flight_at shot slot) taken.call taken.there in filled_inside shot.slots slot it.flight it.at_is
+
+pub put_fits : (shot : Shot) (slot : ℕ) (x : Option Flight) (e : Entry) → IsSlotPut shot slot x e → IfSome x (Fits shot slot)
+put_fits shot slot (Some f) e put = put.fits
+put_fits shot slot None e taken = tt
+
+pub picture_slot : (shot after : Shot) (h : List Entry) (e : Entry) (slot : ℕ) (x : Option Flight) (kept new : Watched) → IsPicture shot h kept
+    → IsSlotPut shot slot x e → IsComplete e → IsSoundShot shot → IsSoundShot after → after ≡ with_flight shot slot x
+    → (state_in after).records ≡ records_put (flight_at shot slot) x (records_in shot.slots)
+    → new.rules ≡ kept.rules → new.moment ≡ kept.moment → new.places ≡ all_places (set shot.slots slot x) → IsPicture after (h ++ e ∷ []) new
+picture_slot shot after h e slot (Some f) kept new is put complete sound sound_after value records rules moment places =
+    picture_put shot after h e slot f is.stands put value records kept new is complete sound_after rules moment places
+picture_slot shot after h e slot None kept new is taken complete sound sound_after value records rules moment places =
+    let it = there (flight_at shot slot) taken.call taken.there in
+    let inside = filled_inside shot.slots slot it.flight it.at_is in
+    let whole : e ≡ record { who = e.who; command = Drop taken.call } = ap (λ (c : Command). let q : Entry = record { who = e.who; command = c } in q) taken.drops in
+    subst (λ (q : Entry). IsPicture after (h ++ q ∷ []) new) (sym whole)
+    (picture_drop shot after h e.who slot taken.call it.flight kept new is (subst IsComplete whole complete) sound sound_after inside it.at_is it.own value records
+    rules moment places)

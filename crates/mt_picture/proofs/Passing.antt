@@ -1,5 +1,5 @@
 -- What a command that passes its checks says of the state.
-use Rattle.std.proofs.Common.{◌≡◌, ◌⊎◌, inl, inr, ⊎_elim, Bool, true, ℕ, ℤ, pos, ◌≤ℤ◌, ◌<◌, ◌^◌, List, [], ◌∷◌, ◌++◌, Option, Some, None, Ok, IsOk, is_some, length, option_map, refl, ap, subst, arith}
+use Rattle.std.proofs.Common.{◌≡◌, Bool, true, ℕ, ℤ, pos, ◌≤ℤ◌, ◌<◌, ◌^◌, List, [], ◌∷◌, ◌++◌, Option, Some, None, Ok, IsOk, is_some, length, option_map, refl, ap, subst, arith}
 use Rattle.std.proofs.lemmas.Int.{ints}
 use Rattle.std.specs.List.{AllByRecursion}
 use Rattle.std.specs.Option.{option_map_or}
@@ -21,14 +21,12 @@ use Rattle.mt_base.specs.WhatIf.{course_in, what_if_checks}
 use Rattle.mt_base.proofs.CheckLemmas.{all_pass, all_passed}
 use Rattle.mt_change.proofs.Passed.{ok_is}
 use Rattle.mt_probe.specs.declared.flight.Flight.{Flight}
-use Rattle.mt_probe.specs.Prepared.{IsSlotNamed, MakesStrand, judged_aside, roomy}
+use Rattle.mt_probe.specs.Prepared.{IsSlotNamed, judged_aside, roomy}
 use Rattle.mt_probe.specs.Shot.{Shot, flight_at}
 use Rattle.mt_probe.specs.Shot.{state_in_shot as state_in}
 use Rattle.mt_probe.proofs.Left.{found_call, planned_there}
-use Rattle.mt_machine.specs.Deciding.{IsFirstHit}
 use Rattle.mt_base.proofs.Cases.{is_none, room_for_one}
 use Rattle.mt_picture.specs.Private.Effects.{IsOfFlight}
-use Rattle.mt_picture.specs.Private.Entries.{IsReport, IsWithdrawal}
 use Rattle.mt_picture.specs.Stamps.{IsFiling}
 
 abbrev Holds : Refusal × Bool → Type 0
@@ -169,22 +167,3 @@ found_place rs call (Some f) some is = ap Some (found_call call rs f.card is)
 
 pub full_not : (n m : ℕ) (h : ℤ) → pos m ≡ h → int_lt (pos n) h ≡ true → n ≡ m → ⊥
 full_not n m h is below same = grind (arith, ints)
-
--- a command that makes no trajectory and is neither a tick nor a drop
-pub plain_other : (c : Command) → (MakesStrand c → ⊥) → ((now : ℕ) → c ≡ Tick now → ⊥) → ((call : List ℕ) → c ≡ Drop call → ⊥) → IsReport c ⊎ IsWithdrawal c
-plain_other (Drop call) plain no_tick no_drop = absurd (no_drop call refl)
-plain_other (commands.Report call report) plain no_tick no_drop = inl tt
-plain_other (Tick now) plain no_tick no_drop = absurd (no_tick now refl)
-plain_other (Withdraw call force) plain no_tick no_drop = inr tt
-plain_other c plain no_tick no_drop = absurd (plain tt)
-
-pub withdraws : (c : Command) → IsReport c ⊎ IsWithdrawal c → ¬ IsReport c → IsWithdrawal c
-withdraws c which none = ⊎_elim (λ reports. absurd (none reports)) (λ is. is) which
-
--- it has no hits
-pub plain_free : (setup : Setup) (s : State) (c : Command) → (MakesStrand c → ⊥) → IsFirstHit setup s c None
-plain_free setup s (Drop call) plain = refl
-plain_free setup s (commands.Report call report) plain = refl
-plain_free setup s (Tick now) plain = refl
-plain_free setup s (Withdraw call force) plain = refl
-plain_free setup s c plain = absurd (plain tt)

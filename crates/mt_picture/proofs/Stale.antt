@@ -29,7 +29,6 @@ use Rattle.mt_probe.specs.Standing.{IsSoundShot}
 use Rattle.mt_probe.proofs.Left.{found_call, found_changed, planned_flight}
 use Rattle.mt_probe.proofs.Placed.{filled_inside, found_there, record_placed}
 use Rattle.mt_probe.proofs.Short.{found_in}
-use Rattle.mt_picture.specs.Private.Entries.{IsRemaking}
 use Rattle.mt_picture.specs.Stamps.{IsFiling}
 use Rattle.mt_picture.specs.Story.{IsNamedAfter, IsPrepFor, IsPreparedFor, IsUsable, Story}
 use Rattle.mt_picture.proofs.Entered.{apart_false, filed_unique}
@@ -157,15 +156,6 @@ files_or_alters (commands.Report call report) makes = absurd makes
 files_or_alters (Tick next) makes = absurd makes
 files_or_alters (Withdraw call force) makes = absurd makes
 files_or_alters c makes = inr tt
-
-pub remakes : (c : Command) → MakesStrand c → ¬ IsFiling c → IsRemaking c
-remakes (Plan call kind route at from level rvsm) makes none = absurd (none tt)
-remakes (External call straight) makes none = absurd (none tt)
-remakes (Drop call) makes none = absurd makes
-remakes (commands.Report call report) makes none = absurd makes
-remakes (Tick next) makes none = absurd makes
-remakes (Withdraw call force) makes none = absurd makes
-remakes c makes none = tt
 
 -- what is prepared of a command, on the state that it was prepared on
 record IsLeftThen (setup : Setup) (s : State) (whom : ℕ) (c : Command) (card : Record) : Type 0 where

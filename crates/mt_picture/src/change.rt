@@ -170,7 +170,7 @@ pub(crate) fn change_for(
     tests: &mut Tally,
 ) -> Result<SlotChange, Memory>
     requires { BringsNew held.now.snapshot slot flight.now (kind_made entering.now.command.now) entering.now.prep.now entering.now.known }
-    ensures change { IfOk result (IsChangeFor held.now.kept slot flight.now) }
+    ensures change { IfOk result (IsChangeFor held.now.kept slot (Some flight.now)) }
     ensures counted { (m : NamedTrajectory) → place_kind (kind_made entering.entry.now.command.now) (Some flight.now) ≡ Some m
         → WasAskedOf held.now.snapshot entering.entry.now.prep.now entering.entry.now.known m tests.old tests.new }
 {
@@ -199,7 +199,7 @@ pub(crate) fn change_bare(
     requires first { first_of (Some flight.now) ≡ first_of (flight_at held.now.snapshot slot) }
     requires bare { second_of (Some flight.now) ≡ None }
     requires was { (g : Flight) → flight_at held.now.snapshot slot ≡ Some g → g.card.call ≡ flight.now.card.call }
-    ensures { IfOk result (IsChangeFor held.now.kept slot flight.now) }
+    ensures { IfOk result (IsChangeFor held.now.kept slot (Some flight.now)) }
 {
     held.keeps();
     let first = first_item(flight)?;
@@ -209,4 +209,17 @@ pub(crate) fn change_bare(
         second: None,
         finds,
     })
+}
+
+/// The change of the kept conflicts for a slot that is emptied.
+pub(crate) fn change_none(alloc: Global, held: &Parts, slot: u32) -> SlotChange
+    requires { slot < length held.now.snapshot.slots }
+    ensures { IsChangeFor held.now.kept slot None result }
+{
+    held.keeps();
+    SlotChange {
+        first: None,
+        second: None,
+        finds: Vec::new(alloc),
+    }
 }

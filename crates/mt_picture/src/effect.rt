@@ -3,7 +3,7 @@ ghost use Rattle.std.specs.Prelude.{◌≡◌, Some};
 ghost use Rattle.mt_probe.specs.Shot.{Shot};
 ghost use Rattle.mt_picture.specs.Private.Effects.{Does, IsOfFlight, slot_by};
 
-use mt_base::{Callsign, Command, Second};
+use mt_base::{Command, Second};
 
 /// What a command does that passes its checks. It is worked out once, where the command is decided.
 #[derive(Clone, Copy)]
@@ -16,8 +16,8 @@ pub(crate) enum Effect {
     Report(u32),
     /// It withdraws the tentative clearance of the flight in this slot.
     Withdraw(u32),
-    /// It takes away the flight in this slot, which has this callsign.
-    Remove(u32, Callsign),
+    /// It takes away the flight in this slot.
+    Remove(u32),
     /// It moves the moment to this second.
     Tick(Second),
 }
@@ -31,7 +31,7 @@ impl Effect {
             Effect::Remake(slot) => Some(*slot),
             Effect::Report(slot) => Some(*slot),
             Effect::Withdraw(slot) => Some(*slot),
-            Effect::Remove(slot, _) => Some(*slot),
+            Effect::Remove(slot) => Some(*slot),
             Effect::File(_) => None,
             Effect::Tick(_) => None,
         }
@@ -45,7 +45,7 @@ pub(crate) fn effect_in(slot: u32, command: &Command) -> Effect
     ensures does { (shot : Shot) → Does shot command.now result }
 {
     match command {
-        Command::Drop { call } => Effect::Remove(slot, *call),
+        Command::Drop { .. } => Effect::Remove(slot),
         Command::Report { .. } => Effect::Report(slot),
         Command::Withdraw { .. } => Effect::Withdraw(slot),
         Command::Renew { .. }

@@ -10,7 +10,7 @@ ghost use Rattle.mt_picture.specs.Private.Holding.{AddsEntry, EntersOrStops, Goe
 ghost use Rattle.mt_picture.specs.Story.{IsPrepGivenFor, IsPrepFor};
 
 use crate::effect::Effect;
-use crate::entering::{Entering, file, remake, report, withdraw};
+use crate::entering::{Entering, file, remake, remove, report, withdraw};
 use crate::held::Parts;
 use crate::usable::is_usable;
 use mt_base::{Command, Hit, Memory, Record, Tally, Verdict};
@@ -109,8 +109,8 @@ fn enter_plain(
             withdraw(held, alloc, slot, who, command)?;
             Ok(None)
         }
-        Effect::Remove(slot, call) => {
-            held.remove(slot, who, call)?;
+        Effect::Remove(slot) => {
+            remove(held, alloc, slot, who, command)?;
             Ok(None)
         }
         Effect::Tick(now) => {

@@ -10,13 +10,14 @@ ghost use Rattle.mt_probe.specs.Shot.{flight_at, made_of};
 ghost use Rattle.mt_probe.specs.Shot.{state_in_shot as state_in};
 ghost use Rattle.mt_picture.specs.Private.Asking.{WasAskedFor, WasAskedOf};
 ghost use Rattle.mt_picture.specs.Private.Brought.{BringsNew, IsEnterable, IsPreparedNow};
+ghost use Rattle.mt_picture.specs.Private.Effects.{IsDrop};
 ghost use Rattle.mt_picture.specs.Private.Entries.{IsRemaking, IsReport, IsWithdrawal, is_probed};
 ghost use Rattle.mt_picture.specs.Stamps.{IsFiling};
 ghost use Rattle.mt_picture.specs.Private.Holding.{AddsEntry, AddsOrStops, EntersOrStops, IsPassed, entry_now};
 ghost use Rattle.mt_picture.specs.Private.Places.{place_kind};
 ghost use Rattle.mt_picture.specs.Private.Putting.{IsFirstOf, IsKeptFlight, IsFlightPut, IsRemade};
 
-use crate::change::{change_bare, change_for};
+use crate::change::{change_bare, change_for, change_none};
 use crate::held::Parts;
 use crate::hits::first_hit;
 use mt_base::{Callsign, Command, Entry, Hit, Kind, Memory, Record, Tally, Verdict};
@@ -86,7 +87,7 @@ fn put_made(
     if first.is_some() {
         return Ok(first);
     }
-    held.put_change(slot, flight, entry, change)?;
+    held.put(slot, Some(flight), entry, change)?;
     Ok(None)
 }
 
@@ -300,5 +301,25 @@ pub(crate) fn withdraw(
     flight.mark = None;
     let entry = entry_of(alloc, held, who, command)?;
     let change = change_bare(alloc, held, slot, &flight)?;
-    held.put_change(slot, flight, entry, change)
+    held.put(slot, Some(flight), entry, change)
+}
+
+/// Takes away the flight in a slot.
+pub(crate) fn remove(
+    held: &mut Parts,
+    alloc: Global,
+    slot: u32,
+    who: u32,
+    command: &Command,
+) -> Result<(), Memory>
+    requires passed { IsPassed held.old.snapshot who command.now }
+    requires named { IsSlotNamed held.old.snapshot command.now (Some slot) }
+    requires drops { IsDrop command.now }
+    requires bounded { IsBoundedCommand command.now }
+    ensures { AddsEntry held.old held.new (entry_now held.old.snapshot who command.now) result }
+{
+    held.keeps();
+    let entry = entry_of(alloc, held, who, command)?;
+    let change = change_none(alloc, held, slot);
+    held.put(slot, None, entry, change)
 }

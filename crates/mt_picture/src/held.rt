@@ -1,7 +1,7 @@
 //! What a picture holds, and how its parts are changed together.
-ghost use Rattle.std.specs.Prelude.{◌≡◌, ◌<◌, ◌≤◌, ◌^◌, [], IfOk, Some, option_map};
+ghost use Rattle.std.specs.Prelude.{◌≡◌, ◌<◌, ◌≤◌, ◌^◌, [], IfOk, Some};
 ghost use Rattle.std.specs.Arc.{arc_value};
-ghost use Rattle.mt_base.specs.declared.command.Command.TheVariants.{Drop, Tick};
+ghost use Rattle.mt_base.specs.declared.command.Command.TheVariants.{Tick};
 ghost use Rattle.mt_base.specs.Bounds.{AreWithinBounds};
 ghost use Rattle.mt_base.specs.Complete.{IsComplete};
 ghost use Rattle.mt_base.specs.Effect.{state_of};
@@ -13,11 +13,11 @@ ghost use Rattle.mt_probe.specs.Standing.{IsSoundShot};
 ghost use Rattle.mt_picture.specs.Private.Brought.{IsChangeFor};
 ghost use Rattle.mt_picture.specs.Private.Holding.{AddsEntry, held_story};
 ghost use Rattle.mt_picture.specs.Private.Places.{all_places, first_of, second_of};
-ghost use Rattle.mt_picture.specs.Private.Putting.{IsFlightPut};
+ghost use Rattle.mt_picture.specs.Private.Putting.{IsFlightPut, IsSlotPut};
 ghost use Rattle.mt_picture.specs.Private.Stamps.{IsPicture};
 
 use crate::change::SlotChange;
-use mt_base::{Callsign, Command, Conflict, Entry, Memory, Rules, Second, Steps, Tally};
+use mt_base::{Command, Conflict, Entry, Memory, Rules, Second, Steps, Tally};
 use mt_kept::Kept;
 use mt_probe::{Flight, Snapshot};
 use mt_tables::Tables;
@@ -100,16 +100,16 @@ impl Parts {
         self.kept.published()
     }
 
-    /// Enters a command that leaves this flight in a slot, with the change of the kept conflicts for it.
-    pub(crate) fn put_change(
+    /// Enters a command that leaves this flight in a slot, or none, with the change of the kept conflicts for it.
+    pub(crate) fn put(
         &mut self,
         slot: u32,
-        flight: Flight,
+        flight: Option<Flight>,
         entry: Entry,
         change: SlotChange,
     ) -> Result<(), Memory>
         requires counted { self.old.snapshot.version < 2 ^ 40 }
-        requires put { IsFlightPut self.old.snapshot slot flight entry }
+        requires put { IsSlotPut self.old.snapshot slot flight entry }
         requires complete { IsComplete entry }
         requires change { IsChangeFor self.old.kept slot flight change }
         ensures { AddsEntry self.old self.new entry result }
@@ -120,7 +120,8 @@ impl Parts {
             second,
             finds,
         } = change;
-        let snapshot = self.snapshot.put(slot, Some(flight))?;
+        // All that can fail stands above the exchange, and what is kept changes last of that: so a want of memory leaves all as it was.
+        let snapshot = self.snapshot.put(slot, flight)?;
         snapshot.keeps();
         self.history.reserve(1)?;
         let mut steps = Steps::new();
@@ -172,25 +173,6 @@ impl Parts {
             who,
             command: Command::Tick { now },
         });
-        Ok(())
-    }
-
-    /// Enters a drop of the flight in a slot.
-    pub(crate) fn remove(&mut self, slot: u32, who: u32, call: Callsign) -> Result<(), Memory>
-        requires counted { self.old.snapshot.version < 2 ^ 40 }
-        requires there { option_map (λ f. f.card.call) (flight_at self.old.snapshot slot) ≡ Some call }
-        ensures { AddsEntry self.old self.new (record { who = who; command = Drop call }) result }
-    {
-        let command = Command::Drop { call };
-        command.keeps();
-        self.snapshot.keeps();
-        let snapshot = self.snapshot.put(slot, None)?;
-        snapshot.keeps();
-        self.history.reserve(1)?;
-        let mut steps = Steps::new();
-        self.kept.remove(slot, &mut steps)?;
-        self.snapshot = snapshot;
-        self.history.push_reserved(Entry { who, command });
         Ok(())
     }
 }

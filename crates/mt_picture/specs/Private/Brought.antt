@@ -1,6 +1,6 @@
 -- No public contract names these: they are of private steps and of proofs.
 -- What a command brings into a slot, and its preparation.
-use Rattle.std.specs.Prelude.{◌≡◌, ◌<◌, ◌^◌, ℕ, Bool, true, Some, length}
+use Rattle.std.specs.Prelude.{◌≡◌, ◌<◌, ◌^◌, ℕ, Bool, true, Option, Some, length}
 use Rattle.mt_base.specs.Bounds.{IsBoundedCommand}
 use Rattle.mt_base.specs.declared.conflict.Kind.{Kind}
 use Rattle.mt_base.specs.declared.flight.Record.{Record}
@@ -30,11 +30,11 @@ pub record BringsNew (shot : Shot) (slot : ℕ) (f : Flight) (kind : Kind) (p : 
   pub other : (m : NamedTrajectory) → place_other kind (Some f) ≡ Some m → place_other kind (flight_at shot slot) ≡ Some m
   pub stood : HaveStood shot p
 
--- the change of the kept conflicts where a flight is put into a slot. What stands in its two places then, and the pairs of these.
-pub record IsChangeFor (kept : Watched) (slot : ℕ) (f : Flight) (change : SlotChange) : Type 0 where
-  pub first_is : seen change.first ≡ first_of (Some f)
-  pub second_is : seen change.second ≡ second_of (Some f)
-  pub finds_are : AreFindsOfSlot kept.rules (with_slot kept.places slot (first_of (Some f)) (second_of (Some f))) kept.moment slot change.finds.items
+-- the change of the kept conflicts where a flight is put into a slot, or none. What stands in its two places then, and the pairs of these.
+pub record IsChangeFor (kept : Watched) (slot : ℕ) (x : Option Flight) (change : SlotChange) : Type 0 where
+  pub first_is : seen change.first ≡ first_of x
+  pub second_is : seen change.second ≡ second_of x
+  pub finds_are : AreFindsOfSlot kept.rules (with_slot kept.places slot (first_of x) (second_of x)) kept.moment slot change.finds.items
 
 -- a command leaves a flight with this record, and the preparation is of it. The record is the preparation's, where that is known to be of use.
 pub record IsPreparedNow (shot : Shot) (e : Entering) (card : Record) : Type 0 where

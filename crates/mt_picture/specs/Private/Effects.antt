@@ -27,8 +27,13 @@ slot_by (effects.File slot) = None
 slot_by (effects.Remake slot) = Some slot
 slot_by (effects.Report slot) = Some slot
 slot_by (effects.Withdraw slot) = Some slot
-slot_by (effects.Remove slot call) = Some slot
+slot_by (effects.Remove slot) = Some slot
 slot_by (effects.Tick now) = None
+
+-- a command takes a flight away
+abbrev pub IsDrop : Command → Type 0
+IsDrop (Drop call) = ⊤
+IsDrop command = ⊥
 
 -- what a command does, by its effect
 abbrev pub Does : Shot → Command → Effect → Type 0
@@ -36,7 +41,7 @@ Does shot command (effects.File slot) = IsFiling command × IsFreeIn shot.slots 
 Does shot command (effects.Remake slot) = IsRemaking command
 Does shot command (effects.Report slot) = IsReport command
 Does shot command (effects.Withdraw slot) = IsWithdrawal command
-Does shot command (effects.Remove slot call) = command ≡ Drop call
+Does shot command (effects.Remove slot) = IsDrop command
 Does shot command (effects.Tick now) = command ≡ Tick now
 
 -- the effect of a command: what it does, and the slot of the flight that it names

@@ -2,7 +2,7 @@
 -- A flight that an entry leaves in a slot.
 use Rattle.std.specs.Prelude.{◌≡◌, ◌<◌, ◌+◌, ◌++◌, ◌∷◌, [], ℕ, List, Option, Some, None, length, option_map, slice_get}
 use Rattle.mt_base.specs.declared.command.Command.{Command}
-use Rattle.mt_base.specs.declared.command.Command.TheVariants.{Tentative, Commit}
+use Rattle.mt_base.specs.declared.command.Command.TheVariants.{Commit, Drop, Tentative}
 use Rattle.mt_base.specs.declared.command.Entry.{Entry}
 use Rattle.mt_base.specs.declared.conflict.Kind.{Kind}
 use Rattle.mt_base.specs.declared.conflict.Kind.TheVariants as kinds
@@ -35,6 +35,17 @@ pub record IsFlightPut (shot : Shot) (slot : ℕ) (f : Flight) (e : Entry) : Typ
   pub still : now_after e.command shot.now ≡ shot.now
   pub records : records_put (flight_at shot slot) (Some f) (records_in shot.slots)
       ≡ records_after shot.setup e.who e.command (records_in shot.slots)
+
+-- the entry takes away the flight of the slot
+pub record IsFlightTaken (shot : Shot) (slot : ℕ) (e : Entry) : Type 0 where
+  pub call : List ℕ
+  pub there : option_map (λ f. f.card.call) (flight_at shot slot) ≡ Some call
+  pub drops : e.command ≡ Drop call
+
+-- the entry leaves this flight in the slot, or none
+abbrev pub IsSlotPut : Shot → ℕ → Option Flight → Entry → Type 0
+IsSlotPut shot slot (Some f) e = IsFlightPut shot slot f e
+IsSlotPut shot slot None e = IsFlightTaken shot slot e
 
 -- the history after a command that is entered, or stopped by a hit
 abbrev pub history_after : List Entry → Entry → Option Hit → List Entry

@@ -1,20 +1,8 @@
-use Rattle.std.proofs.Common.{ap, refl, arith}
-use Rattle.mt_base.specs.Decision.{call_of}
+use Rattle.std.proofs.Common.{refl, arith}
 use Rattle.mt_probe.specs.Shot.{state_in_shot as state_in}
-use Rattle.mt_picture.proofs.Passing.{few_entries, slot_there, tick_later}
+use Rattle.mt_picture.proofs.Passing.{few_entries, tick_later}
 use Rattle.mt_picture.proofs.Ticking.{ticked}
 use Rattle.mt_picture.proofs.enter.enter_plain.Goals as goal
-
-pub remove-requires-clause-counted : goal.remove-requires-clause-counted
-remove-requires-clause-counted c =
-    let shot = c.args.held.now.snapshot in
-    few_entries shot.setup (state_in shot) c.args.who c.keeps.ensures.sound.rules c.args.command.now c.requires.passed
-
-pub remove-requires-clause-there : goal.remove-requires-clause-there
-remove-requires-clause-there c =
-    let shot = c.args.held.now.snapshot in
-    let drops = rw c.in-Remove.is at c.requires.effect.does in
-    slot_there shot c.args.command.now c.in-Remove.slot c.in-Remove.call (rw c.in-Remove.is at c.requires.effect.named) (ap call_of drops)
 
 pub tick-requires-clause-counted : goal.tick-requires-clause-counted
 tick-requires-clause-counted c =

@@ -35,17 +35,17 @@ returns-then-is_some-clause-free c = λ unprobed. c.in_ok-first.ensures.free (c.
 pub change_for-requires : goal.change_for-requires
 change_for-requires c = c.requires.new
 
-pub put_change-requires-clause-counted : goal.put_change-requires-clause-counted
-put_change-requires-clause-counted c = c.requires.counted
+pub put-requires-clause-counted : goal.put-requires-clause-counted
+put-requires-clause-counted c = c.requires.counted
 
-pub put_change-requires-clause-put : goal.put_change-requires-clause-put
-put_change-requires-clause-put c = c.requires.put
+pub put-requires-clause-put : goal.put-requires-clause-put
+put-requires-clause-put c = c.requires.put
 
-pub put_change-requires-clause-complete : goal.put_change-requires-clause-complete
-put_change-requires-clause-complete c = c.requires.complete
+pub put-requires-clause-complete : goal.put-requires-clause-complete
+put-requires-clause-complete c = c.requires.complete
 
-pub put_change-requires-clause-change : goal.put_change-requires-clause-change
-put_change-requires-clause-change c = c.in_ok-change.ensures.change
+pub put-requires-clause-change : goal.put-requires-clause-change
+put-requires-clause-change c = c.in_ok-change.ensures.change
 
 pub returns-in_err-change-clause-entered : goal.returns-in_err-change-clause-entered
 returns-in_err-change-clause-entered c = MatchResult-from_err c.from_residual.result _ _ c.from_residual.ensures.0 (λ err. refl)
@@ -61,19 +61,19 @@ returns-in_err-first-clause-entered c =
 pub returns-in_err-first-clause-counted : goal.returns-in_err-first-clause-counted
 returns-in_err-first-clause-counted c = c.in_ok-change.ensures.counted
 
-pub returns-in_err-put_change-clause-entered : goal.returns-in_err-put_change-clause-entered
-returns-in_err-put_change-clause-entered c =
-    MatchResult-from_err c.from_residual-in_err-put_change.result _ _ c.from_residual-in_err-put_change.ensures.0
-    (λ err. c.in_err-put_change.ensures)
+pub returns-in_err-put-clause-entered : goal.returns-in_err-put-clause-entered
+returns-in_err-put-clause-entered c =
+    MatchResult-from_err c.from_residual-in_err-put.result _ _ c.from_residual-in_err-put.ensures.0
+    (λ err. c.in_err-put.ensures)
 
-pub returns-in_err-put_change-clause-counted : goal.returns-in_err-put_change-clause-counted
-returns-in_err-put_change-clause-counted c = c.in_ok-change.ensures.counted
+pub returns-in_err-put-clause-counted : goal.returns-in_err-put-clause-counted
+returns-in_err-put-clause-counted c = c.in_ok-change.ensures.counted
 
 pub returns-then-is_some-clause-counted : goal.returns-then-is_some-clause-counted
 returns-then-is_some-clause-counted c = c.in_ok-change.ensures.counted
 
 pub returns-clause-entered : goal.returns-clause-entered
-returns-clause-entered c = c.in_ok-put_change.ensures
+returns-clause-entered c = c.in_ok-put.ensures
 
 pub returns-clause-free : goal.returns-clause-free
 returns-clause-free c = λ unprobed. refl
@@ -93,8 +93,8 @@ returns-in_err-first-clause-hits c = IfOk-from_err c.from_residual-in_err-first.
 pub returns-in_err-first-clause-free : goal.returns-in_err-first-clause-free
 returns-in_err-first-clause-free c = IfOk-from_err c.from_residual-in_err-first.result _ c.from_residual-in_err-first.ensures.0
 
-pub returns-in_err-put_change-clause-hits : goal.returns-in_err-put_change-clause-hits
-returns-in_err-put_change-clause-hits c = IfOk-from_err c.from_residual-in_err-put_change.result _ c.from_residual-in_err-put_change.ensures.0
+pub returns-in_err-put-clause-hits : goal.returns-in_err-put-clause-hits
+returns-in_err-put-clause-hits c = IfOk-from_err c.from_residual-in_err-put.result _ c.from_residual-in_err-put.ensures.0
 
-pub returns-in_err-put_change-clause-free : goal.returns-in_err-put_change-clause-free
-returns-in_err-put_change-clause-free c = IfOk-from_err c.from_residual-in_err-put_change.result _ c.from_residual-in_err-put_change.ensures.0
+pub returns-in_err-put-clause-free : goal.returns-in_err-put-clause-free
+returns-in_err-put-clause-free c = IfOk-from_err c.from_residual-in_err-put.result _ c.from_residual-in_err-put.ensures.0

@@ -23,13 +23,13 @@ kept_flight-requires-clause-there c =
 pub change_bare-requires-clause-first : goal.change_bare-requires-clause-first
 change_bare-requires-clause-first c = same_first (Some c.in_ok-flight.flight) (flight_at c.args.held.now.snapshot c.args.slot) c.in_ok-flight.ensures.actual
 
-pub put_change-requires-clause-counted : goal.put_change-requires-clause-counted
-put_change-requires-clause-counted c =
+pub put-requires-clause-counted : goal.put-requires-clause-counted
+put-requires-clause-counted c =
     let shot = c.args.held.now.snapshot in
     few_entries shot.setup (state_in shot) c.args.who c.keeps.ensures.sound.rules c.args.command.now c.requires.passed
 
-pub put_change-requires-clause-put : goal.put_change-requires-clause-put
-put_change-requires-clause-put c =
+pub put-requires-clause-put : goal.put-requires-clause-put
+put-requires-clause-put c =
     let shot = c.args.held.now.snapshot in
     let left = rw c.snapshot.ensures.value at c.in_ok-card.ensures.left in
     let there = slot_there shot c.args.command.now c.args.slot c.in_ok-card.field-0.card.call c.requires.named left.call_is in
