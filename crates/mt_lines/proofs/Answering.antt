@@ -75,10 +75,9 @@ module _ {W R : Type 0} (text : R → List ℕ) (is_last : R → Bool) (IsReplie
   replied_push written w (first ∷ lines) bytes now line reply middle next (r, rest, m, v, replied_first, goes_first, followed_first, unwritten, bytes_are, replied_rest) replied
       goes followed settled =
       let behind : (next ≡ middle) ⊎ (length (rest ++ text reply) ≤ written - length (text r)) = ⊎_elim
-          (λ is. inl is)
-          (λ within. inr (omega (arith, within, ap length bytes_are, length-append (text r) rest, length-append bytes (text reply), length-append rest (text reply))))
-          settled in
-      (
+      (λ is. inl is)
+      (λ within. inr (omega (arith, within, ap length bytes_are, length-append (text r) rest, length-append bytes (text reply), length-append rest (text reply))))
+      settled in (
         r,
         rest ++ text reply,
         m,

@@ -137,9 +137,9 @@ module _ {W : Type 0} (is_last : Reply → Bool) (IsReplied : W → List ℕ →
       at_line next gives isnt (front, bytes_are, written) followed settled =
           let same = stands front (reply_text gives.given) bytes_are in
           let within : (next ≡ middle) ⊎ (length ((sent ++ waited) ++ reply_text gives.given) ≤ length (sent ++ front)) = ⊎_elim
-              (λ is. inl is)
-              (λ none. inr (omega (arith, ap length same, ap length none, length-append (sent ++ front) waiting)))
-              settled in
+          (λ is. inl is)
+          (λ none. inr (omega (arith, ap length same, ap length none, length-append (sent ++ front) waiting)))
+          settled in
           record {
             more = front;
             written = written;
