@@ -77,6 +77,53 @@ def acceptances(is_late):
     return lines
 
 
+def come_and_go(draw):
+    """Flights filed by turns, of which the oldest is dropped once there are 900."""
+    lines = []
+    for number, plan in enumerate(plans(draw, 3_000)):
+        if number >= 900:
+            lines.append({"do": "drop", "call": call_of((number - 900) % 1_000)})
+        lines.append(dict(plan, call=call_of(number % 1_000)))
+    return lines
+
+
+def of_all(now, flights):
+    """A tick, and a report of each flight at one place."""
+    return [{"do": "tick", "now": now}] + [{"do": "report", "call": call_of(number), "at": now, "x": 0, "y": 0, "z": 2_100_000} for number in range(flights)]
+
+
+def marks(draw):
+    """Tentative clearances, each withdrawn."""
+    return [line for mark in of_levels(draw, "tentative", 1_000, 150) for line in (mark, {"do": "withdraw", "call": mark["call"]})]
+
+
+def areas(draw):
+    lines = []
+    for number in range(64):
+        x, y = draw.randrange(-400_000, 300_000), draw.randrange(-400_000, 300_000)
+        lines.append({"do": "area", "name": "A%02d" % number, "corners": [[x, y], [x + 90_000, y], [x + 90_000, y + 60_000], [x, y + 90_000]],
+                      "bottom": 290, "top": 340, "from": 0, "to": 7200})
+    return lines
+
+
+def of_a_day(draw, start, filed):
+    """The rows of what a long day adds, on a thousand plans at second 600 or on plans of their own."""
+    lines = come_and_go(draw)
+    yield "flights that come and go, 900 at once, a line", start, lines, len(lines)
+    tried = start + plans(draw, 900) + on_lanes() + [MOVED, TAKE] + [{"do": "probe", "call": "Z%02d" % lane, "level": 210} for lane in range(60)]
+    for now in range(601, 645):
+        tried += of_all(now, 900)
+    yield "acceptances behind 40,000 reports, each", tried, [{"do": "accept", "probe": number + 1} for number in range(60)], 60
+    moved = start + filed + [MOVED]
+    yield "tentative clearances, marked and withdrawn, a pair", moved, marks(draw), 150
+    yield "reports on 1,000 plans, each", moved, [line for now in range(601, 606) for line in of_all(now, 1_000)], 5_000
+    yield "questions of a flight on 1,000 plans, each", moved, [{"do": "flight", "call": call_of(draw.randrange(1_000))} for _ in range(2_000)], 2_000
+    slices = [{"do": "history", "from": 40 * (number % 20), "to": 40 * (number % 20) + 64} for number in range(200)]
+    yield "slices of the history, 64 entries each", moved, slices, 200
+    fenced = start[:-1] + areas(draw) + start[-1:] + plans(draw, 1_000) + [MOVED]
+    yield "areas of 1,000 flights and 64 areas, each", fenced, [{"do": "areas"}] * 5, 5
+
+
 def rows(seed):
     draw = random.Random(seed)
     start = tables(lanes())
@@ -99,3 +146,6 @@ def rows(seed):
     yield "acceptances after a report of the flight, each", moved, acceptances(True), 100
     begun, seconds = busy(seed)
     yield "two minutes of a busy centre, a line", begun, seconds, len(seconds)
+    half = seconds.index({"do": "tick", "now": 61})
+    yield "a second of a busy centre, after a minute", begun + seconds[:half], seconds[half:], 60
+    yield from of_a_day(draw, start, filed)
