@@ -5,6 +5,7 @@
 mod advised;
 mod ask;
 mod board;
+mod book;
 mod laws;
 mod no;
 mod probed;
@@ -12,6 +13,7 @@ mod probed;
 pub use advised::Advised;
 pub use ask::{Answer, Ask};
 pub use board::Board;
+pub use book::Book;
 pub use laws::seat_laws;
 pub use no::No;
 pub use probed::Probed;

@@ -1,2 +1,3 @@
 pub mod Altered
+pub mod Deciding
 pub mod Sound

@@ -16,7 +16,7 @@ use Rattle.mt_base.specs.Tally.{raised}
 use Rattle.mt_base.proofs.Cases.{on_either}
 use Rattle.mt_base.proofs.FewAdvised.{few_filtered, few_in}
 use Rattle.mt_board.specs.Probing.{ToldProbe, free_probe}
-use Rattle.mt_machine.specs.Book.{Book, probe_at, with_all, with_probe}
+use Rattle.mt_board.specs.Book.{Book, probe_at, with_all, with_probe}
 use Rattle.mt_load.specs.Input.{callsign, inputs}
 use Rattle.mt_load.proofs.Inputs.{all_inputs}
 use Rattle.mt_read.specs.declared.request.Request.{Request}

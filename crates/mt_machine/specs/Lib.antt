@@ -1,4 +1,2 @@
 pub mod Advising
-pub mod Book
-pub mod Deciding
 pub mod Private

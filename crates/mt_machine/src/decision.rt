@@ -3,7 +3,7 @@ ghost use Rattle.std.specs.Prelude.{◌≡◌, ◌≤◌, ℕ, length, option_co
 ghost use Rattle.mt_base.specs.Bounds.{AreWithinBounds, IsBoundedCommand};
 ghost use Rattle.mt_base.specs.Decision.{IsDecided, look_at};
 ghost use Rattle.mt_base.specs.Picture.{flight_of};
-ghost use Rattle.mt_machine.specs.Deciding.{IsFirstHit};
+ghost use Rattle.mt_change.specs.Deciding.{IsFirstHit};
 ghost use Rattle.mt_machine.specs.Private.Deciding.{IsPlannedStrand, IsStrandFor};
 ghost use Rattle.mt_change.specs.Sound.{IsSoundState, PassesChecks};
 ghost use Rattle.mt_predict.specs.Looking.{look_of};

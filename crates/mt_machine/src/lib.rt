@@ -4,7 +4,6 @@
 
 mod advising;
 mod aiming;
-mod book;
 mod decision;
 mod due;
 mod effect;
@@ -16,7 +15,6 @@ mod view;
 mod what_if;
 
 pub use advising::plain_advice;
-pub use book::Book;
 pub use decision::decide;
 pub use laws::{one_advice_law, one_hits_law};
 pub use plain::Plain;

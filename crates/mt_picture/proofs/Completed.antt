@@ -5,7 +5,7 @@ use Rattle.mt_base.specs.declared.command.Command.TheVariants.{Clear, Tentative}
 use Rattle.mt_base.specs.Bounds.{IsBoundedCommand}
 use Rattle.mt_base.specs.Complete.{HasNames, IsComplete, IsTimed}
 use Rattle.mt_base.specs.Decision.{filled}
-use Rattle.mt_machine.proofs.Filled.{filled_bounded}
+use Rattle.mt_picture.proofs.Filled.{filled_bounded}
 
 filled_named : (now : ℕ) (c : Command) → HasNames c → HasNames (filled now c)
 filled_named now (Clear call clearance eff) named = named

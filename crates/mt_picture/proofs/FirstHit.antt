@@ -18,8 +18,8 @@ use Rattle.mt_base.specs.WhatIf.{AreHitsOf, course_on, trajectory_cleared}
 use Rattle.mt_change.specs.Altered.{Alters, path_after}
 use Rattle.mt_kept.specs.declared.open_pair.OpenPair.{OpenPair}
 use Rattle.mt_kept.specs.Finds.{AreFindsOfSlot}
-use Rattle.mt_machine.specs.Deciding.{IsFirstHit}
-use Rattle.mt_machine.proofs.Decisions.{first_of_hits}
+use Rattle.mt_change.specs.Deciding.{IsFirstHit}
+use Rattle.mt_change.proofs.Decisions.{first_of_hits}
 use Rattle.mt_probe.specs.declared.flight.Flight.{Flight}
 use Rattle.mt_probe.specs.Prepared.{IsLeftByEntry}
 use Rattle.mt_probe.specs.Shot.{Shot, flight_at, records_in}

@@ -9,6 +9,7 @@ pub mod Effected
 pub mod Either
 pub mod Entered
 pub mod Exits
+pub mod Filled
 pub mod FirstHit
 pub mod Following
 pub mod Given

@@ -23,9 +23,9 @@ use Rattle.mt_board.specs.declared.no.No.TheVariants as nos
 use Rattle.mt_kept.specs.Kept.{Watched}
 use Rattle.mt_kept.specs.Places.{held}
 use Rattle.mt_kept.proofs.Publishing.{held_at, stands}
-use Rattle.mt_machine.specs.Deciding.{IsFirstHit}
-use Rattle.mt_machine.proofs.Decisions.{entered, refused, stale}
-use Rattle.mt_machine.proofs.Filled.{decided_is, entry_free, entry_in_time}
+use Rattle.mt_change.specs.Deciding.{IsFirstHit}
+use Rattle.mt_change.proofs.Decisions.{entered, refused, stale}
+use Rattle.mt_picture.proofs.Filled.{decided_is, entry_free, entry_in_time}
 use Rattle.mt_probe.specs.declared.flight.Made.{Made}
 use Rattle.mt_probe.specs.Items.{kind_at}
 use Rattle.mt_probe.specs.Shot.{Shot, made_named}

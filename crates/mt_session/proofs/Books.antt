@@ -12,8 +12,8 @@ use Rattle.mt_board.specs.declared.no.No.{No}
 use Rattle.mt_board.specs.Changing.{IsChanged}
 use Rattle.mt_board.specs.Probing.{IsPast, ToldProbe, acceptance}
 use Rattle.mt_board.specs.BoardSeat.{BoardSeat}
-use Rattle.mt_machine.specs.Book.{Book, probe_at, told_book, with_all}
-use Rattle.mt_machine.proofs.Books.{all_at, all_more, told_at}
+use Rattle.mt_board.specs.Book.{Book, probe_at, told_book, with_all}
+use Rattle.mt_board.proofs.Books.{all_at, all_more, told_at}
 use Rattle.mt_write.specs.declared.reply.Reply.{Reply}
 use Rattle.mt_base.proofs.Cases.{empty_list}
 use Rattle.mt_session.specs.Private.Keeping.{ArePast}

@@ -19,7 +19,7 @@ use Rattle.mt_board.proofs.SeatLemmas.{looked_itself}
 use Rattle.mt_lines.specs.Given.{IsGivenFor, is_brief}
 use Rattle.mt_lines.proofs.Brief.{not_given}
 use Rattle.mt_base.specs.Rules.{usual_rules}
-use Rattle.mt_machine.specs.Book.{probe_at}
+use Rattle.mt_board.specs.Book.{probe_at}
 use Rattle.mt_read.specs.Line.{GivesReading, line as read_as}
 use Rattle.mt_read.specs.declared.request.LineNo.{LineNo}
 use Rattle.mt_read.specs.declared.request.LineNo.TheVariants as nos

@@ -16,7 +16,7 @@ use Rattle.mt_board.specs.Probing.{IsAdvised, IsNotAdvised, IsNotProbed, IsProbe
 use Rattle.mt_board.specs.BoardSeat.{BoardSeat, HasLooked, HasSeen}
 use Rattle.mt_board.specs.Settling.{IsNotSettled, HasSettled}
 use Rattle.mt_lines.specs.Told.{answer_reply, entered_reply, no_reply}
-use Rattle.mt_machine.specs.Book.{probe_at, with_all, with_probe}
+use Rattle.mt_board.specs.Book.{probe_at, with_all, with_probe}
 use Rattle.mt_read.specs.declared.request.Request.{Request}
 use Rattle.mt_read.specs.declared.request.Request.TheVariants as requests
 use Rattle.mt_write.specs.declared.reply.AdviceItem.{AdviceItem}

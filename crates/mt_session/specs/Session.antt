@@ -5,7 +5,7 @@ use Rattle.mt_base.specs.declared.role.Role.{Role}
 use Rattle.mt_base.specs.declared.role.Role.TheVariants.{Feed, Position}
 use Rattle.mt_board.specs.Probing.{ToldProbe}
 use Rattle.mt_board.specs.BoardSeat.{BoardSeat}
-use Rattle.mt_machine.specs.Book.{Book, empty_book}
+use Rattle.mt_board.specs.Book.{Book, empty_book}
 use Rattle.mt_read.specs.Line.{line as read_as}
 use Rattle.mt_read.specs.declared.request.Sender.{Sender}
 use Rattle.mt_read.specs.declared.request.Sender.TheVariants as senders

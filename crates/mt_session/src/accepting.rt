@@ -2,7 +2,7 @@
 ghost use Rattle.std.specs.Prelude.{◌⊎◌};
 ghost use Rattle.std.specs.Thread.{IsSync};
 ghost use Rattle.mt_lines.specs.Fit.{IsFit};
-ghost use Rattle.mt_machine.specs.Book.{probe_at};
+ghost use Rattle.mt_board.specs.Book.{probe_at};
 ghost use Rattle.mt_session.specs.Private.Keeping.{StaysOn};
 ghost use Rattle.mt_session.specs.Served.{IsAcceptanceAnswered, IsLooked};
 

@@ -4,7 +4,7 @@ ghost use Rattle.std.specs.Thread.{IsSync};
 ghost use Rattle.mt_board.specs.Probing.{IsAdvised, IsNotAdvised};
 ghost use Rattle.mt_lines.specs.Fit.{IsFit};
 ghost use Rattle.mt_write.specs.Short.{IsShortAdvised};
-ghost use Rattle.mt_machine.specs.Book.{with_all};
+ghost use Rattle.mt_board.specs.Book.{with_all};
 ghost use Rattle.mt_session.specs.Private.Keeping.{ArePast, StaysOn};
 ghost use Rattle.mt_session.specs.Served.{IsAdviceDenied, IsAdvisedTo, IsLooked, probe_items_from};
 ghost use Rattle.mt_session.specs.Session.{with_seat};

@@ -7,14 +7,13 @@ ghost use Rattle.mt_board.specs.Asking.{IsRead, IsShortAnswer};
 ghost use Rattle.mt_board.specs.Changing.{IsChanged};
 ghost use Rattle.mt_board.specs.Probing.{IsPast};
 ghost use Rattle.mt_board.specs.BoardSeat.{BoardSeat};
-ghost use Rattle.mt_machine.specs.Book.{empty_book, with_probe};
+ghost use Rattle.mt_board.specs.Book.{empty_book, with_probe};
 ghost use Rattle.mt_session.specs.Private.Keeping.{StaysOn};
 ghost use Rattle.mt_session.specs.Session.{new_session, with_seat};
 
 use mt_base::{Command, Entered, Role};
-use mt_board::{Answer, Ask, Board, No, Probed};
+use mt_board::{Answer, Ask, Board, Book, No, Probed};
 use mt_io::Gate;
-use mt_machine::Book;
 use std::marker::Model;
 use std::sync::Wait;
 use std::thread::Threads;
@@ -28,7 +27,7 @@ pub struct Serving<B: Board> {
 }
 
 impl<B: Board> Model for Serving<B> {
-    ghost use Rattle.mt_machine.specs.Book.{told_book};
+    ghost use Rattle.mt_board.specs.Book.{told_book};
     ghost use Rattle.mt_session.specs.Private.Keeping.{ArePast, ServingNow};
 
     ghost Value = { ServingNow B.Home };

@@ -18,7 +18,7 @@ use Rattle.mt_lines.specs.Given.{IsGivenFor, is_brief}
 use Rattle.mt_base.proofs.Cases.{on_either}
 use Rattle.mt_lines.proofs.Brief.{not_given}
 use Rattle.mt_top.specs.Script.{IsAnswered, IsLeftBy, IsReplied, asked}
-use Rattle.mt_machine.specs.Book.{probe_at}
+use Rattle.mt_board.specs.Book.{probe_at}
 use Rattle.mt_board.specs.Probing.{ToldProbe}
 use Rattle.mt_world.proofs.Areas.{added_either}
 use Rattle.mt_world.specs.World.{IsAcceptedOf, IsAdded, IsAdvisedAs, IsWorldLeft, IsOutcome, IsServed, IsFlightTold, IsTrialAnswered, World, actor_of, is_empty, picture_of}

@@ -16,8 +16,8 @@ use Rattle.mt_base.specs.Tables.{Setup}
 use Rattle.mt_base.specs.WhatIf.{IsWhatIf}
 use Rattle.mt_board.specs.declared.no.No.{No}
 use Rattle.mt_board.specs.Probing.{ToldProbe, acceptance}
-use Rattle.mt_machine.specs.Book.{probe_at}
-use Rattle.mt_machine.proofs.Books.{all_at, told_at}
+use Rattle.mt_board.specs.Book.{probe_at}
+use Rattle.mt_board.proofs.Books.{all_at, told_at}
 use Rattle.mt_picture.specs.Story.{IsEntered, IsPrepGivenFor, IsCommandRefused as IsDenied, Story}
 use Rattle.mt_picture.proofs.Counted.{history_counted}
 use Rattle.mt_probe.specs.Hits.{IsTried, Trial, told_of}

@@ -8,7 +8,7 @@ use Rattle.mt_base.specs.declared.flight.Record.{Record}
 use Rattle.mt_base.specs.declared.hit.Hit.{Hit}
 use Rattle.mt_base.specs.Picture.{flight_of}
 use Rattle.mt_board.specs.Probing.{ToldProbe}
-use Rattle.mt_machine.specs.Book.{probe_at}
+use Rattle.mt_board.specs.Book.{probe_at}
 use Rattle.mt_read.specs.declared.request.Request.{Request}
 use Rattle.mt_read.specs.declared.request.Request.TheVariants as requests
 use Rattle.mt_write.specs.declared.reply.Reply.{Reply}

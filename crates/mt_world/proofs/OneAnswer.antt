@@ -23,7 +23,7 @@ use Rattle.mt_base.proofs.PiercedOrder as pierced_order
 use Rattle.mt_read.specs.declared.request.Request.{Request}
 use Rattle.mt_read.specs.declared.request.Request.TheVariants as requests
 use Rattle.mt_tables.specs.declared.add_no.AddNo.{AddNo}
-use Rattle.mt_machine.specs.Book.{probe_at}
+use Rattle.mt_board.specs.Book.{probe_at}
 use Rattle.mt_write.specs.declared.reply.DoneWord.{DoneWord}
 use Rattle.mt_write.specs.declared.reply.Reply.{Reply}
 use Rattle.mt_write.specs.declared.reply.Reply.TheVariants.{Areas as areas_told, List as listed, Settled as settled}

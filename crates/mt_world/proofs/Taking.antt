@@ -12,7 +12,7 @@ use Rattle.mt_board.specs.declared.no.No.{No}
 use Rattle.mt_board.specs.declared.no.No.TheVariants as nos
 use Rattle.mt_board.specs.Probing.{free_probe}
 use Rattle.mt_lines.specs.Fit.{AreBrief}
-use Rattle.mt_machine.specs.Book.{with_all, with_probe}
+use Rattle.mt_board.specs.Book.{with_all, with_probe}
 use Rattle.mt_picture.specs.Story.{Story}
 use Rattle.mt_probe.specs.Hits.{IsTried, Trial, told_of}
 use Rattle.mt_probe.specs.Shot.{state_in_shot as state_in}

@@ -13,8 +13,8 @@ use Rattle.mt_board.specs.declared.no.No.{No}
 use Rattle.mt_board.specs.declared.no.No.TheVariants as nos
 use Rattle.mt_board.specs.Probing.{ToldProbe}
 use Rattle.mt_lines.specs.Told.{no_reply}
-use Rattle.mt_machine.specs.Book.{probe_at}
-use Rattle.mt_machine.proofs.Books.{all_at, told_at}
+use Rattle.mt_board.specs.Book.{probe_at}
+use Rattle.mt_board.proofs.Books.{all_at, told_at}
 use Rattle.mt_picture.specs.Story.{Story}
 use Rattle.mt_picture.proofs.Bounding.{none_within}
 use Rattle.mt_probe.specs.Hits.{Trial, told_of}

@@ -8,7 +8,7 @@ use Rattle.mt_base.specs.History.{IsLegal}
 use Rattle.mt_base.specs.Picture.{State, opening}
 use Rattle.mt_base.specs.Tables.{Setup}
 use Rattle.mt_base.proofs.HistoryLemmas.{version_is}
-use Rattle.mt_machine.specs.Book.{Book, empty_book, told_book}
+use Rattle.mt_board.specs.Book.{Book, empty_book, told_book}
 use Rattle.mt_picture.specs.Story.{Story}
 use Rattle.mt_probe.specs.Hits.{Trial, told_of}
 use Rattle.mt_probe.specs.Shot.{Shot}

@@ -9,7 +9,7 @@ use Rattle.mt_base.specs.Picture.{State}
 use Rattle.mt_base.specs.Settled.{IsRenewed, due_calls}
 use Rattle.mt_base.specs.Tables.{Setup}
 use Rattle.mt_board.specs.Probing.{ToldProbe, acceptance}
-use Rattle.mt_machine.specs.Book.{probe_at}
+use Rattle.mt_board.specs.Book.{probe_at}
 use Rattle.mt_picture.specs.Asked.{IsWithinBound}
 use Rattle.mt_probe.specs.Prepared.{Prepared, WasTestedFor}
 use Rattle.mt_probe.specs.Shot.{Shot, state_in_shot}

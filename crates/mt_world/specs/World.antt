@@ -28,7 +28,7 @@ use Rattle.mt_base.specs.View.{view_of}
 use Rattle.mt_base.specs.WhatIf.{IsWhatIf}
 use Rattle.mt_board.specs.Probing.{ToldProbe, acceptance, free_probe}
 use Rattle.mt_picture.specs.Story.{Story}
-use Rattle.mt_machine.specs.Book.{Book, empty_book, probe_at, with_all, with_probe}
+use Rattle.mt_board.specs.Book.{Book, empty_book, probe_at, with_all, with_probe}
 use Rattle.mt_tables.specs.declared.add_no.AddNo.{AddNo}
 use Rattle.mt_tables.specs.declared.add_no.AddNo.TheVariants as add
 use Rattle.mt_tables.specs.Adding.{fix_adding, type_adding, with_fix, with_type}

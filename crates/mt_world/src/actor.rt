@@ -1,8 +1,8 @@
 ghost use Rattle.std.specs.Prelude.{◌≡◌, IfOk};
-ghost use Rattle.mt_machine.specs.Book.{empty_book};
+ghost use Rattle.mt_board.specs.Book.{empty_book};
 
 use mt_base::Memory;
-use mt_machine::Book;
+use mt_board::Book;
 use mt_probe::{Probe, Snapshot};
 use std::alloc::Global;
 

@@ -4,7 +4,7 @@ ghost use Rattle.mt_probe.specs.Hits.{told_of};
 ghost use Rattle.mt_write.specs.Short.{IsShortAdvised};
 ghost use Rattle.mt_write.specs.declared.reply.Reply.TheVariants as replies;
 ghost use Rattle.mt_lines.specs.Fit.{IsFit};
-ghost use Rattle.mt_machine.specs.Book.{with_all};
+ghost use Rattle.mt_board.specs.Book.{with_all};
 ghost use Rattle.mt_world.specs.Private.Sound.{IsAdvisedOf, IsKeptOf, IsUnadvisedOf, clearances_of};
 ghost use Rattle.mt_world.specs.World.{IsAdviceAnswered, IsRefused, actor_of, items_from, setup_of, with_book};
 

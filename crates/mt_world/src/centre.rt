@@ -1,7 +1,7 @@
 //! A picture that has begun, with its areas and actors, and what each request is answered.
 ghost use Rattle.std.specs.Prelude.{◌≡◌, ◌⊎◌, ◌≤◌, ℕ, [], length, replicate, true, All, IfOk};
 ghost use Rattle.mt_base.specs.History.{IsLegal};
-ghost use Rattle.mt_machine.specs.Book.{empty_book};
+ghost use Rattle.mt_board.specs.Book.{empty_book};
 ghost use Rattle.mt_read.specs.Bounded.{IsBoundedRequest};
 ghost use Rattle.mt_lines.specs.Fit.{IsFit};
 ghost use Rattle.mt_world.specs.Counted.{IsUntestedRequest, WereTestsOf};

@@ -5,7 +5,7 @@ ghost use Rattle.mt_write.specs.declared.reply.Reply.TheVariants as replies;
 ghost use Rattle.mt_lines.specs.Fit.{IsFit};
 ghost use Rattle.mt_picture.specs.Story.{IsEntered, IsPrepGivenFor, IsCommandRefused as IsDenied};
 ghost use Rattle.mt_world.specs.Private.Sound.{story_of};
-ghost use Rattle.mt_machine.specs.Book.{probe_at};
+ghost use Rattle.mt_board.specs.Book.{probe_at};
 ghost use Rattle.mt_picture.specs.Asked.{IsWithinBound};
 ghost use Rattle.mt_world.specs.Counted.{WereTestsOfAcceptance, WereTestsOfChange, WereTestsOfPrep};
 ghost use Rattle.mt_world.specs.World.{IsAccepted, IsCommandAnswered, IsRefused, actor_of, picture_of, setup_of};

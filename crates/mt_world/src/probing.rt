@@ -2,7 +2,7 @@
 ghost use Rattle.std.specs.Prelude.{◌≡◌, ◌⊎◌, ◌≤◌, length, IfErr, IfOk, IfSome};
 ghost use Rattle.mt_base.specs.Bounds.{IsBoundedClearance};
 ghost use Rattle.mt_base.specs.Tally.{raised};
-ghost use Rattle.mt_machine.specs.Book.{with_probe};
+ghost use Rattle.mt_board.specs.Book.{with_probe};
 ghost use Rattle.mt_probe.specs.Hits.{told_of};
 ghost use Rattle.mt_write.specs.declared.reply.Reply.TheVariants as replies;
 ghost use Rattle.mt_lines.specs.Fit.{IsFit};

@@ -7,7 +7,7 @@ use Rattle.mt_base.specs.declared.hit.Hit.{Hit}
 use Rattle.mt_base.specs.Checks.{judged}
 use Rattle.mt_base.specs.Decision.{checks, filled, look_at}
 use Rattle.mt_kept.specs.Kept.{Watched}
-use Rattle.mt_machine.specs.Deciding.{IsFirstHit}
+use Rattle.mt_change.specs.Deciding.{IsFirstHit}
 use Rattle.mt_probe.specs.Shot.{Shot}
 use Rattle.mt_probe.specs.Shot.{state_in_shot as state_in}
 use Rattle.mt_picture.specs.declared.enter.Upshot.{Upshot}

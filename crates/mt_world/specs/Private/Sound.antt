@@ -11,7 +11,7 @@ use Rattle.mt_base.specs.WhatIf.{IsWhatIf}
 use Rattle.mt_board.specs.declared.no.No.{No}
 use Rattle.mt_board.specs.declared.no.No.TheVariants as nos
 use Rattle.mt_board.specs.Probing.{free_probe}
-use Rattle.mt_machine.specs.Book.{told_book}
+use Rattle.mt_board.specs.Book.{told_book}
 use Rattle.mt_picture.specs.Story.{Story}
 use Rattle.mt_probe.specs.Hits.{Trial, told_of}
 use Rattle.mt_probe.specs.Shot.{Shot}

@@ -3,7 +3,7 @@ use Rattle.mt_base.specs.Decision.{checks, look_at}
 use Rattle.mt_base.specs.Tables.{Setup, setup_with}
 use Rattle.mt_base.proofs.CheckLemmas.{all_passed}
 use Rattle.mt_predict.proofs.Looks.{judged_flown, some_strand}
-use Rattle.mt_machine.proofs.Decisions.{entered, refused, stale}
+use Rattle.mt_change.proofs.Decisions.{entered, refused, stale}
 use Rattle.mt_machine.proofs.decision.decide.Goals as goal
 
 pub judge-requires : goal.judge-requires

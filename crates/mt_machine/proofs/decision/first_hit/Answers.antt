@@ -2,7 +2,7 @@ use Rattle.std.proofs.Common.{sym, ◌∙◌}
 use Rattle.mt_base.specs.Picture.{flight_of}
 use Rattle.mt_base.specs.Tables.{Setup, setup_with}
 use Rattle.mt_machine.proofs.Clearances.{passed_what_if}
-use Rattle.mt_machine.proofs.Decisions.{first_of_hits}
+use Rattle.mt_change.proofs.Decisions.{first_of_hits}
 use Rattle.mt_machine.proofs.decision.first_hit.Goals as goal
 
 pub unreachable-requires : goal.unreachable-requires

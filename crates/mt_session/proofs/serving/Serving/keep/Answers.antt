@@ -1,7 +1,7 @@
 use Rattle.std.proofs.Common.{[], ◌∷◌, refl}
 use Rattle.std.proofs.lemmas.List.Elements.{All-cons, All-nil}
 use Rattle.mt_board.specs.Probing.{IsPast}
-use Rattle.mt_machine.proofs.Books.{told_push}
+use Rattle.mt_board.proofs.Books.{told_push}
 use Rattle.mt_session.proofs.Books.{past_all}
 use Rattle.mt_session.proofs.serving.Serving.keep.Goals as goal
 

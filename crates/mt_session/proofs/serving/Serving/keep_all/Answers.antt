@@ -1,5 +1,5 @@
 use Rattle.std.proofs.Common.{refl}
-use Rattle.mt_machine.proofs.Books.{told_all}
+use Rattle.mt_board.proofs.Books.{told_all}
 use Rattle.mt_session.proofs.Books.{past_all}
 use Rattle.mt_session.proofs.serving.Serving.keep_all.Goals as goal
 

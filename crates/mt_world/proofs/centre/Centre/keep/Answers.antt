@@ -1,7 +1,7 @@
 use Rattle.std.proofs.Common.{◌<◌, ◌∙◌, ap, get_or, length, map, slice_set, sym, arith}
 use Rattle.mt_board.specs.Probing.{ToldProbe}
-use Rattle.mt_machine.specs.Book.{Book, with_probe}
-use Rattle.mt_machine.proofs.Books.{all_push, told_push}
+use Rattle.mt_board.specs.Book.{Book, with_probe}
+use Rattle.mt_board.proofs.Books.{all_push, told_push}
 use Rattle.mt_picture.specs.Story.{Story}
 use Rattle.mt_base.specs.Tally.{raised}
 use Rattle.mt_probe.specs.Hits.{Trial, told_of}

@@ -1,6 +1,6 @@
 //! The book of what was probed: the last values, under numbers of their own.
 ghost use Rattle.std.specs.Prelude.{◌≡◌, ◌<◌, ◌≤◌, ◌+◌, ◌↔◌, IfOk, is_some, option_copied, true};
-ghost use Rattle.mt_machine.specs.Book.{empty_book, probe_at, with_all, with_probe};
+ghost use Rattle.mt_board.specs.Book.{empty_book, probe_at, with_all, with_probe};
 
 use circular_buffer::HeapCircularBuffer;
 use mt_base::Memory;
@@ -19,8 +19,8 @@ pub struct Book<P> {
 
 impl<P> Model for Book<P> {
     ghost use Rattle.std.specs.Prelude.{◌≡◌, length, min};
-    ghost use Rattle.mt_machine.specs.Book.{Book};
-    ghost use Rattle.mt_machine.specs.Private.Book.{book_code};
+    ghost use Rattle.mt_board.specs.Book.{Book};
+    ghost use Rattle.mt_board.specs.Private.Book.{book_code};
 
     ghost Value = { Book P };
 

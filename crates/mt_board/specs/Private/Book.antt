@@ -1,7 +1,7 @@
 -- No public contract names these: they are of private steps and of proofs.
 use Rattle.std.specs.Prelude.{ℕ, List, refl}
 use Rattle.std.specs.Coded.{Coded, code_by, coded×, coded_list, coded_ℕ}
-use Rattle.mt_machine.specs.Book.{Book}
+use Rattle.mt_board.specs.Book.{Book}
 
 module _ {P : Type 0} where
   -- a book coded as its count and its values

@@ -7,7 +7,7 @@ use Rattle.std.specs.List.{AllByRecursion}
 use Rattle.std.specs.Option.{option_map}
 use Rattle.std.specs.Prelude.{slice_get}
 use Rattle.circular_buffer.specs.Buffer.{keep_last}
-use Rattle.mt_machine.specs.Book.{Book, probe_at, told_book, with_all, with_probe}
+use Rattle.mt_board.specs.Book.{Book, probe_at, told_book, with_all, with_probe}
 
 -- one value more, put last
 pub put_more : {P : Type 0} (book : Book P) (ps : List P) (p : P) → with_all book (ps ++ p ∷ []) ≡ with_probe (with_all book ps) p

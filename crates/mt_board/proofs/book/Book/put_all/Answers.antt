@@ -1,7 +1,7 @@
 use Rattle.std.proofs.Common.{◌∙◌, ap, sym}
-use Rattle.mt_machine.specs.Book.{with_probe}
-use Rattle.mt_machine.proofs.Books.{put_more}
-use Rattle.mt_machine.proofs.book.Book.put_all.Goals as goal
+use Rattle.mt_board.specs.Book.{with_probe}
+use Rattle.mt_board.proofs.Books.{put_more}
+use Rattle.mt_board.proofs.book.Book.put_all.Goals as goal
 
 pub loop-probe-preserved : goal.loop-probe-preserved
 loop-probe-preserved g c =

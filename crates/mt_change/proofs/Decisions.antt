@@ -11,7 +11,7 @@ use Rattle.mt_base.specs.Decision.{HasHits, IsDecided, checks, decision_of, fill
 use Rattle.mt_base.specs.Picture.{State}
 use Rattle.mt_base.specs.Tables.{Setup}
 use Rattle.mt_base.proofs.CheckLemmas.{judged-answer}
-use Rattle.mt_machine.specs.Deciding.{IsFirstHit}
+use Rattle.mt_change.specs.Deciding.{IsFirstHit}
 
 -- the first of some hits
 pub first_of_hits : (setup : Setup) (s : State) (command : Command) (hits : List Hit) → HasHits setup s command hits

@@ -1,0 +1,2 @@
+-- What no public contract names: invariants and relations of private steps.
+pub mod Book
