@@ -8,9 +8,8 @@ use Rattle.std.proofs.lemmas.List.Elements.{All-cons, All-head, All-nil, All-tai
 use Rattle.mt_base.specs.declared.clearance.Clearance.{Clearance}
 use Rattle.mt_base.specs.declared.command.Entry.{Entry}
 use Rattle.mt_base.specs.declared.command.Refusal.{Refusal}
-use Rattle.mt_base.specs.declared.flight.Record.{Record}
 use Rattle.mt_base.specs.Advice.{AreAdvised, IsAdvice, Tried, candidates_in}
-use Rattle.mt_base.specs.Picture.{State, flight_of}
+use Rattle.mt_base.specs.Picture.{State}
 use Rattle.mt_base.specs.Tables.{Setup, Tables}
 use Rattle.mt_base.specs.Tally.{raised}
 use Rattle.mt_base.proofs.Cases.{on_either}
@@ -27,7 +26,8 @@ use Rattle.mt_write.specs.declared.reply.DoneWord.{DoneWord}
 use Rattle.mt_write.specs.declared.reply.Reply.{Reply}
 use Rattle.mt_write.specs.declared.reply.Reply.TheVariants.{Advice}
 use Rattle.mt_world.proofs.Areas.{added_either}
-use Rattle.mt_world.specs.World.{Actor, IsAcceptedOf, IsAdded, IsAdvisedAs, IsOutcome, IsServed, IsFlightTold, World, actor_of, is_empty, items_from, new_actor, opening_world, picture_of}
+use Rattle.mt_world.proofs.Told.{ask_same}
+use Rattle.mt_world.specs.World.{Actor, IsAcceptedOf, IsAdded, IsAdvisedAs, IsOutcome, IsServed, World, actor_of, is_empty, items_from, new_actor, opening_world}
 use Rattle.mt_load.specs.Load.{AreRequestsAnswered, EachDivided, IsAdviceTaken, IsAdvisedFlight, IsAsked, IsFirstAccepted}
 use Rattle.mt_load.specs.Private.Load.{HaveProbeNumbers, CanBeNamed, probes_of}
 
@@ -75,11 +75,6 @@ added : (w next : World) (j : ℕ) (r : Result ⊤ AddNo) (word : DoneWord) (tak
 added w next j (Ok u) word taken tables reply g = same_made w next _ j g.next_is refl
 added w next j (Err refusal) word taken tables reply r = same_made w next w j r.same refl
 
-told : (w next : World) (j : ℕ) (call : List ℕ) (sec : Option ℕ) (found : Option Record) (reply : Reply) → IsFlightTold w call sec found reply next
-    → probes_of next j ≤ probes_of w j
-told w next j call sec (Some flight) reply g = same_made w next w j g.next_is refl
-told w next j call sec None reply r = same_made w next w j r.same refl
-
 accepted : (w next : World) (who j : ℕ) (found : Option ToldProbe) (reply : Reply) → IsAcceptedOf w who found reply next → probes_of next j ≤ probes_of w j
 accepted w next who j None reply r = same_made w next w j r.same refl
 accepted w next who j (Some probe) reply a =
@@ -111,11 +106,7 @@ module _ (w next : World) (who j : ℕ) (reply : Reply) where
       on_either w.begun _ _ _ (λ r. refused r.same) (λ g. begun_anew (ap (λ (v : World). v.actors) g.next_is)) served
   quiet_served (requests.Hello role) quiet served = refused served.next_is
   quiet_served requests.Bye quiet served = refused served.next_is
-  quiet_served requests.List quiet served = on_either w.begun _ _ _ (λ l. refused l.same) (λ r. refused r.same) served
-  quiet_served requests.Check quiet served = on_either w.begun _ _ _ (λ l. refused l.same) (λ r. refused r.same) served
-  quiet_served (requests.Flight call sec) quiet served =
-      on_either w.begun _ _ _ (λ is. told w next j call sec (flight_of (picture_of w).records call) reply is) (λ r. refused r.same) served
-  quiet_served (requests.History from to) quiet served = on_either w.begun _ _ _ (λ g. refused g.next_is) (λ r. refused r.same) served
+  quiet_served (requests.Ask ask) quiet served = on_either w.begun _ _ _ (λ is. refused (ask_same w next ask reply is)) (λ r. refused r.same) served
   quiet_served (requests.Change command) quiet served =
       on_either w.begun _ _ _ (λ changed. outcome w next j changed.decision reply changed.outcome) (λ r. refused r.same) served
   quiet_served requests.Take quiet served = on_either w.begun _ _ _ (λ g. taken_made (length w.history) g.next_is) (λ r. refused r.same) served
@@ -123,7 +114,6 @@ module _ (w next : World) (who j : ℕ) (reply : Reply) where
   quiet_served (requests.Accept number) quiet served =
       on_either w.begun _ _ _ (λ is. accepted w next who j (probe_at (actor_of w who).book number) reply is) (λ r. refused r.same) served
   quiet_served (requests.Advise call) quiet served = absurd quiet
-  quiet_served requests.Due quiet served = on_either w.begun _ _ _ (λ g. refused g.next_is) (λ r. refused r.same) served
   quiet_served requests.Settle quiet served =
       on_either w.begun _ _ _ (λ settling. same_made w next _ j settling.given.next_is refl) (λ r. refused r.same) served
   quiet_served requests.Areas quiet served = on_either w.begun _ _ _ (λ told. refused told.same) (λ r. refused r.same) served

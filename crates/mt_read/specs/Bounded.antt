@@ -3,6 +3,7 @@ use Rattle.std.specs.Prelude.{ℕ, ◌+◌, ◌<◌, ◌≤◌, ◌^◌, IfSome,
 use Rattle.mt_base.specs.declared.rules.Rules.{Rules}
 use Rattle.mt_base.specs.Area.{IsBoundedArea}
 use Rattle.mt_base.specs.Bounds.{AreBoundedBands, AreWithinBounds, IsAskedFor, IsBoundedClearance, IsBoundedCommand, IsInPlane}
+use Rattle.mt_board.specs.declared.ask.Ask.TheVariants as asks
 use Rattle.mt_read.specs.declared.request.Request.{Request}
 use Rattle.mt_read.specs.declared.request.Request.TheVariants as request
 use Rattle.mt_read.specs.Rules.{rules_with}
@@ -23,8 +24,8 @@ IsBoundedRequest rules (request.Rule set) = AreWithinBounds (rules_with set rule
 IsBoundedRequest rules (request.Change command) = IsBoundedCommand command × IsAskedFor command
 IsBoundedRequest rules (request.Probe call clearance eff) = IsBoundedClearance clearance × IfSome eff (λ second. second ≤ 10000000)
 IsBoundedRequest rules (request.Accept probe) = (1 ≤ probe) × (probe < 2 ^ 63)
-IsBoundedRequest rules (request.Flight call sec) = IfSome sec (λ s. s ≤ 10014400)
-IsBoundedRequest rules (request.History from to) = IsEntrySpan from to
+IsBoundedRequest rules (request.Ask (asks.Flight call sec)) = IfSome sec (λ s. s ≤ 10014400)
+IsBoundedRequest rules (request.Ask (asks.History from to)) = IsEntrySpan from to
 IsBoundedRequest rules request = ⊤
 
 -- a bounded request by an actor up to 15

@@ -4,6 +4,8 @@ use Rattle.serde_json.specs.Data.{Members}
 use Rattle.mt_base.specs.declared.command.Entry.{Entry}
 use Rattle.mt_base.specs.Bounds.{IsBoundedCommand}
 use Rattle.mt_base.specs.Decision.{filled}
+use Rattle.mt_board.specs.declared.ask.Ask.{Ask}
+use Rattle.mt_board.specs.declared.ask.Ask.TheVariants as asks
 use Rattle.mt_read.specs.declared.following.FeedLine.{FeedLine}
 use Rattle.mt_read.specs.declared.following.FeedLine.TheVariants.{Followed, Asked, Ended}
 use Rattle.mt_read.specs.declared.following.FeedWord.{FeedWord}
@@ -35,8 +37,8 @@ reading_word_of = named_by (λ w. (reading_layout w).text) readings
 
 -- `as_line`, `as_asked`, `as_followed`, `of_reading`: what a feed's line asks for, or the entry it holds
 abbrev pub as_line : Request → FeedLine
-as_line request.Bye = Ended
-as_line asked = Asked asked
+as_line (request.Ask asked) = Asked asked
+as_line other = Ended
 
 abbrev pub as_asked : Result (ℕ × Request) LineNo → Result FeedLine LineNo
 as_asked (Ok asked) = Ok (as_line asked.1)
@@ -59,13 +61,10 @@ feed_members ms = of_reading ms (option_and_then reading_word_of (word_text ms))
 abbrev pub feed : List ℕ → Result FeedLine LineNo
 feed bytes = read_value feed_members (decoded bytes)
 
--- a request asks for what holds
-abbrev pub IsReading : Request → Type 0
-IsReading request.List = ⊤
-IsReading request.Check = ⊤
-IsReading (request.Flight call sec) = ⊤
-IsReading request.Due = ⊤
-IsReading other = ⊥
+-- what a standby may be asked: anything but entries
+abbrev pub IsReading : Ask → Type 0
+IsReading (asks.History from to) = ⊥
+IsReading asked = ⊤
 
 -- a bounded entry with its second, or a read. The numbers of an entry are within their bounds, and no moment fills anything in.
 abbrev pub IsReadyLine : FeedLine → Type 0

@@ -11,6 +11,7 @@ use Rattle.mt_base.specs.declared.flight.Report.{Report}
 use Rattle.mt_base.specs.declared.flight.Straight.{Straight}
 use Rattle.mt_base.specs.declared.role.Role.TheVariants as role
 use Rattle.mt_base.specs.declared.row.Row.{Row}
+use Rattle.mt_board.specs.declared.ask.Ask.TheVariants as asks
 use Rattle.mt_json.specs.Field.{as_whole}
 use Rattle.mt_read.specs.declared.key.Fault.{Fault}
 use Rattle.mt_read.specs.declared.key.Fault.TheVariants.{Range}
@@ -296,17 +297,17 @@ layout_of word.Accept =
 layout_of word.Advise = call_layout (codes "advise") group.Position request.Advise
 layout_of word.Hello =
     layout (codes "hello") group.Any (must_have key.Role as_role ∷ []) (λ ms. []) (λ ms. request.Hello (unwrap_or (read_at key.Role as_role ms) role.Feed))
-layout_of word.List = bare_layout (codes "list") group.Any request.List
-layout_of word.Check = bare_layout (codes "check") group.Any request.Check
-layout_of word.Due = bare_layout (codes "due") group.Any request.Due
+layout_of word.List = bare_layout (codes "list") group.Any (request.Ask asks.List)
+layout_of word.Check = bare_layout (codes "check") group.Any (request.Ask asks.Check)
+layout_of word.Due = bare_layout (codes "due") group.Any (request.Ask asks.Due)
 layout_of word.Flight =
     layout (codes "flight") group.Any (must_have key.Call as_call ∷ may key.Sec as_whole ∷ [])
-    (λ ms. bound key.Sec (pos 0) (pos 10014400) (number key.Sec ms) ∷ []) (λ ms. request.Flight (call_in ms) (count_if_there key.Sec ms))
+    (λ ms. bound key.Sec (pos 0) (pos 10014400) (number key.Sec ms) ∷ []) (λ ms. request.Ask (asks.Flight (call_in ms) (count_if_there key.Sec ms)))
 layout_of word.History =
     layout (codes "history") group.Any (must_have key.From as_whole ∷ must_have key.To as_whole ∷ [])
     (λ ms. bound key.From (pos 0) (pos 4194304) (number key.From ms) ∷
     bound key.To (pos (count key.From ms)) (pos (count key.From ms + 64)) (number key.To ms) ∷ [])
-    (λ ms. request.History (count key.From ms) (count key.To ms))
+    (λ ms. request.Ask (asks.History (count key.From ms) (count key.To ms)))
 layout_of word.Settle = bare_layout (codes "settle") group.Any request.Settle
 layout_of word.Bye = bare_layout (codes "bye") group.Any request.Bye
 

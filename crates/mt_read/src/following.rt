@@ -16,6 +16,7 @@ use crate::plain::flight_line;
 use crate::reading::FieldReading;
 use crate::request::{LineNo, Request, Sender};
 use mt_base::Entry;
+use mt_board::Ask;
 use mt_json::{Fields, Scratch};
 use std::alloc::Global;
 
@@ -24,8 +25,8 @@ use std::alloc::Global;
 pub enum FeedLine {
     /// To follow an entry.
     Followed(Entry),
-    /// To tell what holds: the request is `list`, `check`, `flight` or `due`.
-    Asked(Request),
+    /// To tell what holds: the line is `list`, `check`, `flight` or `due`.
+    Asked(Ask),
     /// To end.
     Ended,
 }
@@ -78,10 +79,10 @@ fn answered(reading: &mut FieldReading, word: FeedWord) -> Request
     ensures { ReadsRow reading.old reading.new (reading_layout word) result }
 {
     match word {
-        FeedWord::List => Request::List,
-        FeedWord::Check => Request::Check,
+        FeedWord::List => Request::Ask(Ask::List),
+        FeedWord::Check => Request::Ask(Ask::Check),
         FeedWord::Flight => flight_line(reading),
-        FeedWord::Due => Request::Due,
+        FeedWord::Due => Request::Ask(Ask::Due),
         FeedWord::Bye => Request::Bye,
     }
 }
@@ -108,13 +109,13 @@ fn asked(alloc: Global, fields: &Fields, word: FeedWord) -> Result<(u32, Request
     }
 }
 
-// A request as a line for a standby.
-fn line_of(request: Request) -> FeedLine
-    ensures { result ≡ as_line request }
+// A request as a line for a standby: one that asks nothing ends.
+fn line_of(request: &Request) -> FeedLine
+    ensures { result ≡ as_line request.now }
 {
     match request {
-        Request::Bye => FeedLine::Ended,
-        request => FeedLine::Asked(request),
+        Request::Ask(asked) => FeedLine::Asked(*asked),
+        _ => FeedLine::Ended,
     }
 }
 
@@ -123,7 +124,7 @@ fn read_asked(alloc: Global, fields: &Fields, word: FeedWord) -> Result<FeedLine
     ensures { GivesReading result (as_asked (read_layout (origin.Line Plain) [] (reading_layout word) (members fields.now))) }
 {
     let (_, request) = asked(alloc, fields, word)?;
-    Ok(line_of(request))
+    Ok(line_of(&request))
 }
 
 // An entry that a standby is to follow.

@@ -21,6 +21,7 @@ use crate::stop::Stop;
 use crate::tables::{fix_line, type_line};
 use crate::word::{Word, is_allowed, keys_of, word_of};
 use mt_base::Rules;
+use mt_board::Ask;
 use mt_json::{Fields, Scratch};
 use mt_memory::Memory;
 use std::alloc::Global;
@@ -54,9 +55,9 @@ fn asked(alloc: Global, reading: &mut FieldReading, word: Word) -> Result<Reques
         Word::Accept => Ok(accept_line(reading)),
         Word::Advise => Ok(advise_line(reading)),
         Word::Hello => Ok(hello_line(reading)),
-        Word::List => Ok(Request::List),
-        Word::Check => Ok(Request::Check),
-        Word::Due => Ok(Request::Due),
+        Word::List => Ok(Request::Ask(Ask::List)),
+        Word::Check => Ok(Request::Ask(Ask::Check)),
+        Word::Due => Ok(Request::Ask(Ask::Due)),
         Word::Flight => Ok(flight_line(reading)),
         Word::History => Ok(history_line(reading)),
         Word::Settle => Ok(Request::Settle),

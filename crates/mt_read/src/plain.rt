@@ -7,6 +7,7 @@ use crate::key::Key;
 use crate::reading::FieldReading;
 use crate::request::Request;
 use mt_base::HORIZON;
+use mt_board::Ask;
 
 /// `flight`.
 pub(crate) fn flight_line(reading: &mut FieldReading) -> Request
@@ -14,7 +15,7 @@ pub(crate) fn flight_line(reading: &mut FieldReading) -> Request
 {
     let call = reading.callsign(Key::Call);
     let sec = reading.count_or_none(Key::Sec, HORIZON);
-    Request::Flight { call, sec }
+    Request::Ask(Ask::Flight { call, sec })
 }
 
 /// `history`.
@@ -23,10 +24,10 @@ pub(crate) fn history_line(reading: &mut FieldReading) -> Request
 {
     let from = reading.count(Key::From, 0, 4_194_304);
     let to = reading.count(Key::To, from, from + 64);
-    Request::History {
+    Request::Ask(Ask::History {
         from: u64::from(from),
         to: u64::from(to),
-    }
+    })
 }
 
 /// `advise`.

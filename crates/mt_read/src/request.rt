@@ -3,6 +3,7 @@ ghost use Rattle.std.specs.Prelude.{◌≡◌, unwrap_or};
 use mt_base::{
     Area, Bands, Callsign, Clearance, Command, FieldName, FixName, Role, Rules, Second, TypeName,
 };
+use mt_board::Ask;
 
 /// The rules that a line sets; the others stay as they stand.
 #[derive(Clone, Copy, PartialEq, Eq)]
@@ -121,26 +122,8 @@ pub enum Request {
     },
     /// Take a role.
     Hello(Role),
-    /// Give the published conflicts.
-    List,
-    /// Give the published conflicts, computed from nothing.
-    Check,
-    /// Give the flights for which a new trajectory is due.
-    Due,
-    /// Tell of a flight.
-    Flight {
-        /// Its callsign.
-        call: Callsign,
-        /// The second whose row is asked for; absent, the moment.
-        sec: Option<Second>,
-    },
-    /// Give the entries from number `from`, counted from 0, up to number `to`, without it.
-    History {
-        /// The first number.
-        from: u64,
-        /// The number after the last one.
-        to: u64,
-    },
+    /// Tell what holds now.
+    Ask(Ask),
     /// Renew each flight that is due, and give those that are due then.
     Settle,
     /// End.

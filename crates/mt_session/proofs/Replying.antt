@@ -31,7 +31,6 @@ use Rattle.mt_base.proofs.Cases.{on_either}
 use Rattle.mt_session.specs.Following.{job_if, job_of}
 use Rattle.mt_lines.specs.Told.{entered_reply}
 use Rattle.mt_session.specs.Served.{IsAcceptanceAnswered, IsAskAnswered, IsCommanded, IsReplyGiven, IsSessionLeft, IsRepliedTo, IsServedInSession, IsStarvedOf, IsReadAnswered, IsTrialInSession, is_none_listed}
-use Rattle.mt_session.specs.Private.Served.{ask_of}
 use Rattle.mt_wire.specs.Refused.{or_reply}
 use Rattle.mt_session.specs.Session.{Session, asked_in_role, role_sender, with_seat}
 
@@ -74,11 +73,7 @@ accepted_idle s (Some probe) reply next b a =
 served_idle : (s : Session) (request : Request) (reply : Reply) (next : Session) → is_brief reply ≡ false → IsServedInSession s request reply next → IsIdle s next
 served_idle s (requests.Hello role) reply next b g = not_given _ reply _ g.reply_is refl b
 served_idle s requests.Bye reply next b g = not_given _ reply _ g.reply_is refl b
-served_idle s requests.List reply next b told = told_idle s _ reply next told
-served_idle s requests.Check reply next b told = told_idle s _ reply next told
-served_idle s requests.Due reply next b told = told_idle s _ reply next told
-served_idle s (requests.Flight call sec) reply next b told = told_idle s _ reply next told
-served_idle s (requests.History from to) reply next b told = told_idle s _ reply next told
+served_idle s (requests.Ask ask) reply next b told = told_idle s ask reply next told
 served_idle s (requests.Change command) reply next b commanded = command_idle s command reply next b commanded
 served_idle s (requests.Probe call clearance eff) reply next b t = tried_idle s call clearance eff t.seat t.result reply next b t.tried
 served_idle s (requests.Accept number) reply next b a = accepted_idle s (probe_at s.book number) reply next b a
@@ -152,19 +147,6 @@ long_replied s line long = inl (rw (lt-ltb 65536 (length line) long) (record { r
 
 pub long_job : (s : Session) (line : List ℕ) → 65536 < length line → job_of (asked_in_role s.role line) replies.Long ≡ None
 long_job s line long = rw (lt-ltb 65536 (length line) long) refl
-
-same_ask : {asked_in_role ask : Ask} → Some asked_in_role ≡ Some ask → asked_in_role ≡ ask
-same_ask is = cc
-
--- a request that asks for a read is served by what is told
-pub told_served : (s : Session) (request : Request) (ask : Ask) (reply : Reply) (next : Session) → ask_of request ≡ Some ask → IsReadAnswered s ask reply next
-    → IsServedInSession s request reply next
-told_served s requests.List ask reply next is told = rw (same_ask is) told
-told_served s requests.Check ask reply next is told = rw (same_ask is) told
-told_served s requests.Due ask reply next is told = rw (same_ask is) told
-told_served s (requests.Flight call sec) ask reply next is told = rw (same_ask is) told
-told_served s (requests.History from to) ask reply next is told = rw (same_ask is) told
-told_served s request ask reply next is told = cc
 
 -- what a line that isn't too long asks for
 asked_as : (s : Session) (line : List ℕ) (a : Result (ℕ × Request) LineNo) → length line ≤ 65536 → a ≡ read_as (role_sender s.role) usual_rules line

@@ -8,7 +8,6 @@ use Rattle.mt_base.specs.declared.command.Refusal.{Refusal}
 use Rattle.mt_base.specs.declared.command.Refusal.TheVariants.{NoProbe, NotFree}
 use Rattle.mt_board.specs.declared.ask.Answer.{Answer}
 use Rattle.mt_board.specs.declared.ask.Ask.{Ask}
-use Rattle.mt_board.specs.declared.ask.Ask.TheVariants as asks
 use Rattle.mt_board.specs.declared.no.No.{No}
 use Rattle.mt_board.specs.Asking.{IsRead}
 use Rattle.mt_board.specs.Changing.{IsChanged}
@@ -113,11 +112,7 @@ IsNotOfSessions s reply next = IsReplyGiven (replies.Form (codes "do")) s reply 
 abbrev pub IsServedInSession : Session → Request → Reply → Session → Type 0
 IsServedInSession s (requests.Hello role) reply next = IsReplyGiven (replies.Hello role) (record s { role = Some role }) reply next
 IsServedInSession s requests.Bye reply next = IsReplyGiven (replies.Done done.Bye) s reply next
-IsServedInSession s requests.List reply next = IsReadAnswered s asks.List reply next
-IsServedInSession s requests.Check reply next = IsReadAnswered s asks.Check reply next
-IsServedInSession s requests.Due reply next = IsReadAnswered s asks.Due reply next
-IsServedInSession s (requests.Flight call sec) reply next = IsReadAnswered s (asks.Flight call sec) reply next
-IsServedInSession s (requests.History from to) reply next = IsReadAnswered s (asks.History from to) reply next
+IsServedInSession s (requests.Ask ask) reply next = IsReadAnswered s ask reply next
 IsServedInSession s (requests.Change command) reply next = IsCommanded s command reply next
 IsServedInSession s (requests.Probe call clearance eff) reply next = IsTriedBy s call clearance eff reply next
 IsServedInSession s (requests.Accept number) reply next = IsAcceptanceAnswered s (probe_at s.book number) reply next

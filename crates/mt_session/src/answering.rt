@@ -1,5 +1,5 @@
 //! What a line is answered.
-ghost use Rattle.std.specs.Prelude.{◌≡◌, ◌⊎◌, ◌≤◌, length, Option, Some};
+ghost use Rattle.std.specs.Prelude.{◌≡◌, ◌⊎◌, ◌≤◌, length};
 ghost use Rattle.std.specs.Thread.{IsSync};
 ghost use Rattle.mt_base.specs.Bounds.{IsAskedFor, IsBoundedCommand};
 ghost use Rattle.mt_base.specs.Rules.{usual_rules};
@@ -10,13 +10,13 @@ ghost use Rattle.mt_write.specs.declared.reply.Reply.TheVariants as replies;
 ghost use Rattle.mt_session.specs.Following.{job_if, job_of};
 ghost use Rattle.mt_session.specs.Private.Keeping.{StaysOn};
 ghost use Rattle.mt_session.specs.Served.{IsCommanded, IsNotOfSessions, IsLooked, IsRepliedTo, IsServedInSession, IsStarvedInSession};
-ghost use Rattle.mt_session.specs.Private.Served.{IsNoChange, ask_of};
+ghost use Rattle.mt_session.specs.Private.Served.{IsNoChange};
 ghost use Rattle.mt_session.specs.Session.{Session, asked_in_role, role_sender};
 
 use crate::following::{due_if, reported};
 use crate::serving::Serving;
 use mt_base::{Callsign, Command, Memory, Role, Rules};
-use mt_board::{Ask, Board};
+use mt_board::Board;
 use mt_io::Gate;
 use mt_lines::{refused, unread};
 use mt_wire::{DoneWord, FieldName, Reply, Request, Scratch, Sender, read_line};
@@ -32,26 +32,6 @@ fn foreign(alloc: Global) -> Reply
     match FieldName::of(alloc, b"do") {
         Ok(name) => Reply::Form(name),
         Err(Memory) => Reply::Memory,
-    }
-}
-
-// The read that a request asks for.
-fn ask_of(request: &Request) -> Option<Ask>
-    ensures { result ≡ ask_of request.now }
-{
-    match request {
-        Request::List => Some(Ask::List),
-        Request::Check => Some(Ask::Check),
-        Request::Due => Some(Ask::Due),
-        Request::Flight { call, sec } => Some(Ask::Flight {
-            call: *call,
-            sec: *sec,
-        }),
-        Request::History { from, to } => Some(Ask::History {
-            from: *from,
-            to: *to,
-        }),
-        _ => None,
     }
 }
 
@@ -136,10 +116,8 @@ impl<B: Board> Serving<B> {
             Request::Accept { probe } => self.accept(rt, *probe, gate),
             Request::Advise { call } => self.advise(rt, alloc, *call, gate),
             Request::Settle => self.settle(rt, gate),
-            _ => match ask_of(request) {
-                Some(ask) => self.tell(rt, &ask),
-                None => foreign(alloc),
-            },
+            Request::Ask(ask) => self.tell(rt, ask),
+            _ => foreign(alloc),
         }
     }
 

@@ -5,20 +5,19 @@ use Rattle.std.proofs.lemmas.Bool.Decides.{nat_tests}
 use Rattle.mt_base.specs.declared.command.Entered.{Entered}
 use Rattle.mt_base.specs.declared.command.Entry.{Entry}
 use Rattle.mt_base.specs.History.{IsReplayable}
+use Rattle.mt_board.specs.declared.ask.Ask.{Ask}
 use Rattle.mt_history.specs.declared.following.FollowNo.{FollowNo}
 use Rattle.mt_history.specs.declared.following.FollowNo.TheVariants as follow
 use Rattle.mt_history.specs.Followed.{HasFollowed, IsNotFollowed}
 use Rattle.mt_picture.specs.Story.{Story}
 use Rattle.mt_read.specs.declared.following.FeedLine.{FeedLine}
 use Rattle.mt_read.specs.declared.following.FeedLine.TheVariants.{Followed, Asked}
-use Rattle.mt_read.specs.declared.request.Request.{Request}
 use Rattle.mt_read.specs.declared.request.Request.TheVariants as requests
-use Rattle.mt_read.specs.Following.{IsReading, feed}
+use Rattle.mt_read.specs.Following.{feed}
 use Rattle.mt_write.specs.declared.reply.Reply.{Reply}
 use Rattle.mt_write.specs.declared.reply.Reply.TheVariants as replies
 use Rattle.mt_standby.specs.Private.Following.{follow_reply}
 use Rattle.mt_standby.specs.Standby.{IsEntryAnswered, IsStandbyReplied, fed_line, standby_world}
-use Rattle.mt_world.specs.Reading.{IsReadRequest}
 use Rattle.mt_world.specs.World.{IsRefused, IsServed, World}
 
 -- ---- entries
@@ -54,15 +53,6 @@ pub still_replays : (r : Result Entered FollowNo) (before after : Story) → OnO
 still_replays (Ok entered) before after more same replays = more replays
 still_replays (Err why) before after more same replays = subst Replays (sym same) replays
 
--- ---- reads
-
-pub is_read_request : (request : Request) → IsReading request → IsReadRequest request
-is_read_request requests.List reading = tt
-is_read_request requests.Check reading = tt
-is_read_request (requests.Flight call sec) reading = tt
-is_read_request requests.Due reading = tt
-is_read_request request reading = absurd reading
-
 -- ---- lines
 
 -- what a line that isn't too long asks for
@@ -78,9 +68,9 @@ entry_replied w next line e reply short is answered = ⊎_elim
     (λ wants. inr (record { short = short; refused = wants }))
     answered
 
-pub read_replied : (w next : World) (line : List ℕ) (request : Request) (reply : Reply) → length line ≤ 65536 → Ok (Asked request) ≡ feed line
-    → IsServed w 0 request reply next ⊎ IsRefused w replies.Memory reply next → IsStandbyReplied w line reply next
-read_replied w next line request reply short is answered = ⊎_elim
-    (λ served. inl (rw (asked_is line (Asked request) short is) served))
+pub read_replied : (w next : World) (line : List ℕ) (ask : Ask) (reply : Reply) → length line ≤ 65536 → Ok (Asked ask) ≡ feed line
+    → IsServed w 0 (requests.Ask ask) reply next ⊎ IsRefused w replies.Memory reply next → IsStandbyReplied w line reply next
+read_replied w next line ask reply short is answered = ⊎_elim
+    (λ served. inl (rw (asked_is line (Asked ask) short is) served))
     (λ wants. inr (record { short = short; refused = wants }))
     answered

@@ -50,7 +50,7 @@ fed_line line = if nat_lt 65536 (length line) then Err replies.Long else or_repl
 abbrev pub IsFeedAnswered : World → Result FeedLine Reply → Reply → World → Type 0
 IsFeedAnswered w (Err refusal) reply next = IsRefused w refusal reply next
 IsFeedAnswered w (Ok (Followed e)) reply next = IsEntryAnswered w e reply next
-IsFeedAnswered w (Ok (Asked request)) reply next = IsServed w 0 request reply next
+IsFeedAnswered w (Ok (Asked ask)) reply next = IsServed w 0 (requests.Ask ask) reply next
 IsFeedAnswered w (Ok Ended) reply next = IsServed w 0 requests.Bye reply next
 
 -- `memory` may replace any reply but `long`. Then the line changed nothing.

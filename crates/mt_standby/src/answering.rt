@@ -2,7 +2,7 @@
 ghost use Rattle.std.specs.Prelude.{◌⊎◌, ◌≤◌, length};
 ghost use Rattle.mt_history.specs.Rebuilt.{IsReadyToDecide};
 ghost use Rattle.mt_lines.specs.Fit.{IsFit};
-ghost use Rattle.mt_read.specs.Following.{IsReading};
+ghost use Rattle.mt_read.specs.declared.request.Request.TheVariants as requests;
 ghost use Rattle.mt_standby.specs.Standby.{IsEntryAnswered, IsStandbyReplied, standby_world};
 ghost use Rattle.mt_world.specs.World.{IsRefused, IsServed};
 ghost use Rattle.mt_write.specs.declared.reply.Reply.TheVariants as replies;
@@ -10,8 +10,9 @@ ghost use Rattle.mt_write.specs.declared.reply.Reply.TheVariants as replies;
 use crate::standby::Standby;
 use crate::telling::followed;
 use mt_base::Entry;
+use mt_board::Ask;
 use mt_lines::unread;
-use mt_read::{FeedLine, Request, Scratch, read_feed};
+use mt_read::{FeedLine, Scratch, read_feed};
 use mt_world::tell;
 use mt_write::{DoneWord, Reply};
 use std::thread::Threads;
@@ -26,7 +27,7 @@ impl Standby {
     {
         match read_feed(self.alloc, scratch, line) {
             Ok(FeedLine::Followed(entry)) => self.enter(&entry),
-            Ok(FeedLine::Asked(request)) => self.tell(rt, &request),
+            Ok(FeedLine::Asked(ask)) => self.tell(rt, &ask),
             Ok(FeedLine::Ended) => Reply::Done(DoneWord::Bye),
             Err(no) => unread(no),
         }
@@ -43,12 +44,11 @@ impl Standby {
     }
 
     // Tells what holds.
-    fn tell<R: Threads + Sync>(&self, rt: &R, request: &Request) -> Reply
-        requires { IsReading request.now }
-        ensures told { IsServed (standby_world self.now) 0 request.now result (standby_world self.now)
+    fn tell<R: Threads + Sync>(&self, rt: &R, ask: &Ask) -> Reply
+        ensures told { IsServed (standby_world self.now) 0 (requests.Ask ask.now) result (standby_world self.now)
             ⊎ IsRefused (standby_world self.now) replies.Memory result (standby_world self.now) }
         ensures fit { IsFit result }
     {
-        tell(rt, self.alloc, &self.picture, request)
+        tell(rt, self.alloc, &self.picture, ask)
     }
 }

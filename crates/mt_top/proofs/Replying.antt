@@ -4,9 +4,7 @@ use Rattle.std.specs.Prelude.{⊤}
 use Rattle.mt_base.specs.declared.command.Entry.{Entry}
 use Rattle.mt_base.specs.declared.command.Refusal.{Refusal}
 use Rattle.mt_base.specs.declared.clearance.Clearance.{Clearance}
-use Rattle.mt_base.specs.declared.flight.Record.{Record}
 use Rattle.mt_base.specs.declared.hit.Hit.{Hit}
-use Rattle.mt_base.specs.Picture.{flight_of}
 use Rattle.mt_base.specs.Tables.{Tables}
 use Rattle.mt_tables.specs.declared.add_no.AddNo.{AddNo}
 use Rattle.mt_write.specs.declared.reply.DoneWord.{DoneWord}
@@ -21,7 +19,8 @@ use Rattle.mt_top.specs.Script.{IsAnswered, IsLeftBy, IsReplied, asked}
 use Rattle.mt_board.specs.Book.{probe_at}
 use Rattle.mt_board.specs.Probing.{ToldProbe}
 use Rattle.mt_world.proofs.Areas.{added_either}
-use Rattle.mt_world.specs.World.{IsAcceptedOf, IsAdded, IsAdvisedAs, IsWorldLeft, IsOutcome, IsServed, IsFlightTold, IsTrialAnswered, World, actor_of, is_empty, picture_of}
+use Rattle.mt_world.proofs.Told.{ask_same}
+use Rattle.mt_world.specs.World.{IsAcceptedOf, IsAdded, IsAdvisedAs, IsWorldLeft, IsOutcome, IsServed, IsTrialAnswered, World, actor_of, is_empty}
 
 -- so nothing was added where the reply is not brief
 added : (w next : World) (checked : Result ⊤ AddNo) (word : DoneWord) (taken : Reply) (tables : Tables) (reply : Reply) → is_brief reply ≡ false
@@ -62,13 +61,7 @@ unchanged_by w next who (requests.Rule set) reply served b = on_either w.begun _
 unchanged_by w next who requests.Begin reply served b = on_either w.begun _ _ _ (λ r. r.same) (λ g. not_given _ reply _ g.reply_is refl b) served
 unchanged_by w next who (requests.Hello role) reply served b = served.next_is
 unchanged_by w next who requests.Bye reply served b = served.next_is
-unchanged_by w next who requests.List reply served b = on_either w.begun _ _ _ (λ l. l.same) (λ r. r.same) served
-unchanged_by w next who requests.Check reply served b = on_either w.begun _ _ _ (λ l. l.same) (λ r. r.same) served
-unchanged_by w next who (requests.Flight call sec) reply served b = on_either w.begun _ _ _ (told (flight_of (picture_of w).records call)) (λ r. r.same) served where
-  told : (found : Option Record) → IsFlightTold w call sec found reply next → next ≡ w
-  told (Some flight) g = g.next_is
-  told None r = r.same
-unchanged_by w next who (requests.History from to) reply served b = on_either w.begun _ _ _ (λ g. g.next_is) (λ r. r.same) served
+unchanged_by w next who (requests.Ask ask) reply served b = on_either w.begun _ _ _ (ask_same w next ask reply) (λ r. r.same) served
 unchanged_by w next who (requests.Change command) reply served b =
     on_either w.begun _ _ _ (λ changed. outcome w next changed.decision reply b changed.outcome) (λ r. r.same) served
 unchanged_by w next who requests.Take reply served b =
@@ -79,7 +72,6 @@ unchanged_by w next who (requests.Accept number) reply served b =
     on_either w.begun _ _ _ (accepted w next who (probe_at (actor_of w who).book number) reply b) (λ r. r.same) served
 unchanged_by w next who (requests.Advise call) reply served b =
     on_either w.begun _ _ _ (λ advised. told_free w next who call _ advised.result reply b advised.told) (λ r. r.same) served
-unchanged_by w next who requests.Due reply served b = on_either w.begun _ _ _ (λ g. g.next_is) (λ r. r.same) served
 unchanged_by w next who requests.Settle reply served b =
     on_either w.begun _ _ _ (λ settling. not_given _ reply _ settling.given.reply_is refl b) (λ r. r.same) served
 unchanged_by w next who requests.Areas reply served b = on_either w.begun _ _ _ (λ told. told.same) (λ r. r.same) served

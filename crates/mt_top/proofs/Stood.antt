@@ -29,7 +29,7 @@ followed_same w next e reply b followed = ⊎_elim
 answered_same : (w next : World) (line : Result FeedLine Reply) (reply : Reply) → is_brief reply ≡ false → IsFeedAnswered w line reply next → next ≡ w
 answered_same w next (Err refusal) reply b refused = refused.same
 answered_same w next (Ok (Followed e)) reply b followed = followed_same w next e reply b followed
-answered_same w next (Ok (Asked request)) reply b served = unchanged_by w next 0 request reply served b
+answered_same w next (Ok (Asked ask)) reply b served = unchanged_by w next 0 (requests.Ask ask) reply served b
 answered_same w next (Ok Ended) reply b served = unchanged_by w next 0 requests.Bye reply served b
 
 -- what is given in place of a reply is a reply

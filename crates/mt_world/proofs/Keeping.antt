@@ -4,18 +4,17 @@ use Rattle.std.specs.Prelude.{MatchBool}
 use Rattle.mt_base.specs.declared.command.Entry.{Entry}
 use Rattle.mt_base.specs.declared.command.Refusal.{Refusal}
 use Rattle.mt_base.specs.declared.clearance.Clearance.{Clearance}
-use Rattle.mt_base.specs.declared.flight.Record.{Record}
 use Rattle.mt_base.specs.declared.hit.Hit.{Hit}
-use Rattle.mt_base.specs.Picture.{flight_of}
 use Rattle.mt_board.specs.Probing.{ToldProbe}
 use Rattle.mt_board.specs.Book.{probe_at}
 use Rattle.mt_read.specs.declared.request.Request.{Request}
 use Rattle.mt_read.specs.declared.request.Request.TheVariants as requests
 use Rattle.mt_write.specs.declared.reply.Reply.{Reply}
-use Rattle.mt_world.specs.World.{IsAcceptedOf, IsAdvisedAs, IsWorldLeft, IsOutcome, IsServed, IsStarved, IsFlightTold, IsTrialAnswered, World, actor_of, is_empty, picture_of}
+use Rattle.mt_world.specs.World.{IsAcceptedOf, IsAdvisedAs, IsWorldLeft, IsOutcome, IsServed, IsStarved, IsTrialAnswered, World, actor_of, is_empty}
 use Rattle.mt_base.specs.Tables.{Tables}
 use Rattle.mt_base.proofs.Cases.{on_either}
 use Rattle.mt_world.specs.Private.Kept.{IsBegunWith, IsSetupKept}
+use Rattle.mt_world.proofs.Told.{ask_same}
 
 pub when_true : (b : Bool) (P Q : Type 0) → b ≡ true → MatchBool b P Q → P
 when_true true P Q e m = m
@@ -46,10 +45,6 @@ advised : (w next : World) (who : ℕ) (call : List ℕ) (eff : ℕ) (advice : R
 advised w next who call eff (Ok all) reply g = kept_as w next _ g.next_is refl refl refl
 advised w next who call eff (Err refusal) reply r = kept_same w next r.same
 
-told : (w next : World) (call : List ℕ) (sec : Option ℕ) (found : Option Record) (reply : Reply) → IsFlightTold w call sec found reply next → IsSetupKept w next
-told w next call sec (Some flight) reply g = kept_same w next g.next_is
-told w next call sec None reply r = kept_same w next r.same
-
 accepted : (w next : World) (who : ℕ) (found : Option ToldProbe) (reply : Reply) → IsAcceptedOf w who found reply next → IsSetupKept w next
 accepted w next who None reply r = kept_same w next r.same
 accepted w next who (Some probe) reply a =
@@ -64,11 +59,7 @@ module _ (w next : World) (who : ℕ) (reply : Reply) (begun : w.begun ≡ true)
   kept_served requests.Begin served = kept_same w next (when_true w.begun _ _ begun served).same
   kept_served (requests.Hello role) served = kept_same w next served.next_is
   kept_served requests.Bye served = kept_same w next served.next_is
-  kept_served requests.List served = kept_same w next (when_true w.begun _ _ begun served).same
-  kept_served requests.Check served = kept_same w next (when_true w.begun _ _ begun served).same
-  kept_served (requests.Flight call sec) served =
-      told w next call sec (flight_of (picture_of w).records call) reply (when_true w.begun _ _ begun served)
-  kept_served (requests.History from to) served = kept_same w next (when_true w.begun _ _ begun served).next_is
+  kept_served (requests.Ask ask) served = kept_same w next (ask_same w next ask reply (when_true w.begun _ _ begun served))
   kept_served (requests.Change command) served =
       let changed = when_true w.begun _ _ begun served in outcome w next changed.decision reply changed.outcome
   kept_served requests.Take served = kept_as w next _ (when_true w.begun _ _ begun served).next_is refl refl refl
@@ -78,7 +69,6 @@ module _ (w next : World) (who : ℕ) (reply : Reply) (begun : w.begun ≡ true)
       accepted w next who (probe_at (actor_of w who).book number) reply (when_true w.begun _ _ begun served)
   kept_served (requests.Advise call) served =
       let given = when_true w.begun _ _ begun served in advised w next who call _ given.result reply given.told
-  kept_served requests.Due served = kept_same w next (when_true w.begun _ _ begun served).next_is
   kept_served requests.Settle served =
       let settling = when_true w.begun _ _ begun served in kept_as w next _ settling.given.next_is refl refl refl
   kept_served requests.Areas served = kept_same w next (when_true w.begun _ _ begun served).same

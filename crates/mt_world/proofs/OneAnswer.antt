@@ -23,13 +23,15 @@ use Rattle.mt_base.proofs.PiercedOrder as pierced_order
 use Rattle.mt_read.specs.declared.request.Request.{Request}
 use Rattle.mt_read.specs.declared.request.Request.TheVariants as requests
 use Rattle.mt_tables.specs.declared.add_no.AddNo.{AddNo}
+use Rattle.mt_board.specs.declared.ask.Ask.{Ask}
+use Rattle.mt_board.specs.declared.ask.Ask.TheVariants as asks
 use Rattle.mt_board.specs.Book.{probe_at}
 use Rattle.mt_write.specs.declared.reply.DoneWord.{DoneWord}
 use Rattle.mt_write.specs.declared.reply.Reply.{Reply}
 use Rattle.mt_write.specs.declared.reply.Reply.TheVariants.{Areas as areas_told, List as listed, Settled as settled}
 use Rattle.mt_board.specs.Probing.{ToldProbe}
 use Rattle.mt_base.proofs.Cases.{on_both}
-use Rattle.mt_world.specs.World.{AreAreasTold, IsAcceptedOf, IsAdded, IsAdviceAnswered, IsAdvisedAs, IsAreaAdded, IsAreaGiven, IsCommandAnswered, IsGiven, IsListAnswered, IsOutcome, IsProbeAnswered, IsRefused, IsServed, IsSettling, IsFlightTold, IsTrialAnswered, World, actor_of, is_empty, picture_of, picture_taken, setup_of}
+use Rattle.mt_world.specs.World.{AreAreasTold, IsAcceptedOf, IsAdded, IsAdviceAnswered, IsAdvisedAs, IsAreaAdded, IsAreaGiven, IsAskServed, IsCommandAnswered, IsGiven, IsListAnswered, IsOutcome, IsProbeAnswered, IsRefused, IsServed, IsSettling, IsFlightTold, IsTrialAnswered, World, actor_of, is_empty, picture_of, picture_taken, setup_of}
 use Rattle.mt_base.proofs.OneSolution.{one_advised, one_decision, one_renewal, one_what_if}
 
 -- the same reply, and the same world after it
@@ -47,6 +49,18 @@ one_listed w r s next other x y =
     let conflicts : x.conflicts ≡ y.conflicts = one_order total x.conflicts y.conflicts x.published.sorted y.published.sorted
     (λ c h. (y.published.exact c).1 ((x.published.exact c).0 h)) (λ c h. (x.published.exact c).1 ((y.published.exact c).0 h)) in
     (x.reply_is ∙ ap (λ (cs : List Conflict). listed cs (length w.history)) conflicts ∙ sym y.reply_is, x.same ∙ sym y.same)
+
+one_flight : (w : World) (call : List ℕ) (sec : Option ℕ) (found : Option Record) (r s : Reply) (next other : World) → IsFlightTold w call sec found r next
+    → IsFlightTold w call sec found s other → AreOne r s next other
+one_flight w call sec (Some flight) r s next other x y = one_given _ _ r s next other x y
+one_flight w call sec None r s next other x y = one_refused w _ r s next other x y
+
+one_asked : (w : World) (ask : Ask) (r s : Reply) (next other : World) → IsAskServed w ask r next → IsAskServed w ask s other → AreOne r s next other
+one_asked w asks.List r s next other x y = one_listed w r s next other x y
+one_asked w asks.Check r s next other x y = one_listed w r s next other x y
+one_asked w asks.Due r s next other x y = one_given _ _ r s next other x y
+one_asked w (asks.Flight call sec) r s next other x y = one_flight w call sec (flight_of (picture_of w).records call) r s next other x y
+one_asked w (asks.History from to) r s next other x y = one_given _ _ r s next other x y
 
 one_added : (w : World) (checked : Result ⊤ AddNo) (word : DoneWord) (taken : Reply) (tables : Tables) (r s : Reply) (next other : World)
     → IsAdded w checked word taken tables r next → IsAdded w checked word taken tables s other → AreOne r s next other
@@ -144,15 +158,8 @@ one_served w who (requests.Rule set) r s next other x y = on_both w.begun _ _ _ 
 one_served w who requests.Begin r s next other x y = on_both w.begun _ _ _ _ _ (one_refused w _ r s next other) (one_given _ _ r s next other) x y
 one_served w who (requests.Hello role) r s next other x y = one_given _ _ r s next other x y
 one_served w who requests.Bye r s next other x y = one_given _ _ r s next other x y
-one_served w who requests.List r s next other x y = on_both w.begun _ _ _ _ _ (one_listed w r s next other) (one_refused w _ r s next other) x y
-one_served w who requests.Check r s next other x y = on_both w.begun _ _ _ _ _ (one_listed w r s next other) (one_refused w _ r s next other) x y
-one_served w who (requests.Flight call sec) r s next other x y =
-    on_both w.begun _ _ _ _ _ (one_told (flight_of (picture_of w).records call)) (one_refused w _ r s next other) x y where
-      one_told : (found : Option Record) → IsFlightTold w call sec found r next → IsFlightTold w call sec found s other → AreOne r s next other
-      one_told (Some flight) a b = one_given _ _ r s next other a b
-      one_told None a b = one_refused w _ r s next other a b
-one_served w who (requests.History from to) r s next other x y =
-    on_both w.begun _ _ _ _ _ (one_given _ _ r s next other) (one_refused w _ r s next other) x y
+one_served w who (requests.Ask ask) r s next other x y =
+    on_both w.begun _ _ _ _ _ (one_asked w ask r s next other) (one_refused w _ r s next other) x y
 one_served w who (requests.Change command) r s next other x y =
     on_both w.begun _ _ _ _ _ (one_changed w who command r s next other) (one_refused w _ r s next other) x y
 one_served w who requests.Take r s next other x y = on_both w.begun _ _ _ _ _ (one_given _ _ r s next other) (one_refused w _ r s next other) x y
@@ -162,7 +169,6 @@ one_served w who (requests.Accept number) r s next other x y =
     on_both w.begun _ _ _ _ _ (one_accepted w who (probe_at (actor_of w who).book number) r s next other) (one_refused w _ r s next other) x y
 one_served w who (requests.Advise call) r s next other x y =
     on_both w.begun _ _ _ _ _ (one_advice_told w who call r s next other) (one_refused w _ r s next other) x y
-one_served w who requests.Due r s next other x y = on_both w.begun _ _ _ _ _ (one_given _ _ r s next other) (one_refused w _ r s next other) x y
 one_served w who requests.Settle r s next other x y = on_both w.begun _ _ _ _ _ (one_settled w who r s next other) (one_refused w _ r s next other) x y
 one_served w who requests.Areas r s next other x y =
     on_both w.begun _ _ _ _ _ (one_areas_told w r s next other) (one_refused w _ r s next other) x y

@@ -15,79 +15,49 @@ use Rattle.mt_base.specs.View.{view_of, view_of_path}
 use Rattle.mt_base.proofs.HistoryLemmas.{version_is}
 use Rattle.mt_board.specs.declared.ask.Answer.{Answer}
 use Rattle.mt_board.specs.declared.ask.Answer.TheVariants as answers
+use Rattle.mt_board.specs.declared.ask.Ask.{Ask}
 use Rattle.mt_board.specs.declared.ask.Ask.TheVariants as asks
 use Rattle.mt_board.specs.declared.no.No.{No}
 use Rattle.mt_board.specs.declared.no.No.TheVariants as nos
 use Rattle.mt_board.specs.Asking.{IsNotTold, IsTold, version_of}
 use Rattle.mt_picture.specs.Story.{Story}
-use Rattle.mt_read.specs.declared.request.Request.{Request}
 use Rattle.mt_read.specs.declared.request.Request.TheVariants as requests
 use Rattle.mt_write.specs.declared.reply.Reply.{Reply}
 use Rattle.mt_write.specs.declared.reply.Reply.TheVariants as replies
 use Rattle.mt_lines.specs.Told.{answer_reply}
-use Rattle.mt_world.specs.Private.Reading.{read_ask}
-use Rattle.mt_world.specs.Reading.{IsReadRequest, IsToldNow, IsUntold}
-use Rattle.mt_world.specs.World.{Actor, IsListAnswered, IsRefused, IsServed, IsStarved, World, world_of}
+use Rattle.mt_world.specs.Reading.{IsToldNow, IsUntold}
+use Rattle.mt_world.specs.World.{Actor, IsAskServed, IsFlightTold, IsRefused, IsServed, IsStarved, World, picture_of, world_of}
 use Rattle.mt_world.proofs.Viewed.{not_there, there}
 
-module _ (s : Story) (areas : List Area) (actors : List Actor) (who : ℕ) where
+module _ (s : Story) (areas : List Area) (actors : List Actor) where
   abbrev w : World
   w = world_of s areas actors
 
-  told_list : (answer : Answer) → IsTold s.setup s.history asks.List answer → version_of answer ≡ length s.history
-      → IsListAnswered w (answer_reply (Ok answer)) w
-  told_list (answers.List conflicts version) told now =
+  told_served : (ask : Ask) (answer : Answer) → IsTold s.setup s.history ask answer → version_of answer ≡ length s.history
+      → IsAskServed w ask (answer_reply (Ok answer)) w
+  told_served asks.List (answers.List conflicts version) told now =
       record { conflicts = conflicts; published = told; reply_is = ap (replies.List conflicts) now; same = refl }
-  told_list answer told now = absurd told
-
-  told_check : (answer : Answer) → IsTold s.setup s.history asks.Check answer → version_of answer ≡ length s.history
-      → IsListAnswered w (answer_reply (Ok answer)) w
-  told_check (answers.Check conflicts version) told now =
+  told_served asks.Check (answers.Check conflicts version) told now =
       record { conflicts = conflicts; published = told; reply_is = ap (replies.List conflicts) now; same = refl }
-  told_check answer told now = absurd told
-
-  told_due : (answer : Answer) → IsTold s.setup s.history asks.Due answer → version_of answer ≡ length s.history
-      → IsServed w who requests.Due (answer_reply (Ok answer)) w
-  told_due (answers.Due calls version) told now = record { reply_is = λ i. replies.Due (told i) (now i); next_is = refl }
-  told_due answer told now = absurd told
-
-  told_flight : (call : List ℕ) (sec : Option ℕ) (answer : Answer) → IsTold s.setup s.history (asks.Flight call sec) answer
-      → IsServed w who (requests.Flight call sec) (answer_reply (Ok answer)) w
-  told_flight call sec (answers.Flight view) told =
+  told_served asks.Due (answers.Due calls version) told now = record { reply_is = λ i. replies.Due (told i) (now i); next_is = refl }
+  told_served (asks.Flight call sec) (answers.Flight view) told now =
       there w call sec (flight_of (state_of s.setup s.history).records call) view told
-  told_flight call sec answer told = absurd told
+  told_served (asks.History from to) (answers.History entries version) told now =
+      record { reply_is = λ i. replies.History (told i) (now i); next_is = refl }
+  told_served ask answer told now = absurd told
 
-  told_history : (from to : ℕ) (answer : Answer) → IsTold s.setup s.history (asks.History from to) answer → version_of answer ≡ length s.history
-      → IsServed w who (requests.History from to) (answer_reply (Ok answer)) w
-  told_history from to (answers.History entries version) told now = record { reply_is = λ i. replies.History (told i) (now i); next_is = refl }
-  told_history from to answer told now = absurd told
-
-  told_served : (request : Request) (answer : Answer) → IsReadRequest request → IsTold s.setup s.history (read_ask request) answer
-      → version_of answer ≡ length s.history → IsServed w who request (answer_reply (Ok answer)) w
-  told_served requests.List answer reading told now = told_list answer told now
-  told_served requests.Check answer reading told now = told_check answer told now
-  told_served requests.Due answer reading told now = told_due answer told now
-  told_served (requests.Flight call sec) answer reading told now = told_flight call sec answer told
-  told_served (requests.History from to) answer reading told now = told_history from to answer told now
-  told_served request answer reading told now = absurd reading
-
-  untold_served : (request : Request) (refusal : Refusal) (version : ℕ) → IsReadRequest request → IsNotTold s.setup s.history (read_ask request) refusal
-      → version ≡ length s.history → IsServed w who request (replies.Refused refusal version) w
-  untold_served (requests.Flight call sec) refusal version reading untold now =
+  untold_served : (ask : Ask) (refusal : Refusal) (version : ℕ) → IsNotTold s.setup s.history ask refusal → version ≡ length s.history
+      → IsAskServed w ask (replies.Refused refusal version) w
+  untold_served (asks.Flight call sec) refusal version untold now =
       not_there w call sec (flight_of (state_of s.setup s.history).records call) (replies.Refused refusal version)
       (rw untold.0 refl) (λ i. replies.Refused (untold.1 i) (now i))
-  untold_served requests.List refusal version reading untold now = absurd untold
-  untold_served requests.Check refusal version reading untold now = absurd untold
-  untold_served requests.Due refusal version reading untold now = absurd untold
-  untold_served (requests.History from to) refusal version reading untold now = absurd untold
-  untold_served request refusal version reading untold now = absurd reading
+  untold_served ask refusal version untold now = absurd untold
 
-  pub read_told : (request : Request) (r : Result Answer No) → IsReadRequest request → IfOk r (IsToldNow s (read_ask request))
-      → IfErr r (IsUntold s (read_ask request)) → IsServed w who request (answer_reply r) w
-      ⊎ IsRefused w replies.Memory (answer_reply r) w
-  read_told request (Ok answer) reading told untold = inl (told_served request answer reading told.told told.now)
-  read_told request (Err (nos.Refused refusal version)) reading told untold = inl (untold_served request refusal version reading untold.0 untold.1)
-  read_told request (Err nos.Memory) reading told untold = inr (record { reply_is = refl; same = refl })
+  pub read_told : (ask : Ask) (r : Result Answer No) → IfOk r (IsToldNow s ask) → IfErr r (IsUntold s ask)
+      → IsAskServed w ask (answer_reply r) w ⊎ IsRefused w replies.Memory (answer_reply r) w
+  read_told ask (Ok answer) told untold = inl (told_served ask answer told.told told.now)
+  read_told ask (Err (nos.Refused refusal version)) told untold = inl (untold_served ask refusal version untold.0 untold.1)
+  read_told ask (Err nos.Memory) told untold = inr (record { reply_is = refl; same = refl })
 
 path_version : (call : List ℕ) (path : Path) (t : Trajectory) (k version : ℕ) → (view_of_path call path t k version).version ≡ version
 path_version call (Planned course) t k version = refl
@@ -110,12 +80,19 @@ flight_told s call sec view is =
     record { told = is; now = flight_version s sec (flight_of (state_of s.setup s.history).records call) view is }
 
 -- where memory is wanted, nothing changes
-pub told_or : (w : World) (who : ℕ) (request : Request) (reply : Reply) → IsReadRequest request → IsServed w who request reply w ⊎ IsRefused w replies.Memory reply w
-    → IsServed w who request reply w ⊎ IsStarved w who request reply w
-told_or w who request reply reading (inl served) = inl served
-told_or w who requests.List reply reading (inr starved) = inr (record { reply_is = starved.reply_is; left = refl })
-told_or w who requests.Check reply reading (inr starved) = inr (record { reply_is = starved.reply_is; left = refl })
-told_or w who requests.Due reply reading (inr starved) = inr (record { reply_is = starved.reply_is; left = refl })
-told_or w who (requests.Flight call sec) reply reading (inr starved) = inr (record { reply_is = starved.reply_is; left = refl })
-told_or w who (requests.History from to) reply reading (inr starved) = inr (record { reply_is = starved.reply_is; left = refl })
-told_or w who request reply reading (inr starved) = absurd reading
+pub told_or : (w : World) (who : ℕ) (ask : Ask) (reply : Reply) → IsServed w who (requests.Ask ask) reply w ⊎ IsRefused w replies.Memory reply w
+    → IsServed w who (requests.Ask ask) reply w ⊎ IsStarved w who (requests.Ask ask) reply w
+told_or w who ask reply (inl served) = inl served
+told_or w who ask reply (inr starved) = inr (record { reply_is = starved.reply_is; left = refl })
+
+flight_same : (w next : World) (call : List ℕ) (sec : Option ℕ) (found : Option Record) (reply : Reply) → IsFlightTold w call sec found reply next → next ≡ w
+flight_same w next call sec (Some flight) reply g = g.next_is
+flight_same w next call sec None reply r = r.same
+
+-- what is told changes nothing
+pub ask_same : (w next : World) (ask : Ask) (reply : Reply) → IsAskServed w ask reply next → next ≡ w
+ask_same w next asks.List reply l = l.same
+ask_same w next asks.Check reply l = l.same
+ask_same w next asks.Due reply g = g.next_is
+ask_same w next (asks.Flight call sec) reply t = flight_same w next call sec (flight_of (picture_of w).records call) reply t
+ask_same w next (asks.History from to) reply g = g.next_is

@@ -1,6 +1,5 @@
 -- What no public contract names: invariants and relations of private steps.
 pub mod Kept
-pub mod Reading
 pub mod Renewed
 pub mod Sound
 pub mod Stage

@@ -26,6 +26,8 @@ use Rattle.mt_base.specs.Tally.{raised}
 use Rattle.mt_base.specs.Tables.{Setup, Tables, no_tables}
 use Rattle.mt_base.specs.View.{view_of}
 use Rattle.mt_base.specs.WhatIf.{IsWhatIf}
+use Rattle.mt_board.specs.declared.ask.Ask.{Ask}
+use Rattle.mt_board.specs.declared.ask.Ask.TheVariants as asks
 use Rattle.mt_board.specs.Probing.{ToldProbe, acceptance, free_probe}
 use Rattle.mt_picture.specs.Story.{Story}
 use Rattle.mt_board.specs.Book.{Book, empty_book, probe_at, with_all, with_probe}
@@ -160,6 +162,14 @@ abbrev pub IsFlightTold : World → List ℕ → Option ℕ → Option Record �
 IsFlightTold w call sec (Some flight) reply next = IsGiven (replies.Flight (view_of (setup_of w) (picture_of w) sec flight)) w reply next
 IsFlightTold w call sec None reply next = IsRefused w (replies.Refused (UnknownCall call) (length w.history)) reply next
 
+-- the reply to a read: what is published, what is due, a flight, or entries. Nothing changed.
+abbrev pub IsAskServed : World → Ask → Reply → World → Type 0
+IsAskServed w asks.List reply next = IsListAnswered w reply next
+IsAskServed w asks.Check reply next = IsListAnswered w reply next
+IsAskServed w asks.Due reply next = IsGiven (replies.Due (due_calls (picture_of w).records) (length w.history)) w reply next
+IsAskServed w (asks.Flight call sec) reply next = IsFlightTold w call sec (flight_of (picture_of w).records call) reply next
+IsAskServed w (asks.History from to) reply next = IsGiven (replies.History (take (to - from) (drop from w.history)) (length w.history)) w reply next
+
 -- the reply to a decision: entered, or refused
 abbrev pub IsOutcome : World → Result Entry Refusal → Reply → World → Type 0
 IsOutcome w (Ok entry) reply next =
@@ -237,12 +247,7 @@ IsServed w who requests.Begin reply next = MatchBool w.begun
     (IsRefused w replies.Begun reply next) (IsGiven (replies.Done done.Begin) (record w { begun = true; history = []; actors = replicate 16 new_actor }) reply next)
 IsServed w who (requests.Hello role) reply next = IsGiven (replies.Hello role) w reply next
 IsServed w who requests.Bye reply next = IsGiven (replies.Done done.Bye) w reply next
-IsServed w who requests.List reply next = MatchBool w.begun (IsListAnswered w reply next) (IsRefused w replies.Unbegun reply next)
-IsServed w who requests.Check reply next = MatchBool w.begun (IsListAnswered w reply next) (IsRefused w replies.Unbegun reply next)
-IsServed w who (requests.Flight call sec) reply next = MatchBool w.begun
-    (IsFlightTold w call sec (flight_of (picture_of w).records call) reply next) (IsRefused w replies.Unbegun reply next)
-IsServed w who (requests.History from to) reply next = MatchBool w.begun
-    (IsGiven (replies.History (take (to - from) (drop from w.history)) (length w.history)) w reply next) (IsRefused w replies.Unbegun reply next)
+IsServed w who (requests.Ask asked) reply next = MatchBool w.begun (IsAskServed w asked reply next) (IsRefused w replies.Unbegun reply next)
 IsServed w who (requests.Change command) reply next = MatchBool w.begun
     (IsCommandAnswered w who command reply next) (IsRefused w replies.Unbegun reply next)
 IsServed w who requests.Take reply next = MatchBool w.begun
@@ -253,8 +258,6 @@ IsServed w who (requests.Accept number) reply next = MatchBool w.begun
     (IsAccepted w who number reply next) (IsRefused w replies.Unbegun reply next)
 IsServed w who (requests.Advise call) reply next = MatchBool w.begun
     (IsAdviceAnswered w who call reply next) (IsRefused w replies.Unbegun reply next)
-IsServed w who requests.Due reply next = MatchBool w.begun
-    (IsGiven (replies.Due (due_calls (picture_of w).records) (length w.history)) w reply next) (IsRefused w replies.Unbegun reply next)
 IsServed w who requests.Settle reply next = MatchBool w.begun
     (IsSettling w who reply next) (IsRefused w replies.Unbegun reply next)
 IsServed w who requests.Areas reply next = MatchBool w.begun (AreAreasTold w reply next) (IsRefused w replies.Unbegun reply next)

@@ -2,16 +2,17 @@
 ghost use Rattle.std.specs.Prelude.{◌≡◌, ◌⊎◌, ◌≤◌, ℕ, [], length, replicate, true, All, IfOk};
 ghost use Rattle.mt_base.specs.History.{IsLegal};
 ghost use Rattle.mt_board.specs.Book.{empty_book};
+ghost use Rattle.mt_read.specs.declared.request.Request.TheVariants as requests;
 ghost use Rattle.mt_read.specs.Bounded.{IsBoundedRequest};
 ghost use Rattle.mt_lines.specs.Fit.{IsFit};
 ghost use Rattle.mt_world.specs.Counted.{IsUntestedRequest, WereTestsOf};
-ghost use Rattle.mt_world.specs.Reading.{IsReadRequest};
 ghost use Rattle.mt_world.specs.World.{IsServed, IsStarved, new_actor, with_areas, world_of};
 
 use crate::actor::Actor;
 use crate::reading::tell;
 use mt_area::Areas;
 use mt_base::{Memory, Tally};
+use mt_board::Ask;
 use mt_picture::Picture;
 use mt_probe::Snapshot;
 use mt_read::Request;
@@ -98,11 +99,7 @@ impl Centre {
             Request::Begin => Reply::Begun,
             Request::Hello(role) => Reply::Hello(*role),
             Request::Bye => Reply::Done(DoneWord::Bye),
-            Request::List => self.tell(rt, request),
-            Request::Check => self.tell(rt, request),
-            Request::Due => self.tell(rt, request),
-            Request::Flight { .. } => self.tell(rt, request),
-            Request::History { .. } => self.tell(rt, request),
+            Request::Ask(ask) => self.tell(rt, ask),
             Request::Change(command) => self.change(who, command, tests),
             Request::Take => self.take(who),
             Request::Probe {
@@ -118,12 +115,11 @@ impl Centre {
     }
 
     // Tells what is asked for, at the version now.
-    fn tell<R: Threads + Sync>(&self, rt: &R, request: &Request) -> Reply
-        requires { IsReadRequest request.now }
-        ensures told { (who : ℕ) → IsServed self.now who request.now result self.now ⊎ IsStarved self.now who request.now result self.now }
+    fn tell<R: Threads + Sync>(&self, rt: &R, ask: &Ask) -> Reply
+        ensures told { (who : ℕ) → IsServed self.now who (requests.Ask ask.now) result self.now ⊎ IsStarved self.now who (requests.Ask ask.now) result self.now }
         ensures fit { IsFit result }
     {
-        tell(rt, self.alloc, &self.picture, request)
+        tell(rt, self.alloc, &self.picture, ask)
     }
 
     /// The picture, whose history is legal.

@@ -5,10 +5,10 @@ ghost use Rattle.mt_base.specs.Effect.{state_of};
 ghost use Rattle.mt_base.specs.Picture.{flight_of};
 ghost use Rattle.mt_base.specs.View.{view_of};
 ghost use Rattle.mt_board.specs.declared.ask.Ask.TheVariants as asks;
+ghost use Rattle.mt_read.specs.declared.request.Request.TheVariants as requests;
 ghost use Rattle.mt_write.specs.declared.reply.Reply.TheVariants as replies;
 ghost use Rattle.mt_lines.specs.Fit.{IsFit};
-ghost use Rattle.mt_world.specs.Private.Reading.{read_ask};
-ghost use Rattle.mt_world.specs.Reading.{IsReadRequest, IsToldNow, IsUntold};
+ghost use Rattle.mt_world.specs.Reading.{IsToldNow, IsUntold};
 ghost use Rattle.mt_world.specs.World.{Actor, IsRefused, IsServed, world_of};
 
 use mt_base::{Callsign, Conflicts, Entries, FlightView, Refusal, Second, Tally};
@@ -16,42 +16,19 @@ use mt_board::{Answer, Ask, No};
 use mt_lines::told;
 use mt_memory::Memory;
 use mt_picture::Picture;
-use mt_read::Request;
 use mt_snapshot::{check, due, view_of_call};
 use mt_write::Reply;
 use std::alloc::Global;
 use std::thread::Threads;
 
-/// The reply to a request that asks for what holds now: that of each world of this picture, whoever asks; or `Memory`.
-pub fn tell<R: Threads + Sync>(rt: &R, alloc: Global, picture: &Picture, request: &Request) -> Reply
-    requires { IsReadRequest request.now }
+/// The reply to a read: that of each world of this picture, whoever asks; or `Memory`.
+pub fn tell<R: Threads + Sync>(rt: &R, alloc: Global, picture: &Picture, ask: &Ask) -> Reply
     ensures told { (areas : List Area) (actors : List Actor) (who : ℕ)
-        → IsServed (world_of picture.now areas actors) who request.now result (world_of picture.now areas actors)
+        → IsServed (world_of picture.now areas actors) who (requests.Ask ask.now) result (world_of picture.now areas actors)
         ⊎ IsRefused (world_of picture.now areas actors) replies.Memory result (world_of picture.now areas actors) }
     ensures fit { IsFit result }
 {
-    told(read(rt, alloc, picture, &ask_of(request)))
-}
-
-// A request that asks for what holds, as what a read asks for.
-fn ask_of(request: &Request) -> Ask
-    requires { IsReadRequest request.now }
-    ensures { result ≡ read_ask request.now }
-{
-    match request {
-        Request::List => Ask::List,
-        Request::Check => Ask::Check,
-        Request::Due => Ask::Due,
-        Request::Flight { call, sec } => Ask::Flight {
-            call: *call,
-            sec: *sec,
-        },
-        Request::History { from, to } => Ask::History {
-            from: *from,
-            to: *to,
-        },
-        _ => unreachable!(),
-    }
+    told(read(rt, alloc, picture, ask))
 }
 
 /// Tells what is asked for, at the version now. It is refused exactly where a flight is asked for and there is none of that callsign.

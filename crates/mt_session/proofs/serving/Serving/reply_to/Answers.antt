@@ -1,5 +1,4 @@
-use Rattle.std.proofs.Common.{inl, refl, sym, ◌∙◌}
-use Rattle.mt_session.proofs.Replying.{told_served}
+use Rattle.std.proofs.Common.{inl, refl}
 use Rattle.mt_session.proofs.Stays.{stays_itself}
 use Rattle.mt_session.proofs.serving.Serving.reply_to.Goals as goal
 
@@ -25,9 +24,8 @@ returns-in-Advise-clause-served g c = rw c.in-Advise.is c.advise.ensures.advised
 pub returns-in-Settle-clause-served : goal.returns-in-Settle-clause-served
 returns-in-Settle-clause-served g c = rw c.in-Settle.is c.settle.ensures.settled
 
-pub returns-in-Some-clause-served : goal.returns-in-Some-clause-served
-returns-in-Some-clause-served g c =
-    inl (told_served c.args.self.now.session c.args.request.now c.in-Some.ask _ _ (sym c.ask_of.ensures ∙ c.in-Some.is) c.tell.ensures.told)
+pub returns-in-Ask-clause-served : goal.returns-in-Ask-clause-served
+returns-in-Ask-clause-served g c = rw c.in-Ask.is (inl c.tell.ensures.told)
 
 pub returns-in-Probe-clause-on : goal.returns-in-Probe-clause-on
 returns-in-Probe-clause-on g c = c.probe.ensures.on
@@ -53,17 +51,17 @@ returns-in-Settle-clause-on g c = c.settle.ensures.on
 pub returns-in-Settle-clause-fit : goal.returns-in-Settle-clause-fit
 returns-in-Settle-clause-fit g c = c.settle.ensures.fit
 
-pub returns-in-Some-clause-on : goal.returns-in-Some-clause-on
-returns-in-Some-clause-on g c = c.tell.ensures.on
+pub returns-in-Ask-clause-on : goal.returns-in-Ask-clause-on
+returns-in-Ask-clause-on g c = c.tell.ensures.on
 
-pub returns-in-Some-clause-fit : goal.returns-in-Some-clause-fit
-returns-in-Some-clause-fit g c = c.tell.ensures.fit
+pub returns-in-Ask-clause-fit : goal.returns-in-Ask-clause-fit
+returns-in-Ask-clause-fit g c = c.tell.ensures.fit
 
 pub returns-in-Bye-clause-on : goal.returns-in-Bye-clause-on
 returns-in-Bye-clause-on g c = stays_itself _
 
-pub returns-in-None-clause-on : goal.returns-in-None-clause-on
-returns-in-None-clause-on g c = stays_itself _
+pub returns-in_default-clause-on : goal.returns-in_default-clause-on
+returns-in_default-clause-on g c = stays_itself _
 
-pub returns-in-None-clause-fit : goal.returns-in-None-clause-fit
-returns-in-None-clause-fit g c = c.foreign.ensures.fit
+pub returns-in_default-clause-fit : goal.returns-in_default-clause-fit
+returns-in_default-clause-fit g c = c.foreign.ensures.fit

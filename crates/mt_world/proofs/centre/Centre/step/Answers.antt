@@ -18,35 +18,11 @@ pub returns-in-Begin-clause-served : goal.returns-in-Begin-clause-served
 returns-in-Begin-clause-served g c = rw c.in-Begin.is (inl (begun_refused c.args.self.now _ c.keeps.ensures))
 
 -- what is told of the picture
-pub returns-in-List-clause-served : goal.returns-in-List-clause-served
-returns-in-List-clause-served g c = c.tell.ensures.told c.args.who
+pub returns-in-Ask-clause-served : goal.returns-in-Ask-clause-served
+returns-in-Ask-clause-served g c = c.tell.ensures.told c.args.who
 
-pub returns-in-List-clause-fit : goal.returns-in-List-clause-fit
-returns-in-List-clause-fit g c = c.tell.ensures.fit
-
-pub returns-in-Check-clause-served : goal.returns-in-Check-clause-served
-returns-in-Check-clause-served g c = c.tell-in-Check.ensures.told c.args.who
-
-pub returns-in-Check-clause-fit : goal.returns-in-Check-clause-fit
-returns-in-Check-clause-fit g c = c.tell-in-Check.ensures.fit
-
-pub returns-in-Due-clause-served : goal.returns-in-Due-clause-served
-returns-in-Due-clause-served g c = c.tell-in-Due.ensures.told c.args.who
-
-pub returns-in-Due-clause-fit : goal.returns-in-Due-clause-fit
-returns-in-Due-clause-fit g c = c.tell-in-Due.ensures.fit
-
-pub returns-in-Flight-clause-served : goal.returns-in-Flight-clause-served
-returns-in-Flight-clause-served g c = c.tell-in-Flight.ensures.told c.args.who
-
-pub returns-in-Flight-clause-fit : goal.returns-in-Flight-clause-fit
-returns-in-Flight-clause-fit g c = c.tell-in-Flight.ensures.fit
-
-pub returns-in-History-clause-served : goal.returns-in-History-clause-served
-returns-in-History-clause-served g c = c.tell-in-History.ensures.told c.args.who
-
-pub returns-in-History-clause-fit : goal.returns-in-History-clause-fit
-returns-in-History-clause-fit g c = c.tell-in-History.ensures.fit
+pub returns-in-Ask-clause-fit : goal.returns-in-Ask-clause-fit
+returns-in-Ask-clause-fit g c = c.tell.ensures.fit
 
 -- the others are answered by what answers them
 pub returns-in-Change-clause-served : goal.returns-in-Change-clause-served
@@ -113,20 +89,8 @@ returns-in-Hello-clause-tested g c = rw c.in-Hello.is refl
 pub returns-in-Bye-clause-tested : goal.returns-in-Bye-clause-tested
 returns-in-Bye-clause-tested g c = rw c.in-Bye.is refl
 
-pub returns-in-List-clause-tested : goal.returns-in-List-clause-tested
-returns-in-List-clause-tested g c = rw c.in-List.is refl
-
-pub returns-in-Check-clause-tested : goal.returns-in-Check-clause-tested
-returns-in-Check-clause-tested g c = rw c.in-Check.is refl
-
-pub returns-in-Due-clause-tested : goal.returns-in-Due-clause-tested
-returns-in-Due-clause-tested g c = rw c.in-Due.is refl
-
-pub returns-in-Flight-clause-tested : goal.returns-in-Flight-clause-tested
-returns-in-Flight-clause-tested g c = rw c.in-Flight.is refl
-
-pub returns-in-History-clause-tested : goal.returns-in-History-clause-tested
-returns-in-History-clause-tested g c = rw c.in-History.is refl
+pub returns-in-Ask-clause-tested : goal.returns-in-Ask-clause-tested
+returns-in-Ask-clause-tested g c = rw c.in-Ask.is refl
 
 pub returns-in-Take-clause-tested : goal.returns-in-Take-clause-tested
 returns-in-Take-clause-tested g c = rw c.in-Take.is refl

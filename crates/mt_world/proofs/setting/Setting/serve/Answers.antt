@@ -17,17 +17,8 @@ returns-in-TypeLine-clause-served c = λ who. rw c.in-TypeLine.is (before_or c.a
 pub returns-in-Rule-clause-served : goal.returns-in-Rule-clause-served
 returns-in-Rule-clause-served c = λ who. rw c.in-Rule.is (inl (on_false _ _ _ c.keeps.ensures.before c.set_rules.ensures.answered))
 
-pub returns-in-List-clause-served : goal.returns-in-List-clause-served
-returns-in-List-clause-served c = λ who. rw c.in-List.is (inl (on_false _ _ _ c.keeps.ensures.before (record { reply_is = refl; same = refl })))
-
-pub returns-in-Check-clause-served : goal.returns-in-Check-clause-served
-returns-in-Check-clause-served c = λ who. rw c.in-Check.is (inl (on_false _ _ _ c.keeps.ensures.before (record { reply_is = refl; same = refl })))
-
-pub returns-in-Flight-clause-served : goal.returns-in-Flight-clause-served
-returns-in-Flight-clause-served c = λ who. rw c.in-Flight.is (inl (on_false _ _ _ c.keeps.ensures.before (record { reply_is = refl; same = refl })))
-
-pub returns-in-History-clause-served : goal.returns-in-History-clause-served
-returns-in-History-clause-served c = λ who. rw c.in-History.is (inl (on_false _ _ _ c.keeps.ensures.before (record { reply_is = refl; same = refl })))
+pub returns-in-Ask-clause-served : goal.returns-in-Ask-clause-served
+returns-in-Ask-clause-served c = λ who. rw c.in-Ask.is (inl (on_false _ _ _ c.keeps.ensures.before (record { reply_is = refl; same = refl })))
 
 pub returns-in-Change-clause-served : goal.returns-in-Change-clause-served
 returns-in-Change-clause-served c = λ who. rw c.in-Change.is (inl (on_false _ _ _ c.keeps.ensures.before (record { reply_is = refl; same = refl })))
@@ -43,9 +34,6 @@ returns-in-Accept-clause-served c = λ who. rw c.in-Accept.is (inl (on_false _ _
 
 pub returns-in-Advise-clause-served : goal.returns-in-Advise-clause-served
 returns-in-Advise-clause-served c = λ who. rw c.in-Advise.is (inl (on_false _ _ _ c.keeps.ensures.before (record { reply_is = refl; same = refl })))
-
-pub returns-in-Due-clause-served : goal.returns-in-Due-clause-served
-returns-in-Due-clause-served c = λ who. rw c.in-Due.is (inl (on_false _ _ _ c.keeps.ensures.before (record { reply_is = refl; same = refl })))
 
 pub returns-in-Settle-clause-served : goal.returns-in-Settle-clause-served
 returns-in-Settle-clause-served c = λ who. rw c.in-Settle.is (inl (on_false _ _ _ c.keeps.ensures.before (record { reply_is = refl; same = refl })))
