@@ -1,7 +1,7 @@
 //! Names as values of JSON.
 ghost use Rattle.serde_json.specs.Data.{string};
 
-use crate::write::put_all;
+use crate::write::put_quoted;
 use crate::written::Written;
 use mt_base::{Callsign, FixName, TypeName};
 use mt_memory::Memory;
@@ -11,7 +11,7 @@ impl Written for FixName {
 
     #[inline(always)]
     fn put(&self, out: &mut Vec<u8>) -> Result<(), Memory> {
-        put_all(out, &[b"\"", self.bytes(), b"\""])
+        put_quoted(out, self.bytes())
     }
 }
 
@@ -20,7 +20,7 @@ impl Written for Callsign {
 
     #[inline(always)]
     fn put(&self, out: &mut Vec<u8>) -> Result<(), Memory> {
-        put_all(out, &[b"\"", self.bytes(), b"\""])
+        put_quoted(out, self.bytes())
     }
 }
 
@@ -29,6 +29,6 @@ impl Written for TypeName {
 
     #[inline(always)]
     fn put(&self, out: &mut Vec<u8>) -> Result<(), Memory> {
-        put_all(out, &[b"\"", self.bytes(), b"\""])
+        put_quoted(out, self.bytes())
     }
 }

@@ -7,7 +7,7 @@ ghost use Rattle.mt_write.specs.Private.Object.{data_of, ended_text, line_text, 
 ghost use Rattle.mt_write.specs.Private.Puts.{Puts};
 
 use crate::escape::put_escaped;
-use crate::write::{put, put_all};
+use crate::write::{put, put_all, put_byte};
 use crate::written::{Written, put_items};
 use itoa::Buffer;
 use mt_base::{Callsign, FixName, Hit, Row, Tent, TypeName};
@@ -35,16 +35,16 @@ pub(crate) enum Datum<'a> {
 fn put_text(out: &mut Vec<u8>, text: &[u8]) -> Result<(), Memory>
     ensures { Puts result out.old out.new (compact_text (string text.now)) }
 {
-    put(out, b"\"")?;
+    put_byte(out, b'"')?;
     put_escaped(out, text)?;
-    put(out, b"\"")
+    put_byte(out, b'"')
 }
 
 /// Puts a list.
 pub(crate) fn put_array<T: Written>(out: &mut Vec<u8>, items: &[T]) -> Result<(), Memory>
     ensures { Puts result out.old out.new (compact_text (array (values T.value items.now))) }
 {
-    put(out, b"[")?;
+    put_byte(out, b'[')?;
     put_items(out, items)
 }
 

@@ -7,7 +7,7 @@ ghost use Rattle.mt_write.specs.Private.Puts.{Puts};
 ghost use Rattle.mt_write.specs.Reply.{reply_text};
 
 use crate::object::put_versioned;
-use crate::write::{put, put_all};
+use crate::write::{put, put_all, put_byte, put_quoted};
 use crate::written::Written;
 use itoa::Buffer;
 use mt_base::{Entered, Verdict};
@@ -22,8 +22,8 @@ fn put_flag(out: &mut Vec<u8>, later: bool, name: &str, holds: bool) -> Result<b
     if !holds {
         return Ok(later);
     }
-    let before: &[u8] = if later { b",\"" } else { b"[\"" };
-    put_all(out, &[before, name.as_bytes(), b"\""])?;
+    put_byte(out, if later { b',' } else { b'[' })?;
+    put_quoted(out, name.as_bytes())?;
     Ok(true)
 }
 
@@ -32,7 +32,7 @@ fn put_end(out: &mut Vec<u8>, later: bool) -> Result<(), Memory>
     ensures { Puts result out.old out.new (flags_text later []) }
 {
     if later {
-        return put(out, b"]");
+        return put_byte(out, b']');
     }
     put(out, b"[]")
 }

@@ -5,7 +5,7 @@ ghost use Rattle.serde_json.specs.Written.{comma_if, compact_text, items_text};
 ghost use Rattle.mt_write.specs.Private.Puts.{Puts};
 ghost use Rattle.mt_write.specs.Entry.{values};
 
-use crate::write::put;
+use crate::write::put_byte;
 use mt_memory::Memory;
 
 /// What is written as a value of JSON.
@@ -22,7 +22,7 @@ fn put_comma_if(out: &mut Vec<u8>, later: bool) -> Result<(), Memory>
     ensures { Puts result out.old out.new (comma_if later) }
 {
     if later {
-        return put(out, b",");
+        return put_byte(out, b',');
     }
     Ok(())
 }
@@ -44,5 +44,5 @@ pub(crate) fn put_items<T: Written>(out: &mut Vec<u8>, items: &[T]) -> Result<()
         put_item(out, later, item)?;
         later = true;
     }
-    put(out, b"]")
+    put_byte(out, b']')
 }

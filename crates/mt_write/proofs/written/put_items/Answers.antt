@@ -43,4 +43,4 @@ loop-item-preserved g c =
 pub returns : goal.returns
 returns g c =
     let none = drop_all c.loop-item.item-index c.args.items.now c.loop-item-test.false in
-    ends c.put.result c.args.out.now c.loop-item.out c.put.new.out _ _ (rw none at c.loop-item.invariant.text) (rw none at c.loop-item.invariant.len) c.loop-item.invariant.room c.put.ensures
+    ends c.put_byte.result c.args.out.now c.loop-item.out c.put_byte.new.out _ _ (rw none at c.loop-item.invariant.text) (rw none at c.loop-item.invariant.len) c.loop-item.invariant.room c.put_byte.ensures

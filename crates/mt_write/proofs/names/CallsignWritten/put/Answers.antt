@@ -6,5 +6,5 @@ use Rattle.mt_write.proofs.names.CallsignWritten.put.Goals as goal
 
 pub returns : goal.returns
 returns c =
-    puts_is c.put_all.result c.args.out.now c.put_all.new.out _ _
-    (name_text c.args.self.now _ (c.bytes.ensures.text ∙ sym (plain_name 1 7 c.args.self.now c.bytes.ensures.named))) c.put_all.ensures
+    puts_is c.put_quoted.result c.args.out.now c.put_quoted.new.out _ _
+    (name_text c.args.self.now _ (c.bytes.ensures.text ∙ sym (plain_name 1 7 c.args.self.now c.bytes.ensures.named))) c.put_quoted.ensures
