@@ -19,7 +19,7 @@ returns-in-Begin-clause-served g c = rw c.in-Begin.is (inl (begun_refused c.args
 
 -- what is told of the picture
 pub returns-in-Ask-clause-served : goal.returns-in-Ask-clause-served
-returns-in-Ask-clause-served g c = c.tell.ensures.told c.args.who
+returns-in-Ask-clause-served g c = rw c.in-Ask.is (c.tell.ensures.told c.args.who)
 
 pub returns-in-Ask-clause-fit : goal.returns-in-Ask-clause-fit
 returns-in-Ask-clause-fit g c = c.tell.ensures.fit
