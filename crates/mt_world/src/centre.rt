@@ -116,7 +116,8 @@ impl Centre {
 
     // Tells what is asked for, at the version now.
     fn tell<R: Threads + Sync>(&self, rt: &R, ask: &Ask) -> Reply
-        ensures told { (who : ℕ) → IsServed self.now who (requests.Ask ask.now) result self.now ⊎ IsStarved self.now who (requests.Ask ask.now) result self.now }
+        ensures told { (who : ℕ) → IsServed self.now who (requests.Ask ask.now) result self.now
+            ⊎ IsStarved self.now who (requests.Ask ask.now) result self.now }
         ensures fit { IsFit result }
     {
         tell(rt, self.alloc, &self.picture, ask)
