@@ -91,7 +91,7 @@ fn file_both<R: Threads + Wait + Sync + Abort>(
 }
 
 /// Joins the second seat, and closes the desk.
-fn close_both(desk: Desk, mut first: Seat, second: Seat) -> Picture
+pub fn close_both(desk: Desk, mut first: Seat, second: Seat) -> Picture
     requires ready { IsSeatOfDesk desk first × IsSeatOfDesk desk second }
     requires first { (first.view.number ≡ 0) × (first.view.gave ≡ 1 ∷ []) × (first.view.joined ≡ []) }
     requires second { second.view.number ≡ 1 }
