@@ -4,3 +4,4 @@ mod LeastOther
 mod Members
 pub mod OneLine
 mod Plain
+pub mod Words

@@ -1,7 +1,8 @@
-ghost use Rattle.std.specs.Prelude.{◌≡◌, option_map, OnOk, IfErr, true, All};
+ghost use Rattle.std.specs.Prelude.{◌≡◌, option_map, OnOk, IfErr, true, false, All, MatchOption, Some, None, if◌then◌else◌};
+ghost use Rattle.std.specs.Str.{bytes_eq};
 ghost use Rattle.serde_json.specs.Find.{as_object, get_member};
 ghost use Rattle.mt_json.specs.Keys.{keys as keys_of, AreInByteOrder, is_allowed, other_key, shown_other, IsLeastOther};
-ghost use Rattle.mt_json.specs.Private.Keys.{lesser};
+ghost use Rattle.mt_json.specs.Private.Keys.{lesser, first_word, later_words, AreAmong};
 ghost use Rattle.mt_json.specs.Field.{result_map, word_at, flag_at, whole_at, list_at_key};
 ghost use Rattle.mt_json.specs.Shown.{members};
 ghost use Rattle.mt_json.specs.View.{items_view, view};
@@ -93,10 +94,13 @@ impl<'v, 'a> Fields<'v, 'a> {
     fn least_other(&self, keys: &str) -> Option<&'a str>
         ensures { option_map (λ s. s.now) result ≡ other_key keys.now (members self.now) }
     {
+        let words = keys.as_bytes();
+        let mut rest = words;
         let mut least = None;
         for member in self.list {
-            if !is_allowed(keys, member.0) {
-                least = Some(lesser(member.0, least));
+            match met(words, rest, member.0.as_bytes()) {
+                Some(after) => rest = after,
+                None => least = Some(lesser(member.0, least)),
             }
         }
         least
@@ -128,9 +132,84 @@ fn lesser<'a>(key: &'a str, least: Option<&'a str>) -> &'a str
     }
 }
 
-// Whether the key is one of the words that stand between the spaces of `allowed`.
-fn is_allowed(allowed: &str, key: &str) -> bool
-    ensures { result ≡ is_allowed allowed.now key.now }
+// What stands after the word that the key is, if it is one of `words`. It is looked for first in `rest`, which stands after the word met last:
+// most lines have their keys in the order of the words.
+fn met<'k>(words: &'k [u8], rest: &'k [u8], key: &[u8]) -> Option<&'k [u8]>
+    requires { AreAmong rest.now words.now }
+    ensures { MatchOption result (is_allowed words.now key.now ≡ false)
+        (λ after. (is_allowed words.now key.now ≡ true) × AreAmong after.now words.now) }
 {
-    !key.is_empty() && allowed.split(' ').any(|word| word == key)
+    match after_word(rest, key) {
+        Some(after) => Some(after),
+        None => after_word(words, key),
+    }
+}
+
+// What stands after the word that the key is, if it is one of those that stand between the spaces of `words`.
+fn after_word<'k>(words: &'k [u8], key: &[u8]) -> Option<&'k [u8]>
+    ensures { MatchOption result (is_allowed words.now key.now ≡ false)
+        (λ after. (is_allowed words.now key.now ≡ true) × AreAmong after.now words.now) }
+{
+    if key.is_empty() {
+        return None;
+    }
+    let mut left = words;
+    while !left.is_empty() {
+        if let Some(after) = after_first(left, key) {
+            return Some(after);
+        }
+        left = next_word(left);
+    }
+    None
+}
+
+// What stands after the first word, if that is the key.
+fn after_first<'k>(words: &'k [u8], key: &[u8]) -> Option<&'k [u8]>
+    ensures { option_map (λ after. after.now) result ≡ (if bytes_eq (first_word words.now) key.now then Some (later_words words.now) else None) }
+{
+    if !is_first(words, key) {
+        return None;
+    }
+    let end = key.len();
+    if end < words.len() {
+        Some(&words[end + 1..])
+    } else {
+        Some(&[])
+    }
+}
+
+// Whether the key is the first word.
+fn is_first(words: &[u8], key: &[u8]) -> bool
+    ensures { result ≡ bytes_eq (first_word words.now) key.now }
+{
+    let end = key.len();
+    if words.len() < end {
+        return false;
+    }
+    if words.len() > end && words[end] != b' ' {
+        return false;
+    }
+    let mut at = 0;
+    while at < end {
+        let byte = words[at];
+        if byte == b' ' || byte != key[at] {
+            return false;
+        }
+        at += 1;
+    }
+    true
+}
+
+// What stands after the first space: nothing where there is none.
+fn next_word(words: &[u8]) -> &[u8]
+    ensures { result.now ≡ later_words words.now }
+{
+    let mut at = 0;
+    while at < words.len() {
+        if words[at] == b' ' {
+            return &words[at + 1..];
+        }
+        at += 1;
+    }
+    &[]
 }

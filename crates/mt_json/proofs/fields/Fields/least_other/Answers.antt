@@ -1,12 +1,12 @@
 -- A member more, and the least key so far or its own.
-use Rattle.std.proofs.Common.{◌≡◌, ◌+◌, [], ◌∷◌, ◌++◌, take, Bool, false, true, cond, option_map, Some, sym, ap, ◌∙◌, arith}
+use Rattle.std.proofs.Common.{◌≡◌, ◌+◌, [], ◌∷◌, ◌++◌, take, Bool, cond, option_map, Some, subst, sym, ap, ◌∙◌, arith}
 use Rattle.std.proofs.lemmas.List.{take_more}
 use Rattle.mt_json.specs.Keys.{is_allowed, other_key}
-use Rattle.mt_json.specs.Private.Keys.{lesser}
+use Rattle.mt_json.specs.Private.Keys.{lesser, AreAmong}
 use Rattle.mt_json.specs.View.{members_view}
 use Rattle.mt_json.proofs.LeastOther.{other_key-more}
 use Rattle.mt_json.proofs.fields.Fields.least_other.Goals as goal
-use Rattle.mt_json.proofs.fields.Fields.least_other.Goals.{then-not-is_allowed, else-not-is_allowed}
+use Rattle.mt_json.proofs.fields.Fields.least_other.Goals.{in-Some, in-None}
 
 pub loop-member-preserved : goal.loop-member-preserved
 loop-member-preserved c =
@@ -18,11 +18,15 @@ loop-member-preserved c =
     let old = other_key keys (members_view (take i xs)) in
     let step = ap (λ ys. other_key keys (members_view ys)) front ∙ other_key-more keys (take i xs) m in
     let pick = λ (b : Bool). cond b old (Some (lesser m.0.now old)) in
-    elim c.if-not-is_allowed.branch [
-      | then-not-is_allowed w ↦
-          let no : is_allowed keys m.0.now ≡ false = grind arith in
-          ap (option_map (λ s. s.now)) w.least-is ∙ ap Some (w.lesser.ensures ∙ ap (lesser m.0.now) c.loop-member.invariant) ∙ sym (step ∙ ap pick no)
-      | else-not-is_allowed w ↦
-          let yes : is_allowed keys m.0.now ≡ true = grind arith in
-          ap (option_map (λ s. s.now)) w.least-is ∙ c.loop-member.invariant ∙ sym (step ∙ ap pick yes)
+    let met : is_allowed c.as_bytes-words.result.now c.as_bytes.result.now ≡ is_allowed keys m.0.now =
+    ap (λ k. is_allowed c.as_bytes-words.result.now k) c.as_bytes.ensures.value ∙ ap (λ ws. is_allowed ws m.0.now) c.as_bytes-words.ensures.value in
+    elim c.match-met.branch [
+      | in-Some w ↦ (
+        ap (option_map (λ s. s.now)) w.least-is ∙ c.loop-member.invariant.0 ∙ sym (step ∙ ap pick (sym met ∙ w.in-Some.ensures.0)),
+        subst (λ r. AreAmong r.now c.as_bytes-words.result.now) (sym w.rest-is) w.in-Some.ensures.1,
+      )
+      | in-None w ↦ (
+        ap (option_map (λ s. s.now)) w.least-is ∙ ap Some (w.lesser.ensures ∙ ap (lesser m.0.now) c.loop-member.invariant.0) ∙ sym (step ∙ ap pick (sym met ∙ w.in-None.ensures)),
+        subst (λ r. AreAmong r.now c.as_bytes-words.result.now) (sym w.rest-is) c.loop-member.invariant.1,
+      )
     ]

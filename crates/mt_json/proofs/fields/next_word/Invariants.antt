@@ -1,0 +1,9 @@
+-- No byte so far is a space.
+use Rattle.std.proofs.Common.{◌≡◌, ℕ, ◌<◌, ◌≤◌, ◌-◌, ◌==◌, length, get_or, false}
+use Rattle.mt_json.proofs.fields.next_word.Given as goal
+
+abbrev pub invariant-loop-at : goal.invariant-loop-at
+invariant-loop-at l = (l.at ≤ length l.words) × ((i : ℕ) → i < l.at → (get_or l.words i 0 == 32) ≡ false)
+
+abbrev pub decreases-loop-at : goal.decreases-loop-at
+decreases-loop-at l = length l.words - l.at
