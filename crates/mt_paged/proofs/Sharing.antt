@@ -1,6 +1,5 @@
 -- Pages that are shared: reads, writes and copies of them, as reads and writes of rows.
-use Rattle.std.proofs.Common.{◌≡◌, ℕ, zero, suc, ◌/◌, ◌%◌, ◌<◌, ◌⊎◌, inl, inr, Ok, Err, List, [], ◌∷◌, Option, None, length, get_or, slice_index_or, set, take, map, replicate, refl, sym, ap, ◌∙◌, subst, arith}
-use Rattle.std.specs.Array.{AllOfLen, AllZipBelow}
+use Rattle.std.proofs.Common.{◌≡◌, ℕ, zero, suc, ◌/◌, ◌%◌, ◌<◌, ◌⊎◌, inl, inr, Ok, Err, List, [], ◌∷◌, Option, None, length, get_or, set, take, map, replicate, refl, sym, ap, ◌∙◌, subst, arith}
 use Rattle.std.specs.List.{AllZip, AllClonesOf}
 use Rattle.std.specs.Arc.{arc_value}
 use Rattle.std.specs.Option.{option_map}
@@ -29,13 +28,6 @@ copied {X} {Y} {Z} R f same old new either = elim either [
   | inr copy ↦ copied_each R f same old.items new.items copy.0
 ]
 
--- what stands in the page where a value is to be written: the old one, or a copy of it
-pub copied_page : {X Y : Type 0} (R : X → X → Type 0) (f : X → Y) → ((x y : X) → R x y → f y ≡ f x) → (old new : List X) (n : ℕ) → (new ≡ old) ⊎ AllZipBelow R old new n → map f new ≡ map f old
-copied_page R f same old new n either = elim either [
-  | inl e ↦ ap (map f) e
-  | inr copy ↦ copied_each R f same old new copy.whole
-]
-
 -- many copies of one value agree in what f says of them
 pub all_copies : {X Y : Type 0} (R : X → X → Type 0) (f : X → Y) (x : X) → ((y : X) → R x y → f y ≡ f x) → (ys : List X) → AllClonesOf R x ys → map f ys ≡ replicate (length ys) (f x)
 all_copies R f x same [] all = refl
@@ -43,23 +35,9 @@ all_copies {X} {Y} R f x same (y ∷ ys) all =
     let first : f y ≡ f x = elim all.0 [ inl e ↦ ap f e | inr copy ↦ same y copy ] in
     ap (λ (z : Y). z ∷ map f ys) first ∙ ap (λ (z : List Y). f x ∷ z) (all_copies R f x same ys all.1)
 
--- a list whose places are empty
-empty_list : {X : Type 0} (xs : List (Option X)) (n : ℕ) → length xs ≡ n → ((i : ℕ) (d : Option X) → i < n → slice_index_or xs i d ≡ None) → xs ≡ replicate n None
-empty_list [] zero long each = refl
-empty_list [] (suc n) long each = absurd (omega (arith, long))
-empty_list (x ∷ xs) zero long each = absurd (omega (arith, long))
-empty_list {X} (x ∷ xs) (suc n) long each =
-    let first : x ≡ None = each 0 None (omega arith) in
-    let rest : xs ≡ replicate n None = empty_list xs n (omega (arith, long)) (λ i d within. each (suc i) d (omega (arith, within))) in
-    ap (λ (y : Option X). y ∷ xs) first ∙ ap (λ (ys : List (Option X)). None ∷ ys) rest
-
-empty_places : (T Z : Type 0) (n : ℕ) → page_places {T = T} {Z = Z} (replicate n None) ≡ replicate n None
+pub empty_places : (T Z : Type 0) (n : ℕ) → page_places {T = T} {Z = Z} (replicate n None) ≡ replicate n None
 empty_places T Z zero = refl
 empty_places T Z (suc n) = ap (λ (xs : List (Option T)). None ∷ xs) (empty_places T Z n)
-
--- a page of empty places
-pub empty_page : {T Z : Type 0} (page : List (Option (Arc T Z))) (n : ℕ) → AllOfLen (λ (o : Option (Arc T Z)). o ≡ None) page n → page_places page ≡ replicate n None
-empty_page {T} {Z} page n all = ap page_places (empty_list page n all.long all.at) ∙ empty_places T Z n
 
 pub on_err : {T E P : Type 0} (r : Result T E) → P → OnErr r P
 on_err (Ok x) p = tt
@@ -70,42 +48,42 @@ on_either (Ok x) p q then_p then_q = then_p p
 on_either (Err e) p q then_p then_q = then_q q
 
 -- two pages with one value have the same places
-pub same_row : {T Z : Type 0} (page copy : Arc (List (Option (Arc T Z))) Z) → arc_value copy ≡ arc_value page → row copy ≡ row page
-same_row {T} {Z} page copy same = ap (λ (v : List (Option (Arc T Z))). page_places v) same
+pub same_row : {T Y Z : Type 0} (page copy : Arc (Vec (Option (Arc T Z)) Y) Z) → arc_value copy ≡ arc_value page → row copy ≡ row page
+same_row {T} {Y} {Z} page copy same = ap (λ (v : Vec (Option (Arc T Z)) Y). page_places v.items) same
 
 -- the page of a place
-row_at : {T Z : Type 0} (count : ℕ) (pages : List (Arc (List (Option (Arc T Z))) Z)) (i : ℕ) (page : Arc (List (Option (Arc T Z))) Z) → AreRows count (rows pages) → i < count
+row_at : {T Y Z : Type 0} (count : ℕ) (pages : List (Arc (Vec (Option (Arc T Z)) Y) Z)) (i : ℕ) (page : Arc (Vec (Option (Arc T Z)) Y) Z) → AreRows count (rows pages) → i < count
     → page ≡ get_or pages (i / 32) page → get_or (rows pages) (i / 32) [] ≡ row page
 row_at count pages i page are within at_page =
     let inside : i / 32 < length pages = omega (arith, row_of count (rows pages) i are within, length-map pages row) in
     get_or-map row pages (i / 32) page [] inside ∙ ap row (sym at_page)
 
-pub page_is_full : {T Z : Type 0} (count : ℕ) (pages : List (Arc (List (Option (Arc T Z))) Z)) (i : ℕ) (page : Arc (List (Option (Arc T Z))) Z) → AreRows count (rows pages) → i < count
+pub page_is_full : {T Y Z : Type 0} (count : ℕ) (pages : List (Arc (Vec (Option (Arc T Z)) Y) Z)) (i : ℕ) (page : Arc (Vec (Option (Arc T Z)) Y) Z) → AreRows count (rows pages) → i < count
     → page ≡ get_or pages (i / 32) page → length (row page) ≡ 32
 page_is_full {T} count pages i page are within at_page =
     sym (ap (λ (r : List (Option T)). length r) (row_at count pages i page are within at_page)) ∙ row_is_full count (rows pages) i are within
 
 -- what a read of a page and of its place gives
-pub read : {T Z : Type 0} (count : ℕ) (pages : List (Arc (List (Option (Arc T Z))) Z)) (i : ℕ) (page : Arc (List (Option (Arc T Z))) Z) (place : Option (Arc T Z)) → AreRows count (rows pages) → i < count
-    → page ≡ get_or pages (i / 32) page → place ≡ get_or (arc_value page) (i % 32) place
+pub read : {T Y Z : Type 0} (count : ℕ) (pages : List (Arc (Vec (Option (Arc T Z)) Y) Z)) (i : ℕ) (page : Arc (Vec (Option (Arc T Z)) Y) Z) (place : Option (Arc T Z)) → AreRows count (rows pages) → i < count
+    → page ≡ get_or pages (i / 32) page → place ≡ get_or (arc_value page).items (i % 32) place
     → get_or (take count (rows_joined (rows pages))) i None ≡ option_map arc_value place
-read {T} {Z} count pages i page place are within at_page at_place =
+read {T} {Y} {Z} count pages i page place are within at_page at_place =
     let full = page_is_full count pages i page are within at_page in
-    let long = length-map (arc_value page) (option_map (arc_value {X = T} {Z = Z})) in
+    let long = length-map (arc_value page).items (option_map (arc_value {X = T} {Z = Z})) in
     get_listed count (rows pages) i None are within
     ∙ ap (λ (r : List (Option T)). get_or r (i % 32) None) (row_at count pages i page are within at_page)
-    ∙ get_or-map (option_map (arc_value {X = T} {Z = Z})) (arc_value page) (i % 32) place None (omega (arith, full, long))
+    ∙ get_or-map (option_map (arc_value {X = T} {Z = Z})) (arc_value page).items (i % 32) place None (omega (arith, full, long))
     ∙ ap (option_map (arc_value {X = T} {Z = Z})) (sym at_place)
 
 -- what a page whose place is replaced leaves in the table
-pub written : {T Y Z : Type 0} (count : ℕ) (pages : List (Arc (List (Option (Arc T Z))) Z)) (table left : Vec (Arc (List (Option (Arc T Z))) Z) Y) (i : ℕ) (page new : Arc (List (Option (Arc T Z))) Z) (a : Option T)
+pub written : {T Y Z : Type 0} (count : ℕ) (pages : List (Arc (Vec (Option (Arc T Z)) Y) Z)) (table left : Vec (Arc (Vec (Option (Arc T Z)) Y) Z) Y) (i : ℕ) (page new : Arc (Vec (Option (Arc T Z)) Y) Z) (a : Option T)
     → AreRows count (rows pages) → i < count → rows table.items ≡ rows pages → page ≡ get_or table.items (i / 32) page → row new ≡ set (row page) (i % 32) a → left ≡ with_item table (i / 32) new
     → AreRows count (rows left.items) × (take count (rows_joined (rows left.items)) ≡ set (take count (rows_joined (rows pages))) i a)
 written {T} {Y} {Z} count pages table left i page new a are within same at_page is there =
     let of_table = subst (AreRows count) (sym same) are in
     let at = row_at count table.items i page of_table within at_page in
     let rows_are : rows left.items ≡ set (rows table.items) (i / 32) (set (get_or (rows table.items) (i / 32) []) (i % 32) a) =
-    ap (λ (v : Vec (Arc (List (Option (Arc T Z))) Z) Y). rows v.items) there
+    ap (λ (v : Vec (Arc (Vec (Option (Arc T Z)) Y) Z) Y). rows v.items) there
     ∙ map-set row table.items (i / 32) new
     ∙ ap (λ (r : List (Option T)). set (rows table.items) (i / 32) r) (is ∙ ap (λ (r : List (Option T)). set r (i % 32) a) (sym at)) in (
       subst (AreRows count) (sym rows_are) (rows_set count (rows table.items) i a of_table within),
@@ -115,7 +93,7 @@ written {T} {Y} {Z} count pages table left i page new a are within same at_page 
     )
 
 -- what a page that stays leaves in the table
-pub kept : {T Y Z : Type 0} (pages : List (Arc (List (Option (Arc T Z))) Z)) (table left : Vec (Arc (List (Option (Arc T Z))) Z) Y) (i : ℕ) (page new : Arc (List (Option (Arc T Z))) Z)
+pub kept : {T Y Z : Type 0} (pages : List (Arc (Vec (Option (Arc T Z)) Y) Z)) (table left : Vec (Arc (Vec (Option (Arc T Z)) Y) Z) Y) (i : ℕ) (page new : Arc (Vec (Option (Arc T Z)) Y) Z)
     → rows table.items ≡ rows pages → page ≡ get_or table.items i page → row new ≡ row page → left ≡ with_item table i new → rows left.items ≡ rows pages
 kept {T} {Y} {Z} pages table left i page new same at_page is there =
-    ap (λ (v : Vec (Arc (List (Option (Arc T Z))) Z) Y). rows v.items) there ∙ map-set_same row table.items i new page (is ∙ ap row at_page) ∙ same
+    ap (λ (v : Vec (Arc (Vec (Option (Arc T Z)) Y) Z) Y). rows v.items) there ∙ map-set_same row table.items i new page (is ∙ ap row at_page) ∙ same

@@ -36,7 +36,7 @@ impl<T: Drop> Paged<T> {
     pub fn make(alloc: Global, n: u32) -> Result<Paged<T>, Memory>
         ensures { IfOk result (λ list. list ≡ replicate n None) }
     {
-        let pages = empty_pages(alloc, (n as usize).div_ceil(PLACES))?;
+        let pages = empty_pages(alloc, n.div_ceil(PLACES) as usize, PLACES as usize)?;
         Ok(Paged {
             alloc,
             count: n,
@@ -49,9 +49,8 @@ impl<T: Drop> Paged<T> {
         requires { place < length self.now }
         ensures { option_copied result ≡ slice_index_or self.now place None }
     {
-        let place = place as usize;
-        let page = &self.pages[place / PLACES];
-        match &page[place % PLACES] {
+        let page = &self.pages[(place / PLACES) as usize];
+        match &page[(place % PLACES) as usize] {
             Some(item) => Some(&**item),
             None => None,
         }
@@ -64,9 +63,8 @@ impl<T: Drop> Paged<T> {
         ensures err { OnErr result (self.new ≡ self.old) }
     {
         let pages = Arc::make_mut(&mut self.pages)?;
-        let place = place as usize;
-        let page = &mut pages[place / PLACES];
-        replace_place(page, place % PLACES, item)
+        let page = &mut pages[(place / PLACES) as usize];
+        replace_place(page, (place % PLACES) as usize, item)
     }
 
     /// The list with another item at a place. This list stays. It copies one page and the table of pages; for several places at once,

@@ -4,6 +4,7 @@ use Rattle.std.specs.Prelude.{◌≡◌, ℕ, ◌*◌, ◌≤◌, List, [], ◌�
 use Rattle.std.specs.Option.{option_map}
 use Rattle.std.specs.Arc.{arc_value}
 use Rattle.std.specs.declared.sync.Arc.{Arc}
+use Rattle.std.specs.declared.vec.Vec.{Vec}
 
 module _ {X : Type 0} where
   -- the rows, one after another
@@ -21,9 +22,9 @@ abbrev pub page_places : {T Z : Type 0} → List (Option (Arc T Z)) → List (Op
 page_places {T} {Z} items = map (option_map (arc_value {X = T} {Z = Z})) items
 
 -- what stands at the places of a page that is shared
-abbrev pub row : {T Z : Type 0} → Arc (List (Option (Arc T Z))) Z → List (Option T)
-row {T} {Z} page = page_places (arc_value {X = List (Option (Arc T Z))} {Z = Z} page)
+abbrev pub row : {T Y Z : Type 0} → Arc (Vec (Option (Arc T Z)) Y) Z → List (Option T)
+row {T} {Y} {Z} page = page_places (arc_value {X = Vec (Option (Arc T Z)) Y} {Z = Z} page).items
 
 -- the pages, each as what stands at its places
-abbrev pub rows : {T Z : Type 0} → List (Arc (List (Option (Arc T Z))) Z) → List (List (Option T))
+abbrev pub rows : {T Y Z : Type 0} → List (Arc (Vec (Option (Arc T Z)) Y) Z) → List (List (Option T))
 rows pages = map row pages
