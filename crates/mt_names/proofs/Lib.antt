@@ -1,2 +1,4 @@
 pub mod Placing
 pub mod Splitting
+pub mod Rows
+pub mod Sharing

@@ -8,7 +8,7 @@ use Rattle.mt_names.specs.Naming.{AreNamed, CanStand, IsRenaming}
 use Rattle.mt_names.specs.Private.Naming.{IsOtherName}
 use Rattle.mt_names.proofs.Splitting.{one_named}
 
-decide : (a b : ℕ) → (a ≡ b) ⊎ (a ≢ b)
+pub decide : (a b : ℕ) → (a ≡ b) ⊎ (a ≢ b)
 decide a b = by_test (nat_eq a b) refl where
   by_test : (t : Bool) → nat_eq a b ≡ t → (a ≡ b) ⊎ (a ≢ b)
   by_test true e = inl (grind (arith, nat_tests))

@@ -1,2 +1,3 @@
 -- What no public contract names: invariants and relations of private steps.
 pub mod Naming
+pub mod Rows

@@ -1,8 +1,9 @@
-//! The callsigns of a picture in order, each with the place of its flight.
+//! The callsigns of a picture, each with the place of its flight, in rows that lists share.
 #![tactic(auto)]
 
 mod names;
 mod renaming;
+mod row;
 
 pub use mt_memory::Memory;
 pub use names::{Named, Names};

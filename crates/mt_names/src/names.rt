@@ -1,13 +1,18 @@
-//! The callsigns of the flights, in order, each with the place of its flight.
-ghost use Rattle.std.specs.Prelude.{◌≡◌, ◌↔◌, ◌⊎◌, ◌≤◌, [], Contains, length, IfOk};
-ghost use Rattle.std.specs.List.{AllWithin};
+//! The callsigns of the flights in rows, each with the place of its flight.
+ghost use Rattle.std.specs.Prelude.{◌≡◌, ◌↔◌, ◌⊎◌, ◌<◌, ℕ, [], Contains, length, IfOk, slice_index_or};
 ghost use Rattle.mt_names.specs.declared.names.Named.{Named};
 ghost use Rattle.mt_names.specs.Naming.{IsPlaceOf};
-ghost use Rattle.mt_names.specs.Private.Naming.{AreRising, IsCallBefore, IsNotBefore, IsOtherName, IsSplit};
+ghost use Rattle.mt_names.specs.Private.Naming.{IsOtherName};
+ghost use Rattle.mt_names.specs.Private.Rows.{AreFull, AreSameRows, callsigns, row_of};
 
+use crate::row::NamedRow;
 use mt_base::{Callsign, Memory};
 use std::alloc::Global;
 use std::marker::Model;
+use std::sync::Arc;
+
+/// How many rows there are.
+const ROWS: usize = 32;
 
 /// A callsign, and the place of its flight.
 #[derive(Clone, Copy)]
@@ -18,55 +23,49 @@ pub struct Named {
     pub slot: u32,
 }
 
-/// Callsigns in rising order, each once, with the places of their flights; seen as that list.
+/// Callsigns, each once, with the places of their flights; seen as their list. Each stands in the row that its letters say, so that a change
+/// copies one row and the table of rows. Other lists share the rest.
 #[derive(Drop)]
 pub struct Names {
-    list: Vec<Named>,
+    /// No row, or all.
+    rows: Vec<Arc<NamedRow>>,
 }
 
 impl Model for Names {
     ghost use Rattle.std.specs.Prelude.{List};
     ghost use Rattle.mt_names.specs.declared.names.Named.{Named};
-    ghost use Rattle.mt_names.specs.Private.Naming.{AreRising};
+    ghost use Rattle.mt_names.specs.Private.Rows.{AreOwnRows, callsigns, one_list};
 
     ghost Value = { List Named };
 
-    ghost view = { λ s. s.list.items };
+    ghost view = { λ s. one_list (callsigns s.rows.items) };
 
-    ghost invariant = { λ s. AreRising s.list.items };
+    ghost invariant = { λ s. AreOwnRows (callsigns s.rows.items) };
 }
 
-// How many of a rising list are before a callsign, by halving.
-fn before(list: &[Named], call: Callsign) -> usize
-    requires rising { AreRising list.now }
-    ensures few { result ≤ length list.now }
-    ensures below { AllWithin (IsCallBefore call) list.now 0 result }
-    ensures rest { AllWithin (IsNotBefore call) list.now result (length list.now) }
+// The row that a callsign stands in.
+fn row_of(call: Callsign) -> usize
+    ensures row { result ≡ row_of call }
+    ensures below { result < 32 }
 {
-    let mut low = 0;
-    let mut high = list.len();
-    while low < high {
-        let middle = low + (high - low) / 2;
-        if list[middle].call < call {
-            low = middle + 1;
-        } else {
-            high = middle;
-        }
+    let mut row = 0;
+    for letter in call.bytes() {
+        row = (11 * row + usize::from(*letter)) % ROWS;
     }
-    low
+    row
 }
 
-// Where the places before a callsign end in a rising list, and where those after it begin.
-fn parts(list: &[Named], call: Callsign) -> (usize, usize)
-    requires rising { AreRising list.now }
-    ensures { IsSplit list.now call result }
+// A copy of the table of rows, which shares them. Where there is none yet, all its rows are empty.
+fn table(alloc: Global, rows: &[Arc<NamedRow>]) -> Result<Vec<Arc<NamedRow>>, Memory>
+    requires { AreFull (callsigns rows.now) }
+    ensures many { IfOk result (λ table. length table.items ≡ 32) }
+    ensures same { IfOk result (λ table. AreSameRows (callsigns rows.now) (callsigns table.items)) }
 {
-    let first = before(list, call);
-    if first < list.len() && list[first].call == call {
-        (first, first + 1)
-    } else {
-        (first, first)
+    if rows.is_empty() {
+        let empty = Arc::new(alloc, NamedRow::make(alloc))?;
+        return Ok(vec![in alloc; empty; ROWS]?);
     }
+    Ok(Vec::from_clones(alloc, rows)?)
 }
 
 impl Names {
@@ -75,26 +74,17 @@ impl Names {
         ensures { result ≡ [] }
     {
         Names {
-            list: Vec::new(alloc),
+            rows: Vec::new(alloc),
         }
     }
 
-    // Where the places before a callsign end, and where those after it begin.
-    fn split(&self, call: Callsign) -> (usize, usize)
-        ensures { IsSplit self.now call result }
-    {
-        parts(&self.list, call)
-    }
-
-    /// The place of the flight of a callsign, found by halving; `None` exactly where it isn't listed.
+    /// The place of the flight of a callsign, found by halving its row; `None` exactly where it isn't listed.
     pub fn find(&self, call: Callsign) -> Option<u32>
         ensures { IsPlaceOf self.now call result }
     {
-        let (first, behind) = self.split(call);
-        if first < behind {
-            Some(self.list[first].slot)
-        } else {
-            None
+        match self.rows.get(row_of(call)) {
+            Some(row) => row.find(call),
+            None => None,
         }
     }
 
@@ -103,24 +93,21 @@ impl Names {
         ensures { IfOk result (λ after. (n : Named) → Contains after n
             ↔ ((n ≡ record { call = call; slot = slot }) ⊎ IsOtherName self.now call n)) }
     {
-        let (first, behind) = self.split(call);
-        let mut list = Vec::new(alloc);
-        list.reserve(self.list.len() + 1)?;
-        list.extend_from_slice(&self.list[..first])?;
-        list.push(Named { call, slot })?;
-        list.extend_from_slice(&self.list[behind..])?;
-        Ok(Names { list })
+        let place = row_of(call);
+        let mut rows = table(alloc, &self.rows)?;
+        let row = rows[place].with(alloc, call, slot)?;
+        rows[place] = Arc::new(alloc, row)?;
+        Ok(Names { rows })
     }
 
     /// The list without a callsign. This list stays.
     pub(crate) fn without(&self, alloc: Global, call: Callsign) -> Result<Names, Memory>
         ensures { IfOk result (λ after. (n : Named) → Contains after n ↔ IsOtherName self.now call n) }
     {
-        let (first, behind) = self.split(call);
-        let mut list = Vec::new(alloc);
-        list.reserve(self.list.len())?;
-        list.extend_from_slice(&self.list[..first])?;
-        list.extend_from_slice(&self.list[behind..])?;
-        Ok(Names { list })
+        let place = row_of(call);
+        let mut rows = table(alloc, &self.rows)?;
+        let row = rows[place].without(alloc, call)?;
+        rows[place] = Arc::new(alloc, row)?;
+        Ok(Names { rows })
     }
 }

@@ -1,26 +1,14 @@
-use Rattle.std.proofs.Common.{subst, sym, ◌≡◌, ◌-◌, ◌↔◌, ◌⊎◌, ◌++◌, ◌∷◌, [], Contains, List, length, take, drop, refl}
-use Rattle.mt_names.specs.declared.names.Named.{Named}
-use Rattle.mt_names.specs.Private.Naming.{AreRising, IsOtherName}
-use Rattle.mt_names.proofs.Splitting.{joined_with, with_members, with_rising}
+use Rattle.mt_names.proofs.Sharing.{put_listed, put_own}
 use Rattle.mt_names.proofs.names.Names.with.Goals as goal
 
 pub invariant_of-result : goal.invariant_of-result
 invariant_of-result c =
-    let span = c.split-first.result in
-    let x : Named = record { call = c.args.call; slot = c.args.slot } in
-    let names = c.args.self.now in
-    let whole : c.extend_from_slice-2.new.self.items ≡ (take span.0 c.args.self.now ++ x ∷ []) ++ take (length c.args.self.now - span.1) (drop span.1 c.args.self.now) =
-    rw (c.in_ok-extend_from_slice-2.ensures.items, c.in_ok-push.ensures.items, c.in_ok-extend_from_slice.ensures.items, c.in_ok-reserve.ensures.items, c.new-list.ensures.items, c.deref.ensures.value, c.deref-2.ensures.value, c.self.view_is) refl in
-    let e = joined_with names c.extend_from_slice-2.new.self.items x span.0 span.1 whole in
-    subst AreRising (sym e) (with_rising names c.args.call span c.split-first.ensures (subst AreRising c.self.view_is c.self.invariant) x refl)
+    put_own c.self.inside.rows.items c.in_ok-rows.rows.items c.args.call c.row_of-place.result c.index.result.now c.in_ok-rows-2.field-0
+    c.deref-2.result.now c.in_ok-row.row c.self.invariant (rw c.deref.ensures.value at c.in_ok-rows.ensures.same) c.in_ok-rows.ensures.many
+    c.row_of-place.ensures.row c.row_of-place.ensures.below c.index.ensures c.deref-2.ensures c.in_ok-rows-2.ensures.ok c.args.slot c.in_ok-row.ensures
 
 pub returns : goal.returns
 returns c =
-    let span = c.split-first.result in
-    let x : Named = record { call = c.args.call; slot = c.args.slot } in
-    let names = c.args.self.now in
-    let whole : c.extend_from_slice-2.new.self.items ≡ (take span.0 c.args.self.now ++ x ∷ []) ++ take (length c.args.self.now - span.1) (drop span.1 c.args.self.now) =
-    rw (c.in_ok-extend_from_slice-2.ensures.items, c.in_ok-push.ensures.items, c.in_ok-extend_from_slice.ensures.items, c.in_ok-reserve.ensures.items, c.new-list.ensures.items, c.deref.ensures.value, c.deref-2.ensures.value, c.self.view_is) refl in
-    let e = joined_with names c.extend_from_slice-2.new.self.items x span.0 span.1 whole in
-    subst (λ (s : List Named). (n : Named) → Contains s n ↔ ((n ≡ record { call = c.args.call; slot = c.args.slot }) ⊎ IsOtherName c.args.self.now c.args.call n)) (sym e)
-    (with_members names c.args.call span c.split-first.ensures x)
+    put_listed c.self.inside.rows.items c.in_ok-rows.rows.items c.args.call c.row_of-place.result c.index.result.now c.in_ok-rows-2.field-0
+    c.deref-2.result.now c.in_ok-row.row c.self.invariant (rw c.deref.ensures.value at c.in_ok-rows.ensures.same) c.in_ok-rows.ensures.many
+    c.row_of-place.ensures.row c.row_of-place.ensures.below c.index.ensures c.deref-2.ensures c.in_ok-rows-2.ensures.ok c.args.slot c.in_ok-row.ensures c.args.self.now c.self.view_is

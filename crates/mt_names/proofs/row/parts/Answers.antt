@@ -1,8 +1,8 @@
 use Rattle.std.proofs.Common.{sym, ◌∙◌, ◌<◌, length, get_or, arith}
 use Rattle.std.proofs.lemmas.Slice.Eq.{bytes_eq-Decides}
 use Rattle.mt_names.proofs.Splitting.{other_at, split_here, split_none}
-use Rattle.mt_names.proofs.names.parts.Goals as goal
-use Rattle.mt_names.proofs.names.parts.Goals.{else-first-list-via-then-first-list+else-eq, else-first-list-via-else-first-list}
+use Rattle.mt_names.proofs.row.parts.Goals as goal
+use Rattle.mt_names.proofs.row.parts.Goals.{else-first-list-via-then-first-list+else-eq, else-first-list-via-else-first-list}
 
 pub returns-then-eq : goal.returns-then-eq
 returns-then-eq c =

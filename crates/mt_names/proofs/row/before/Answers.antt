@@ -1,6 +1,6 @@
 use Rattle.std.proofs.Common.{sym, ◌∙◌, ◌<◌, ◌+◌, ◌-◌, ◌/◌, length, arith}
 use Rattle.mt_names.proofs.Splitting.{all_before, less_of, none_before, not_less_of}
-use Rattle.mt_names.proofs.names.before.Goals as goal
+use Rattle.mt_names.proofs.row.before.Goals as goal
 
 pub loop-low-preserved-then-lt : goal.loop-low-preserved-then-lt
 loop-low-preserved-then-lt c =

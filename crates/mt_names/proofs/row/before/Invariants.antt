@@ -1,7 +1,7 @@
 use Rattle.std.proofs.Common.{◌-◌, ◌≤◌, length}
 use Rattle.std.specs.List.{AllWithin}
 use Rattle.mt_names.specs.Private.Naming.{IsCallBefore, IsNotBefore}
-use Rattle.mt_names.proofs.names.before.Given as goal
+use Rattle.mt_names.proofs.row.before.Given as goal
 
 abbrev pub invariant-loop-low : goal.invariant-loop-low
 invariant-loop-low l = record {
