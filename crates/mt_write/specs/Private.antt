@@ -2,4 +2,5 @@
 pub mod Joined
 pub mod Flags
 pub mod Object
+pub mod Plan
 pub mod Puts

@@ -15,6 +15,7 @@ mod names;
 mod number;
 mod object;
 mod pierced;
+mod plan;
 mod put_reply;
 mod refused;
 mod reply;

@@ -10,7 +10,7 @@ use crate::escape::put_escaped;
 use crate::write::{put, put_all, put_byte};
 use crate::written::{Written, put_items};
 use itoa::Buffer;
-use mt_base::{Callsign, FixName, Hit, Row, Tent, TypeName};
+use mt_base::{Callsign, FixName, Hit, Row, Tent};
 use mt_memory::Memory;
 
 /// A member's value.
@@ -22,9 +22,7 @@ pub(crate) enum Datum<'a> {
     Truth(bool),
     Callsign(Callsign),
     FixName(FixName),
-    TypeName(TypeName),
     Text(&'a [u8]),
-    Names(&'a [FixName]),
     Level(Option<u32>),
     Row(&'a Option<Row>),
     Tent(&'a Option<Tent>),
@@ -60,9 +58,7 @@ impl Written for Datum<'_> {
             Datum::Truth(truth) => truth.put(out),
             Datum::Callsign(call) => call.put(out),
             Datum::FixName(name) => name.put(out),
-            Datum::TypeName(name) => name.put(out),
             Datum::Text(text) => put_text(out, text),
-            Datum::Names(names) => put_array(out, names),
             Datum::Level(level) => level.put(out),
             Datum::Row(row) => row.put(out),
             Datum::Tent(tent) => tent.put(out),

@@ -1,12 +1,14 @@
 //! The refusal of a command.
 ghost use Rattle.mt_write.specs.declared.reply.Reply.TheVariants.{Refused};
 ghost use Rattle.mt_write.specs.Private.Puts.{Puts};
-ghost use Rattle.mt_write.specs.Reply.{bad_route, reply_text};
+ghost use Rattle.mt_write.specs.Reply.{bad_route, held_by, reply_text};
 ghost use Rattle.serde_json.specs.Data.{object};
 ghost use Rattle.serde_json.specs.Written.{compact_text};
-ghost use Rattle.std.specs.Prelude.{[], ◌∷◌, ◌++◌};
+ghost use Rattle.std.specs.Prelude.{[], ◌∷◌, ◌++◌, codes, decimal};
 
 use crate::object::{Datum, put_line, put_versioned};
+use crate::write::put;
+use crate::written::Written;
 use mt_base::Refusal;
 use mt_memory::Memory;
 
@@ -24,42 +26,57 @@ fn put_bad_route(out: &mut Vec<u8>, why: &[u8], version: u64) -> Result<(), Memo
     )
 }
 
-/// Puts the refusal of a command, with the version at which it holds.
+// Puts the refusal of a name that is unknown, the rest being what stands between the name and the version.
+fn put_unknown<T: Written>(
+    out: &mut Vec<u8>,
+    name: &T,
+    rest: &str,
+    version: u64,
+) -> Result<(), Memory>
+    ensures { Puts result out.old out.new (codes "{\"name\":" ++ ((compact_text (T.value name.now) ++ (rest.now ++ (decimal version ++ 125 ∷ []))) ++ 10 ∷ [])) }
+{
+    put(out, b"{\"name\":")?;
+    name.put(out)?;
+    put_versioned(out, rest, version)
+}
 
+// Puts the refusal of a command for another's tentative clearance.
+#[tactic(auto, unfolding(json::proofs::OnLiterals::json_on_literals))]
+fn put_held(out: &mut Vec<u8>, owner: u32, version: u64) -> Result<(), Memory>
+    ensures { Puts result out.old out.new (compact_text (object (held_by owner version)) ++ 10 ∷ []) }
+{
+    put_line(
+        out,
+        &[
+            ("{\"no\":\"tentative-held\",\"owner\":", Datum::Count(owner)),
+            (",\"version\":", Datum::Version(version)),
+        ],
+    )
+}
+
+/// Puts the refusal of a command, with the version at which it holds.
 pub(crate) fn put_refused(out: &mut Vec<u8>, refusal: &Refusal, version: u64) -> Result<(), Memory>
     ensures { Puts result out.old out.new (reply_text (Refused refusal.now version)) }
 {
     match refusal {
         Refusal::HeldCall => { put_versioned(out, "{\"no\":\"held-call\",\"version\":", version) }
-        Refusal::UnknownCall(call) => put_line(
+        Refusal::UnknownCall(call) => put_unknown(
             out,
-            &[
-                ("{\"name\":", Datum::Callsign(*call)),
-                (
-                    ",\"no\":\"unknown-call\",\"version\":",
-                    Datum::Version(version),
-                ),
-            ],
+            call,
+            ",\"no\":\"unknown-call\",\"version\":",
+            version,
         ),
-        Refusal::UnknownType(name) => put_line(
+        Refusal::UnknownType(name) => put_unknown(
             out,
-            &[
-                ("{\"name\":", Datum::TypeName(*name)),
-                (
-                    ",\"no\":\"unknown-type\",\"version\":",
-                    Datum::Version(version),
-                ),
-            ],
+            name,
+            ",\"no\":\"unknown-type\",\"version\":",
+            version,
         ),
-        Refusal::UnknownFix(name) => put_line(
+        Refusal::UnknownFix(name) => put_unknown(
             out,
-            &[
-                ("{\"name\":", Datum::FixName(*name)),
-                (
-                    ",\"no\":\"unknown-fix\",\"version\":",
-                    Datum::Version(version),
-                ),
-            ],
+            name,
+            ",\"no\":\"unknown-fix\",\"version\":",
+            version,
         ),
         Refusal::RouteShort => put_bad_route(out, b"short", version),
         Refusal::RouteLong => put_bad_route(out, b"long", version),
@@ -74,16 +91,7 @@ pub(crate) fn put_refused(out: &mut Vec<u8>, refusal: &Refusal, version: u64) ->
         Refusal::Ended => put_versioned(out, "{\"no\":\"ended\",\"version\":", version),
         Refusal::NotAhead => put_versioned(out, "{\"no\":\"not-ahead\",\"version\":", version),
         Refusal::Ceiling => put_versioned(out, "{\"no\":\"ceiling\",\"version\":", version),
-        Refusal::TentativeHeld { owner } => put_line(
-            out,
-            &[
-                (
-                    "{\"no\":\"tentative-held\",\"owner\":",
-                    Datum::Count(*owner),
-                ),
-                (",\"version\":", Datum::Version(version)),
-            ],
-        ),
+        Refusal::TentativeHeld { owner } => put_held(out, *owner, version),
         Refusal::NoTentative => {
             put_versioned(out, "{\"no\":\"no-tentative\",\"version\":", version)
         }

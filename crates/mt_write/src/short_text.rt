@@ -1,9 +1,11 @@
 //! A short text, made on the stack from its end to its beginning and put into a room as one piece.
 ghost use Rattle.std.specs.Prelude.{◌≡◌, ◌+◌, ◌≤◌, [], ◌++◌, decimal, length};
-ghost use Rattle.mt_base.specs.Name.{IsCallsign, IsFixName};
+ghost use Rattle.serde_json.specs.Data.{boolean};
+ghost use Rattle.serde_json.specs.Written.{compact_text};
+ghost use Rattle.mt_base.specs.Name.{IsCallsign, IsFixName, IsTypeName};
 
 use itoa::write_digits;
-use mt_base::{Callsign, FixName};
+use mt_base::{Callsign, FixName, TypeName};
 use std::marker::Model;
 
 /// How many bytes it may have.
@@ -86,5 +88,30 @@ impl ShortText {
         ensures named { IsFixName name.now }
     {
         self.prepend(name.bytes());
+    }
+
+    /// Puts the name of a type before it.
+    #[inline(always)]
+    pub(crate) fn prepend_type(&mut self, name: &TypeName)
+        requires { length self.old + 4 ≤ 128 }
+        ensures added { self.new ≡ name.now ++ self.old }
+        ensures size { length self.new ≤ length self.old + 4 }
+        ensures named { IsTypeName name.now }
+    {
+        self.prepend(name.bytes());
+    }
+
+    /// Puts a truth value before it.
+    #[inline(always)]
+    pub(crate) fn prepend_truth(&mut self, truth: bool)
+        requires { length self.old + 5 ≤ 128 }
+        ensures added { self.new ≡ compact_text (boolean truth) ++ self.old }
+        ensures size { length self.new ≤ length self.old + 5 }
+    {
+        if truth {
+            self.prepend(b"true");
+        } else {
+            self.prepend(b"false");
+        }
     }
 }

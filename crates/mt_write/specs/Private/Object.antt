@@ -2,11 +2,11 @@
 -- The text of an object from its members: what stands before each value, the values, and what ends it.
 use Rattle.std.specs.Prelude.{ℕ, pos, List, [], ◌∷◌, ◌++◌, false}
 use Rattle.std.specs.Borrow.{Bor}
-use Rattle.serde_json.specs.Data.{Data, Items, array, boolean, string}
+use Rattle.serde_json.specs.Data.{Data, Items, boolean, string}
 use Rattle.serde_json.specs.Written.{compact_text, items_text}
 use Rattle.mt_write.specs.declared.object.Datum.{Datum}
-use Rattle.mt_write.specs.declared.object.Datum.TheVariants.{Whole, Count, Version, Truth, Callsign, FixName, TypeName, Text, Names, Level, Row, Tent, Hit}
-use Rattle.mt_write.specs.Entry.{values, whole}
+use Rattle.mt_write.specs.declared.object.Datum.TheVariants.{Whole, Count, Version, Truth, Callsign, FixName, Text, Level, Row, Tent, Hit}
+use Rattle.mt_write.specs.Entry.{whole}
 use Rattle.mt_write.specs.Flight.{or_null, row_value, tent_value}
 use Rattle.mt_write.specs.Reply.{hit_value}
 
@@ -18,9 +18,7 @@ data_of (Version n) = whole (pos n)
 data_of (Truth b) = boolean b
 data_of (Callsign call) = string call
 data_of (FixName name) = string name
-data_of (TypeName name) = string name
 data_of (Text text) = string text.now
-data_of (Names names) = array (values string names.now)
 data_of (Level level) = or_null (λ n. whole (pos n)) level
 data_of (Row row) = or_null row_value row.now
 data_of (Tent tent) = or_null tent_value tent.now

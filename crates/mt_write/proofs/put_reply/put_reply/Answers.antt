@@ -15,11 +15,11 @@ returns-in-List c = puts_is c.put_at_version.result c.args.out.now c.put_at_vers
 
 pub returns-in-Probe : goal.returns-in-Probe
 unfolding json_on_literals
-returns-in-Probe c = puts_is c.put_list.result c.args.out.now c.put_list.new.out _ _ (ap (λ x. reply_text (reply.Probe x c.in-Probe.eff c.in-Probe.probe c.in-Probe.version)) c.items-in-Probe.ensures ∙ ap reply_text (sym c.in-Probe.is)) c.put_list.ensures
+returns-in-Probe c = puts_is c.put_probe.result c.args.out.now c.put_probe.new.out _ _ (ap (λ x. reply_text (reply.Probe x c.in-Probe.eff c.in-Probe.probe c.in-Probe.version)) c.items-in-Probe.ensures ∙ ap reply_text (sym c.in-Probe.is)) c.put_probe.ensures
 
 pub returns-in-Advice : goal.returns-in-Advice
 unfolding json_on_literals
-returns-in-Advice c = puts_is c.put_list-in-Advice.result c.args.out.now c.put_list-in-Advice.new.out _ _ (ap (λ x. reply_text (reply.Advice x c.in-Advice.call c.in-Advice.eff c.in-Advice.version)) c.items-in-Advice.ensures ∙ ap reply_text (sym c.in-Advice.is)) c.put_list-in-Advice.ensures
+returns-in-Advice c = puts_is c.put_advice.result c.args.out.now c.put_advice.new.out _ _ (ap (λ x. reply_text (reply.Advice x c.in-Advice.call c.in-Advice.eff c.in-Advice.version)) c.items-in-Advice.ensures ∙ ap reply_text (sym c.in-Advice.is)) c.put_advice.ensures
 
 pub returns-in-Due : goal.returns-in-Due
 unfolding json_on_literals
@@ -39,19 +39,19 @@ returns-in-Areas c = puts_is c.put_at_version-in-Areas.result c.args.out.now c.p
 
 pub returns-in-Form : goal.returns-in-Form
 unfolding json_on_literals
-returns-in-Form c = puts_is c.put_line.result c.args.out.now c.put_line.new.out _ _ (ap (λ x. reply_text (reply.Form x)) c.bytes.ensures ∙ ap reply_text (sym c.in-Form.is)) c.put_line.ensures
+returns-in-Form c = puts_is c.put_field.result c.args.out.now c.put_field.new.out _ _ (ap (λ x. reply_text (reply.Form x)) c.bytes.ensures ∙ ap reply_text (sym c.in-Form.is)) c.put_field.ensures
 
 pub returns-in-Range : goal.returns-in-Range
 unfolding json_on_literals
-returns-in-Range c = puts_is c.put_line-in-Range.result c.args.out.now c.put_line-in-Range.new.out _ _ (ap (λ x. reply_text (reply.Range x)) c.bytes-in-Range.ensures ∙ ap reply_text (sym c.in-Range.is)) c.put_line-in-Range.ensures
+returns-in-Range c = puts_is c.put_field-in-Range.result c.args.out.now c.put_field-in-Range.new.out _ _ (ap (λ x. reply_text (reply.Range x)) c.bytes-in-Range.ensures ∙ ap reply_text (sym c.in-Range.is)) c.put_field-in-Range.ensures
 
 pub returns-in-TakenFix : goal.returns-in-TakenFix
 unfolding json_on_literals
-returns-in-TakenFix c = puts_is c.put_line-in-TakenFix.result c.args.out.now c.put_line-in-TakenFix.new.out _ _ (ap reply_text (sym c.in-TakenFix.is)) c.put_line-in-TakenFix.ensures
+returns-in-TakenFix c = puts_is c.put_taken.result c.args.out.now c.put_taken.new.out _ _ (ap reply_text (sym c.in-TakenFix.is)) c.put_taken.ensures
 
 pub returns-in-TakenType : goal.returns-in-TakenType
 unfolding json_on_literals
-returns-in-TakenType c = puts_is c.put_line-in-TakenType.result c.args.out.now c.put_line-in-TakenType.new.out _ _ (ap reply_text (sym c.in-TakenType.is)) c.put_line-in-TakenType.ensures
+returns-in-TakenType c = puts_is c.put_taken-in-TakenType.result c.args.out.now c.put_taken-in-TakenType.new.out _ _ (ap reply_text (sym c.in-TakenType.is)) c.put_taken-in-TakenType.ensures
 
 pub returns-in-Late : goal.returns-in-Late
 unfolding json_on_literals

@@ -15,15 +15,15 @@ returns-in-HeldCall c = puts_is c.put_versioned.result c.args.out.now c.put_vers
 
 pub returns-in-UnknownCall : goal.returns-in-UnknownCall
 unfolding json_on_literals
-returns-in-UnknownCall c = puts_is c.put_line.result c.args.out.now c.put_line.new.out _ _ (ap (text_of c.args.version) (sym c.in-UnknownCall.is)) c.put_line.ensures
+returns-in-UnknownCall c = puts_is c.put_unknown.result c.args.out.now c.put_unknown.new.out _ _ (ap (text_of c.args.version) (sym c.in-UnknownCall.is)) c.put_unknown.ensures
 
 pub returns-in-UnknownType : goal.returns-in-UnknownType
 unfolding json_on_literals
-returns-in-UnknownType c = puts_is c.put_line-in-UnknownType.result c.args.out.now c.put_line-in-UnknownType.new.out _ _ (ap (text_of c.args.version) (sym c.in-UnknownType.is)) c.put_line-in-UnknownType.ensures
+returns-in-UnknownType c = puts_is c.put_unknown-in-UnknownType.result c.args.out.now c.put_unknown-in-UnknownType.new.out _ _ (ap (text_of c.args.version) (sym c.in-UnknownType.is)) c.put_unknown-in-UnknownType.ensures
 
 pub returns-in-UnknownFix : goal.returns-in-UnknownFix
 unfolding json_on_literals
-returns-in-UnknownFix c = puts_is c.put_line-in-UnknownFix.result c.args.out.now c.put_line-in-UnknownFix.new.out _ _ (ap (text_of c.args.version) (sym c.in-UnknownFix.is)) c.put_line-in-UnknownFix.ensures
+returns-in-UnknownFix c = puts_is c.put_unknown-in-UnknownFix.result c.args.out.now c.put_unknown-in-UnknownFix.new.out _ _ (ap (text_of c.args.version) (sym c.in-UnknownFix.is)) c.put_unknown-in-UnknownFix.ensures
 
 pub returns-in-RouteShort : goal.returns-in-RouteShort
 unfolding json_on_literals
@@ -71,7 +71,7 @@ returns-in-Ceiling c = puts_is c.put_versioned-in-Ceiling.result c.args.out.now 
 
 pub returns-in-TentativeHeld : goal.returns-in-TentativeHeld
 unfolding json_on_literals
-returns-in-TentativeHeld c = puts_is c.put_line-in-TentativeHeld.result c.args.out.now c.put_line-in-TentativeHeld.new.out _ _ (ap (text_of c.args.version) (sym c.in-TentativeHeld.is)) c.put_line-in-TentativeHeld.ensures
+returns-in-TentativeHeld c = puts_is c.put_held.result c.args.out.now c.put_held.new.out _ _ (ap (text_of c.args.version) (sym c.in-TentativeHeld.is)) c.put_held.ensures
 
 pub returns-in-NoTentative : goal.returns-in-NoTentative
 unfolding json_on_literals
@@ -91,7 +91,7 @@ returns-in-NotFree c = puts_is c.put_versioned-in-NotFree.result c.args.out.now 
 
 pub returns-in-Stale : goal.returns-in-Stale
 unfolding json_on_literals
-returns-in-Stale c = puts_is c.put_line-in-Stale.result c.args.out.now c.put_line-in-Stale.new.out _ _ (ap (text_of c.args.version) (sym c.in-Stale.is)) c.put_line-in-Stale.ensures
+returns-in-Stale c = puts_is c.put_line.result c.args.out.now c.put_line.new.out _ _ (ap (text_of c.args.version) (sym c.in-Stale.is)) c.put_line.ensures
 
 pub returns-in-NotDue : goal.returns-in-NotDue
 unfolding json_on_literals
