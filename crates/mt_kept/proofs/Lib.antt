@@ -21,3 +21,4 @@ pub mod Renewed
 pub mod Permuted
 pub mod Looking
 pub mod Due
+pub mod Shifted

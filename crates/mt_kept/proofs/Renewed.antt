@@ -17,7 +17,7 @@ use Rattle.mt_kept.specs.declared.open_pair.OpenPair.{OpenPair}
 use Rattle.mt_kept.specs.declared.stale.Stale.{Stale}
 use Rattle.mt_kept.specs.Losing.{IsPair}
 use Rattle.mt_kept.specs.Private.Losing.{AreKept}
-use Rattle.mt_kept.specs.Private.Made.{WereTested, borders, goes_on, is_at_border, is_tested, is_tested_on, opens, window_last}
+use Rattle.mt_kept.specs.Private.Made.{WereTested, borders, goes_on, is_at_border, is_tested, opens, straddles_on, window_last}
 use Rattle.mt_kept.specs.Private.Stale.{AreDue, AreStale, comes_due, is_settled, is_stale, stays}
 use Rattle.mt_kept.specs.Private.Window.{AreOpen, Shows}
 use Rattle.mt_kept.specs.Window.{IsOpen, ShowsInWindow, WasTestedOnce, edge_of}
@@ -191,17 +191,16 @@ module _ (rules : Rules) (places : List (Option NamedTrajectory)) (old now : ℕ
       (AllPairs-filter (λ o p. o.edge ≢ p.edge) (is_at_border old) pairs opened.distinct))
 
   -- what looking at these needs
-  pub border_pairs : All (λ o. now ≤ o.edge.last → IsPair rules places o.edge × IsOpen now o.edge) bordering
-  border_pairs = All-from_held (λ o. now ≤ o.edge.last → IsPair rules places o.edge × IsOpen now o.edge) bordering (λ o held. λ on.
-      let b = border_is o.edge (Contains-map edge_of bordering o held) in
-      let meets = borders_open old o.edge b.1 in
-      let ahead = meets.0 in
-      (kept.sound o.edge b.0, (omega arith, on)))
+  pub border_pairs : All (λ o. IsPair rules places o.edge × IsOpen old o.edge × ShowsInWindow rules places old o.edge o.conflict) bordering
+  border_pairs = All-from_held (λ o. IsPair rules places o.edge × IsOpen old o.edge × ShowsInWindow rules places old o.edge o.conflict) bordering (λ o held.
+      let h = (Contains-filter (is_at_border old) pairs o).0 (subst (λ (os : List OpenPair). Contains os o) are held) in
+      let s = opened.sound o h.0 in
+      (kept.sound o.edge s.0, s.1, s.2))
 
   border_held : (e : Edge) → Contains (map edge_of bordering) e → Contains edges e
   border_held e held = (border_is e held).0
 
-  pub first_tested : (before after : ℕ) → WereTested (is_tested_on now) (map edge_of bordering) before after → WasTestedOnce rules places now before after
+  pub first_tested : (before after : ℕ) → WereTested (straddles_on now) (map edge_of bordering) before after → WasTestedOnce rules places now before after
   first_tested before after one =
       tested_once rules places now edges (map edge_of bordering) [] before after after kept border_held (λ e held. absurd (Contains-none e held)) border_distinct
       (λ i j d low below. absurd (omega (arith, low, below))) (λ e f first second. absurd (Contains-none f second)) one (none_gone (is_tested now) after)
@@ -284,7 +283,7 @@ module _ (rules : Rules) (places : List (Option NamedTrajectory)) (old now : ℕ
         true≢false (sym (border_is e first).1 ∙ ap (borders old) same ∙ d.none)
 
     -- the tests of both
-    pub both_tested : (before mid after : ℕ) → WereTested (is_tested_on now) (map edge_of bordering) before mid → WereTested (is_tested now) due mid after
+    pub both_tested : (before mid after : ℕ) → WereTested (straddles_on now) (map edge_of bordering) before mid → WereTested (is_tested now) due mid after
         → WasTestedOnce rules places now before after
     both_tested before mid after one two =
         tested_once rules places now edges (map edge_of bordering) due before mid after kept border_held due_held border_distinct (apart_distinct due are_due.apart)

@@ -40,7 +40,7 @@ pub record ShowsInWindow (rules : Rules) (places : List (Option NamedTrajectory)
 abbrev pub edge_of : OpenPair → Edge
 edge_of o = o.edge
 
--- at most one test per straddling pair, no other. A pair that is known to be solid needs none.
+-- at most as many tests as there are straddling pairs. One that is known to be solid needs none.
 pub record WasTestedOnce (rules : Rules) (places : List (Option NamedTrajectory)) (now old new : ℕ) : Type 0 where
   pub edges : List Edge
   pub distinct : AreDistinctPairs edges

@@ -269,6 +269,7 @@ impl Kept {
         renew_bordering(
             &self.places,
             &self.bordering,
+            self.moment,
             &mut stale,
             &self.rules,
             now,

@@ -5,6 +5,7 @@
 mod conflict_list;
 mod finds;
 mod kept;
+mod later;
 mod laws;
 mod lists;
 mod merging;

@@ -26,7 +26,7 @@ pub fn is_open(edge: &Edge, now: Second) -> bool
 }
 
 /// Whether an edge of the window from `now` lies inside the pair's span.
-fn is_straddling(edge: &Edge, now: Second) -> bool
+pub(crate) fn is_straddling(edge: &Edge, now: Second) -> bool
     requires { now ≤ 10000000 }
     ensures { result ≡ straddles now edge.now }
 {

@@ -37,7 +37,7 @@ fn in_order(left: &Item, right: &Item, span: (Second, Second)) -> Conflict
 }
 
 /// The conflict of two items of different flights, the lesser callsign first.
-fn paired(left: &Item, right: &Item, span: (Second, Second)) -> Conflict
+pub(crate) fn paired(left: &Item, right: &Item, span: (Second, Second)) -> Conflict
     requires { left.now.call ≢ right.now.call }
     ensures { IsInOrder (named left.now) (named right.now) span result ⊎ IsInOrder (named right.now) (named left.now) span result }
 {
@@ -49,7 +49,7 @@ fn paired(left: &Item, right: &Item, span: (Second, Second)) -> Conflict
 }
 
 /// What of an open pair's span lies in the window. That is what the pair shows, unless it has to be tested.
-fn span_within(edge: &Edge, now: Second) -> (Second, Second)
+pub(crate) fn span_within(edge: &Edge, now: Second) -> (Second, Second)
     requires { now ≤ 10000000 }
     ensures { result ≡ span_within now edge.now }
 {
@@ -86,7 +86,7 @@ pub(crate) fn shown_pair(
 }
 
 /// The two items of a pair of places.
-fn items_of<'a>(places: &'a [Option<Item>], edge: &Edge) -> (&'a Item, &'a Item)
+pub(crate) fn items_of<'a>(places: &'a [Option<Item>], edge: &Edge) -> (&'a Item, &'a Item)
     requires { (rules : Rules) × IsPair rules (map seen places.now) edge.now }
     ensures left { at (map seen places.now) edge.now.a ≡ Some (named result.0.now) }
     ensures right { at (map seen places.now) edge.now.b ≡ Some (named result.1.now) }

@@ -1,5 +1,5 @@
 -- No public contract names these: they are of private steps and of proofs.
-use Rattle.std.specs.Prelude.{◌≡◌, ℕ, ◌<◌, ◌↔◌, ◌⊎◌, ◌++◌, ◌∷◌, [], ◌+◌, ◌*◌, ◌≤◌, List, map, take, length, filter, Contains, Option, Bool, ⊤, not, ◌==◌, ◌&&◌, ◌||◌, max, min, nat_le, nat_lt}
+use Rattle.std.specs.Prelude.{◌≡◌, ℕ, ◌<◌, ◌↔◌, ◌⊎◌, ◌++◌, ◌∷◌, [], ◌+◌, ◌*◌, ◌≤◌, List, map, take, length, filter, Contains, Option, Some, None, Bool, ⊤, not, ◌==◌, ◌&&◌, ◌||◌, max, min, nat_le, nat_lt}
 use Rattle.std.specs.List.{count_by}
 use Rattle.std.specs.Cmp.Lexicographic.{slice_cmp}
 use Rattle.std.specs.Ordering.{nat_cmp}
@@ -19,7 +19,7 @@ use Rattle.mt_kept.specs.Losing.{IsSolidAsSaid}
 use Rattle.mt_kept.specs.Private.Losing.{AvoidsSlot}
 use Rattle.mt_kept.specs.Places.{slot_of}
 use Rattle.mt_base.specs.Trajectory.{horizon}
-use Rattle.mt_base.specs.Tally.{raised_by}
+use Rattle.mt_base.specs.Tally.{RoseUpTo, raised_by}
 use Rattle.mt_kept.specs.Window.{IsFoundOf, IsOpen, edge_of, straddles}
 use Rattle.mt_kept.specs.Made.{is_open_pair}
 
@@ -63,17 +63,33 @@ conflict_of left right first last =
 abbrev pub IsInOrder : NamedTrajectory → NamedTrajectory → ℕ × ℕ → Conflict → Type 0
 IsInOrder left right span c = (slice_cmp nat_cmp left.call right.call ≡ Less) × (c ≡ conflict_of left right span.0 span.1)
 
--- `is_tested`, `is_tested_on`: a pair that straddles an edge of the look-ahead is tested where it isn't known to be solid; where it goes on, too
+-- a conflict of the same two trajectories over another span
+abbrev pub over_span : Conflict → ℕ × ℕ → Conflict
+over_span c span = record { first = span.0; a = c.a; b = c.b; ka = c.ka; kb = c.kb; last = span.1 }
+
+-- a pair that straddles an edge of the look-ahead is tested where it isn't known to be solid
 abbrev pub is_tested : ℕ → Edge → Bool
 is_tested now e = straddles now e && not e.solid
 
-abbrev pub is_tested_on : ℕ → Edge → Bool
-is_tested_on now e = goes_on now e && is_tested now e
+-- a pair that goes on straddles an edge of the look-ahead
+abbrev pub straddles_on : ℕ → Edge → Bool
+straddles_on now e = goes_on now e && straddles now e
 
--- some first ones of these pairs were gone over, and those that are to be tested were so once
+-- some first ones of these pairs were gone over, with at most one test for each of this kind
 pub record WereTested (p : Edge → Bool) (edges : List Edge) (old new : ℕ) : Type 0 where
   pub first : ℕ
-  pub is : new ≡ raised_by (count_by p (take first edges)) old
+  pub rose : RoseUpTo (count_by p (take first edges)) old new
+
+-- the first second of what was shown, where it isn't before a moment
+abbrev pub IsFirstFrom : Option Conflict → ℕ → Option ℕ → Type 0
+IsFirstFrom shown now None = (c : Conflict) → shown ≡ Some c → c.first < now
+IsFirstFrom shown now (Some first) = (c : Conflict) × (shown ≡ Some c) × (c.first ≡ first) × (now ≤ first)
+
+-- tests were made of so many that were allowed, and so many are left to spare
+pub record WereTestedOf (allowed spare old new : ℕ) : Type 0 where
+  pub more : ℕ
+  pub within : more + spare ≤ allowed
+  pub is : new ≡ raised_by more old
 
 -- the pairs of a slot were taken out, and the found ones put in
 abbrev pub AreReplaced : ℕ → List OpenPair → List Edge → List Edge → Type 0

@@ -6,15 +6,13 @@ use Rattle.mt_kept.specs.Places.{seen}
 use Rattle.mt_kept.specs.Private.Made.{is_tested}
 use Rattle.mt_kept.specs.Private.Window.{AreAdded}
 use Rattle.mt_kept.proofs.Looking.{added_more, added_none}
-use Rattle.mt_kept.proofs.Moving.{tested_more}
+use Rattle.mt_kept.proofs.Moving.{tested_each, tested_more}
 use Rattle.mt_kept.proofs.renewing.renew.Goals as goal
 
 pub returns-in_err-push_pair-clause-counted : goal.returns-in_err-push_pair-clause-counted
-returns-in_err-push_pair-clause-counted c = record {
-  first = c.loop-edge.edge-index + 1;
-  is = tested_more (is_tested c.args.now) c.args.edges.now c.loop-edge.edge-index c.args.tests.now c.loop-edge.tests c.shown-conflict.new.tests _
-      c.loop-edge-test.true c.loop-edge.invariant.counted c.shown-conflict.ensures.counted;
-}
+returns-in_err-push_pair-clause-counted c = tested_each (is_tested c.args.now) c.args.edges.now (c.loop-edge.edge-index + 1) c.args.tests.now
+    c.shown-conflict.new.tests (tested_more (is_tested c.args.now) c.args.edges.now c.loop-edge.edge-index c.args.tests.now c.loop-edge.tests
+    c.shown-conflict.new.tests _ c.loop-edge-test.true c.loop-edge.invariant.counted c.shown-conflict.ensures.counted)
 
 pub loop-edge-preserved : goal.loop-edge-preserved
 loop-edge-preserved c =
@@ -49,4 +47,5 @@ returns-clause-added c =
     (take_all c.loop-edge.edge-index c.args.edges.now c.loop-edge-test.false) c.loop-edge.invariant.added
 
 pub returns-clause-counted : goal.returns-clause-counted
-returns-clause-counted c = record { first = c.loop-edge.edge-index; is = c.loop-edge.invariant.counted }
+returns-clause-counted c =
+    tested_each (is_tested c.args.now) c.args.edges.now c.loop-edge.edge-index c.args.tests.now c.loop-edge.tests c.loop-edge.invariant.counted

@@ -1,8 +1,8 @@
-use Rattle.std.proofs.Common.{◌≡◌, ℕ, map, take}
+use Rattle.std.proofs.Common.{ℕ, map, take}
 use Rattle.std.specs.List.{count_by}
-use Rattle.mt_base.specs.Tally.{raised_by}
 use Rattle.mt_kept.specs.Places.{seen}
-use Rattle.mt_kept.specs.Private.Made.{is_tested_on}
+use Rattle.mt_base.specs.StrikeOut.{one_if}
+use Rattle.mt_kept.specs.Private.Made.{WereTestedOf, straddles_on}
 use Rattle.mt_kept.specs.Private.Stale.{AreStale}
 use Rattle.mt_kept.specs.Private.Window.{AreLookedAt}
 use Rattle.mt_kept.specs.Window.{edge_of}
@@ -12,5 +12,5 @@ abbrev pub invariant-loop-pair : goal.invariant-loop-pair
 invariant-loop-pair l = record {
   renewed : AreLookedAt l.rules (map seen l.places) l.now (take l.pair-index l.pairs) l.stale l.initial.renewed.items l.renewed.items;
   stale : (moment : ℕ) → AreStale moment l.now l.initial.stale → AreStale moment l.now l.stale;
-  counted : l.tests ≡ raised_by (count_by (is_tested_on l.now) (take l.pair-index (map edge_of l.pairs))) l.initial.tests;
+  counted : WereTestedOf (count_by (straddles_on l.now) (take l.pair-index (map edge_of l.pairs))) (one_if l.spare) l.initial.tests l.tests;
 }
