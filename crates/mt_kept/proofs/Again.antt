@@ -1,5 +1,5 @@
 -- The pairs of a place, as finds.
-use Rattle.std.proofs.Common.{refl, ◌≡◌, ◌≢◌, ℕ, ◌<◌, ◌≤◌, ◌⊎◌, inl, inr, ⊎_elim, true, List, map, Contains, Option, Some, sym, ◌∙◌, ap, subst, arith, cond, [], ◌↔◌}
+use Rattle.std.proofs.Common.{refl, ◌≡◌, ℕ, ◌≤◌, inl, inr, ⊎_elim, true, List, map, Contains, Option, sym, ◌∙◌, ap, subst, cond, [], ◌↔◌}
 use Rattle.std.specs.List.{AllPairs, filter, list_any}
 use Rattle.std.proofs.lemmas.Bool.{cases_Bool}
 use Rattle.std.proofs.lemmas.List.Elements.{All-contains}
@@ -14,12 +14,12 @@ use Rattle.mt_base.proofs.OneConflict.{one_span}
 use Rattle.mt_kept.specs.declared.open_pair.OpenPair.{OpenPair}
 use Rattle.mt_kept.specs.Places.{at}
 use Rattle.mt_base.specs.Trajectory.{horizon}
-use Rattle.mt_kept.specs.Losing.{IsPair, LoseSeparation, Touches}
+use Rattle.mt_kept.specs.Losing.{IsPair, Touches}
 use Rattle.mt_kept.specs.Private.Losing.{AreKept}
 use Rattle.mt_kept.specs.Window.{IsFoundOf, IsOpen, ShowsInWindow, edge_of}
 use Rattle.mt_kept.specs.Private.Window.{AreShownUntested, AreOpen, IsShownUntested}
 use Rattle.mt_kept.specs.Private.Made.{borders, is_at_border, is_tested, touches_place}
-use Rattle.mt_kept.specs.Finds.{Agree, AreFindsAt}
+use Rattle.mt_kept.specs.Finds.{AreFindsAt}
 use Rattle.mt_kept.proofs.Keeping.{touches_is}
 use Rattle.mt_base.proofs.Members.{Contains-filter, Contains-map, Contains-map_cases, distinct_of}
 use Rattle.mt_kept.proofs.Publishing.{within_shown}
@@ -91,71 +91,3 @@ finds_untested rules places now place edges own pairs bordering tested finds ear
 } where
   DifferInEnds : Edge → Edge → Type 0
   DifferInEnds e f = ¬ HaveSameEnds e f
-
--- they stay its finds where places change, as far as other flights go, in no other way
-ends_agree : (rules : Rules) (places after : List (Option NamedTrajectory)) (place : ℕ) (mine : NamedTrajectory) (e : Edge) → at places place ≡ Some mine
-    → Agree places after place mine → IsPair rules places e → Touches place e → (at after e.a ≡ at places e.a) × (at after e.b ≡ at places e.b)
-ends_agree rules places after place mine e was agree pair touches = ⊎_elim
-    (λ a.
-    let l : pair.left ≡ mine = let x = pair.left_is in let y = ap (at places) a ∙ was in cc in
-    let away : e.b ≢ place = λ b. absurd (let x = pair.before in omega arith) in
-    let apart : mine.call ≢ pair.right.call = λ same. pair.apart (ap (λ (t : NamedTrajectory). t.call) l ∙ same) in
-    (ap (at after) a ∙ agree.here ∙ sym (ap (at places) a ∙ was), (agree.there e.b pair.right away apart).1 pair.right_is ∙ sym pair.right_is))
-    (λ b.
-    let r : pair.right ≡ mine = let x = pair.right_is in let y = ap (at places) b ∙ was in cc in
-    let away : e.a ≢ place = λ a. absurd (let x = pair.before in omega arith) in
-    let apart : mine.call ≢ pair.left.call = λ same. pair.apart (sym same ∙ sym (ap (λ (t : NamedTrajectory). t.call) r)) in
-    ((agree.there e.a pair.left away apart).1 pair.left_is ∙ sym pair.left_is, ap (at after) b ∙ agree.here ∙ sym (ap (at places) b ∙ was))) touches
-
-loses_agree : (rules : Rules) (places after : List (Option NamedTrajectory)) (place : ℕ) (mine : NamedTrajectory) (a b k : ℕ) → a < b → at places place ≡ Some mine
-    → Agree places after place mine → (a ≡ place) ⊎ (b ≡ place) → LoseSeparation rules after a b k → LoseSeparation rules places a b k
-loses_agree rules places after place mine a b k before was agree touches h = ⊎_elim
-    (λ x.
-    let l : h.left ≡ mine = let p = h.left_is in let q = ap (at after) x ∙ agree.here in cc in
-    let away : b ≢ place = λ y. absurd (omega arith) in
-    let apart : mine.call ≢ h.right.call = λ same. h.apart (ap (λ (t : NamedTrajectory). t.call) l ∙ same) in
-    record {
-      left = h.left;
-      right = h.right;
-      left_is = ap (at places) x ∙ was ∙ ap Some (sym l);
-      right_is = (agree.there b h.right away apart).0 h.right_is;
-      apart = h.apart;
-      loss = h.loss;
-      early = h.early;
-    })
-    (λ y.
-    let r : h.right ≡ mine = let p = h.right_is in let q = ap (at after) y ∙ agree.here in cc in
-    let away : a ≢ place = λ x. absurd (omega arith) in
-    let apart : mine.call ≢ h.left.call = λ same. h.apart (sym same ∙ sym (ap (λ (t : NamedTrajectory). t.call) r)) in
-    record {
-      left = h.left;
-      right = h.right;
-      left_is = (agree.there a h.left away apart).0 h.left_is;
-      right_is = ap (at places) y ∙ was ∙ ap Some (sym r);
-      apart = h.apart;
-      loss = h.loss;
-      early = h.early;
-    }) touches
-
-pub finds_agree : (rules : Rules) (places after : List (Option NamedTrajectory)) (now place : ℕ) (mine : NamedTrajectory) (finds : List OpenPair)
-    → at places place ≡ Some mine → Agree places after place mine → AreFindsAt rules places now place finds → AreFindsAt rules after now place finds
-finds_agree rules places after now place mine finds was agree found = record {
-  sound = λ o held.
-      let h = found.sound o held in
-      let ends = ends_agree rules places after place mine o.edge was agree h.1 h.0 in (
-        h.0,
-        record {
-          left = h.1.left;
-          right = h.1.right;
-          left_is = ends.0 ∙ h.1.left_is;
-          right_is = ends.1 ∙ h.1.right_is;
-          before = h.1.before;
-          apart = h.1.apart;
-          span = h.1.span;
-          solid = h.1.solid;
-        },
-        λ meets. let s = h.2 meets in record { left = s.left; right = s.right; left_is = ends.0 ∙ s.left_is; right_is = ends.1 ∙ s.right_is; found = s.found },
-      );
-  complete = λ a b k before touches loses. found.complete a b k before touches (loses_agree rules places after place mine a b k before was agree touches loses);
-  distinct = found.distinct;
-}

@@ -1,23 +1,19 @@
--- What was found for a place, and for the two places of a slot.
-use Rattle.std.proofs.Common.{◌≡◌, ◌≢◌, ℕ, ◌+◌, ◌*◌, ◌<◌, ◌⊎◌, inl, inr, ⊎_elim, List, [], ◌++◌, map, Contains, Option, Some, None, refl, sym, ◌∙◌, ap, subst, arith}
-use Rattle.std.proofs.lemmas.List.{map-append}
-use Rattle.std.proofs.lemmas.List.Elements.{Contains-append_cases, Contains-append_left, Contains-append_right}
+-- What was found for a place, and for changed places.
+use Rattle.std.proofs.Common.{◌≡◌, ◌≢◌, ℕ, ◌<◌, ◌⊎◌, inl, inr, ⊎_elim, List, [], map, Contains, Option, Some, None, refl, sym, ◌∙◌, ap, subst, arith}
+use Rattle.std.proofs.lemmas.Bool.{cases_eq}
 use Rattle.mt_base.specs.declared.conflict.Conflict.{Conflict}
 use Rattle.mt_base.specs.declared.rules.Rules.{Rules}
 use Rattle.mt_base.specs.Conflict.{IsLossSecond}
 use Rattle.mt_base.specs.Picture.{NamedTrajectory}
-use Rattle.mt_edges.specs.declared.edge.Edge.{Edge}
-use Rattle.mt_edges.specs.Pairs.{HaveSameEnds}
 use Rattle.mt_kept.specs.declared.finds.Candidate.{Candidate}
 use Rattle.mt_kept.specs.declared.open_pair.OpenPair.{OpenPair}
-use Rattle.mt_kept.specs.Places.{at, slot_of}
+use Rattle.mt_kept.specs.Places.{at}
 use Rattle.mt_base.specs.Trajectory.{horizon}
-use Rattle.mt_kept.specs.Losing.{IsPair, Joins, Touches, TouchesSlot}
+use Rattle.mt_kept.specs.Losing.{Joins}
 use Rattle.mt_kept.specs.Window.{IsFoundOf, edge_of}
-use Rattle.mt_kept.specs.Finds.{Agree, AreCandidates, AreFindsOfSlot, AreFindsAt, IsOfOtherFlight, candidate_place}
-use Rattle.mt_base.proofs.Members.{Contains-map, Contains-map_cases, Contains-none, distinct_append}
+use Rattle.mt_kept.specs.Finds.{Agree, AreCandidates, AreFindsAt, AreFindsOfPlaces, IsOfOtherFlight, candidate_place}
+use Rattle.mt_base.proofs.Members.{Contains-map, Contains-map_cases, Contains-none}
 use Rattle.mt_kept.proofs.Gathering.{AreGathered}
-use Rattle.mt_kept.proofs.Keeping.{even_half, halves, odd_half}
 use Rattle.mt_kept.proofs.Windows.{IsSolidAsSaid-sym, IsLossSecond-sym, IsSpanOfLoss-sym}
 
 -- what was found among all candidates
@@ -111,62 +107,29 @@ finds_are rules places after now place mine xs finds agree candidates gathered =
                 (λ q. (q.0 ∙ c.is ∙ sym p.0, q.1 ∙ sym p.1)) found.ends) ends;
           }
 
--- what was found for the two places of a slot is what was found for the slot
-both_ends : (rules : Rules) (after : List (Option NamedTrajectory)) (slot : ℕ) (e : Edge)
-    → ((s t : NamedTrajectory) → at after (2 * slot) ≡ Some s → at after (2 * slot + 1) ≡ Some t → s.call ≡ t.call)
-    → IsPair rules after e → Touches (2 * slot) e → Touches (2 * slot + 1) e → ⊥
-both_ends rules after slot e one pair first second =
-    let l = pair.left_is in
-    let r = pair.right_is in
-    let before = pair.before in
-    ⊎_elim
-    (λ a. ⊎_elim (λ b. absurd (omega arith))
-    (λ b. pair.apart (one pair.left pair.right (sym (ap (at after) a) ∙ l) (sym (ap (at after) b) ∙ r))) second)
-    (λ a. ⊎_elim (λ b. pair.apart (sym (one pair.right pair.left (sym (ap (at after) a) ∙ r) (sym (ap (at after) b) ∙ l))))
-    (λ b. absurd (omega arith)) second) first
-
-touches_slot : (slot place : ℕ) (e : Edge) → slot_of place ≡ slot → Touches place e → TouchesSlot slot e
-touches_slot slot place e half touches = ⊎_elim (λ a. inl (ap slot_of a ∙ half)) (λ b. inr (ap slot_of b ∙ half)) touches
-
-moved_touch : (place : ℕ) (e f : Edge) → HaveSameEnds e f → Touches place f → Touches place e
-moved_touch place e f same touches = ⊎_elim (λ a. inl (same.0 ∙ a)) (λ b. inr (same.1 ∙ b)) touches
-
-pub finds_join : (rules : Rules) (after : List (Option NamedTrajectory)) (now slot : ℕ) (first second : List OpenPair)
-    → ((s t : NamedTrajectory) → at after (2 * slot) ≡ Some s → at after (2 * slot + 1) ≡ Some t → s.call ≡ t.call)
-    → AreFindsAt rules after now (2 * slot) first → AreFindsAt rules after now (2 * slot + 1) second → AreFindsOfSlot rules after now slot (first ++ second)
-finds_join rules after now slot first second one f g = record {
-  sound = λ o held. ⊎_elim
-      (λ early. let h = f.sound o early in (touches_slot slot (2 * slot) o.edge (even_half slot) h.0, h.1, h.2))
-      (λ late. let h = g.sound o late in (touches_slot slot (2 * slot + 1) o.edge (odd_half slot) h.0, h.1, h.2))
-      (Contains-append_cases first second o held);
-  complete = λ a b k before here loses. ⊎_elim
-      (λ x. ⊎_elim (λ even. joined_first a b (f.complete a b k before (inl even) loses)) (λ odd. joined_second a b (g.complete a b k before (inl odd) loses))
-      (halves a slot x))
-      (λ x. ⊎_elim (λ even. joined_first a b (f.complete a b k before (inr even) loses)) (λ odd. joined_second a b (g.complete a b k before (inr odd) loses))
-      (halves b slot x)) here;
-  distinct = distinct_append (λ o p. ¬ HaveSameEnds o.edge p.edge) first second f.distinct g.distinct (λ o p early late. λ same.
-      both_ends rules after slot o.edge one (f.sound o early).1 (f.sound o early).0 (moved_touch (2 * slot + 1) o.edge p.edge same (g.sound p late).0));
+-- what was found for a place is what was found for all changed places, where the others are empty
+pub finds_one : (rules : Rules) (after : List (Option NamedTrajectory)) (now : ℕ) (changed : List ℕ) (place : ℕ) (finds : List OpenPair)
+    → Contains changed place → ((i : ℕ) → Contains changed i → i ≢ place → at after i ≡ None) → AreFindsAt rules after now place finds
+    → AreFindsOfPlaces rules after now changed finds
+finds_one rules after now changed place finds here empty found = record {
+  sound = λ o held.
+      let h = found.sound o held in
+      (⊎_elim (λ a. inl (subst (Contains changed) (sym a) here)) (λ b. inr (subst (Contains changed) (sym b) here)) h.0, h.1, h.2);
+  complete = λ a b k before either loses. ⊎_elim
+      (λ x. found.complete a b k before (inl (is_it a loses.left x loses.left_is)) loses)
+      (λ y. found.complete a b k before (inr (is_it b loses.right y loses.right_is)) loses) either;
+  distinct = found.distinct;
 } where
-  joined_first : (a b : ℕ) → Joins (map edge_of first) a b → Joins (map edge_of (first ++ second)) a b
-  joined_first a b j = record {
-    edge = j.edge;
-    held = subst (λ (es : List Edge). Contains es j.edge) (sym (map-append edge_of first second)) (Contains-append_left (map edge_of first) (map edge_of second) j.edge j.held);
-    ends = j.ends;
-  }
+  is_it : (i : ℕ) (t : NamedTrajectory) → Contains changed i → at after i ≡ Some t → i ≡ place
+  is_it i t held some = ⊎_elim (λ same. same) (λ other. absurd (let none = empty i held other in cc)) (cases_eq i place)
 
-  joined_second : (a b : ℕ) → Joins (map edge_of second) a b → Joins (map edge_of (first ++ second)) a b
-  joined_second a b j = record {
-    edge = j.edge;
-    held = subst (λ (es : List Edge). Contains es j.edge) (sym (map-append edge_of first second)) (Contains-append_right (map edge_of first) (map edge_of second) j.edge j.held);
-    ends = j.ends;
-  }
-
--- an empty place has no finds
-pub finds_empty : (rules : Rules) (after : List (Option NamedTrajectory)) (now place : ℕ) → at after place ≡ None → AreFindsAt rules after now place []
-finds_empty rules after now place none = record {
+-- empty places have no finds
+pub finds_none : (rules : Rules) (after : List (Option NamedTrajectory)) (now : ℕ) (changed : List ℕ) → ((i : ℕ) → Contains changed i → at after i ≡ None)
+    → AreFindsOfPlaces rules after now changed []
+finds_none rules after now changed empty = record {
   sound = λ o held. absurd (Contains-none o held);
-  complete = λ a b k before here loses. absurd (⊎_elim
-      (λ e. let some = sym (ap (at after) e) ∙ loses.left_is in cc)
-      (λ e. let some = sym (ap (at after) e) ∙ loses.right_is in cc) here);
+  complete = λ a b k before either loses. absurd (⊎_elim
+      (λ x. let none = empty a x in let some = loses.left_is in cc)
+      (λ y. let none = empty b y in let some = loses.right_is in cc) either);
   distinct = λ i j d before below. absurd (omega arith);
 }

@@ -14,7 +14,7 @@ pub mod Shown
 pub mod Merged
 pub mod Leaving
 pub mod Anew
-pub mod Slots
+pub mod Owned
 pub mod Untested
 pub mod Marks
 pub mod Renewed

@@ -11,8 +11,8 @@ use Rattle.mt_kept.specs.declared.finds.Candidate.{Candidate}
 use Rattle.mt_kept.specs.declared.finds.Knowledge.{Knowledge}
 use Rattle.mt_kept.specs.declared.finds.Knowledge.TheVariants.{Known, Within}
 use Rattle.mt_kept.specs.declared.open_pair.OpenPair.{OpenPair}
-use Rattle.mt_kept.specs.Losing.{IsPair, Joins, LoseSeparation, Touches, TouchesSlot}
-use Rattle.mt_kept.specs.Places.{at, slot_of}
+use Rattle.mt_kept.specs.Losing.{IsPair, Joins, LoseSeparation, Touches, TouchesOne}
+use Rattle.mt_kept.specs.Places.{at}
 use Rattle.mt_kept.specs.Window.{IsOpen, ShowsInWindow, edge_of, is_straddling}
 
 -- two trajectories lose separation only from a first to a last second. The last is one of all seconds.
@@ -57,11 +57,11 @@ pub record AreFindsAt (rules : Rules) (places : List (Option NamedTrajectory)) (
   pub complete : (a b k : ℕ) → a < b → (a ≡ place) ⊎ (b ≡ place) → LoseSeparation rules places a b k → Joins (map edge_of finds) a b
   pub distinct : AllPairs (λ o p. ¬ HaveSameEnds o.edge p.edge) finds
 
--- exactly a slot's pairs, with what open ones show
-pub record AreFindsOfSlot (rules : Rules) (places : List (Option NamedTrajectory)) (now slot : ℕ) (finds : List OpenPair) : Type 0 where
+-- exactly the pairs of some places, with what open ones show
+pub record AreFindsOfPlaces (rules : Rules) (places : List (Option NamedTrajectory)) (now : ℕ) (changed : List ℕ) (finds : List OpenPair) : Type 0 where
   pub sound : (o : OpenPair) → Contains finds o
-      → TouchesSlot slot o.edge × IsPair rules places o.edge × (IsOpen now o.edge → ShowsInWindow rules places now o.edge o.conflict)
-  pub complete : (a b k : ℕ) → a < b → (slot_of a ≡ slot) ⊎ (slot_of b ≡ slot) → LoseSeparation rules places a b k → Joins (map edge_of finds) a b
+      → TouchesOne changed o.edge × IsPair rules places o.edge × (IsOpen now o.edge → ShowsInWindow rules places now o.edge o.conflict)
+  pub complete : (a b k : ℕ) → a < b → Contains changed a ⊎ Contains changed b → LoseSeparation rules places a b k → Joins (map edge_of finds) a b
   pub distinct : AllPairs (λ o p. ¬ HaveSameEnds o.edge p.edge) finds
 
 -- a trajectory of another callsign

@@ -1,31 +1,24 @@
 -- What callers know of finds, besides what the calls say.
-use Rattle.std.specs.Prelude.{◌≡◌, ◌≢◌, ℕ, ◌+◌, ◌*◌, List, [], ◌++◌, length, map, filter, AllPairs, Option, Some, None}
+use Rattle.std.specs.Prelude.{◌≡◌, ◌≢◌, ℕ, ◌+◌, ◌*◌, List, [], length, map, filter, AllPairs, Contains, Option, None}
 use Rattle.std.specs.List.{sum_by}
 use Rattle.std.specs.List.Sorted.{IsStrictlyIncreasing}
 use Rattle.mt_base.specs.declared.rules.Rules.{Rules}
 use Rattle.mt_base.specs.Picture.{NamedTrajectory}
 use Rattle.mt_kept.specs.declared.finds.Candidate.{Candidate}
 use Rattle.mt_kept.specs.declared.open_pair.OpenPair.{OpenPair}
-use Rattle.mt_kept.specs.Finds.{Agree, AreFindsOfSlot, AreFindsAt, asks_one, asks_two, cost, candidate_place}
+use Rattle.mt_kept.specs.Finds.{AreFindsAt, AreFindsOfPlaces, asks_one, asks_two, cost, candidate_place}
 use Rattle.mt_kept.specs.Places.{at}
 
--- finds of both places are those of the slot
-abbrev pub FindsJoin : Type 0
-FindsJoin = (rules : Rules) (after : List (Option NamedTrajectory)) (now slot : ℕ) (first second : List OpenPair)
-    → ((s t : NamedTrajectory) → at after (2 * slot) ≡ Some s → at after (2 * slot + 1) ≡ Some t → s.call ≡ t.call)
-    → AreFindsAt rules after now (2 * slot) first → AreFindsAt rules after now (2 * slot + 1) second
-    → AreFindsOfSlot rules after now slot (first ++ second)
+-- one place's finds are those of all changed places where the others are empty
+abbrev pub FindsOfOne : Type 0
+FindsOfOne = (rules : Rules) (after : List (Option NamedTrajectory)) (now : ℕ) (changed : List ℕ) (place : ℕ) (finds : List OpenPair)
+    → Contains changed place → ((i : ℕ) → Contains changed i → i ≢ place → at after i ≡ None) → AreFindsAt rules after now place finds
+    → AreFindsOfPlaces rules after now changed finds
 
--- an empty place has no finds
-abbrev pub EmptyFindsNone : Type 0
-EmptyFindsNone = (rules : Rules) (after : List (Option NamedTrajectory)) (now place : ℕ) → at after place ≡ None
-    → AreFindsAt rules after now place []
-
--- finds stay where only its own flight changes. The place keeps its trajectory.
-abbrev pub FindsStay : Type 0
-FindsStay = (rules : Rules) (places after : List (Option NamedTrajectory)) (now place : ℕ) (mine : NamedTrajectory) (finds : List OpenPair)
-    → at places place ≡ Some mine → Agree places after place mine → AreFindsAt rules places now place finds
-    → AreFindsAt rules after now place finds
+-- empty places have no finds
+abbrev pub FindsOfNone : Type 0
+FindsOfNone = (rules : Rules) (after : List (Option NamedTrajectory)) (now : ℕ) (changed : List ℕ)
+    → ((i : ℕ) → Contains changed i → at after i ≡ None) → AreFindsOfPlaces rules after now changed []
 
 -- candidates with rising places are listed once
 abbrev pub RisingIsOnce : Type 0

@@ -5,7 +5,7 @@ use Rattle.mt_base.specs.Conflict.{IsLossSecond, IsSpanOfLoss}
 use Rattle.mt_base.specs.Picture.{NamedTrajectory}
 use Rattle.mt_base.specs.Span.{IsSolid}
 use Rattle.mt_edges.specs.declared.edge.Edge.{Edge}
-use Rattle.mt_kept.specs.Places.{at, slot_of}
+use Rattle.mt_kept.specs.Places.{at}
 use Rattle.mt_base.specs.Trajectory.{Trajectory, horizon}
 
 -- trajectories of different flights lose separation in second k
@@ -43,6 +43,6 @@ pub record Joins (edges : List Edge) (a b : ℕ) : Type 0 where
 abbrev pub Touches : ℕ → Edge → Type 0
 Touches place e = (e.a ≡ place) ⊎ (e.b ≡ place)
 
--- one end of a pair is in that slot
-abbrev pub TouchesSlot : ℕ → Edge → Type 0
-TouchesSlot slot e = (slot_of e.a ≡ slot) ⊎ (slot_of e.b ≡ slot)
+-- one end of a pair is among some places
+abbrev pub TouchesOne : List ℕ → Edge → Type 0
+TouchesOne some e = Contains some e.a ⊎ Contains some e.b

@@ -1,8 +1,9 @@
--- Places, two for each slot, and the trajectories that stand in them.
-use Rattle.std.specs.Prelude.{◌≡◌, ℕ, ◌+◌, ◌*◌, ◌/◌, List, set, slice_index_or, Option, Some, None}
+-- Places, the trajectories that stand in them, and what a change puts there.
+use Rattle.std.specs.Prelude.{◌≡◌, ℕ, List, [], ◌∷◌, set, slice_index_or, Option, Some, None}
 use Rattle.std.specs.List.{flat_map}
 use Rattle.std.specs.Option.{option_map, option_to_list}
 use Rattle.mt_base.specs.Picture.{NamedTrajectory}
+use Rattle.mt_kept.specs.declared.changes.PlaceChange.{PlaceChange}
 use Rattle.mt_track.specs.declared.roster.Item.{Item}
 use Rattle.mt_track.specs.Named.{named}
 
@@ -18,14 +19,15 @@ at places i = slice_index_or places i None
 abbrev pub held : List (Option NamedTrajectory) → List NamedTrajectory
 held places = flat_map option_to_list places
 
--- the slot of a place, two places each. The one with twice its number, and the next.
-abbrev pub slot_of : ℕ → ℕ
-slot_of place = place / 2
+-- the place of a change
+abbrev pub change_place : PlaceChange → ℕ
+change_place change = change.place
 
--- the places, with these two in a slot
-abbrev pub with_slot : List (Option NamedTrajectory) → ℕ → Option NamedTrajectory → Option NamedTrajectory → List (Option NamedTrajectory)
-with_slot places slot first second = set (set places (2 * slot) first) (2 * slot + 1) second
+-- the places after some changes. Each item comes into its place, one after another.
+abbrev pub with_changes : List (Option NamedTrajectory) → List PlaceChange → List (Option NamedTrajectory)
+with_changes places [] = places
+with_changes places (change ∷ changes) = with_changes (set places change.place (seen change.item)) changes
 
--- different slots hold different flights
-abbrev pub HaveOwnSlots : List (Option NamedTrajectory) → Type 0
-HaveOwnSlots places = (i j : ℕ) (s t : NamedTrajectory) → at places i ≡ Some s → at places j ≡ Some t → s.call ≡ t.call → slot_of i ≡ slot_of j
+-- a flight's trajectories of one kind stand in one place
+abbrev pub HaveOwnPlaces : List (Option NamedTrajectory) → Type 0
+HaveOwnPlaces places = (i j : ℕ) (s t : NamedTrajectory) → at places i ≡ Some s → at places j ≡ Some t → s.call ≡ t.call → s.kind ≡ t.kind → i ≡ j

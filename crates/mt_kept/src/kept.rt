@@ -1,22 +1,21 @@
-ghost use Rattle.std.specs.Prelude.{◌≡◌, ◌+◌, ◌*◌, ◌^◌, ◌<◌, ◌≤◌, ◌↔◌, [], All, AllPairs, Contains, IfOk, List, None, OnErr, OnOk, Option, filter, length, map, replicate};
+ghost use Rattle.std.specs.Prelude.{◌≡◌, ◌*◌, ◌<◌, ◌≤◌, ◌↔◌, [], All, Contains, IfOk, List, None, OnErr, OnOk, Option, filter, length, map, replicate};
 ghost use Rattle.std.specs.List.{sum_by};
 ghost use Rattle.mt_base.specs.Bounds.{AreWithinBounds};
 ghost use Rattle.mt_base.specs.declared.conflict.Conflict.{Conflict};
 ghost use Rattle.mt_base.specs.Picture.{IsPublishedOf, NamedTrajectory};
-ghost use Rattle.mt_edges.specs.Pairs.{AreDistinctPairs, HaveSameEnds, IsEdge};
 ghost use Rattle.mt_track.specs.Named.{named};
 ghost use Rattle.mt_kept.specs.Dropped.{WereStepsOf};
-ghost use Rattle.mt_kept.specs.Finds.{Agree, AreCandidates, AreFindsOfSlot, AreFindsAt, cost};
-ghost use Rattle.mt_kept.specs.Losing.{TouchesSlot};
-ghost use Rattle.mt_kept.specs.Private.Made.{AreReplaced, WereDropped, is_at_border, opens};
+ghost use Rattle.mt_kept.specs.Finds.{Agree, AreCandidates, AreFindsAt, AreFindsOfPlaces, cost};
+ghost use Rattle.mt_kept.specs.Private.Made.{is_at_border, opens};
 ghost use Rattle.mt_kept.specs.Private.Window.{AreOwnPairs, Shows};
-ghost use Rattle.mt_kept.specs.Places.{HaveOwnSlots, held, seen, with_slot};
+ghost use Rattle.mt_kept.specs.Places.{HaveOwnPlaces, change_place, held, seen, with_changes};
 ghost use Rattle.mt_base.specs.Tally.{RoseUpTo};
 ghost use Rattle.mt_kept.specs.Window.{WasTestedOnce};
 
+use crate::changes::{PlaceChange, put_items, replace_pairs};
 use crate::conflict_list::ConflictList;
 use crate::finds::{Candidate, gather};
-use crate::lists::{bordering_of, drop_slot, due_pairs, tested_at};
+use crate::lists::{bordering_of, drop_changed, due_pairs, tested_at};
 use crate::open_pair::OpenPair;
 use crate::renewing::{in_order_of_publishing, renew, renew_bordering};
 use crate::showing::{shown_of, shown_pairs};
@@ -28,7 +27,7 @@ use std::alloc::Global;
 use std::marker::Model;
 
 /// The conflicts of the trajectories in some places, kept while these change: the pairs of places that lose separation over all
-/// seconds, those of them at the border of the window, and what is published. Slot s has the places 2 s and 2 s + 1.
+/// seconds, those of them at the border of the window, and what is published.
 #[derive(Drop)]
 pub struct Kept {
     rules: Rules,
@@ -54,28 +53,8 @@ impl Model for Kept {
     ghost invariant = { λ k. ArePairsKept k.rules k.moment (map seen k.places.items) k.pairs.edges k.pairs.ends k.bordering.items k.published.conflicts };
 }
 
-/// Takes the pairs of a slot out and puts the found ones in. It takes no memory.
-fn replace_pairs(pairs: &mut Edges, slot: u32, finds: &[OpenPair], steps: &mut Steps)
-    requires slot { 2 * slot + 1 < pairs.old.ends }
-    requires few { pairs.old.ends ≤ 4294967296 }
-    requires room { length finds.now ≤ pairs.old.spare }
-    requires touching { All (λ o. TouchesSlot slot o.edge) finds.now }
-    requires sound { All (λ o. IsEdge pairs.old.ends o.edge) finds.now }
-    requires distinct { AllPairs (λ o p. ¬ HaveSameEnds o.edge p.edge) finds.now }
-    ensures replaced { AreReplaced slot finds.now pairs.old.edges pairs.new.edges }
-    ensures once { AreDistinctPairs pairs.new.edges }
-    ensures ends { pairs.new.ends ≡ pairs.old.ends }
-    ensures steps { WereDropped slot pairs.old.edges steps.old steps.new }
-{
-    pairs.drop_all(2 * slot, steps);
-    pairs.drop_all(2 * slot + 1, steps);
-    for find in finds {
-        pairs.add(find.edge);
-    }
-}
-
 impl Kept {
-    /// So many slots of empty places, at moment 0.
+    /// Twice as many empty places as there are slots, at moment 0.
     pub fn make(alloc: Global, rules: &Rules, slots: u32) -> Result<Kept, Memory>
         requires bounds { AreWithinBounds rules.now }
         requires few { slots < 2147483648 }
@@ -151,8 +130,8 @@ impl Kept {
         )
     }
 
-    /// The pairs of a place, each with what it shows where it is open, as if they were found for it. It makes no test.
-    pub fn of(&self, alloc: Global, place: u32) -> Result<Vec<OpenPair>, Memory>
+    /// The pairs of a place, each with what it shows where it is open. It makes no test.
+    fn of(&self, alloc: Global, place: u32) -> Result<Vec<OpenPair>, Memory>
         requires { place < length self.now.places }
         ensures { IfOk result (λ finds. AreFindsAt self.now.rules self.now.places self.now.moment place finds.items) }
     {
@@ -161,19 +140,20 @@ impl Kept {
         shown_pairs(alloc, &self.places, &tested, &own, self.moment)
     }
 
-    /// The pairs of a slot, each with what it shows where it is open.
-    fn of_slot(&self, alloc: Global, slot: u32) -> Result<Vec<OpenPair>, Memory>
-        requires slot { 2 * slot + 1 < length self.now.places }
-        requires few { length self.now.places < 2 ^ 32 }
-        ensures { IfOk result (λ own. AreOwnPairs self.now.rules self.now.places self.now.moment slot own.items) }
+    /// The pairs of the places that change, each with what it shows where it is open. A pair of two of them is there twice.
+    fn of_changed(&self, alloc: Global, changes: &[PlaceChange]) -> Result<Vec<OpenPair>, Memory>
+        requires { All (λ c. c.place < length self.now.places) changes.now }
+        ensures { IfOk result (λ own. AreOwnPairs self.now.rules self.now.places self.now.moment (map change_place changes.now) own.items) }
     {
-        let mut own = self.of(alloc, 2 * slot)?;
-        let others = self.of(alloc, 2 * slot + 1)?;
-        own.extend_from_slice(&others)?;
+        let mut own = Vec::new(alloc);
+        for change in changes {
+            let others = self.of(alloc, change.place)?;
+            own.extend_from_slice(&others)?;
+        }
         Ok(own)
     }
 
-    /// What the slot's own pairs show, what those show that were found for it, and which of these are at the border of the window.
+    /// What the changed places' own pairs show, what those show that were found for them, and which of these are at the border of the window.
     fn prepare(
         &self,
         alloc: Global,
@@ -190,65 +170,43 @@ impl Kept {
         Ok((hidden, shown, bordering))
     }
 
-    /// Puts two items, or nothing, into the places of a slot, with the pairs that were found for them. It makes no test, and takes all
-    /// its memory before it changes anything, so on an error all stays as it was.
+    /// Changes what stands in places: each item, or nothing, comes into its place, one after another, and the pairs of these places are
+    /// replaced by those that were found for them. It makes no test, and takes all its memory before it changes anything, so on an error
+    /// all stays as it was. A place that keeps its trajectory need not be named: its pairs with other such places stay.
     ///
-    /// It makes at most six steps for each pair that the slot had, and two; a step is one link written or one node of a pair visited.
-    /// Besides it looks at the slot's pairs and at the finds, and copies what is published; at the pairs at the border of the window it looks
-    /// only where one of the slot's is there. A caller that bounds no steps hands in a `Steps::new()` and forgets it.
+    /// It makes at most six steps for each pair of which an end changed, and one for each change; a step is one link written or one node of
+    /// a pair visited. Besides it looks at those pairs and at the finds, and copies what is published; at the pairs at the border of the
+    /// window it looks only where one of those pairs is there. A caller that bounds no steps hands in a `Steps::new()` and forgets it.
     pub fn change(
         &mut self,
-        slot: u32,
-        first: Option<Item>,
-        second: Option<Item>,
+        changes: Vec<PlaceChange>,
         finds: &[OpenPair],
         steps: &mut Steps,
     ) -> Result<(), Memory>
-        requires slot { 2 * slot + 1 < length self.old.places }
-        requires own { HaveOwnSlots (with_slot self.old.places slot (seen first) (seen second)) }
-        requires finds { AreFindsOfSlot self.old.rules (with_slot self.old.places slot (seen first) (seen second)) self.old.moment slot finds.now }
+        requires places { All (λ c. c.place < length self.old.places) changes.items }
+        requires own { HaveOwnPlaces (with_changes self.old.places changes.items) }
+        requires finds { AreFindsOfPlaces self.old.rules (with_changes self.old.places changes.items) self.old.moment (map change_place changes.items) finds.now }
         ensures rules { self.new.rules ≡ self.old.rules }
         ensures moment { self.new.moment ≡ self.old.moment }
-        ensures ok { OnOk result (self.new.places ≡ with_slot self.old.places slot (seen first) (seen second)) }
+        ensures ok { OnOk result (self.new.places ≡ with_changes self.old.places changes.items) }
         ensures err { OnErr result (self.new ≡ self.old) }
-        ensures steps { WereStepsOf self.old.rules self.old.places slot steps.old steps.new }
+        ensures steps { WereStepsOf self.old.rules self.old.places (map change_place changes.items) steps.old steps.new }
     {
         let Ok(count) = u32::try_from(finds.len()) else {
             return Err(Memory);
         };
         let alloc = *self.bordering.allocator();
-        let own = self.of_slot(alloc, slot)?;
+        let own = self.of_changed(alloc, &changes)?;
         let (hidden, shown, bordering) = self.prepare(alloc, &own, finds)?;
         self.pairs.reserve(count)?;
         self.bordering.reserve(bordering.len())?;
         self.published.reserve(shown.items().len())?;
-        replace_pairs(&mut self.pairs, slot, finds, steps);
-        drop_slot(&mut self.bordering, slot, &own, self.moment);
+        replace_pairs(&mut self.pairs, &changes, finds, steps);
+        drop_changed(&mut self.bordering, &changes, &own, self.moment);
         let _ = self.bordering.extend_from_slice(&bordering);
         self.published.replace(&hidden, &shown);
-        self.places[2 * slot as usize] = first;
-        self.places[2 * slot as usize + 1] = second;
+        put_items(&mut self.places, changes);
         Ok(())
-    }
-
-    // What stands in places of different slots is of different flights. It does nothing.
-    fn keeps(&self)
-        ensures { HaveOwnSlots self.now.places }
-    {
-        self.places.len();
-    }
-
-    /// Empties a slot, as `change` does. It makes no test.
-    pub fn remove(&mut self, slot: u32, steps: &mut Steps) -> Result<(), Memory>
-        requires slot { 2 * slot + 1 < length self.old.places }
-        ensures rules { self.new.rules ≡ self.old.rules }
-        ensures moment { self.new.moment ≡ self.old.moment }
-        ensures ok { OnOk result (self.new.places ≡ with_slot self.old.places slot None None) }
-        ensures err { OnErr result (self.new ≡ self.old) }
-        ensures steps { WereStepsOf self.old.rules self.old.places slot steps.old steps.new }
-    {
-        self.keeps();
-        self.change(slot, None, None, &[], steps)
     }
 
     /// Moves the window to a later moment, or to the same. It makes at most as many tests as pairs straddle an edge of the new window; one

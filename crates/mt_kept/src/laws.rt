@@ -1,11 +1,10 @@
-ghost use Rattle.mt_kept.specs.Laws.{CostsAdd, EmptyFindsNone, FindsJoin, FindsStay, RisingIsOnce};
+ghost use Rattle.mt_kept.specs.Laws.{CostsAdd, FindsOfNone, FindsOfOne, RisingIsOnce};
 
-/// What was found for the two places of a slot is what was found for the slot; an empty place has no finds; what was found for a place
-/// that keeps its trajectory stays found; candidates whose places rise are listed once each; and what candidates cost.
+/// What was found for a place is what was found for all changed places, where the others are empty; empty places have no finds; candidates
+/// whose places rise are listed once each; and what candidates cost.
 pub fn finds_laws()
-    ensures join { FindsJoin }
-    ensures empty { EmptyFindsNone }
-    ensures stay { FindsStay }
+    ensures one { FindsOfOne }
+    ensures none { FindsOfNone }
     ensures rising { RisingIsOnce }
     ensures costs { CostsAdd }
 {}

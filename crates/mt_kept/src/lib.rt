@@ -2,6 +2,7 @@
 //! seconds, what those of them show whose span straddles an edge of the window, and what is published. It knows nothing of commands.
 #![tactic(auto)]
 
+mod changes;
 mod conflict_list;
 mod finds;
 mod kept;
@@ -14,6 +15,7 @@ mod renewing;
 mod showing;
 mod stale;
 
+pub use changes::PlaceChange;
 pub use finds::{Candidate, Knowledge};
 pub use kept::Kept;
 pub use laws::finds_laws;

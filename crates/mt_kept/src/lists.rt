@@ -1,10 +1,12 @@
 //! Which pairs a change keeps, and which a move looks at.
-ghost use Rattle.std.specs.Prelude.{◌≡◌, ◌++◌, ◌≤◌, [], Contains, true, false, filter, if◌then◌else◌, IfOk, OnOk, vec_len, vec_capacity};
+ghost use Rattle.std.specs.Prelude.{◌≡◌, ◌++◌, ◌≤◌, [], Contains, true, map, filter, if◌then◌else◌, IfOk, OnOk, vec_len, vec_capacity};
 ghost use Rattle.std.specs.List.{list_any};
 ghost use Rattle.mt_edges.specs.Pairs.{AreDistinctPairs};
-ghost use Rattle.mt_kept.specs.Private.Made.{avoids, is_at_border, is_tested, touches_place};
+ghost use Rattle.mt_kept.specs.Places.{change_place};
+ghost use Rattle.mt_kept.specs.Private.Made.{avoids, is_at_border, is_tested, meets, touches_place};
 ghost use Rattle.mt_kept.specs.Private.Stale.{AreDue, AreDueAdded, AreStale, comes_due};
 
+use crate::changes::{PlaceChange, is_changed};
 use crate::open_pair::{OpenPair, is_bordering, is_tested};
 use crate::stale::Stale;
 use mt_base::{Memory, Second, WINDOW};
@@ -86,11 +88,11 @@ pub(crate) fn due_pairs(
     Ok(edges)
 }
 
-/// Whether no end of an open pair is a place of that slot.
-fn is_elsewhere(pair: &OpenPair, slot: u32) -> bool
-    ensures { result ≡ avoids slot pair.now }
+/// Whether no end of an open pair is a changed place.
+fn is_elsewhere(pair: &OpenPair, changes: &[PlaceChange]) -> bool
+    ensures { result ≡ avoids (map change_place changes.now) pair.now }
 {
-    pair.edge.a / 2 != slot && pair.edge.b / 2 != slot
+    !is_changed(&pair.edge, changes)
 }
 
 /// Whether one of these pairs is at the border of the window.
@@ -101,17 +103,22 @@ fn has_bordering(pairs: &[OpenPair], now: Second) -> bool
     pairs.iter().any(|pair| is_bordering(&pair.edge, now))
 }
 
-/// Drops those of the pairs at the border of the window of which an end is a place of that slot. It looks at them only where one of the slot's
+/// Drops those of the pairs at the border of the window of which an end is a changed place. It looks at them only where one of the changed places'
 /// own pairs is there.
-pub(crate) fn drop_slot(pairs: &mut Vec<OpenPair>, slot: u32, own: &[OpenPair], now: Second)
+pub(crate) fn drop_changed(
+    pairs: &mut Vec<OpenPair>,
+    changes: &[PlaceChange],
+    own: &[OpenPair],
+    now: Second,
+)
     requires early { now ≤ 10000000 }
-    requires own { (o : OpenPair) → Contains pairs.old.items o → avoids slot o ≡ false → list_any (is_at_border now) own.now ≡ true }
-    ensures rest { pairs.new.items ≡ filter (avoids slot) pairs.old.items }
+    requires own { (o : OpenPair) → Contains pairs.old.items o → meets (map change_place changes.now) o ≡ true → list_any (is_at_border now) own.now ≡ true }
+    ensures rest { pairs.new.items ≡ filter (avoids (map change_place changes.now)) pairs.old.items }
     ensures len { vec_len pairs.new ≤ vec_len pairs.old }
     ensures capacity { vec_capacity pairs.new ≡ vec_capacity pairs.old }
 {
     if has_bordering(own, now) {
-        pairs.retain(|pair| is_elsewhere(pair, slot));
+        pairs.retain(|pair| is_elsewhere(pair, changes));
     }
 }
 

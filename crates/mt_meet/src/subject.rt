@@ -1,5 +1,6 @@
 //! A trajectory for which others are looked for.
 ghost use Rattle.std.specs.Prelude.{◌≡◌, ◌≤◌, ◌<◌, ◌-◌, ◌/◌, ℕ, IfOk};
+ghost use Rattle.std.specs.Arc.{arc_value};
 ghost use Rattle.std.specs.Int.{bit_at};
 ghost use Rattle.mt_base.specs.Bounds.{AreWithinBounds};
 ghost use Rattle.mt_cover.specs.Sliced.{AreSlices, Have, HaveWindow};
@@ -12,6 +13,7 @@ use mt_base::{Memory, Rules, Second};
 use mt_cover::{CLOCK_WINDOW, Slices};
 use std::alloc::Global;
 use std::marker::Model;
+use std::sync::Arc;
 
 /// How many parts the time of a trajectory has for which others are looked for: as many as a mark has bits.
 const PARTS: u32 = 16;
@@ -32,20 +34,21 @@ pub(crate) struct Window {
 #[derive(Drop)]
 pub struct Subject {
     pub(crate) rules: Rules,
-    pub(crate) slices: Slices,
+    pub(crate) slices: Arc<Slices>,
     pub(crate) windows: Vec<Window>,
 }
 
 impl Model for Subject {
+    ghost use Rattle.std.specs.Arc.{arc_value};
     ghost use Rattle.mt_base.specs.Bounds.{AreWithinBounds};
     ghost use Rattle.mt_meet.specs.Meeting.{Asked};
     ghost use Rattle.mt_meet.specs.Private.Boxing.{AreGuarded};
 
     ghost Value = { Asked };
 
-    ghost view = { λ s. record { rules = s.rules; sliced = s.slices } };
+    ghost view = { λ s. record { rules = s.rules; sliced = arc_value s.slices } };
 
-    ghost invariant = { λ s. AreWithinBounds s.rules × AreGuarded s.rules s.slices s.windows.items };
+    ghost invariant = { λ s. AreWithinBounds s.rules × AreGuarded s.rules (arc_value s.slices) s.windows.items };
 }
 
 // How many windows each of 16 parts has that have all windows of some slices.
@@ -83,10 +86,10 @@ fn guarded_windows(alloc: Global, rules: &Rules, slices: &Slices) -> Result<Vec<
 }
 
 impl Subject {
-    /// That of some slices. It asks that the rules are within their bounds.
-    pub fn of(alloc: Global, rules: &Rules, slices: Slices) -> Result<Subject, Memory>
+    /// That of some slices, which it shares. It asks that the rules are within their bounds.
+    pub fn of(alloc: Global, rules: &Rules, slices: Arc<Slices>) -> Result<Subject, Memory>
         requires { AreWithinBounds rules.now }
-        ensures { IfOk result (λ subject. subject ≡ record { rules = rules.now; sliced = slices }) }
+        ensures { IfOk result (λ subject. subject ≡ record { rules = rules.now; sliced = arc_value slices }) }
     {
         let windows = guarded_windows(alloc, rules, &slices)?;
         Ok(Subject {

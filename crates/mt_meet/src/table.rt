@@ -1,5 +1,6 @@
 //! The slices of many trajectories.
-ghost use Rattle.std.specs.Prelude.{◌≡◌, ◌≤◌, ◌<◌, ◌+◌, ◌-◌, ◌*◌, ◌/◌, ◌%◌, false, ℕ, Some, None, get_or, length, replicate, slice_set, IfOk, IfSome, option_copied};
+ghost use Rattle.std.specs.Prelude.{◌≡◌, ◌≤◌, ◌<◌, ◌+◌, ◌-◌, ◌*◌, ◌/◌, ◌%◌, false, ℕ, Some, None, get_or, length, replicate, slice_set, IfOk, IfSome, option_copied, option_map};
+ghost use Rattle.std.specs.Arc.{arc_value};
 ghost use Rattle.std.specs.Int.{div_ceil};
 ghost use Rattle.mt_meet.specs.Meeting.{AreMet, IsMetAt, IsNextMet};
 ghost use Rattle.mt_meet.specs.Private.Boxing.{AreSlicesIn, HasNoSecond};
@@ -80,29 +81,27 @@ impl SliceTable {
         })
     }
 
-    /// The table with other slices of an item, or none. This table stays. Where it has none before and after, no list is copied; else the page
-    /// of the item is.
-    pub fn set(&self, item: u32, slices: Option<Slices>) -> Result<SliceTable, Memory>
+    /// The table with other slices of an item, or none, which it shares. This table stays. Where it has none before and after, no list is copied; else
+    /// the page of the item is.
+    pub fn set(&self, item: u32, slices: Option<Arc<Slices>>) -> Result<SliceTable, Memory>
         requires { item < length self.now }
-        ensures { IfOk result (λ table. table ≡ slice_set self.now item slices) }
+        ensures { IfOk result (λ table. table ≡ slice_set self.now item (option_map arc_value slices)) }
     {
         if slices.is_none() && self.slices.get(item).is_none() {
             return self.share();
         }
-        keeps(slices.as_ref());
         let (number, place) = (2 * (item / BLOCK) + item % 2, item % BLOCK / 2);
-        let before = self.slices.get(item);
         let page = with_item(
             self.alloc,
             self.pages.get(number),
             place,
-            before,
-            slices.as_ref(),
+            self.slices.get(item),
+            seen(slices.as_ref()),
         )?;
         Ok(SliceTable {
             alloc: self.alloc,
             count: self.count,
-            slices: with_slices(self.alloc, &self.slices, item, slices)?,
+            slices: self.slices.set(item, slices)?,
             pages: with_page(self.alloc, &self.pages, number, page)?,
         })
     }
@@ -243,27 +242,12 @@ fn with_page(
     all.set(number, Some(Arc::new(alloc, page)?))
 }
 
-// What stands for an item, if anything, are slices. It does nothing.
-fn keeps(slices: Option<&Slices>)
-    ensures { AreSlicesIn (option_copied slices.entry) }
+// What stands for an item, to be looked at: slices, if anything.
+fn seen(slices: Option<&Arc<Slices>>) -> Option<&Slices>
+    ensures same { option_copied result ≡ option_map arc_value (option_copied slices.entry) }
+    ensures kept { AreSlicesIn (option_copied result) }
 {
-    if let Some(slices) = slices {
-        slices.keeps();
-    }
-}
-
-// The slices of items with other ones of an item, or none. Those before stay.
-fn with_slices(
-    alloc: Global,
-    all: &Paged<Slices>,
-    item: u32,
-    slices: Option<Slices>,
-) -> Result<Paged<Slices>, Memory>
-    requires { item < length all.now }
-    ensures { IfOk result (λ after. after ≡ slice_set all.now item slices) }
-{
-    match slices {
-        Some(slices) => all.set(item, Some(Arc::new(alloc, slices)?)),
-        None => all.set(item, None),
-    }
+    let slices = slices?;
+    slices.keeps();
+    Some(slices)
 }

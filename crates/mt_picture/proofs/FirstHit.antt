@@ -1,10 +1,11 @@
 -- The first hit of a command.
-use Rattle.std.proofs.Common.{◌≡◌, ℕ, ◌<◌, Bool, true, false, List, [], Option, Some, None, set, length, refl, sym, ◌∙◌, ap, subst}
+use Rattle.std.proofs.Common.{◌≡◌, ℕ, ◌*◌, ◌<◌, Bool, true, false, List, [], Option, Some, None, length, refl, sym, ◌∙◌, ap, subst}
 use Rattle.std.specs.Arc.{arc_value}
 use Rattle.std.specs.Prelude.{IfOk, IfSome, is_some, Result, Ok, Err}
 use Rattle.mt_base.specs.declared.command.Command.{Command}
 use Rattle.mt_base.specs.declared.command.Command.TheVariants.{Accept, External, Plan}
 use Rattle.mt_base.specs.declared.command.Entry.{Entry}
+use Rattle.mt_base.specs.declared.conflict.Kind.TheVariants.{Actual}
 use Rattle.mt_base.specs.declared.flight.Path.{Path}
 use Rattle.mt_base.specs.declared.flight.Path.TheVariants.{Outer, Planned}
 use Rattle.mt_base.specs.declared.flight.Record.{Record}
@@ -17,11 +18,11 @@ use Rattle.mt_base.specs.Trajectory.{Trajectory}
 use Rattle.mt_base.specs.WhatIf.{AreHitsOf, course_on, trajectory_cleared}
 use Rattle.mt_change.specs.Altered.{Alters, path_after}
 use Rattle.mt_kept.specs.declared.open_pair.OpenPair.{OpenPair}
-use Rattle.mt_kept.specs.Finds.{AreFindsOfSlot}
+use Rattle.mt_kept.specs.Finds.{AreFindsAt}
 use Rattle.mt_change.specs.Deciding.{IsFirstHit}
 use Rattle.mt_change.proofs.Decisions.{first_of_hits}
 use Rattle.mt_probe.specs.declared.flight.Flight.{Flight}
-use Rattle.mt_probe.specs.Prepared.{IsLeftByEntry}
+use Rattle.mt_probe.specs.Prepared.{IsLeftByEntry, kind_made}
 use Rattle.mt_probe.specs.Shot.{Shot, flight_at, records_in}
 use Rattle.mt_probe.specs.Shot.{state_in_shot as state_in}
 use Rattle.mt_probe.specs.Standing.{IsSoundEntry, IsSoundShot}
@@ -30,14 +31,14 @@ use Rattle.mt_picture.specs.Private.Entries.{is_probed}
 use Rattle.mt_picture.specs.Stamps.{IsFiling}
 use Rattle.mt_picture.specs.Private.Hits.{IsFirstAmong}
 use Rattle.mt_picture.specs.Private.Holding.{AddsOrStops, EntersOrStops, Holding, entry_now, held_story, story_after}
-use Rattle.mt_picture.specs.Private.Places.{all_places}
+use Rattle.mt_picture.specs.Private.Places.{places_put}
 use Rattle.mt_picture.specs.Private.Putting.{IsFirstOf}
 use Rattle.mt_picture.proofs.Entered.{altered_by, own_actual}
 use Rattle.mt_picture.proofs.HitsHere.{hits_here}
 
--- the first hit that the finds of a slot show is the first of the trajectory that is put there
+-- the first hit that the finds of a flight's place show is the first of the trajectory that is put there
 pub first_here : (shot : Shot) (slot : ℕ) (f : Flight) (finds : List OpenPair) (first : Option Hit) → IsSoundShot shot → slot < length shot.slots
-    → AreFindsOfSlot shot.setup.rules (all_places (set shot.slots slot (Some f))) shot.now slot finds
+    → AreFindsAt shot.setup.rules (places_put shot slot (Some f)) shot.now (2 * slot) finds
     → ((g : Flight) → flight_at shot slot ≡ Some g → g.card.call ≡ f.card.call) → IsFirstAmong finds f.card.call shot.now first
     → IsFirstOf shot.setup (state_in shot) f.card.call (arc_value f.actual.strand) first
 first_here shot slot f finds first sound inside are was is = record {
@@ -52,6 +53,11 @@ no_first setup s c first unprobed none = subst (IsFirstHit setup s c) (sym none)
   by_command : (c : Command) → is_probed c ≡ false → HasHits setup s c []
   by_command (Accept call clearance eff probed) is = absurd (cc)
   by_command c is = refl
+
+-- what is probed is to be flown
+pub probed_actual : (c : Command) → is_probed c ≡ true → kind_made c ≡ Actual
+probed_actual (Accept call clearance eff probed) is = refl
+probed_actual c is = absurd (cc)
 
 pub filing_unprobed : (c : Command) → IsFiling c → is_probed c ≡ false
 filing_unprobed (Plan call kind route at from level rvsm) filing = refl

@@ -18,13 +18,13 @@ use Rattle.mt_base.specs.Trajectory.{Trajectory}
 use Rattle.mt_base.specs.WhatIf.{AreHitsOf, IsHit}
 use Rattle.mt_edges.specs.declared.edge.Edge.{Edge}
 use Rattle.mt_kept.specs.declared.open_pair.OpenPair.{OpenPair}
-use Rattle.mt_kept.specs.Finds.{AreFindsOfSlot}
-use Rattle.mt_kept.specs.Losing.{IsPair, LoseSeparation, TouchesSlot}
+use Rattle.mt_kept.specs.Finds.{AreFindsAt}
+use Rattle.mt_kept.specs.Losing.{IsPair, LoseSeparation, Touches}
 use Rattle.mt_kept.specs.Made.{is_open_pair}
 use Rattle.mt_kept.specs.Places.{at}
 use Rattle.mt_kept.specs.Window.{IsFoundOf, IsOpen, ShowsInWindow, edge_of}
 use Rattle.mt_base.proofs.Members.{Contains-map_cases, take_push}
-use Rattle.mt_kept.proofs.Keeping.{even_half, is_open_is}
+use Rattle.mt_kept.proofs.Keeping.{is_open_is}
 use Rattle.mt_kept.proofs.Windows.{IsLossSecond-sym, IsSpanOfLoss-sym, is_open_at}
 use Rattle.mt_probe.specs.declared.flight.Flight.{Flight}
 use Rattle.mt_probe.specs.Shot.{Shot, flight_at}
@@ -33,7 +33,7 @@ use Rattle.mt_probe.specs.Standing.{IsSoundShot}
 use Rattle.mt_probe.proofs.Placed.{filled_inside, record_placed, record_there}
 use Rattle.mt_base.proofs.OneConflict.{one_span}
 use Rattle.mt_picture.specs.Private.Hits.{AreHitsAmong, IsHitOfOnePair, conflict_hit, pair_hit, is_flown}
-use Rattle.mt_picture.specs.Private.Places.{all_places, first_of, made_of_kind}
+use Rattle.mt_picture.specs.Private.Places.{first_of, made_of_kind, places_put}
 use Rattle.mt_picture.proofs.Entered.{own_actual}
 use Rattle.mt_picture.proofs.Slotted.{at_first}
 
@@ -140,16 +140,16 @@ record IsFoundAt (rules : Rules) (now : ℕ) (finds : List OpenPair) (i j : ℕ)
   opened : IsOpen now pair.edge
   found : IsFoundOf rules now s t pair.conflict
 
--- ---- the finds of a slot into which a flight is put
+-- ---- the finds of a flight that is put into a slot
 
 half_even : (j : ℕ) → j % 2 ≡ 0 → j ≡ 2 * (j / 2)
 half_even j even = omega arith
 
 module _ (shot : Shot) (slot : ℕ) (f : Flight) (finds : List OpenPair) (sound : IsSoundShot shot) (inside : slot < length shot.slots)
-    (are : AreFindsOfSlot shot.setup.rules (all_places (set shot.slots slot (Some f))) shot.now slot finds)
+    (are : AreFindsAt shot.setup.rules (places_put shot slot (Some f)) shot.now (2 * slot) finds)
     (was : (g : Flight) → flight_at shot slot ≡ Some g → g.card.call ≡ f.card.call) where
   abbrev after : List (Option NamedTrajectory)
-  after = all_places (set shot.slots slot (Some f))
+  after = places_put shot slot (Some f)
 
   abbrev mine : NamedTrajectory
   mine = made_of_kind f Actual f.actual
@@ -221,7 +221,7 @@ module _ (shot : Shot) (slot : ℕ) (f : Flight) (finds : List OpenPair) (sound 
       (subst (λ (k : ℕ). IsSpanOfLoss rules mine.path t.path shot.now (window_end shot.now) s.conflict.first k) (sym s.last) w.span))
 
   -- one that shows a hit of its slot shows one of mine
-  to_shown : (o : OpenPair) (hit : Hit) → IsShownBy o call shot.now hit → TouchesSlot slot o.edge → IsPair rules after o.edge
+  to_shown : (o : OpenPair) (hit : Hit) → IsShownBy o call shot.now hit → Touches (2 * slot) o.edge → IsPair rules after o.edge
       → ShowsInWindow rules after shot.now o.edge o.conflict → IsHit shot.setup (state_in shot) call (arc_value f.actual.strand) hit
   to_shown o hit s touches pair shown =
       let found : Either shown.left shown.right s.conflict = subst (λ (x : Option Conflict). IsFoundOf rules shot.now shown.left shown.right x) s.shown shown.found in
@@ -234,16 +234,14 @@ module _ (shot : Shot) (slot : ℕ) (f : Flight) (finds : List OpenPair) (sound 
       let right : pair.right ≡ shown.right = cc in
       let apart : shown.left.call ≢ shown.right.call = λ same. pair.apart (ap (λ (u : NamedTrajectory). u.call) left ∙ same ∙ sym (ap (λ (u : NamedTrajectory). u.call) right)) in
       ⊎_elim
-      (λ first.
-      let a_slot : o.edge.a ≡ 2 * slot = a ∙ ap (λ (k : ℕ). 2 * k) first in
+      (λ a_slot.
       let m : Some shown.left ≡ Some mine = sym shown.left_is ∙ ap (at after) a_slot ∙ here in
       let mine_is : shown.left ≡ mine = cc in
       let away : o.edge.b / 2 ≢ slot = λ same. (let b_slot : o.edge.b ≡ 2 * slot = b ∙ ap (λ (k : ℕ). 2 * k) same in absurd (omega (arith, a_slot, b_slot, before))) in
       shown_is_hit o hit s (o.edge.b / 2) shown.right away (ap (at after) (sym b) ∙ shown.right_is)
       (λ same. apart (ap (λ (u : NamedTrajectory). u.call) mine_is ∙ sym same))
       (subst (λ (u : NamedTrajectory). Either u shown.right s.conflict) mine_is found))
-      (λ second.
-      let b_slot : o.edge.b ≡ 2 * slot = b ∙ ap (λ (k : ℕ). 2 * k) second in
+      (λ b_slot.
       let m : Some shown.right ≡ Some mine = sym shown.right_is ∙ ap (at after) b_slot ∙ here in
       let mine_is : shown.right ≡ mine = cc in
       let away : o.edge.a / 2 ≢ slot = λ same. (let a_slot : o.edge.a ≡ 2 * slot = a ∙ ap (λ (k : ℕ). 2 * k) same in absurd (omega (arith, a_slot, b_slot, before))) in
@@ -305,7 +303,7 @@ module _ (shot : Shot) (slot : ℕ) (f : Flight) (finds : List OpenPair) (sound 
       let early = sound.early in
       let lost : LoseSeparation rules after (2 * i) (2 * j) k = record { left = s; right = t; left_is = s_is; right_is = t_is; apart = apart; loss = loss; early = omega (arith, early, high) } in
       let joined = are.complete (2 * i) (2 * j) k before
-      (⊎_elim (λ e. inl (even_half i ∙ e)) (λ e. inr (even_half j ∙ e)) touches) lost in
+      (⊎_elim (λ e. inl (ap (λ (k : ℕ). 2 * k) e)) (λ e. inr (ap (λ (k : ℕ). 2 * k) e)) touches) lost in
       let x = Contains-map_cases edge_of finds joined.edge joined.held in
       found_in i j k s t x.of joined.edge x.held x.is joined.ends s_is t_is low high loss
 

@@ -1,5 +1,5 @@
 -- What a prep says of the trajectories that stand now is right, and so the near ones are candidates.
-use Rattle.std.proofs.Common.{◌≡◌, ◌≢◌, ℕ, suc, ◌/◌, ◌≤◌, ⊎_elim, Bool, true, List, [], Option, Some, None, Contains, get_or, option_map, refl, sym, ◌∙◌, ap, subst, arith}
+use Rattle.std.proofs.Common.{◌≡◌, ◌≢◌, ℕ, suc, ◌/◌, ◌≤◌, Bool, true, List, [], Option, Some, None, Contains, get_or, option_map, refl, sym, ◌∙◌, ap, subst, arith}
 use Rattle.std.specs.Prelude.{option_and_then}
 use Rattle.std.specs.Arc.{arc_value}
 use Rattle.mt_base.specs.declared.conflict.Kind.{Kind}
@@ -14,9 +14,8 @@ use Rattle.mt_cover.specs.Cells.{cover_of}
 use Rattle.mt_cover.specs.Sliced.{slices_of}
 use Rattle.mt_kept.specs.declared.finds.Candidate.{Candidate}
 use Rattle.mt_kept.specs.Finds.{AreCandidates, IsRight}
-use Rattle.mt_kept.specs.Places.{at, slot_of}
+use Rattle.mt_kept.specs.Places.{at}
 use Rattle.mt_base.specs.Trajectory.{horizon}
-use Rattle.mt_kept.proofs.Keeping.{halves}
 use Rattle.mt_probe.specs.declared.finding.Found.{Found}
 use Rattle.mt_probe.specs.declared.flight.Flight.{Flight}
 use Rattle.mt_probe.specs.declared.flight.Made.{Made}
@@ -25,12 +24,11 @@ use Rattle.mt_probe.specs.Items.{kind_at, stays_at, stays_by, stays_of_item}
 use Rattle.mt_probe.specs.Meeting.{slices_at, slices_by}
 use Rattle.mt_probe.specs.Prepared.{Prepared}
 use Rattle.mt_probe.specs.Shot.{Shot, flight_at, kept_of, made_named, made_of}
-use Rattle.mt_probe.proofs.Covered.{even_kind, odd_kind}
 use Rattle.mt_base.proofs.Members.{Contains-head}
-use Rattle.mt_picture.specs.Private.Places.{all_places, first_of, made_of_kind, second_of}
+use Rattle.mt_picture.specs.Private.Places.{all_places, made_of_kind, place_kind}
 use Rattle.mt_picture.specs.Private.Stamps.{HaveStood}
 use Rattle.mt_picture.specs.Private.Known.{AreNearCandidates, IsEarlierAt, IsPreps}
-use Rattle.mt_picture.proofs.Slotted.{at_first, at_second}
+use Rattle.mt_picture.proofs.Slotted.{at_any, kind_made_of}
 
 -- what is found says the conflict over all seconds
 pub found_right : (shot : Shot) (slot : ℕ) (kind : Kind) (p : Prepared) (known : Bool) (stamp : ℕ) (card : Record) (found : Found)
@@ -67,42 +65,20 @@ pub record StandsAt (slots : List (Option Flight)) (j : ℕ) (t : NamedTrajector
   pub made_is : made_of flight (kind_at j) ≡ Some made
   pub is : made_of_kind flight (kind_at j) made ≡ t
 
-stands_even : (slots : List (Option Flight)) (j i : ℕ) (t : NamedTrajectory) (s : Option Flight) → j / 2 ≡ i → kind_at j ≡ Actual → get_or slots i None ≡ s
-    → first_of s ≡ Some t → StandsAt slots j t
-stands_even slots j i t None half kind at_is is = absurd (cc)
-stands_even slots j i t (Some f) half kind at_is is = record {
-  flight = f;
-  made = f.actual;
-  at_is = ap (λ (k : ℕ). get_or slots k None) half ∙ at_is;
-  made_is = ap (made_of f) kind;
-  is = ap (λ (k : Kind). made_of_kind f k f.actual) kind ∙ (let e : made_of_kind f Actual f.actual ≡ t = cc in e);
-}
+stands_made : (slots : List (Option Flight)) (j : ℕ) (t : NamedTrajectory) (f : Flight) (made : Option Made) → get_or slots (j / 2) None ≡ Some f
+    → made_of f (kind_at j) ≡ made → option_map (made_of_kind f (kind_at j)) made ≡ Some t → StandsAt slots j t
+stands_made slots j t f None at_is made_is is = absurd (cc)
+stands_made slots j t f (Some m) at_is made_is is = record { flight = f; made = m; at_is = at_is; made_is = made_is; is = cc }
 
-stands_odd : (slots : List (Option Flight)) (j i : ℕ) (t : NamedTrajectory) (f : Flight) (mark : Option Made) → j / 2 ≡ i → kind_at j ≡ Tentative
-    → get_or slots i None ≡ Some f → f.mark ≡ mark → option_map (made_of_kind f Tentative) mark ≡ Some t → StandsAt slots j t
-stands_odd slots j i t f None half kind at_is mark_is is = absurd (cc)
-stands_odd slots j i t f (Some m) half kind at_is mark_is is = record {
-  flight = f;
-  made = m;
-  at_is = ap (λ (k : ℕ). get_or slots k None) half ∙ at_is;
-  made_is = ap (made_of f) kind ∙ mark_is;
-  is = ap (λ (k : Kind). made_of_kind f k m) kind ∙ (let e : made_of_kind f Tentative m ≡ t = cc in e);
-}
-
-stands_mark : (slots : List (Option Flight)) (j i : ℕ) (t : NamedTrajectory) (s : Option Flight) → j / 2 ≡ i → kind_at j ≡ Tentative → get_or slots i None ≡ s
-    → second_of s ≡ Some t → StandsAt slots j t
-stands_mark slots j i t None half kind at_is is = absurd (cc)
-stands_mark slots j i t (Some f) half kind at_is is = stands_odd slots j i t f f.mark half kind at_is refl is
+none_there : (kind : Kind) (t : NamedTrajectory) → place_kind kind None ≡ Some t → ⊥
+none_there Actual t is = cc
+none_there Tentative t is = cc
 
 pub stands_at : (slots : List (Option Flight)) (j : ℕ) (t : NamedTrajectory) → at (all_places slots) j ≡ Some t → StandsAt slots j t
-stands_at slots j t is =
-    let i = slot_of j in
-    ⊎_elim
-    (λ even. stands_even slots j i t (get_or slots i None) refl (ap kind_at even ∙ even_kind i) refl
-    (sym (at_first slots i) ∙ subst (λ (k : ℕ). at (all_places slots) k ≡ Some t) even is))
-    (λ odd. stands_mark slots j i t (get_or slots i None) refl (ap kind_at odd ∙ odd_kind i) refl
-    (sym (at_second slots i) ∙ subst (λ (k : ℕ). at (all_places slots) k ≡ Some t) odd is))
-    (halves j i refl)
+stands_at slots j t is = by_slot (get_or slots (j / 2) None) refl (sym (at_any slots j) ∙ is) where
+  by_slot : (s : Option Flight) → get_or slots (j / 2) None ≡ s → place_kind (kind_at j) s ≡ Some t → StandsAt slots j t
+  by_slot None at_is there = absurd (none_there (kind_at j) t there)
+  by_slot (Some f) at_is there = stands_made slots j t f (made_of f (kind_at j)) at_is refl (sym (kind_made_of f (kind_at j)) ∙ there)
 
 -- what is made of a flight is kept of it
 in_named : (call : List ℕ) (mark : Option Made) (made : Made) → mark ≡ Some made

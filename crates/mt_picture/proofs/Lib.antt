@@ -2,16 +2,15 @@ pub mod Again
 pub mod Asking
 pub mod Bounding
 pub mod Candidacy
+pub mod Changing
 pub mod Choosing
 pub mod Completed
 pub mod Counted
 pub mod Effected
-pub mod Either
 pub mod Entered
 pub mod Exits
 pub mod Filled
 pub mod FirstHit
-pub mod Following
 pub mod Given
 pub mod HitsHere
 pub mod Knowing

@@ -24,7 +24,7 @@ use Rattle.mt_probe.specs.Shot.{Shot, flight_at, made_of}
 use Rattle.mt_probe.specs.Shot.{state_in_shot as state_in}
 use Rattle.mt_probe.specs.Standing.{IsSoundEntry, IsSoundShot}
 use Rattle.mt_picture.specs.Private.Entries.{IsRemaking, IsReport, IsWithdrawal}
-use Rattle.mt_picture.specs.Private.Places.{IsNewOrStays, first_of, made_of_kind, place_kind, place_other, second_of, stamped, stamped_at}
+use Rattle.mt_picture.specs.Private.Places.{IsNewOrStays, first_of, made_of_kind, other_kind, place_kind, second_of, stamped, stamped_at}
 use Rattle.mt_picture.specs.Private.Putting.{IsKeptFlight, IsFlightPut, IsRemade}
 use Rattle.mt_picture.proofs.Entered.{altered_by, own_actual, own_mark, put_altered, there}
 use Rattle.mt_picture.proofs.Making.{filled_kind, filled_makes, remaking_makes}
@@ -138,19 +138,19 @@ abbrev Keeps : Option Flight → Flight → Kind → Type 0
 Keeps old f kind = stamped_at kind (Some f) ≡ stamped_at kind old
 
 -- of the other kind it has nothing, after a commitment, or what it had
-other_kind : (old : Option Flight) (version : ℕ) (c : Command) (card : Record) (t : Trajectory) (f : Flight) → kind_made c ≡ kinds.Actual → IsRemade old version c card t f
+mark_left : (old : Option Flight) (version : ℕ) (c : Command) (card : Record) (t : Trajectory) (f : Flight) → kind_made c ≡ kinds.Actual → IsRemade old version c card t f
     → ((f.mark ≡ None) × ((call : List ℕ) × (c ≡ Commit call))) ⊎ (Keeps old f kinds.Tentative × ((call : List ℕ) → c ≡ Commit call → ⊥))
-other_kind old version (Plan call kind route at from level rvsm) card t f actual is = inr (is.rest, λ call e. cc)
-other_kind old version (External call straight) card t f actual is = inr (is.rest, λ call e. cc)
-other_kind old version (Drop call) card t f actual is = inr (is.rest, λ call e. cc)
-other_kind old version (commands.Report call report) card t f actual is = inr (is.rest, λ call e. cc)
-other_kind old version (Tick next) card t f actual is = inr (is.rest, λ call e. cc)
-other_kind old version (Renew call) card t f actual is = inr (is.rest, λ call e. cc)
-other_kind old version (Clear call clearance eff) card t f actual is = inr (is.rest, λ call e. cc)
-other_kind old version (Accept call clearance eff probed) card t f actual is = inr (is.rest, λ call e. cc)
-other_kind old version (Tentative call clearance eff) card t f actual is = absurd (cc)
-other_kind old version (Withdraw call force) card t f actual is = inr (is.rest, λ call e. cc)
-other_kind old version (Commit call) card t f actual is = inl (is.rest, (call, refl))
+mark_left old version (Plan call kind route at from level rvsm) card t f actual is = inr (is.rest, λ call e. cc)
+mark_left old version (External call straight) card t f actual is = inr (is.rest, λ call e. cc)
+mark_left old version (Drop call) card t f actual is = inr (is.rest, λ call e. cc)
+mark_left old version (commands.Report call report) card t f actual is = inr (is.rest, λ call e. cc)
+mark_left old version (Tick next) card t f actual is = inr (is.rest, λ call e. cc)
+mark_left old version (Renew call) card t f actual is = inr (is.rest, λ call e. cc)
+mark_left old version (Clear call clearance eff) card t f actual is = inr (is.rest, λ call e. cc)
+mark_left old version (Accept call clearance eff probed) card t f actual is = inr (is.rest, λ call e. cc)
+mark_left old version (Tentative call clearance eff) card t f actual is = absurd (cc)
+mark_left old version (Withdraw call force) card t f actual is = inr (is.rest, λ call e. cc)
+mark_left old version (Commit call) card t f actual is = inl (is.rest, (call, refl))
 
 keeps_actual : (old : Option Flight) (version : ℕ) (c : Command) (card : Record) (t : Trajectory) (f : Flight) → kind_made c ≡ kinds.Tentative
     → IsRemade old version c card t f → Keeps old f kinds.Actual
@@ -178,7 +178,7 @@ module _ (setup : Setup) (who now version : ℕ) (c : Command) (old f : Flight) 
       (λ keeps.
       same_path f old kinds.Tentative keeps.0 ∙ own_mark setup old sound
       ∙ sym (mark_stays setup who now c old.card.path remaking e keeps.1) ∙ ap (marked_of setup) (sym path))
-      (other_kind (Some old) version c card t f e is)
+      (mark_left (Some old) version c card t f e is)
 
   new_made : (kind : Kind) → kind_made c ≡ kind → (made : Made) → made_of f kind ≡ Some made
       → (made.stamp ≡ version) × MakesStrand (filled now c) × (kind_made (filled now c) ≡ kind)
@@ -193,7 +193,7 @@ module _ (setup : Setup) (who now version : ℕ) (c : Command) (old f : Flight) 
   remade_stamps kinds.Actual kinds.Tentative e = ⊎_elim
       (λ none. inl (λ m m_is. absurd (let both : None ≡ Some m = sym none.0 ∙ m_is in cc)))
       (λ keeps. inr keeps.0)
-      (other_kind (Some old) version c card t f e is)
+      (mark_left (Some old) version c card t f e is)
 
 -- what stands in the two places of a flight that is remade
 pub new_stands : (old : Option Flight) (version : ℕ) (c : Command) (card : Record) (t : Trajectory) (f : Flight) (kind : Kind) → kind ≡ kind_made c
@@ -205,22 +205,15 @@ new_stands old version c card t f kinds.Tentative e is =
     let stamp = subst (λ (k : Kind). stamped_at k (Some f) ≡ Some (record { call = card.call; kind = k; path = t }, version)) (sym e) is.stamp in
     second_stamped (Some f) ∙ ap (option_map named_with) stamp
 
-pub new_there : (old : Option Flight) (version : ℕ) (c : Command) (card : Record) (t : Trajectory) (f : Flight) (kind : Kind) (m : NamedTrajectory) → kind ≡ kind_made c
-    → IsRemade old version c card t f → place_kind kind (Some f) ≡ Some m → m.path ≡ t
-new_there old version c card t f kind m e is there =
-    let both : Some m ≡ Some (record { call = card.call; kind = kind; path = t }) = sym there ∙ new_stands old version c card t f kind e is in
-    let one : m ≡ record { call = card.call; kind = kind; path = t } = cc in
-    ap (λ (u : NamedTrajectory). u.path) one
-
 none_marked : (f : Flight) (m : NamedTrajectory) → f.mark ≡ None → second_of (Some f) ≡ Some m → ⊥
 none_marked f m none there = let both : None ≡ Some m = ap (option_map (made_of_kind f kinds.Tentative)) (sym none) ∙ there in cc
 
 pub other_there : (old : Option Flight) (version : ℕ) (c : Command) (card : Record) (t : Trajectory) (f : Flight) (kind : Kind) (m : NamedTrajectory) → kind ≡ kind_made c
-    → IsRemade old version c card t f → place_other kind (Some f) ≡ Some m → place_other kind old ≡ Some m
+    → IsRemade old version c card t f → place_kind (other_kind kind) (Some f) ≡ Some m → place_kind (other_kind kind) old ≡ Some m
 other_there old version c card t f kinds.Actual m e is there = ⊎_elim
     (λ none. absurd (none_marked f m none.0 there))
     (λ keeps. sym (same_second (Some f) old keeps.0) ∙ there)
-    (other_kind old version c card t f (sym e) is)
+    (mark_left old version c card t f (sym e) is)
 other_there old version c card t f kinds.Tentative m e is there = sym (same_first (Some f) old (keeps_actual old version c card t f (sym e) is)) ∙ there
 
 -- a flight that is remade is put into its slot

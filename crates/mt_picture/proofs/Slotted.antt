@@ -1,15 +1,15 @@
 -- The places of slots.
-use Rattle.std.proofs.Common.{◌≡◌, ◌≢◌, ℕ, zero, suc, ◌+◌, ◌*◌, ◌<◌, set, length, ◌⊎◌, inl, inr, ⊎_elim, ◌↔◌, List, [], ◌∷◌, ◌++◌, Option, Some, None, get_or, refl, sym, ◌∙◌, ap, ap₂, subst, arith, get_or-set_other, get_or-set_same, length-set}
-use Rattle.std.proofs.lemmas.Bool.{cases_eq}
-use Rattle.mt_base.specs.declared.rules.Rules.{Rules}
+use Rattle.std.proofs.Common.{◌≡◌, ℕ, zero, suc, ◌+◌, ◌*◌, ◌/◌, ◌<◌, set, length, ◌⊎◌, inl, inr, ⊎_elim, List, [], ◌∷◌, Option, Some, None, get_or, option_map, refl, sym, ◌∙◌, ap, ap₂, arith}
+use Rattle.std.proofs.lemmas.Bool.{cases_lt}
+use Rattle.mt_base.specs.declared.conflict.Kind.{Kind}
+use Rattle.mt_base.specs.declared.conflict.Kind.TheVariants.{Actual, Tentative}
 use Rattle.mt_base.specs.Picture.{NamedTrajectory}
-use Rattle.mt_kept.specs.declared.open_pair.OpenPair.{OpenPair}
-use Rattle.mt_kept.specs.Finds.{Agree, AreFindsOfSlot}
-use Rattle.mt_kept.proofs.Joining.{finds_join}
-use Rattle.mt_picture.specs.Private.Finding.{AreFindsFor}
-use Rattle.mt_kept.specs.Places.{at, with_slot}
+use Rattle.mt_kept.specs.Places.{at}
 use Rattle.mt_probe.specs.declared.flight.Flight.{Flight}
-use Rattle.mt_picture.specs.Private.Places.{all_places, first_of, second_of}
+use Rattle.mt_probe.specs.Items.{kind_at}
+use Rattle.mt_probe.specs.Shot.{made_of}
+use Rattle.mt_probe.proofs.Covered.{even_half, even_kind, odd_half, odd_kind}
+use Rattle.mt_picture.specs.Private.Places.{all_places, first_of, made_of_kind, other_kind, place_in, place_kind, second_of}
 
 pub length_places : (slots : List (Option Flight)) → length (all_places slots) ≡ 2 * length slots
 length_places [] = refl
@@ -31,93 +31,71 @@ at_second [] (suc i) = at_none (2 * suc i + 1)
 at_second (s ∷ slots) zero = refl
 at_second (s ∷ slots) (suc i) = let e : 2 * suc i + 1 ≡ suc (suc (2 * i + 1)) = omega arith in rw e (at_second slots i)
 
-set_past : {X : Type 0} (a b : X) (xs : List X) (j k : ℕ) (c d : X) → set (set (a ∷ b ∷ xs) (suc (suc j)) c) (suc (suc k)) d ≡ a ∷ b ∷ set (set xs j c) k d
-set_past a b xs j k c d = refl
+-- ---- a place, by its slot and its kind
 
-past_slot : (a b : Option NamedTrajectory) (ps : List (Option NamedTrajectory)) (i : ℕ) (c d : Option NamedTrajectory)
-    → with_slot (a ∷ b ∷ ps) (suc i) c d ≡ a ∷ b ∷ with_slot ps i c d
-past_slot a b ps i c d =
-    let e : 2 * suc i ≡ suc (suc (2 * i)) = omega arith in
-    let f : 2 * suc i + 1 ≡ suc (suc (2 * i + 1)) = omega arith in
-    ap (λ (j : ℕ). set (set (a ∷ b ∷ ps) j c) (2 * suc i + 1) d) e ∙ ap (λ (k : ℕ). set (set (a ∷ b ∷ ps) (suc (suc (2 * i))) c) k d) f
-    ∙ set_past a b ps (2 * i) (2 * i + 1) c d
+halves : (i : ℕ) → (i ≡ 2 * (i / 2)) ⊎ (i ≡ 2 * (i / 2) + 1)
+halves i = ⊎_elim (λ below. inl (omega arith)) (λ above. inr (omega arith)) (cases_lt i (2 * (i / 2) + 1))
 
--- the places after a change of one slot
-pub places_set : (slots : List (Option Flight)) (i : ℕ) (new : Option Flight) → i < length slots
-    → all_places (set slots i new) ≡ with_slot (all_places slots) i (first_of new) (second_of new)
-places_set [] i new below = absurd (omega arith)
-places_set (s ∷ slots) zero new below = refl
-places_set (s ∷ slots) (suc i) new below =
-    let rest = places_set slots i new (omega arith) in
-    ap (λ (ps : List (Option NamedTrajectory)). first_of s ∷ second_of s ∷ ps) rest
-    ∙ sym (past_slot (first_of s) (second_of s) (all_places slots) i (first_of new) (second_of new))
+pub place_back : (i : ℕ) → place_in (i / 2) (kind_at i) ≡ i
+place_back i = ⊎_elim
+    (λ even. ap (place_in (i / 2)) (ap kind_at even ∙ even_kind (i / 2)) ∙ sym even)
+    (λ odd. ap (place_in (i / 2)) (ap kind_at odd ∙ odd_kind (i / 2)) ∙ sym odd)
+    (halves i)
 
-module _ (places : List (Option NamedTrajectory)) (slot : ℕ) (inside : 2 * slot + 1 < length places) (a b : Option NamedTrajectory) where
-  pub at_even : at (with_slot places slot a b) (2 * slot) ≡ a
-  at_even =
-      let other : 2 * slot ≢ 2 * slot + 1 = omega arith in
-      let below : 2 * slot < length places = omega arith in
-      get_or-set_other (set places (2 * slot) a) (2 * slot + 1) (2 * slot) b None other ∙ get_or-set_same places (2 * slot) a None below
+pub place_half : (slot : ℕ) (kind : Kind) → place_in slot kind / 2 ≡ slot
+place_half slot Actual = even_half slot
+place_half slot Tentative = odd_half slot
 
-  pub at_odd : at (with_slot places slot a b) (2 * slot + 1) ≡ b
-  at_odd = let n = length-set places (2 * slot) a in get_or-set_same (set places (2 * slot) a) (2 * slot + 1) b None (omega arith)
+pub place_kind_is : (slot : ℕ) (kind : Kind) → kind_at (place_in slot kind) ≡ kind
+place_kind_is slot Actual = even_kind slot
+place_kind_is slot Tentative = odd_kind slot
 
-  pub at_else : (i : ℕ) → i ≢ 2 * slot → i ≢ 2 * slot + 1 → at (with_slot places slot a b) i ≡ at places i
-  at_else i even odd = get_or-set_other (set places (2 * slot) a) (2 * slot + 1) i b None odd ∙ get_or-set_other places (2 * slot) i a None even
+pub kind_made_of : (f : Flight) (kind : Kind) → place_kind kind (Some f) ≡ option_map (made_of_kind f kind) (made_of f kind)
+kind_made_of f Actual = refl
+kind_made_of f Tentative = refl
 
--- the places of a slot before and after its change, all of one flight
-module _ (places : List (Option NamedTrajectory)) (slot : ℕ) (inside : 2 * slot + 1 < length places) (a b : Option NamedTrajectory) (call : List ℕ)
-    (a_call : (t : NamedTrajectory) → a ≡ Some t → t.call ≡ call) (b_call : (t : NamedTrajectory) → b ≡ Some t → t.call ≡ call)
-    (even_call : (t : NamedTrajectory) → at places (2 * slot) ≡ Some t → t.call ≡ call)
-    (odd_call : (t : NamedTrajectory) → at places (2 * slot + 1) ≡ Some t → t.call ≡ call) where
-  abbrev after : List (Option NamedTrajectory)
-  after = with_slot places slot a b
+pub place_inside : (slots : List (Option Flight)) (slot : ℕ) (kind : Kind) → slot < length slots → place_in slot kind < length (all_places slots)
+place_inside slots slot Actual inside = let n = length_places slots in omega (arith, n, inside)
+place_inside slots slot Tentative inside = let n = length_places slots in omega (arith, n, inside)
 
-  -- what stands there before or after is of the flight
-  here_call : (i : ℕ) → (i ≡ 2 * slot) ⊎ (i ≡ 2 * slot + 1) → (t : NamedTrajectory) → (at after i ≡ Some t) ⊎ (at places i ≡ Some t) → t.call ≡ call
-  here_call i here t is = ⊎_elim
-      (λ even. ⊎_elim (λ now. a_call t (sym (at_even places slot inside a b) ∙ subst (λ (k : ℕ). at after k ≡ Some t) even now))
-      (λ was. even_call t (subst (λ (k : ℕ). at places k ≡ Some t) even was)) is)
-      (λ odd. ⊎_elim (λ now. b_call t (sym (at_odd places slot inside a b) ∙ subst (λ (k : ℕ). at after k ≡ Some t) odd now))
-      (λ was. odd_call t (subst (λ (k : ℕ). at places k ≡ Some t) odd was)) is)
-      here
+-- `at_place`, `at_any`: what stands in a place
+pub at_place : (slots : List (Option Flight)) (slot : ℕ) (kind : Kind) → at (all_places slots) (place_in slot kind) ≡ place_kind kind (get_or slots slot None)
+at_place slots slot Actual = at_first slots slot
+at_place slots slot Tentative = at_second slots slot
 
-  -- so the places of other flights stay
-  stay_else : (mine : NamedTrajectory) → mine.call ≡ call → (i : ℕ) (t : NamedTrajectory) → mine.call ≢ t.call
-      → (at after i ≡ Some t) ↔ (at places i ≡ Some t)
-  stay_else mine own i t apart = ⊎_elim
-      (λ even. (
-        (λ now. absurd (apart (own ∙ sym (here_call i (inl even) t (inl now))))),
-        (λ was. absurd (apart (own ∙ sym (here_call i (inl even) t (inr was))))),
-      ))
-      (λ no. ⊎_elim
-      (λ odd. (
-        (λ now. absurd (apart (own ∙ sym (here_call i (inr odd) t (inl now))))),
-        (λ was. absurd (apart (own ∙ sym (here_call i (inr odd) t (inr was))))),
-      ))
-      (λ also. let e = at_else places slot inside a b i no also in ((λ now. sym e ∙ now), (λ was. e ∙ was)))
-      (cases_eq i (2 * slot + 1)))
-      (cases_eq i (2 * slot))
+pub at_any : (slots : List (Option Flight)) (i : ℕ) → at (all_places slots) i ≡ place_kind (kind_at i) (get_or slots (i / 2) None)
+at_any slots i = ap (at (all_places slots)) (sym (place_back i)) ∙ at_place slots (i / 2) (kind_at i)
 
-  pub agree_first : (mine : NamedTrajectory) → a ≡ Some mine → Agree places after (2 * slot) mine
-  agree_first mine is = record {
-    here = at_even places slot inside a b ∙ is;
-    there = λ i t away apart. stay_else mine (a_call mine is) i t apart;
-  }
+-- ---- the places after a change of one slot
 
-  pub agree_second : (mine : NamedTrajectory) → b ≡ Some mine → Agree places after (2 * slot + 1) mine
-  agree_second mine is = record {
-    here = at_odd places slot inside a b ∙ is;
-    there = λ i t away apart. stay_else mine (b_call mine is) i t apart;
-  }
+next_place : (i : ℕ) (kind : Kind) → place_in (suc i) kind ≡ suc (suc (place_in i kind))
+next_place i Actual = omega arith
+next_place i Tentative = omega arith
 
-  -- the finds of both places are those of the slot
-  pub joined : (rules : Rules) (now : ℕ) (first second : List OpenPair) → AreFindsFor rules places now (2 * slot) a first
-      → AreFindsFor rules places now (2 * slot + 1) b second → AreFindsOfSlot rules after now slot (first ++ second)
-  joined rules now first second one two = finds_join rules after now slot first second
-      (λ s t at_s at_t. a_call s (sym (at_even places slot inside a b) ∙ at_s) ∙ sym (b_call t (sym (at_odd places slot inside a b) ∙ at_t)))
-      (one after (at_even places slot inside a b) agree_first)
-      (two after (at_odd places slot inside a b) agree_second)
+past_slot : (a b : Option NamedTrajectory) (ps : List (Option NamedTrajectory)) (i : ℕ) (kind : Kind) (c : Option NamedTrajectory)
+    → set (a ∷ b ∷ ps) (place_in (suc i) kind) c ≡ a ∷ b ∷ set ps (place_in i kind) c
+past_slot a b ps i kind c = ap (λ (j : ℕ). set (a ∷ b ∷ ps) j c) (next_place i kind)
+
+-- `one_set`, `both_set`: where the other place keeps what it has, and where both change
+pub one_set : (slots : List (Option Flight)) (i : ℕ) (x : Option Flight) (kind : Kind) → i < length slots
+    → place_kind (other_kind kind) x ≡ place_kind (other_kind kind) (get_or slots i None)
+    → set (all_places slots) (place_in i kind) (place_kind kind x) ≡ all_places (set slots i x)
+one_set [] i x kind below other = absurd (omega arith)
+one_set (s ∷ slots) zero x Actual below other = ap (λ (b : Option NamedTrajectory). first_of x ∷ b ∷ all_places slots) (sym other)
+one_set (s ∷ slots) zero x Tentative below other = ap (λ (a : Option NamedTrajectory). a ∷ second_of x ∷ all_places slots) (sym other)
+one_set (s ∷ slots) (suc i) x kind below other =
+    past_slot (first_of s) (second_of s) (all_places slots) i kind (place_kind kind x)
+    ∙ ap (λ (ps : List (Option NamedTrajectory)). first_of s ∷ second_of s ∷ ps) (one_set slots i x kind (omega arith) other)
+
+pub both_set : (slots : List (Option Flight)) (i : ℕ) (x : Option Flight) → i < length slots
+    → set (set (all_places slots) (place_in i Actual) (first_of x)) (place_in i Tentative) (second_of x) ≡ all_places (set slots i x)
+both_set [] i x below = absurd (omega arith)
+both_set (s ∷ slots) zero x below = refl
+both_set (s ∷ slots) (suc i) x below =
+    ap (λ (ps : List (Option NamedTrajectory)). set ps (place_in (suc i) Tentative) (second_of x))
+    (past_slot (first_of s) (second_of s) (all_places slots) i Actual (first_of x))
+    ∙ past_slot (first_of s) (second_of s) (set (all_places slots) (place_in i Actual) (first_of x)) i Tentative (second_of x)
+    ∙ ap (λ (ps : List (Option NamedTrajectory)). first_of s ∷ second_of s ∷ ps) (both_set slots i x (omega arith))
 
 -- a flight that keeps both its trajectories leaves the places as they are
 pub places_same : (slots : List (Option Flight)) (i : ℕ) (new : Option Flight) → first_of new ≡ first_of (get_or slots i None)

@@ -1,36 +1,25 @@
 -- Where trajectories stand: each in one place, and one in a place.
-use Rattle.std.proofs.Common.{◌≡◌, ℕ, ◌+◌, ◌*◌, ◌/◌, ⊎_elim, List, Option, Some, None, get_or, is_some, true, option_map, refl, sym, ◌∙◌, ap, ap₂, subst}
+use Rattle.std.proofs.Common.{◌≡◌, ℕ, ◌/◌, ⊎_elim, List, Option, Some, None, get_or, is_some, true, option_map, refl, sym, ◌∙◌, ap, ap₂, subst}
 use Rattle.std.specs.Prelude.{option_and_then}
 use Rattle.std.proofs.lemmas.Bool.{cases_eq}
 use Rattle.mt_base.specs.declared.conflict.Kind.{Kind}
-use Rattle.mt_base.specs.declared.conflict.Kind.TheVariants.{Actual, Tentative}
 use Rattle.mt_base.specs.declared.flight.Record.{Record}
 use Rattle.mt_base.specs.Picture.{flight_of}
-use Rattle.mt_kept.proofs.Keeping.{halves}
 use Rattle.mt_probe.specs.declared.flight.Flight.{Flight}
 use Rattle.mt_probe.specs.declared.flight.Made.{Made}
 use Rattle.mt_probe.specs.Items.{kind_at}
 use Rattle.mt_probe.specs.Shot.{Shot, flight_at, made_of, records_in}
 use Rattle.mt_probe.specs.Standing.{IsSoundShot}
-use Rattle.mt_probe.proofs.Covered.{even_kind, odd_kind}
 use Rattle.mt_probe.proofs.Placed.{filled_inside, found_there}
 use Rattle.mt_picture.specs.Private.Candidates.{StandsInPlace}
-use Rattle.mt_picture.specs.Private.Places.{made_of_kind}
+use Rattle.mt_picture.specs.Private.Places.{made_of_kind, place_in}
 use Rattle.mt_picture.proofs.Knowing.{StandsAt}
 use Rattle.mt_picture.proofs.Passing.{found_place}
+use Rattle.mt_picture.proofs.Slotted.{place_back}
 
 -- a place is that of its slot and its kind
 pub same_place : (i j : ℕ) → i / 2 ≡ j / 2 → kind_at i ≡ kind_at j → i ≡ j
-same_place i j half kind = ⊎_elim
-    (λ i_even. ⊎_elim
-    (λ j_even. i_even ∙ ap (λ (k : ℕ). 2 * k) half ∙ sym j_even)
-    (λ j_odd. absurd (let both : Actual ≡ Tentative = sym (even_kind (i / 2)) ∙ sym (ap kind_at i_even) ∙ kind ∙ ap kind_at j_odd ∙ odd_kind (j / 2) in cc))
-    (halves j (j / 2) refl))
-    (λ i_odd. ⊎_elim
-    (λ j_even. absurd (let both : Tentative ≡ Actual = sym (odd_kind (i / 2)) ∙ sym (ap kind_at i_odd) ∙ kind ∙ ap kind_at j_even ∙ even_kind (j / 2) in cc))
-    (λ j_odd. i_odd ∙ ap (λ (k : ℕ). 2 * k + 1) half ∙ sym j_odd)
-    (halves j (j / 2) refl))
-    (halves i (i / 2) refl)
+same_place i j half kind = sym (place_back i) ∙ ap₂ place_in half kind ∙ place_back j
 
 module _ (slots : List (Option Flight)) (place : ℕ) where
   -- what stands in a place, as its trajectory

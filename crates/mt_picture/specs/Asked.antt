@@ -87,7 +87,7 @@ pub record IsCrossingPair (story : Story) (now : ℕ) (pair : NamedTrajectory ×
   pub span : IsSpanOfLoss story.setup.rules pair.0.path pair.1.path 0 horizon first last
   pub straddling : is_straddling now first last ≡ true
 
--- at most one test per pair across an edge, no other
+-- at most as many tests as there are pairs across an edge
 pub record WasTestedForTick (story : Story) (now old new : ℕ) : Type 0 where
   pub pairs : List (NamedTrajectory × NamedTrajectory)
   pub distinct : AllPairs (λ p q. p ≢ q) pairs

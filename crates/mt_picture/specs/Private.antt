@@ -4,7 +4,6 @@ pub mod Brought
 pub mod Candidates
 pub mod Effects
 pub mod Entries
-pub mod Finding
 pub mod Hits
 pub mod Holding
 pub mod Known

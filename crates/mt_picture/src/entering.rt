@@ -300,7 +300,7 @@ pub(crate) fn withdraw(
     let mut flight = kept_flight(held, slot, card)?;
     flight.mark = None;
     let entry = entry_of(alloc, held, who, command)?;
-    let change = change_bare(alloc, held, slot, &flight)?;
+    let change = change_bare(alloc, held, slot)?;
     held.put(slot, Some(flight), entry, change)
 }
 
@@ -320,6 +320,6 @@ pub(crate) fn remove(
 {
     held.keeps();
     let entry = entry_of(alloc, held, who, command)?;
-    let change = change_none(alloc, held, slot);
+    let change = change_none(alloc, held, slot)?;
     held.put(slot, None, entry, change)
 }

@@ -111,21 +111,22 @@ impl Parts {
         requires counted { self.old.snapshot.version < 2 ^ 40 }
         requires put { IsSlotPut self.old.snapshot slot flight entry }
         requires complete { IsComplete entry }
-        requires change { IsChangeFor self.old.kept slot flight change }
+        requires change { IsChangeFor self.old.snapshot slot flight change }
         ensures { AddsEntry self.old self.new entry result }
     {
         self.snapshot.keeps();
         let SlotChange {
-            first,
-            second,
+            changes,
             finds,
+            stays,
+            slices,
         } = change;
         // All that can fail stands above the exchange, and what is kept changes last of that: so a want of memory leaves all as it was.
-        let snapshot = self.snapshot.put(slot, flight)?;
+        let snapshot = self.snapshot.put(slot, flight, stays, slices)?;
         snapshot.keeps();
         self.history.reserve(1)?;
         let mut steps = Steps::new();
-        self.kept.change(slot, first, second, &finds, &mut steps)?;
+        self.kept.change(changes, &finds, &mut steps)?;
         self.snapshot = snapshot;
         self.history.push_reserved(entry);
         Ok(())

@@ -1,7 +1,8 @@
 //! Where trajectories stand.
-ghost use Rattle.std.specs.Prelude.{◌≡◌, ◌/◌, ◌<◌, ℕ, IfSome, Some};
+ghost use Rattle.std.specs.Prelude.{◌≡◌, ◌<◌, ℕ, IfSome, Some};
 ghost use Rattle.mt_probe.specs.Items.{kind_at};
 ghost use Rattle.mt_picture.specs.Private.Candidates.{StandsInPlace, is_made_since};
+ghost use Rattle.mt_picture.specs.Private.Places.{place_in};
 
 use mt_base::{Callsign, Kind};
 use mt_probe::Snapshot;
@@ -15,11 +16,10 @@ pub(crate) struct FoundPlace {
     pub(crate) stamp: u64,
 }
 
-// The place of a kind of trajectory of the flight in a slot.
-fn place_of(slot: u32, kind: Kind) -> u32
+/// The place of a kind of trajectory of the flight in a slot.
+pub(crate) fn place_of(slot: u32, kind: Kind) -> u32
     requires { slot < 2147483648 }
-    ensures slot { result / 2 ≡ slot }
-    ensures kind { kind_at result ≡ kind }
+    ensures { result ≡ place_in slot kind }
 {
     match kind {
         Kind::Actual => 2 * slot,

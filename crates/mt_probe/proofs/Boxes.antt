@@ -1,5 +1,5 @@
 -- A table that has the slices of the trajectories of a snapshot.
-use Rattle.std.proofs.Common.{◌≡◌, ◌≢◌, ⊎_elim, ℕ, zero, suc, ◌+◌, ◌*◌, ◌/◌, ◌<◌, List, Option, Some, None, length, get_or, replicate, refl, sym, ◌∙◌, ap, subst, length-set, arith}
+use Rattle.std.proofs.Common.{◌≡◌, ◌≢◌, ⊎_elim, ℕ, zero, suc, ◌+◌, ◌*◌, ◌/◌, ◌<◌, List, [], ◌∷◌, Option, Some, None, length, get_or, option_and_then, option_map, replicate, refl, sym, ◌∙◌, ap, subst, length-set, arith}
 use Rattle.std.specs.Option.{IfSome}
 use Rattle.std.proofs.Math.ListN.{set}
 use Rattle.std.proofs.lemmas.Bool.{cases_eq}
@@ -7,7 +7,7 @@ use Rattle.std.proofs.lemmas.List.{get_or-set_same, get_or-set_other, length-rep
 use Rattle.mt_base.specs.declared.conflict.Kind.{Kind}
 use Rattle.mt_base.specs.declared.conflict.Kind.TheVariants.{Actual, Tentative}
 use Rattle.mt_base.specs.declared.rules.Rules.{Rules}
-use Rattle.mt_cover.specs.Sliced.{Sliced}
+use Rattle.mt_cover.specs.Sliced.{Sliced, slices_of}
 use Rattle.mt_probe.specs.declared.flight.Flight.{Flight}
 use Rattle.mt_meet.specs.declared.table.Met.{Met}
 use Rattle.mt_meet.specs.Meeting.{AreMet, IsNextMet, MeetAt}
@@ -16,8 +16,9 @@ use Rattle.mt_meet.specs.declared.marked_parts.MarkedParts.{MarkedParts}
 use Rattle.mt_meet.specs.declared.search.Search.{Search}
 use Rattle.mt_meet.proofs.Meetings.{within}
 use Rattle.mt_probe.specs.Meeting.{AreMetItems, slices_at, slices_by}
-use Rattle.mt_probe.specs.Private.Boxed.{HoldsSlices, IsNextMetOf, IsSearchedIn, MeetOnlyMarkedOn, table_with}
-use Rattle.mt_probe.specs.Items.{kind_at}
+use Rattle.mt_probe.specs.Private.Boxed.{AreSlicesOf, HasSlicesOf, HoldsSlices, IsNextMetOf, IsSearchedIn, MeetOnlyMarkedOn, item_of, table_with}
+use Rattle.mt_probe.specs.Items.{kind_at, path_of}
+use Rattle.mt_probe.specs.Putting.{IsKindKept, made_beside}
 use Rattle.mt_probe.specs.Shot.{Shot}
 use Rattle.mt_probe.proofs.Covered.{even_half, even_kind, odd_half, odd_kind}
 
@@ -72,6 +73,31 @@ module _ (rules : Rules) (slots : List (Option Flight)) (i : ℕ) (x : Option Fl
     held = λ k. ⊎_elim (at_own k) (at_other k) (cases_eq (k / 2) i);
   }
 
+-- the slices of a kind of trajectory that stays are in the table already
+pub slices_kept : (rules : Rules) (kind : Kind) (old new : Option Flight) → option_and_then (path_of kind) new ≡ option_and_then (path_of kind) old
+    → slices_by rules kind new ≡ slices_by rules kind old
+slices_kept rules kind old new same = by_path new ∙ ap (option_map (slices_of rules)) same ∙ sym (by_path old) where
+  by_path : (x : Option Flight) → slices_by rules kind x ≡ option_map (slices_of rules) (option_and_then (path_of kind) x)
+  by_path None = refl
+  by_path (Some f) = refl
+
+slices_at_item : (rules : Rules) (slots : List (Option Flight)) (slot : ℕ) (kind : Kind)
+    → slices_at rules slots (item_of slot kind) ≡ slices_by rules kind (get_or slots slot None)
+slices_at_item rules slots slot Actual = slices_even rules slots slot
+slices_at_item rules slots slot Tentative = slices_odd rules slots slot
+
+pub slices_stay : (shot : Shot) (table : List (Option Sliced)) (slot : ℕ) (flight : Option Flight) (kind : Kind)
+    → HoldsSlices shot.setup.rules shot.slots table → IsKindKept shot slot flight kind → HasSlicesOf shot.setup.rules table slot flight kind
+slices_stay shot table slot flight kind holds kept =
+    holds.held (item_of slot kind) ∙ slices_at_item shot.setup.rules shot.slots slot kind
+    ∙ sym (slices_kept shot.setup.rules kind (get_or shot.slots slot None) flight kept)
+
+-- what stands in a list already may be set once more
+pub set_again : {X : Type 0} (xs : List (Option X)) (i : ℕ) (x : Option X) → i < length xs → get_or xs i None ≡ x → set xs i x ≡ xs
+set_again [] i x below same = absurd (omega (arith, below))
+set_again (y ∷ ys) zero x below same = ap (λ (z : Option _). z ∷ ys) (sym same)
+set_again (y ∷ ys) (suc i) x below same = ap (λ (zs : List (Option _)). y ∷ zs) (set_again ys i x (omega (arith, below)) same)
+
 -- empty places
 nothing_there : (rules : Rules) (n place : ℕ) (kind : Kind) → slices_by rules kind (get_or (replicate n None) place None) ≡ None
 nothing_there rules zero place kind = refl
@@ -108,9 +134,17 @@ next_met shot mine table from (Some met) holds first = record {
   none_before = λ item late below theirs k there meet. first.none_before item late below theirs k (holds.held item ∙ there) meet;
 }
 
-if_some : {X : Type 0} (x : Option X) (P Q : X → Type 0) → ((y : X) → P y → Q y) → IfSome x P → IfSome x Q
+pub if_some : {X : Type 0} (x : Option X) (P Q : X → Type 0) → ((y : X) → P y → Q y) → IfSome x P → IfSome x Q
 if_some None P Q on h = h
 if_some (Some y) P Q on h = on y h
+
+-- slices that are given for a kind of trajectory are those of that kind
+pub given_of : {A : Type 0} (value : A → Sliced) (rules : Rules) (stays : Option Kind) (kind : Kind) (x : Option Flight) (slices given : Option A)
+    → IfSome slices (λ s. AreSlicesOf rules (made_beside stays) x (value s)) → IfSome given (λ s. (slices ≡ Some s) × (made_beside stays ≡ kind))
+    → IfSome given (λ s. AreSlicesOf rules kind x (value s))
+given_of {A} value rules stays kind x slices given made of = if_some given _ _
+    (λ s is. subst (λ (k : Kind). AreSlicesOf rules k x (value s)) is.1
+    (subst (λ (o : Option A). IfSome o (λ y. AreSlicesOf rules (made_beside stays) x (value y))) is.0 made)) of
 
 -- a search through the table is one through the trajectories
 module _ (shot : Shot) (mine : Sliced) (rules : Rules) (rules_is : rules ≡ shot.setup.rules) (table : List (Option Sliced))

@@ -1,8 +1,11 @@
 -- A snapshot after a change at one place.
-use Rattle.std.specs.Prelude.{◌≡◌, ◌≢◌, ◌<◌, ◌+◌, ℕ, List, [], ◌∷◌, ◌++◌, Option, Some, None, map, filter, not, slice_set, if◌then◌else◌}
+use Rattle.std.specs.Prelude.{◌≡◌, ◌≢◌, ◌<◌, ◌+◌, ℕ, List, [], ◌∷◌, ◌++◌, Option, Some, None, map, filter, not, option_and_then, slice_set, if◌then◌else◌}
 use Rattle.std.specs.Str.{bytes_eq}
+use Rattle.mt_base.specs.declared.conflict.Kind.{Kind}
+use Rattle.mt_base.specs.declared.conflict.Kind.TheVariants.{Actual, Tentative}
 use Rattle.mt_base.specs.declared.flight.Record.{Record}
 use Rattle.mt_probe.specs.declared.flight.Flight.{Flight}
+use Rattle.mt_probe.specs.Items.{path_of}
 use Rattle.mt_probe.specs.Shot.{Shot, flight_at}
 use Rattle.mt_probe.specs.Standing.{IsSoundEntry}
 
@@ -16,6 +19,15 @@ pub record Fits (shot : Shot) (slot : ℕ) (f : Flight) : Type 0 where
   pub entry : IsSoundEntry shot.setup f
   pub own_call : (i : ℕ) (g : Flight) → i ≢ slot → flight_at shot i ≡ Some g → g.card.call ≢ f.card.call
   pub filed : IsFiledAt shot slot f (flight_at shot slot)
+
+-- what is put at a place has the same trajectory of a kind as what is there, or neither has one
+abbrev pub IsKindKept : Shot → ℕ → Option Flight → Kind → Type 0
+IsKindKept shot slot flight kind = option_and_then (path_of kind) flight ≡ option_and_then (path_of kind) (flight_at shot slot)
+
+-- the kind of trajectory that was made of what is put at a place: the tentative one where the flown one stays, else the flown one
+abbrev pub made_beside : Option Kind → Kind
+made_beside (Some Actual) = Tentative
+made_beside stays = Actual
 
 -- the snapshot with that at a place, one version later
 abbrev pub with_flight : Shot → ℕ → Option Flight → Shot

@@ -1,8 +1,10 @@
 //! The conflicts of a new trajectory with those of the other flights.
-ghost use Rattle.std.specs.Prelude.{◌≡◌, ◌≤◌, ◌<◌, ◌+◌, ◌*◌, ℕ, length, IfOk, OnOk};
+ghost use Rattle.std.specs.Prelude.{◌≡◌, ◌≤◌, ◌<◌, ◌+◌, ◌*◌, ℕ, true, length, IfOk, OnOk};
+ghost use Rattle.std.specs.Arc.{arc_value};
 ghost use Rattle.mt_base.specs.Bounds.{AreWithinBounds};
 ghost use Rattle.mt_base.specs.Conflict.{IsConflict, IsLossSecond};
 ghost use Rattle.mt_base.specs.Picture.{window_end};
+ghost use Rattle.mt_base.specs.Span.{IsSolid};
 ghost use Rattle.mt_cover.specs.Sliced.{slices_of};
 ghost use Rattle.mt_probe.specs.Meeting.{AreMetItems, IsMetOf};
 ghost use Rattle.mt_probe.specs.Finds.{AreFinds, IsFound};
@@ -11,13 +13,15 @@ ghost use Rattle.mt_probe.specs.Items.{WasTestedNear, kind_at, other_at};
 ghost use Rattle.mt_base.specs.Trajectory.{horizon};
 ghost use Rattle.mt_probe.specs.Shot.{state_in_shot};
 
-use crate::narrow::narrowed;
+use crate::narrow::{narrowed, part_within};
 use crate::snapshot::Snapshot;
 use mt_base::{Callsign, Kind, Listed, Memory, Rules, Second, Tally, WINDOW};
+use mt_cover::Slices;
 use mt_meet::Met;
-use mt_pair::{lose, loss_of};
+use mt_pair::{Loss, lose, loss_of};
 use mt_track::Strand;
 use std::alloc::Global;
+use std::sync::Arc;
 
 /// What is found with a trajectory of another flight.
 #[derive(Clone, Copy, PartialEq, Eq)]
@@ -37,24 +41,28 @@ pub struct Found {
 /// Finds, seen as their list.
 pub type Finds = Listed<Found>;
 
-// The conflict in the window, of which that over all seconds is known. It is tested only where it straddles an edge of the window.
+// The conflict in the window, of which that over all seconds is known. It is tested only where it straddles an edge of the window and isn't
+// known to be solid.
 fn in_window(
     rules: &Rules,
     now: Second,
     strand: &Strand,
     other: &Strand,
-    whole: Option<(Second, Second)>,
+    loss: Loss,
     tests: &mut Tally,
 ) -> Option<(Second, Second)>
     requires rules { AreWithinBounds rules.now }
     requires early { now ≤ 10000000 }
-    requires whole { IsConflict rules.now strand.now other.now 0 horizon whole }
+    requires whole { IsConflict rules.now strand.now other.now 0 horizon loss.span }
+    requires solid { loss.solid ≡ true → IsSolid (IsLossSecond rules.now strand.now other.now) loss.span }
     ensures conflict { IsConflict rules.now strand.now other.now now (window_end now) result }
     ensures counted { tests.new ≤ tests.old + 1 }
 {
-    match narrowed(whole, now, now + WINDOW) {
+    let end = now + WINDOW;
+    match narrowed(loss.span, now, end) {
         Some(part) => part,
-        None => lose(strand, other, rules, now, now + WINDOW, tests),
+        None if loss.solid => part_within(loss.span, now, end),
+        None => lose(strand, other, rules, now, end, tests),
     }
 }
 
@@ -77,7 +85,7 @@ fn find_one(
     ensures counted { tests.new ≤ tests.old + 2 }
 {
     let loss = loss_of(strand, other, rules, met.first, met.last + 1, tests);
-    let window = in_window(rules, now, strand, other, loss.span, tests);
+    let window = in_window(rules, now, strand, other, loss, tests);
     Found {
         call,
         kind,
@@ -156,17 +164,19 @@ pub(crate) fn find_among(
     Ok(finds)
 }
 
-/// What is found with a new trajectory of a flight.
+/// What is found with a new trajectory of a flight, whose slices are given.
 pub(crate) fn find_all(
     alloc: Global,
     snapshot: &Snapshot,
     call: Callsign,
     strand: &Strand,
+    slices: &Arc<Slices>,
     tests: &mut Tally,
 ) -> Result<Finds, Memory>
+    requires { arc_value slices.now ≡ slices_of snapshot.now.setup.rules strand.now }
     ensures finds { IfOk result (AreFinds snapshot.now.setup (state_in_shot snapshot.now) call strand.now) }
     ensures counted { WasTestedNear snapshot.now call strand.now tests.old tests.new }
 {
-    let list = snapshot.meeting(strand)?;
+    let list = snapshot.meeting_by(slices)?;
     find_among(alloc, snapshot, call, strand, &list, tests)
 }

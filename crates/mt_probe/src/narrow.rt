@@ -1,7 +1,8 @@
 //! A conflict over all seconds, and what it tells of a part of them.
-ghost use Rattle.std.specs.Prelude.{◌≡◌, ◌≤◌, ℕ, None, IfSome};
+ghost use Rattle.std.specs.Prelude.{◌≡◌, ◌<◌, ◌≤◌, ℕ, None, IfSome};
 ghost use Rattle.mt_base.specs.declared.rules.Rules.{Rules};
-ghost use Rattle.mt_base.specs.Conflict.{IsConflict};
+ghost use Rattle.mt_base.specs.Conflict.{IsConflict, IsLossSecond};
+ghost use Rattle.mt_base.specs.Span.{IsSolid};
 ghost use Rattle.mt_base.specs.Trajectory.{Trajectory};
 ghost use Rattle.mt_probe.specs.Narrow.{CrossesOne};
 
@@ -30,4 +31,23 @@ pub fn narrowed(
         return Some(None);
     }
     Some(whole)
+}
+
+/// What of a solid conflict in some seconds lies in those of them from `from` on and before `to`, of any two trajectories: the conflict there.
+pub(crate) fn part_within(
+    whole: Option<(Second, Second)>,
+    from: Second,
+    to: Second,
+) -> Option<(Second, Second)>
+    requires { from < to }
+    ensures { (rules : Rules) (a b : Trajectory) (begin end : ℕ) → begin ≤ from → to ≤ end
+        → IsConflict rules a b begin end whole → IsSolid (IsLossSecond rules a b) whole → IsConflict rules a b from to result }
+{
+    let (first, last) = whole?;
+    let (first, last) = (first.max(from), last.min(to - 1));
+    if first <= last {
+        Some((first, last))
+    } else {
+        None
+    }
 }

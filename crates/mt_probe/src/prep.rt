@@ -1,11 +1,13 @@
 //! What is prepared for a command that makes a trajectory.
 ghost use Rattle.std.specs.Prelude.{◌≡◌};
 ghost use Rattle.std.specs.Arc.{arc_value};
+ghost use Rattle.mt_cover.specs.Sliced.{slices_of};
 ghost use Rattle.mt_probe.specs.Prepared.{IsPrepared};
 
 use crate::finding::{Finds, Found};
 use crate::snapshot::Snapshot;
 use mt_base::{Command, Record, Second};
+use mt_cover::Slices;
 use mt_track::Strand;
 use std::marker::Model;
 use std::sync::Arc;
@@ -18,19 +20,20 @@ pub struct Prep {
     pub(crate) command: Command,
     pub(crate) card: Record,
     pub(crate) strand: Arc<Strand>,
+    pub(crate) slices: Arc<Slices>,
     pub(crate) finds: Finds,
 }
 
 impl Model for Prep {
     ghost use Rattle.std.specs.Arc.{arc_value};
-    ghost use Rattle.mt_probe.specs.Prepared.{IsPrepared, Prepared};
-    ghost use Rattle.mt_probe.specs.Private.Prepared.{prepared_of};
+    ghost use Rattle.mt_probe.specs.Prepared.{Prepared};
+    ghost use Rattle.mt_probe.specs.Private.Prepared.{IsPrepKept, prepared_of};
 
     ghost Value = { Prepared };
 
     ghost view = { λ p. prepared_of p.snapshot p.who p.command p.card (arc_value p.strand) p.finds };
 
-    ghost invariant = { λ p. IsPrepared (prepared_of p.snapshot p.who p.command p.card (arc_value p.strand) p.finds) };
+    ghost invariant = { λ p. IsPrepKept (prepared_of p.snapshot p.who p.command p.card (arc_value p.strand) p.finds) (arc_value p.slices) };
 }
 
 impl Prep {
@@ -75,6 +78,13 @@ impl Prep {
         ensures { arc_value result.now ≡ self.now.strand }
     {
         &self.strand
+    }
+
+    /// Its slices.
+    pub fn slices(&self) -> &Arc<Slices>
+        ensures { arc_value result.now ≡ slices_of self.now.setup.rules self.now.strand }
+    {
+        &self.slices
     }
 
     /// What is found with it: each trajectory of another flight that has a loss second with it, once, and no other.

@@ -8,6 +8,7 @@ ghost use Rattle.mt_base.specs.Decision.{checks, look_at};
 ghost use Rattle.mt_base.specs.Trajectory.{Trajectory};
 ghost use Rattle.mt_base.specs.Tables.{setup_with};
 ghost use Rattle.mt_change.specs.Altered.{IsBoundedBesides};
+ghost use Rattle.mt_cover.specs.Sliced.{slices_of};
 ghost use Rattle.mt_predict.specs.Looking.{HasStrand, look_of};
 ghost use Rattle.mt_probe.specs.Finds.{AreFinds};
 ghost use Rattle.mt_probe.specs.Items.{WasTestedNear};
@@ -22,6 +23,7 @@ use crate::snapshot::Snapshot;
 use mt_base::{Command, Kind, Memory, Path, Record, Refusal, Rules, Tally};
 use mt_board::No;
 use mt_change::planned_course;
+use mt_cover::Slices;
 use mt_predict::{Looked, judge, predict};
 use mt_tables::Tables;
 use mt_track::Strand;
@@ -215,17 +217,20 @@ pub fn kind_made(command: &Command) -> Kind
     }
 }
 
-// What is prepared for a command that leaves this of the flight that it names, and makes that trajectory of it, with which these are found.
+// What is prepared for a command that leaves this of the flight that it names, and makes that trajectory of it, which has these slices and with which
+// these are found.
 pub(crate) fn prep_with(
     snapshot: &Snapshot,
     who: u32,
     command: Command,
     card: Record,
     strand: Arc<Strand>,
+    slices: Arc<Slices>,
     finds: Finds,
 ) -> Result<Prep, Memory>
     requires left { IsLeftByEntry snapshot.now.setup (state_in_shot snapshot.now) who command card }
     requires made { path_made snapshot.now.setup card (kind_made command) ≡ Some (arc_value strand) }
+    requires sliced { arc_value slices ≡ slices_of snapshot.now.setup.rules (arc_value strand) }
     requires found { AreFinds snapshot.now.setup (state_in_shot snapshot.now) card.call (arc_value strand) finds }
     ensures { IfOk result (IsPrepOf snapshot.now who command) }
 {
@@ -237,6 +242,7 @@ pub(crate) fn prep_with(
         command,
         card,
         strand,
+        slices,
         finds,
     })
 }
@@ -257,8 +263,9 @@ fn prep_of(
 {
     snapshot.keeps();
     let strand = strand_of(alloc, snapshot, &card, kind_made(&command))?;
-    let finds = find_all(alloc, snapshot, card.call, &strand, tests)?;
-    prep_with(snapshot, who, command, card, strand, finds)
+    let slices = snapshot.slices(&strand)?;
+    let finds = find_all(alloc, snapshot, card.call, &strand, &slices, tests)?;
+    prep_with(snapshot, who, command, card, strand, slices, finds)
 }
 
 /// What is prepared on a snapshot for a command that makes a trajectory: the flight as the entry leaves it, that trajectory, and what is found

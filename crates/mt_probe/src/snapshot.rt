@@ -7,10 +7,10 @@ ghost use Rattle.mt_change.specs.Sound.{IsSoundState};
 ghost use Rattle.mt_cover.specs.Sliced.{slices_of};
 ghost use Rattle.mt_probe.specs.Private.Ahead.{IsAskedAhead};
 ghost use Rattle.mt_probe.specs.Private.Body.{IsSameBody, shot_of};
-ghost use Rattle.mt_probe.specs.Meeting.{AreMetItems};
+ghost use Rattle.mt_probe.specs.Meeting.{AreMetItems, slices_by};
 ghost use Rattle.mt_probe.specs.Private.Boxed.{IsNextMetOf, IsSearchedIn, IsSnapshotKept};
 ghost use Rattle.mt_probe.specs.Items.{AreNearItems, IsNearItem, path_of};
-ghost use Rattle.mt_probe.specs.Putting.{Fits, records_put, with_flight, with_moment};
+ghost use Rattle.mt_probe.specs.Putting.{Fits, IsKindKept, made_beside, records_put, with_flight, with_moment};
 ghost use Rattle.mt_probe.specs.Shot.{IsFreeIn, flight_at, kept_of, made_of, records_in, state_in_shot};
 ghost use Rattle.mt_probe.specs.Standing.{IsSoundShot};
 
@@ -20,7 +20,7 @@ use crate::index::Index;
 use crate::nearness::share;
 use crate::placing::moved;
 use mt_base::{Callsign, Kind, Memory, Record, Rules, Second, WINDOW};
-use mt_cover::{Cover, cover, slices, slices_until};
+use mt_cover::{Cover, Slices, cover, slices, slices_until};
 use mt_meet::{Met, Search, SliceTable, Subject};
 use mt_paged::Paged;
 use mt_tables::Tables;
@@ -309,9 +309,26 @@ impl Snapshot {
     pub fn meeting(&self, strand: &Strand) -> Result<Vec<Met>, Memory>
         ensures { IfOk result (λ list. AreMetItems self.now (slices_of self.now.setup.rules strand.now) list.items) }
     {
-        let (alloc, rules) = (self.body.alloc, self.rules());
-        let mine = Subject::of(alloc, rules, slices(alloc, strand, rules)?)?;
+        let mine = self.slices(strand)?;
+        self.meeting_by(&mine)
+    }
+
+    /// The same, by the slices of the new trajectory.
+    pub fn meeting_by(&self, slices: &Arc<Slices>) -> Result<Vec<Met>, Memory>
+        ensures { IfOk result (λ list. AreMetItems self.now (arc_value slices.now) list.items) }
+    {
+        let slices = Arc::try_clone(slices)?;
+        let mine = Subject::of(self.body.alloc, self.rules(), slices)?;
         self.body.table.meeting(&mine)
+    }
+
+    /// The slices of a new trajectory.
+    pub(crate) fn slices(&self, strand: &Strand) -> Result<Arc<Slices>, Memory>
+        ensures { IfOk result (λ mine. arc_value mine ≡ slices_of self.now.setup.rules strand.now) }
+    {
+        let alloc = self.body.alloc;
+        let mine = slices(alloc, strand, self.rules())?;
+        Ok(Arc::new(alloc, mine)?)
     }
 
     /// The slices of a new trajectory for the look-ahead.
@@ -320,7 +337,7 @@ impl Snapshot {
     {
         let (alloc, rules) = (self.body.alloc, self.rules());
         let front = slices_until(alloc, strand, rules, self.now() + WINDOW)?;
-        Subject::of(alloc, rules, front)
+        Subject::of(alloc, rules, Arc::new(alloc, front)?)
     }
 
     /// The next of the items, in a search through them, whose trajectories have slices that meet some, with the first and the last second in which
@@ -338,11 +355,22 @@ impl Snapshot {
     /// The picture with that flight at a place, or none, one version later. This snapshot stays as it is.
     ///
     /// It asks that the version is below 2^40 and the place is one. A flight that is put must be sound, and its trajectories its own; no other
-    /// place has its callsign; it keeps the filing of the flight that it replaces, or was filed after all others.
-    pub fn put(&self, slot: u32, flight: Option<Flight>) -> Result<Snapshot, Memory>
+    /// place has its callsign; it keeps the filing of the flight that it replaces, or was filed after all others. The kind of trajectory that
+    /// is said to stay must be the same as before; nothing is made anew for it. To say nothing of it is right of each flight. Slices that are given are
+    /// those of the trajectory that was made: of the tentative one where the flown one stays, else of the flown one. They are shared; where none are
+    /// given they are made.
+    pub fn put(
+        &self,
+        slot: u32,
+        flight: Option<Flight>,
+        stays: Option<Kind>,
+        slices: Option<Arc<Slices>>,
+    ) -> Result<Snapshot, Memory>
         requires counted { self.now.version < 2 ^ 40 }
         requires place { slot < length self.now.slots }
         requires fits { IfSome flight (Fits self.now slot) }
+        requires kept { IfSome stays (IsKindKept self.now slot flight) }
+        requires made { IfSome slices (λ s. Some (arc_value s) ≡ slices_by self.now.setup.rules (made_beside stays) flight) }
         ensures value { IfOk result (λ shot. shot ≡ with_flight self.now slot flight) }
         ensures records { IfOk result (λ shot.
             (state_in_shot shot).records ≡ records_put (flight_at self.now slot) flight (state_in_shot self.now).records) }
@@ -350,7 +378,15 @@ impl Snapshot {
         let body = &*self.body;
         let slots = body.slots.set(slot, shared(body.alloc, flight)?)?;
         let new = slots.get(slot);
-        let table = moved(body.alloc, &body.rules, &body.table, slot, new)?;
+        let table = moved(
+            body.alloc,
+            &body.rules,
+            &body.table,
+            slot,
+            new,
+            stays,
+            slices,
+        )?;
         let index = body
             .index
             .put(body.alloc, &body.slots, self.slots(), slot, new)?;

@@ -8,11 +8,11 @@ use Rattle.mt_edges.specs.declared.edge.Edge.{Edge}
 use Rattle.mt_kept.specs.declared.open_pair.OpenPair.{OpenPair}
 use Rattle.mt_kept.specs.Private.Losing.{AreKept}
 use Rattle.mt_kept.specs.Private.Made.{is_at_border}
-use Rattle.mt_kept.specs.Places.{HaveOwnSlots}
+use Rattle.mt_kept.specs.Places.{HaveOwnPlaces}
 use Rattle.mt_kept.specs.Private.Window.{AreOpen, Shows}
 
 -- the pairs of the places are kept, and what the open ones show is published. Of these only those at the border of the look-ahead are kept with what
--- they show. Each flight has one slot.
+-- they show. A flight's trajectories of one kind stand in one place.
 pub record ArePairsKept (rules : Rules) (now : ℕ) (places : List (Option NamedTrajectory)) (edges : List Edge) (ends : ℕ)
     (bordering : List OpenPair) (published : List Conflict) : Type 0 where
   pub bounds : AreWithinBounds rules
@@ -24,4 +24,4 @@ pub record ArePairsKept (rules : Rules) (now : ℕ) (places : List (Option Named
   pub opened : AreOpen rules places now edges open_pairs
   pub borderers : bordering ≡ filter (is_at_border now) open_pairs
   pub exact : (c : Conflict) → Contains published c ↔ Shows open_pairs c
-  pub own : HaveOwnSlots places
+  pub own : HaveOwnPlaces places

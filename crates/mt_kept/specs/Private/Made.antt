@@ -1,6 +1,6 @@
 -- No public contract names these: they are of private steps and of proofs.
-use Rattle.std.specs.Prelude.{◌≡◌, ℕ, ◌<◌, ◌↔◌, ◌⊎◌, ◌++◌, ◌∷◌, [], ◌+◌, ◌*◌, ◌≤◌, List, map, take, length, filter, Contains, Option, Some, None, Bool, ⊤, not, ◌==◌, ◌&&◌, ◌||◌, max, min, nat_le, nat_lt}
-use Rattle.std.specs.List.{count_by}
+use Rattle.std.specs.Prelude.{◌≡◌, ℕ, ◌<◌, ◌↔◌, ◌⊎◌, ◌++◌, ◌∷◌, [], ◌+◌, ◌*◌, ◌≤◌, List, map, take, length, filter, Contains, Option, Some, None, Bool, ⊤, not, ◌&&◌, ◌||◌, max, min, nat_le, nat_lt}
+use Rattle.std.specs.List.{count_by, list_any}
 use Rattle.std.specs.Cmp.Lexicographic.{slice_cmp}
 use Rattle.std.specs.Ordering.{nat_cmp}
 use Rattle.std.specs.declared.cmp.Ordering.TheVariants.{Less}
@@ -16,8 +16,7 @@ use Rattle.mt_kept.specs.declared.finds.Knowledge.TheVariants.{Known, Within}
 use Rattle.mt_kept.specs.declared.open_pair.OpenPair.{OpenPair}
 use Rattle.mt_kept.specs.Finds.{IsOfOtherFlight}
 use Rattle.mt_kept.specs.Losing.{IsSolidAsSaid}
-use Rattle.mt_kept.specs.Private.Losing.{AvoidsSlot}
-use Rattle.mt_kept.specs.Places.{slot_of}
+use Rattle.mt_kept.specs.Private.Losing.{AvoidsAll}
 use Rattle.mt_base.specs.Trajectory.{horizon}
 use Rattle.mt_base.specs.Tally.{RoseUpTo, raised_by}
 use Rattle.mt_kept.specs.Window.{IsFoundOf, IsOpen, edge_of, straddles}
@@ -38,19 +37,22 @@ borders now e = is_open_pair now e && (nat_lt e.first now || nat_le (window_last
 abbrev pub span_within : ℕ → Edge → ℕ × ℕ
 span_within now e = (max now e.first, min (window_last now) e.last)
 
--- `opens`, `is_at_border`, `avoids`, `meets`, `touches_place`: of a pair with what it shows: it is open; it is at the border of the look-ahead; no end
--- is in that slot; some end is; one end is that place
+-- `touches_one`, `opens`, `is_at_border`, `meets`, `avoids`, `touches_place`: an end of a pair is among some places; of a pair with what it shows: it is
+-- open; it is at the border of the look-ahead; an end is among some places; none is; one end is that place
+abbrev pub touches_one : List ℕ → Edge → Bool
+touches_one some e = list_any (λ place. touches place e) some
+
 abbrev pub opens : ℕ → OpenPair → Bool
 opens now o = is_open_pair now o.edge
 
 abbrev pub is_at_border : ℕ → OpenPair → Bool
 is_at_border now o = borders now o.edge
 
-abbrev pub avoids : ℕ → OpenPair → Bool
-avoids slot o = not (slot_of o.edge.a == slot) && not (slot_of o.edge.b == slot)
+abbrev pub meets : List ℕ → OpenPair → Bool
+meets some o = touches_one some o.edge
 
-abbrev pub meets : ℕ → OpenPair → Bool
-meets slot o = not (avoids slot o)
+abbrev pub avoids : List ℕ → OpenPair → Bool
+avoids some o = not (meets some o)
 
 abbrev pub touches_place : ℕ → OpenPair → Bool
 touches_place place o = touches place o.edge
@@ -91,16 +93,16 @@ pub record WereTestedOf (allowed spare old new : ℕ) : Type 0 where
   pub within : more + spare ≤ allowed
   pub is : new ≡ raised_by more old
 
--- the pairs of a slot were taken out, and the found ones put in
-abbrev pub AreReplaced : ℕ → List OpenPair → List Edge → List Edge → Type 0
-AreReplaced slot finds old new = (e : Edge) → Contains new e ↔ ((Contains old e × AvoidsSlot slot e) ⊎ Contains (map edge_of finds) e)
+-- the pairs of some places were taken out, and the found ones put in
+abbrev pub AreReplaced : List ℕ → List OpenPair → List Edge → List Edge → Type 0
+AreReplaced changed finds old new = (e : Edge) → Contains new e ↔ ((Contains old e × AvoidsAll changed e) ⊎ Contains (map edge_of finds) e)
 
--- `touches_slot`, `WereDropped`: a pair of a slot; at most six steps for each of these, and two
-abbrev pub touches_slot : ℕ → Edge → Bool
-touches_slot slot e = touches (2 * slot) e || touches (2 * slot + 1) e
+-- `without_places`, `WereDropped`: the pairs without those of some places; at most six steps for each of those, and one for each place
+abbrev pub without_places : List ℕ → List Edge → List Edge
+without_places changed edges = filter (λ e. not (touches_one changed e)) edges
 
-abbrev pub WereDropped : ℕ → List Edge → ℕ → ℕ → Type 0
-WereDropped slot edges old new = new ≤ old + 6 * length (filter (touches_slot slot) edges) + 2
+abbrev pub WereDropped : List ℕ → List Edge → ℕ → ℕ → Type 0
+WereDropped changed edges old new = new ≤ old + 6 * length (filter (touches_one changed) edges) + length changed
 
 -- this is the conflict that is known
 abbrev pub IsKnownAs : Knowledge → Option (ℕ × ℕ) → Type 0

@@ -1,5 +1,5 @@
 -- No public contract names these: they are of private steps and of proofs.
-use Rattle.std.specs.Prelude.{◌≡◌, ◌≢◌, ℕ, ◌+◌, ◌*◌, ◌⊎◌, ◌↔◌, List, ◌++◌, map, filter, All, Contains, AllPairs, Option, Some, true, false}
+use Rattle.std.specs.Prelude.{◌≡◌, ◌≢◌, ℕ, ◌<◌, ◌⊎◌, ◌↔◌, List, ◌++◌, map, filter, All, Contains, AllPairs, Option, Some, true, false}
 use Rattle.std.specs.List.Sorted.{IsPermutation}
 use Rattle.mt_base.specs.declared.conflict.Conflict.{Conflict}
 use Rattle.mt_base.specs.declared.rules.Rules.{Rules}
@@ -7,7 +7,7 @@ use Rattle.mt_base.specs.Picture.{NamedTrajectory}
 use Rattle.mt_edges.specs.declared.edge.Edge.{Edge}
 use Rattle.mt_edges.specs.Pairs.{HaveSameEnds}
 use Rattle.mt_kept.specs.declared.open_pair.OpenPair.{OpenPair}
-use Rattle.mt_kept.specs.Finds.{AreFindsAt}
+use Rattle.mt_kept.specs.Losing.{IsPair, Joins, LoseSeparation, TouchesOne}
 use Rattle.mt_kept.specs.Places.{at}
 use Rattle.mt_kept.specs.declared.stale.Stale.{Stale}
 use Rattle.mt_kept.specs.Private.Stale.{stays}
@@ -77,10 +77,8 @@ pub record AreListed (now : ℕ) (renewed bordering : List OpenPair) (conflicts 
   pub at_border : bordering ≡ filter (is_at_border now) pairs
   pub exact : (c : Conflict) → Contains conflicts c ↔ Shows (filter (opens now) pairs) c
 
--- exactly the pairs of a slot's two places, with what open ones show
-pub record AreOwnPairs (rules : Rules) (places : List (Option NamedTrajectory)) (now slot : ℕ) (own : List OpenPair) : Type 0 where
-  pub first : List OpenPair
-  pub second : List OpenPair
-  pub first_are : AreFindsAt rules places now (2 * slot) first
-  pub second_are : AreFindsAt rules places now (2 * slot + 1) second
-  pub is : own ≡ first ++ second
+-- the pairs of some places, with what open ones show
+pub record AreOwnPairs (rules : Rules) (places : List (Option NamedTrajectory)) (now : ℕ) (changed : List ℕ) (own : List OpenPair) : Type 0 where
+  pub sound : (o : OpenPair) → Contains own o
+      → TouchesOne changed o.edge × IsPair rules places o.edge × (IsOpen now o.edge → ShowsInWindow rules places now o.edge o.conflict)
+  pub complete : (a b k : ℕ) → a < b → Contains changed a ⊎ Contains changed b → LoseSeparation rules places a b k → Joins (map edge_of own) a b

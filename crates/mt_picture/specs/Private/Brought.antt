@@ -1,20 +1,22 @@
 -- No public contract names these: they are of private steps and of proofs.
 -- What a command brings into a slot, and its preparation.
-use Rattle.std.specs.Prelude.{◌≡◌, ◌<◌, ◌^◌, ℕ, Bool, true, Option, Some, length}
+use Rattle.std.specs.Prelude.{◌≡◌, ◌<◌, ◌^◌, ℕ, Bool, true, All, Option, Some, IfSome, IsSomeAnd, length, map}
+use Rattle.std.specs.Arc.{arc_value}
 use Rattle.mt_base.specs.Bounds.{IsBoundedCommand}
 use Rattle.mt_base.specs.declared.conflict.Kind.{Kind}
 use Rattle.mt_base.specs.declared.flight.Record.{Record}
 use Rattle.mt_base.specs.Picture.{NamedTrajectory}
-use Rattle.mt_kept.specs.Finds.{AreFindsOfSlot}
-use Rattle.mt_kept.specs.Kept.{Watched}
-use Rattle.mt_kept.specs.Places.{seen, with_slot}
+use Rattle.mt_kept.specs.Finds.{AreFindsOfPlaces}
+use Rattle.mt_kept.specs.Places.{change_place, with_changes}
 use Rattle.mt_probe.specs.declared.flight.Flight.{Flight}
 use Rattle.mt_probe.specs.Prepared.{IsLeftByEntry, Prepared}
+use Rattle.mt_probe.specs.Meeting.{slices_by}
+use Rattle.mt_probe.specs.Putting.{IsKindKept, made_beside}
 use Rattle.mt_probe.specs.Shot.{Shot, flight_at}
 use Rattle.mt_probe.specs.Shot.{state_in_shot as state_in}
 use Rattle.mt_picture.specs.declared.change.SlotChange.{SlotChange}
 use Rattle.mt_picture.specs.declared.entering.Entering.{Entering}
-use Rattle.mt_picture.specs.Private.Places.{first_of, place_kind, place_other, second_of}
+use Rattle.mt_picture.specs.Private.Places.{all_places, other_kind, place_kind, places_put}
 use Rattle.mt_picture.specs.Private.Stamps.{HaveStood}
 use Rattle.mt_picture.specs.Private.Known.{IsPreps}
 
@@ -26,15 +28,18 @@ pub record BringsNew (shot : Shot) (slot : ℕ) (f : Flight) (kind : Kind) (p : 
   pub was : (g : Flight) → flight_at shot slot ≡ Some g → g.card.call ≡ f.card.call
   pub setup_is : p.setup ≡ shot.setup
   pub call_is : f.card.call ≡ p.card.call
-  pub new : (m : NamedTrajectory) → place_kind kind (Some f) ≡ Some m → IsPreps p known m.path
-  pub other : (m : NamedTrajectory) → place_other kind (Some f) ≡ Some m → place_other kind (flight_at shot slot) ≡ Some m
+  pub new : IsSomeAnd (place_kind kind (Some f)) (λ m. IsPreps p known m.path)
+  pub other : (m : NamedTrajectory) → place_kind (other_kind kind) (Some f) ≡ Some m → place_kind (other_kind kind) (flight_at shot slot) ≡ Some m
   pub stood : HaveStood shot p
 
--- the change of the kept conflicts where a flight is put into a slot, or none. What stands in its two places then, and the pairs of these.
-pub record IsChangeFor (kept : Watched) (slot : ℕ) (x : Option Flight) (change : SlotChange) : Type 0 where
-  pub first_is : seen change.first ≡ first_of x
-  pub second_is : seen change.second ≡ second_of x
-  pub finds_are : AreFindsOfSlot kept.rules (with_slot kept.places slot (first_of x) (second_of x)) kept.moment slot change.finds.items
+-- the change of the kept conflicts where a flight is put into a slot, or none. What comes into places, the pairs of these, the kind of trajectory that
+-- stays, and the slices of the one that was made.
+pub record IsChangeFor (shot : Shot) (slot : ℕ) (x : Option Flight) (change : SlotChange) : Type 0 where
+  pub inside : All (λ c. c.place < length (all_places shot.slots)) change.changes.items
+  pub places_are : with_changes (all_places shot.slots) change.changes.items ≡ places_put shot slot x
+  pub finds_are : AreFindsOfPlaces shot.setup.rules (places_put shot slot x) shot.now (map change_place change.changes.items) change.finds.items
+  pub stays_is : IfSome change.stays (IsKindKept shot slot x)
+  pub slices_are : IfSome change.slices (λ s. Some (arc_value s) ≡ slices_by shot.setup.rules (made_beside change.stays) x)
 
 -- a command leaves a flight with this record, and the preparation is of it. The record is the preparation's, where that is known to be of use.
 pub record IsPreparedNow (shot : Shot) (e : Entering) (card : Record) : Type 0 where

@@ -1,7 +1,7 @@
 -- No public contract names these: they are of private steps and of proofs.
 -- The places of the flights of a snapshot, as the kept conflicts have them: slot i has the places 2 i and 2 i + 1, for the trajectory that the
 -- flight flies and for its tentative one.
-use Rattle.std.specs.Prelude.{◌≡◌, ℕ, ◌⊎◌, List, [], ◌∷◌, Option, Some, None}
+use Rattle.std.specs.Prelude.{◌≡◌, ℕ, ◌+◌, ◌*◌, ◌⊎◌, List, [], ◌∷◌, Option, Some, None, set}
 use Rattle.std.specs.Arc.{arc_value}
 use Rattle.std.specs.List.{flat_map}
 use Rattle.std.specs.Option.{option_map}
@@ -12,7 +12,7 @@ use Rattle.mt_base.specs.Picture.{NamedTrajectory}
 use Rattle.mt_probe.specs.declared.flight.Flight.{Flight}
 use Rattle.mt_probe.specs.declared.flight.Made.{Made}
 use Rattle.mt_probe.specs.Prepared.{MakesStrand, kind_made}
-use Rattle.mt_probe.specs.Shot.{made_of}
+use Rattle.mt_probe.specs.Shot.{Shot, made_of}
 
 -- a trajectory of a flight, with its name
 abbrev pub made_of_kind : Flight → Kind → Made → NamedTrajectory
@@ -27,21 +27,29 @@ abbrev pub second_of : Option Flight → Option NamedTrajectory
 second_of None = None
 second_of (Some f) = option_map (made_of_kind f Tentative) f.mark
 
--- `place_kind`, `place_other`, `places_of`, `all_places`: what the place of a kind has, and that of the other; both places of a slot, and of all
--- slots
+-- the kind that a trajectory hasn't
+abbrev pub other_kind : Kind → Kind
+other_kind Actual = Tentative
+other_kind Tentative = Actual
+
+-- `place_in`, `place_kind`: the place of a slot for trajectories of a kind, and what it has
+abbrev pub place_in : ℕ → Kind → ℕ
+place_in slot Actual = 2 * slot
+place_in slot Tentative = 2 * slot + 1
+
 abbrev pub place_kind : Kind → Option Flight → Option NamedTrajectory
 place_kind Actual slot = first_of slot
 place_kind Tentative slot = second_of slot
 
-abbrev pub place_other : Kind → Option Flight → Option NamedTrajectory
-place_other Actual slot = second_of slot
-place_other Tentative slot = first_of slot
-
+-- `places_of`, `all_places`, `places_put`: both places of a slot, those of all slots, and those of a snapshot where a slot has this
 abbrev pub places_of : Option Flight → List (Option NamedTrajectory)
 places_of slot = first_of slot ∷ second_of slot ∷ []
 
 abbrev pub all_places : List (Option Flight) → List (Option NamedTrajectory)
 all_places slots = flat_map places_of slots
+
+abbrev pub places_put : Shot → ℕ → Option Flight → List (Option NamedTrajectory)
+places_put shot slot x = all_places (set shot.slots slot x)
 
 -- a trajectory that a flight may have, with its stamp: the version at which it was made
 abbrev pub stamped : Flight → Kind → Option Made → Option (NamedTrajectory × ℕ)

@@ -1,11 +1,13 @@
 -- No public contract names these: they are of private steps and of proofs.
 -- How a snapshot keeps the slices of its trajectories.
-use Rattle.std.specs.Prelude.{◌≡◌, ℕ, ◌+◌, ◌*◌, ◌<◌, ◌≤◌, List, Option, Some, None, Contains, get_or, length, slice_set, IfSome}
+use Rattle.std.specs.Prelude.{◌≡◌, ℕ, ◌+◌, ◌*◌, ◌<◌, ◌≤◌, List, Option, Some, None, Contains, get_or, length, option_map, slice_set, IfSome}
+use Rattle.std.specs.Arc.{arc_value}
 use Rattle.std.specs.Int.{bit_at}
+use Rattle.mt_base.specs.declared.conflict.Kind.{Kind}
 use Rattle.mt_base.specs.declared.conflict.Kind.TheVariants.{Actual, Tentative}
 use Rattle.mt_base.specs.declared.rules.Rules.{Rules}
 use Rattle.mt_base.specs.Picture.{NamedTrajectory}
-use Rattle.mt_cover.specs.Sliced.{Sliced}
+use Rattle.mt_cover.specs.Sliced.{Sliced, slices_of}
 use Rattle.mt_meet.specs.declared.table.Met.{Met}
 use Rattle.mt_meet.specs.Meeting.{MeetAt}
 use Rattle.mt_meet.specs.Searching.{item_at, part_at}
@@ -13,6 +15,7 @@ use Rattle.mt_meet.specs.declared.marked_parts.MarkedParts.{MarkedParts}
 use Rattle.mt_meet.specs.declared.search.Search.{Search}
 use Rattle.mt_track.specs.Laid.{IsStrand}
 use Rattle.mt_probe.specs.declared.flight.Flight.{Flight}
+use Rattle.mt_probe.specs.declared.flight.Made.{Made}
 use Rattle.mt_probe.specs.Private.Indexed.{Indexed, IsIndexOf}
 use Rattle.mt_probe.specs.Meeting.{IsMetOf, slices_at, slices_by}
 use Rattle.mt_probe.specs.Shot.{Shot, kept_of}
@@ -28,6 +31,23 @@ pub record IsSnapshotKept (shot : Shot) (table : List (Option Sliced)) (index : 
   pub sound : IsSoundShot shot
   pub holds : HoldsSlices shot.setup.rules shot.slots table
   pub indexed : IsIndexOf shot.slots index
+
+-- the item that names a kind of trajectory of the flight at a place
+abbrev pub item_of : ℕ → Kind → ℕ
+item_of slot Actual = 2 * slot
+item_of slot Tentative = 2 * slot + 1
+
+-- the slices of a trajectory that was made, where one was
+abbrev pub slices_made : Rules → Option Made → Option Sliced
+slices_made rules made = option_map (slices_of rules) (option_map (λ m. arc_value m.strand) made)
+
+-- a table has the slices of the trajectory of a kind of what is put at a place
+abbrev pub HasSlicesOf : Rules → List (Option Sliced) → ℕ → Option Flight → Kind → Type 0
+HasSlicesOf rules table slot x kind = get_or table (item_of slot kind) None ≡ slices_by rules kind x
+
+-- these are the slices of the trajectory of a kind of what is put at a place
+abbrev pub AreSlicesOf : Rules → Kind → Option Flight → Sliced → Type 0
+AreSlicesOf rules kind x slices = Some slices ≡ slices_by rules kind x
 
 -- the table with the slices of what is put at a place
 abbrev pub table_with : Rules → ℕ → Option Flight → List (Option Sliced) → List (Option Sliced)

@@ -1,17 +1,13 @@
-use Rattle.mt_kept.proofs.Again.{finds_agree}
 use Rattle.mt_kept.proofs.Costs.{cost_sum}
 use Rattle.mt_kept.proofs.Gathering.{rising_once}
-use Rattle.mt_kept.proofs.Joining.{finds_empty, finds_join}
+use Rattle.mt_kept.proofs.Joining.{finds_none, finds_one}
 use Rattle.mt_kept.proofs.laws.finds_laws.Goals as goal
 
-pub returns-clause-join : goal.returns-clause-join
-returns-clause-join c = finds_join
+pub returns-clause-one : goal.returns-clause-one
+returns-clause-one c = finds_one
 
-pub returns-clause-empty : goal.returns-clause-empty
-returns-clause-empty c = finds_empty
-
-pub returns-clause-stay : goal.returns-clause-stay
-returns-clause-stay c = finds_agree
+pub returns-clause-none : goal.returns-clause-none
+returns-clause-none c = finds_none
 
 pub returns-clause-rising : goal.returns-clause-rising
 returns-clause-rising c = rising_once

@@ -1,11 +1,8 @@
 use Rattle.std.proofs.Common.{◌+◌, ◌∙◌, Some, None, refl, inl, sym, ap}
 use Rattle.std.proofs.lemmas.Result.{IfOk-weaker}
 use Rattle.mt_base.specs.declared.conflict.Kind.{Kind}
-use Rattle.mt_base.specs.declared.conflict.Kind.TheVariants.{Actual}
-use Rattle.mt_base.specs.Picture.{NamedTrajectory}
 use Rattle.mt_probe.specs.declared.flight.Flight.{Flight}
 use Rattle.mt_probe.specs.Shot.{state_in_shot as state_in}
-use Rattle.mt_picture.specs.Private.Places.{made_of_kind}
 use Rattle.mt_picture.proofs.Entered.{put_filed}
 use Rattle.std.specs.Arc.{arc_value}
 use Rattle.mt_probe.specs.Prepared.{named_trajectory}
@@ -13,7 +10,7 @@ use Rattle.mt_picture.proofs.Bounding.{made_known}
 use Rattle.mt_picture.proofs.FirstHit.{enters_or_stops, filing_unprobed, no_first}
 use Rattle.mt_picture.proofs.Making.{filing_kind}
 use Rattle.mt_picture.proofs.Standing.{filed_early}
-use Rattle.std.proofs.lemmas.Option.{none-some, same_Some}
+use Rattle.std.proofs.lemmas.Option.{none-some}
 use Rattle.mt_picture.proofs.entering.file.Goals as goal
 
 pub put_made-requires-clause-put : goal.put_made-requires-clause-put
@@ -34,20 +31,13 @@ put_made-requires-clause-put c =
 
 pub put_made-requires-clause-new : goal.put_made-requires-clause-new
 put_made-requires-clause-new c =
-    let f : Flight = record {
-      card = c.args.card;
-      filed = c.version-version.result + 1;
-      named = c.version-version.result + 1;
-      actual = record { strand = c.in_ok-strand.strand; stamp = c.version-version.result + 1 };
-      mark = None;
-    } in
     let kind = filing_kind c.args.entering.now.command.now c.requires.filing in
     rw kind (record {
       inside = c.requires.slot;
       was = λ g is. absurd (none-some g (sym c.requires.free ∙ is));
       setup_is = c.requires.enterable.prepared.setup_is;
       call_is = sym c.requires.enterable.prepared.call_is;
-      new = λ m is known. ap (λ (u : NamedTrajectory). u.path) (sym (same_Some (made_of_kind f Actual f.actual) m is)) ∙ c.in_ok-strand.ensures.known known;
+      new = c.in_ok-strand.ensures.known;
       other = λ m is. absurd (none-some m is);
       stood = c.requires.enterable.prepared.stood;
     })

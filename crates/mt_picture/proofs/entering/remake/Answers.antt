@@ -7,7 +7,7 @@ use Rattle.mt_probe.specs.Prepared.{IsLeftByEntry}
 use Rattle.mt_picture.proofs.Bounding.{made_known}
 use Rattle.mt_picture.proofs.Entered.{there}
 use Rattle.mt_picture.proofs.FirstHit.{both_ok, enters_or_stops, first_of_put}
-use Rattle.mt_picture.proofs.Remade.{new_stands, new_there, other_there, put_remade, remaking_alters}
+use Rattle.mt_picture.proofs.Remade.{new_stands, other_there, put_remade, remaking_alters}
 use Rattle.mt_picture.proofs.entering.remake.Goals as goal
 
 pub put_made-requires-clause-put : goal.put_made-requires-clause-put
@@ -27,8 +27,8 @@ put_made-requires-clause-new c =
       was = put.was;
       setup_is = c.requires.enterable.prepared.setup_is;
       call_is = ap (λ (r : Record). r.call) c.in_ok-flight.ensures.card_is ∙ sym c.requires.enterable.prepared.call_is;
-      new = λ m is known. new_there (flight_at shot c.args.slot) (shot.version + 1) c.args.entering.now.command.now c.args.card (arc_value c.in_ok-strand.strand)
-          c.in_ok-flight.flight _ m refl c.in_ok-flight.ensures is ∙ c.in_ok-strand.ensures.known known;
+      new = rw (new_stands (flight_at shot c.args.slot) (shot.version + 1) c.args.entering.now.command.now c.args.card (arc_value c.in_ok-strand.strand)
+          c.in_ok-flight.flight _ refl c.in_ok-flight.ensures) c.in_ok-strand.ensures.known;
       other = λ m is. other_there (flight_at shot c.args.slot) (shot.version + 1) c.args.entering.now.command.now c.args.card (arc_value c.in_ok-strand.strand)
           c.in_ok-flight.flight _ m refl c.in_ok-flight.ensures is;
       stood = c.requires.enterable.prepared.stood;

@@ -14,7 +14,7 @@ pub put-requires-clause-put : goal.put-requires-clause-put
 put-requires-clause-put c =
     rw c.in_ok-entry.ensures.entry (taken_by c.args.held.now.snapshot c.args.slot c.args.who c.args.command.now c.requires.drops c.requires.named)
 
-pub change_none-change-requires : goal.change_none-change-requires
-change_none-change-requires c =
+pub change_none-requires : goal.change_none-requires
+change_none-requires c =
     let shot = c.args.held.now.snapshot in
     put_inside shot c.args.slot None _ (taken_by shot c.args.slot c.args.who c.args.command.now c.requires.drops c.requires.named)

@@ -1,4 +1,4 @@
-use Rattle.std.proofs.Common.{Some}
+use Rattle.std.proofs.Common.{Some, refl}
 use Rattle.mt_probe.specs.Shot.{flight_at}
 use Rattle.mt_probe.specs.Shot.{state_in_shot as state_in}
 use Rattle.mt_picture.proofs.Passing.{aside_passes, few_entries, slot_there}
@@ -20,8 +20,17 @@ kept_flight-requires-clause-there c =
     let left = rw c.snapshot.ensures.value at c.in_ok-card.ensures.left in
     slot_there c.args.held.now.snapshot c.args.command.now c.args.slot c.in_ok-card.field-0.card.call c.requires.named left.call_is
 
-pub change_bare-requires-clause-first : goal.change_bare-requires-clause-first
-change_bare-requires-clause-first c = same_first (Some c.in_ok-flight.flight) (flight_at c.args.held.now.snapshot c.args.slot) c.in_ok-flight.ensures.actual
+pub change_bare-requires : goal.change_bare-requires
+change_bare-requires c =
+    let left = rw c.snapshot.ensures.value at c.in_ok-card.ensures.left in
+    let shot = c.args.held.now.snapshot in
+    let there = slot_there shot c.args.command.now c.args.slot c.in_ok-card.field-0.card.call c.requires.named left.call_is in
+    (put_bare shot c.args.slot c.in_ok-card.field-0.card c.in_ok-flight.flight c.args.who c.args.command.now c.keeps.ensures.sound there c.requires.withdraws left
+    c.in_ok-flight.ensures).inside
+
+pub put-requires-clause-change : goal.put-requires-clause-change
+put-requires-clause-change c =
+    c.in_ok-change.ensures _ (same_first (Some c.in_ok-flight.flight) (flight_at c.args.held.now.snapshot c.args.slot) c.in_ok-flight.ensures.actual) refl
 
 pub put-requires-clause-counted : goal.put-requires-clause-counted
 put-requires-clause-counted c =

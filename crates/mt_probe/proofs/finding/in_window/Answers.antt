@@ -7,4 +7,6 @@ returns-in-Some-clause-conflict c =
     c.in-Some.ensures.exact c.args.rules.now c.args.strand.now c.args.other.now 0 horizon (omega arith) (omega arith) c.requires.whole
 
 pub returns-in-None-clause-conflict : goal.returns-in-None-clause-conflict
-returns-in-None-clause-conflict c = c.lose.ensures.conflict
+returns-in-None-clause-conflict c =
+    c.part_within.ensures c.args.rules.now c.args.strand.now c.args.other.now 0 horizon (omega arith) (omega arith) c.requires.whole
+    (c.requires.solid c.if-loss.true)

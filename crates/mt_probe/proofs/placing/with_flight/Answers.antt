@@ -9,6 +9,7 @@ use Rattle.mt_probe.specs.declared.flight.Flight.{Flight}
 use Rattle.mt_probe.specs.declared.flight.Made.{Made}
 use Rattle.mt_probe.specs.Private.Boxed.{AreLaid}
 use Rattle.mt_probe.specs.Shot.{made_named}
+use Rattle.mt_probe.proofs.Boxes.{given_of}
 use Rattle.mt_probe.proofs.placing.with_flight.Goals as goal
 
 -- the trajectories that are kept of a flight are the one that it flies and its tentative one
@@ -26,4 +27,12 @@ laid_both f flown marked t held = ⊎_elim
 
 pub returns-clause-laid : goal.returns-clause-laid
 returns-clause-laid c =
-    IfOk-weaker c.with_made-2.result _ _ (λ after laid. laid_both c.args.flight.now c.in_ok-flown.ensures.laid (rw c.as_ref.ensures.value at laid)) c.with_made-2.ensures.laid
+    IfOk-weaker c.with_made-2.result _ _ (λ after laid. laid_both c.args.flight.now c.in_ok-after.ensures.laid (rw c.as_ref.ensures.value at laid)) c.with_made-2.ensures.laid
+
+pub with_made-requires-clause-given : goal.with_made-requires-clause-given
+with_made-requires-clause-given c = given_of arc_value c.args.rules.now c.args.stays Actual (Some c.args.flight.now) c.args.slices _ c.requires.made
+    c.shared_out-flown.ensures.flown
+
+pub with_made-requires-2-clause-given : goal.with_made-requires-2-clause-given
+with_made-requires-2-clause-given c = rw c.as_ref.ensures.value
+    (given_of arc_value c.args.rules.now c.args.stays Tentative (Some c.args.flight.now) c.args.slices _ c.requires.made c.shared_out-flown.ensures.marked)

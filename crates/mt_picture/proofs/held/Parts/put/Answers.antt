@@ -1,52 +1,31 @@
-use Rattle.std.proofs.Common.{ap, length, List, refl, set, subst, sym, arith}
+use Rattle.std.proofs.Common.{ap, List, refl, subst, sym}
 use Rattle.mt_base.specs.declared.command.Entry.{Entry}
-use Rattle.mt_kept.specs.Places.{HaveOwnSlots}
 use Rattle.mt_probe.specs.Shot.{Shot}
-use Rattle.mt_picture.specs.Private.Places.{all_places}
 use Rattle.mt_picture.specs.Private.Stamps.{IsPicture}
-use Rattle.mt_picture.proofs.Owning.{own_slots}
-use Rattle.mt_picture.proofs.Slotted.{length_places, places_set}
+use Rattle.mt_picture.proofs.Owning.{own_places}
 use Rattle.mt_picture.proofs.Moved.{picture_slot, put_fits, put_inside}
 use Rattle.std.proofs.lemmas.Result.{MatchResult-from_err}
 use Rattle.mt_picture.proofs.Exits.{has_room, pushed_on, told, told_same}
 use Rattle.mt_picture.proofs.held.Parts.put.Goals as goal
 
-pub change-requires-clause-slot : goal.change-requires-clause-slot
-change-requires-clause-slot c =
-    let put = rw (← c.self.view_is) at c.requires.put in
-    let inside = put_inside c.self.inside.snapshot c.args.slot c.args.flight c.args.entry put in
-    let n = length_places c.self.inside.snapshot.slots in
-    let m = ap length c.self.invariant.places_are in
-    omega (arith, n, m, inside)
+pub change-requires-clause-places : goal.change-requires-clause-places
+change-requires-clause-places c = rw c.self.invariant.places_are (rw (← c.self.view_is) at c.requires.change).inside
 
--- each flight has one slot after the change, since it has so in the new snapshot
+-- each trajectory has one place after the change, since it has so in the new snapshot
 pub change-requires-clause-own : goal.change-requires-clause-own
 change-requires-clause-own c =
-    let shot = c.self.inside.snapshot in
-    let inside = put_inside shot c.args.slot c.args.flight c.args.entry (rw (← c.self.view_is) at c.requires.put) in
+    let change = rw (← c.self.view_is) at c.requires.change in
     let slots = ap (λ (s : Shot). s.slots) c.in_ok-snapshot.ensures.value in
-    let own : HaveOwnSlots (all_places (set shot.slots c.args.slot c.args.flight)) =
-    rw slots at (own_slots c.in_ok-snapshot.snapshot c.keeps-2.ensures.sound) in
-    rw (
-      c.self.invariant.places_are,
-      c.requires.change.first_is,
-      c.requires.change.second_is,
-      ← places_set shot.slots c.args.slot c.args.flight inside,
-    ) own
+    rw (c.self.invariant.places_are, change.places_are) (rw slots at (own_places c.in_ok-snapshot.snapshot c.keeps-2.ensures.sound))
 
 pub invariant_of-self-2 : goal.invariant_of-self-2
 invariant_of-self-2 c =
     let p = c.self.inside in
     let e : Entry = c.args.entry in
     let put = rw (← c.self.view_is) at c.requires.put in
-    let inside = put_inside p.snapshot c.args.slot c.args.flight c.args.entry put in
     let entered = pushed_on _ _ p.history.items e c.push_reserved.ensures.items c.in_ok-reserve.ensures.items in
-    let places = rw (
-      c.self.invariant.places_are,
-      c.requires.change.first_is,
-      c.requires.change.second_is,
-      ← places_set p.snapshot.slots c.args.slot c.args.flight inside,
-    ) at c.in_ok-change.ensures.ok in
+    let change = rw (← c.self.view_is) at c.requires.change in
+    let places = rw (c.self.invariant.places_are, change.places_are) at c.in_ok-change.ensures.ok in
     subst (λ (g : List Entry). IsPicture c.in_ok-snapshot.snapshot g c.change.new.self) (sym entered)
     (picture_slot p.snapshot c.in_ok-snapshot.snapshot p.history.items e c.args.slot c.args.flight p.kept c.change.new.self c.self.invariant put
     c.requires.complete c.keeps.ensures.sound c.keeps-2.ensures.sound c.in_ok-snapshot.ensures.value c.in_ok-snapshot.ensures.records
@@ -61,10 +40,16 @@ put-requires-clause-place c = put_inside c.self.inside.snapshot c.args.slot c.ar
 pub put-requires-clause-fits : goal.put-requires-clause-fits
 put-requires-clause-fits c = put_fits c.self.inside.snapshot c.args.slot c.args.flight c.args.entry (rw (← c.self.view_is) at c.requires.put)
 
+pub put-requires-clause-kept : goal.put-requires-clause-kept
+put-requires-clause-kept c = (rw (← c.self.view_is) at c.requires.change).stays_is
+
+pub put-requires-clause-made : goal.put-requires-clause-made
+put-requires-clause-made c = (rw (← c.self.view_is) at c.requires.change).slices_are
+
 pub change-requires-clause-finds : goal.change-requires-clause-finds
 change-requires-clause-finds c =
     let change = rw (← c.self.view_is) at c.requires.change in
-    rw (c.deref.ensures.value, change.first_is, change.second_is) change.finds_are
+    rw (c.deref.ensures.value, c.self.invariant.rules_are, c.self.invariant.moment_is, c.self.invariant.places_are, change.places_are) change.finds_are
 
 pub push_reserved-requires : goal.push_reserved-requires
 push_reserved-requires c = has_room _ _ c.in_ok-reserve.ensures.ok

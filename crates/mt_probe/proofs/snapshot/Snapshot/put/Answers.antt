@@ -5,9 +5,10 @@ use Rattle.std.proofs.lemmas.Result.{IfOk-weaker}
 use Rattle.std.specs.Arc.{arc_value}
 use Rattle.mt_probe.specs.declared.flight.Flight.{Flight}
 use Rattle.mt_probe.specs.Private.Body.{shot_of}
-use Rattle.mt_probe.specs.Putting.{Fits, records_put}
+use Rattle.mt_probe.specs.Private.Boxed.{AreSlicesOf}
+use Rattle.mt_probe.specs.Putting.{Fits, IsKindKept, made_beside, records_put}
 use Rattle.mt_probe.specs.Shot.{Shot, flight_at, records_in}
-use Rattle.mt_probe.proofs.Boxes.{holds_with}
+use Rattle.mt_probe.proofs.Boxes.{holds_with, if_some, slices_stay}
 use Rattle.mt_probe.proofs.Indexing.{can_be}
 use Rattle.mt_probe.proofs.Placed.{put_records, put_sound}
 use Rattle.mt_probe.proofs.snapshot.Snapshot.put.Goals as goal
@@ -32,6 +33,26 @@ changed-requires-clause-kept c =
       holds = holds_with shot.setup.rules shot.slots c.args.slot c.args.flight (arc_value c.self.inside.body).table inside c.self.invariant.holds;
       indexed = rw (new, c.deref-body.ensures) at c.in_ok-index.ensures;
     })
+
+pub moved-requires-clause-kept : goal.moved-requires-clause-kept
+moved-requires-clause-kept c =
+    let shot : Shot = shot_of (arc_value c.self.inside.body) in
+    let kept = subst (λ (s : Shot). IfSome c.args.stays (IsKindKept s c.args.slot c.args.flight)) (sym c.self.view_is) c.requires.kept in
+    let inside = subst (λ (s : Shot). c.args.slot < length s.slots) (sym c.self.view_is) c.requires.place in
+    let new = put_there shot.slots c.in_ok-slots.slots c.args.slot _ c.args.flight _ inside
+    (rw c.deref-body.ensures at c.in_ok-slots.ensures) c.in_ok-shared.ensures c.get-new.ensures in
+    rw (new, c.deref-body.ensures) (if_some c.args.stays _ _
+    (λ kind same. slices_stay shot (arc_value c.self.inside.body).table c.args.slot c.args.flight kind c.self.invariant.holds same) kept)
+
+pub moved-requires-clause-made : goal.moved-requires-clause-made
+moved-requires-clause-made c =
+    let shot : Shot = shot_of (arc_value c.self.inside.body) in
+    let made = subst (λ (s : Shot). IfSome c.args.slices (λ given. AreSlicesOf s.setup.rules (made_beside c.args.stays) c.args.flight (arc_value given)))
+    (sym c.self.view_is) c.requires.made in
+    let inside = subst (λ (s : Shot). c.args.slot < length s.slots) (sym c.self.view_is) c.requires.place in
+    let new = put_there shot.slots c.in_ok-slots.slots c.args.slot _ c.args.flight _ inside
+    (rw c.deref-body.ensures at c.in_ok-slots.ensures) c.in_ok-shared.ensures c.get-new.ensures in
+    rw (new, c.deref-body.ensures) made
 
 pub put-requires-clause-can : goal.put-requires-clause-can
 put-requires-clause-can c =
